@@ -1,0 +1,52 @@
+-- Distances between points: one number, the same both ways, and not past a bound.
+use Rattle.std.proofs.Common.{◌≡◌, ℕ, ◌+◌, ◌*◌, ◌≤◌, ℤ, ◌-ℤ◌, subst, arith, unsigned_abs, to_z, of_z, w64}
+use Rattle.std.proofs.lemmas.Int.{ints}
+use Rattle.vrp_model.specs.declared.metric.Metric.{Metric}
+use Rattle.vrp_model.specs.declared.metric.Metric.TheVariants.{Euc2d}
+use Rattle.vrp_model.specs.Distance.{square_between, IsEuclidean, IsDistance}
+use Rattle.vrp_model.specs.Grid.{IsCoordinate}
+use Rattle.vrp_model.proofs.Euclid.{square_le, IsEuclidean-between, IsEuclidean-one, IsEuclidean-small}
+
+-- a coordinate, through a signed word
+pub coordinate_word : (a : ℤ) → IsCoordinate a → to_z w64 (of_z w64 a) ≡ a
+coordinate_word a p = omega (arith, ints, p.0, p.1)
+
+pub apart_words : (k : ℕ) (a b : ℤ) → IsCoordinate a → IsCoordinate b → k ≡ unsigned_abs (to_z w64 (of_z w64 a) -ℤ to_z w64 (of_z w64 b)) → k ≡ unsigned_abs (a -ℤ b)
+apart_words k a b p q h = rw (coordinate_word a p, coordinate_word b q) at h
+
+-- how far two numbers are apart, both ways
+pub apart_both_ways : (a b : ℤ) → unsigned_abs (a -ℤ b) ≡ unsigned_abs (b -ℤ a)
+apart_both_ways a b = omega (arith, ints)
+
+pub apart_self : (a : ℤ) → unsigned_abs (a -ℤ a) ≡ 0
+apart_self a = omega (arith, ints)
+
+pub apart_small : (a b : ℤ) → IsCoordinate a → IsCoordinate b → unsigned_abs (a -ℤ b) ≤ 200000000
+apart_small a b p q = omega (arith, ints, p.0, p.1, q.0, q.1)
+
+pub square_both_ways : (a b : ℤ × ℤ) → square_between a b ≡ square_between b a
+square_both_ways a b = rw (apart_both_ways a.0 b.0, apart_both_ways a.1 b.1)
+
+pub square_self : (a : ℤ × ℤ) → square_between a a ≡ 0
+square_self a = rw (apart_self a.0, apart_self a.1)
+
+pub square_small : (east north : ℕ) → east ≤ 200000000 → north ≤ 200000000 → east * east + north * north ≤ 80000000000000000
+square_small east north p q = omega (arith, square_le east 200000000 p, square_le north 200000000 q)
+
+pub square_between_small : (a b : ℤ × ℤ) → IsCoordinate a.0 → IsCoordinate a.1 → IsCoordinate b.0 → IsCoordinate b.1 → square_between a b ≤ 80000000000000000
+square_between_small a b p q r s = square_small _ _ (apart_small a.0 b.0 p r) (apart_small a.1 b.1 q s)
+
+pub IsDistance-both_ways : (metric : Metric) (a b : ℤ × ℤ) (k : ℕ) → IsDistance metric a b k → IsDistance metric b a k
+IsDistance-both_ways Euc2d a b k h = let P : ℕ → Type 0 = λ s. IsEuclidean s k in subst P (square_both_ways a b) h
+
+pub IsDistance-self : (metric : Metric) (a : ℤ × ℤ) → IsDistance metric a a 0
+IsDistance-self Euc2d a = rw (square_self a) (IsEuclidean-between 0 0 (omega arith) (λ h. absurd (omega arith)))
+
+pub IsDistance-one : (metric : Metric) (a b : ℤ × ℤ) (j k : ℕ) → IsDistance metric a b j → IsDistance metric a b k → j ≡ k
+IsDistance-one Euc2d a b j k p q = IsEuclidean-one _ j k p q
+
+pub IsDistance-small : (metric : Metric) (a b : ℤ × ℤ) (k : ℕ) → square_between a b ≤ 80000000000000000 → IsDistance metric a b k → k ≤ 282842712
+IsDistance-small Euc2d a b k s h = IsEuclidean-small _ k h s
+
+pub IsDistance-euclidean : (metric : Metric) (a b : ℤ × ℤ) (east north k : ℕ) → east ≡ unsigned_abs (a.0 -ℤ b.0) → north ≡ unsigned_abs (a.1 -ℤ b.1) → IsEuclidean (east * east + north * north) k → IsDistance metric a b k
+IsDistance-euclidean Euc2d a b east north k e n h = rw (← e, ← n) h

@@ -1,0 +1,20 @@
+use Rattle.std.proofs.Common.{◌≡◌, ◌-◌, arith}
+use Rattle.vrp_model.specs.Problem.{place_count}
+use Rattle.vrp_model.proofs.PlanLemmas.{IsLawful-singles, plan_cost_push, singles_push}
+use Rattle.vrp_model.proofs.plan.Plan.singles.Goals as goal
+
+pub loop-index-preserved : goal.loop-index-preserved
+loop-index-preserved c =
+    let so_far = c.loop-index.invariant in (
+      rw c.in_ok-push_route.ensures.routes (singles_push _ _ so_far.0),
+      rw (c.in_ok-push_route.ensures.routes, plan_cost_push c.args.instance.now) (omega (arith, c.in_ok-push_route.ensures.cost)),
+      omega (arith, c.in_ok-push_route.ensures.cost),
+    )
+
+pub returns-clause-lawful : goal.returns-clause-lawful
+returns-clause-lawful c =
+    let all : c.loop-index.index ≡ place_count c.args.instance.now - 1 = omega arith in
+    record {
+      lawful = rw (c.loop-index.invariant.0, all) (IsLawful-singles _ c.customers-customers.ensures.problem);
+      priced = c.loop-index.invariant.1;
+    }

@@ -1,0 +1,25 @@
+-- Distances between points in the plane, as TSPLIB 95 (section 2, "The distance functions") has them, but over exact numbers.
+use Rattle.std.specs.Prelude.{ℕ, ◌+◌, ◌-◌, ◌*◌, ◌≤◌, ◌<◌, ℤ, ◌-ℤ◌, unsigned_abs}
+use Rattle.vrp_model.specs.declared.metric.Metric.{Metric}
+use Rattle.vrp_model.specs.declared.metric.Metric.TheVariants.{Euc2d}
+
+-- the whole root
+pub record IsRoot (x k : ℕ) : Type 0 where
+  pub within : k * k ≤ x
+  pub greatest : (j : ℕ) → j * j ≤ x → j ≤ k
+
+-- the square of the straight line between two points
+abbrev pub square_between : ℤ × ℤ → ℤ × ℤ → ℕ
+square_between a b =
+    let east = unsigned_abs (a.0 -ℤ b.0) in
+    let north = unsigned_abs (a.1 -ℤ b.1) in
+    east * east + north * north
+
+-- the whole number nearest to the root of s: 2k - 1 ≤ 2 * root < 2k + 1
+pub record IsEuclidean (s k : ℕ) : Type 0 where
+  pub below : 4 * s < (2 * k + 1) * (2 * k + 1)
+  pub above : 0 < k → (2 * k - 1) * (2 * k - 1) ≤ 4 * s
+
+-- the weight that a metric gives to the way between two points
+abbrev pub IsDistance : Metric → ℤ × ℤ → ℤ × ℤ → ℕ → Type 0
+IsDistance Euc2d a b weight = IsEuclidean (square_between a b) weight

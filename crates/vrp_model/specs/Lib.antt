@@ -1,0 +1,10 @@
+pub mod Distance
+pub mod Grid
+pub mod Marks
+pub mod Places
+pub mod Problem
+pub mod Refusal
+pub mod Request
+pub mod Route
+pub mod Rows
+pub mod Stops

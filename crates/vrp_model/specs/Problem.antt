@@ -1,0 +1,39 @@
+-- The capacitated vehicle routing problem of TSPLIB 95 (section 1, type CVRP): the depot is place 0, and the customers are places 1 to m.
+use Rattle.std.specs.Prelude.{◌≡◌, ℕ, ◌+◌, ◌*◌, ◌-◌, ◌≤◌, List, length, slice_index}
+use Rattle.std.specs.List.{range_with_len}
+
+pub record Problem : Type 0 where
+  -- the file's node number of each place
+  pub nodes : List ℕ
+  -- the demand of each place; the depot's is 0
+  pub demands : List ℕ
+  -- row by row: from each place, to each place
+  pub weights : List ℕ
+  -- what one truck can carry
+  pub capacity : ℕ
+
+abbrev pub place_count : Problem → ℕ
+place_count p = length p.nodes
+
+abbrev pub customers : Problem → List ℕ
+customers p = range_with_len 1 (place_count p - 1)
+
+abbrev pub node_of : Problem → ℕ → ℕ
+node_of p place = slice_index p.nodes place
+
+abbrev pub demand_of : Problem → ℕ → ℕ
+demand_of p place = slice_index p.demands place
+
+abbrev pub weight_of : Problem → ℕ → ℕ → ℕ
+weight_of p from to = slice_index p.weights (from * place_count p + to)
+
+-- what is known of every problem that is made from a file
+pub record IsProblem (p : Problem) : Type 0 where
+  pub some_places : 1 ≤ place_count p
+  pub few_places : place_count p ≤ 1200
+  pub one_demand_each : length p.demands ≡ place_count p
+  pub weight_square : length p.weights ≡ place_count p * place_count p
+  pub small_weights : (k : ℕ) → slice_index p.weights k ≤ 1000000000
+  pub empty_depot : demand_of p 0 ≡ 0
+  pub fitting_demands : (place : ℕ) → demand_of p place ≤ p.capacity
+  pub small_capacity : p.capacity ≤ 1000000000

@@ -1,0 +1,73 @@
+-- What an instance is made from: demands by node number, listed depots, and the node that is chosen as the depot.
+-- (TSPLIB 95, section 1.2, DEMAND_SECTION and DEPOT_SECTION. That one of several depots is chosen, and the others are
+-- neither depot nor customers, is this project's rule.)
+use Rattle.std.specs.Prelude.{◌≡◌, ℕ, Option, unwrap_or, ◌-◌, ◌≤◌, ◌<◌, Bool, true, false, not, ◌==◌, List, ◌∷◌, length, map, filter, slice_index}
+use Rattle.std.specs.List.{range_with_len, flat_map, list_any}
+use Rattle.vrp_model.specs.Grid.{Grid, entry_at}
+use Rattle.vrp_model.specs.Problem.{Problem}
+
+pub record Request : Type 0 where
+  pub grid : Grid
+  -- of node 1, node 2 and so on
+  pub demands : List ℕ
+  pub capacity : ℕ
+  -- the listed depots
+  pub depots : List ℕ
+  -- the one that is to be the depot
+  pub chosen : ℕ
+
+-- the first listed depot is the depot, where none is chosen
+abbrev pub request_of : Grid → List ℕ → ℕ → List ℕ → Option ℕ → Request
+request_of grid demands capacity depots chosen = record { grid = grid; demands = demands; capacity = capacity; depots = depots; chosen = unwrap_or chosen (slice_index depots 0) }
+
+abbrev pub is_listed : List ℕ → ℕ → Bool
+is_listed depots node = list_any (λ depot. depot == node) depots
+
+abbrev pub node_demand : List ℕ → ℕ → ℕ
+node_demand demands node = slice_index demands (node - 1)
+
+-- the depot, and then the nodes that are not listed as depots, by rising number
+abbrev pub places_of : Request → List ℕ
+places_of request = request.chosen ∷ filter (λ node. not (is_listed request.depots node)) (range_with_len 1 request.grid.nodes)
+
+-- the problem that a request means
+abbrev pub problem_of : Request → Problem
+problem_of request = record {
+  nodes = places_of request;
+  demands = map (node_demand request.demands) (places_of request);
+  weights = flat_map (λ from. map (entry_at request.grid from) (places_of request)) (places_of request);
+  capacity = request.capacity;
+}
+
+-- a listed depot that has a demand
+pub record IsDepotWithDemand (depots demands : List ℕ) (node : ℕ) : Type 0 where
+  pub listed : is_listed depots node ≡ true
+  pub demand : 0 < node_demand demands node
+
+-- a customer whose demand no truck can carry
+pub record IsTooHeavy (depots demands : List ℕ) (capacity node : ℕ) : Type 0 where
+  pub from_one : 1 ≤ node
+  pub within : node ≤ length demands
+  pub unlisted : is_listed depots node ≡ false
+  pub heavy : capacity < node_demand demands node
+
+abbrev pub NoDepotHasDemand : List ℕ → List ℕ → Type 0
+NoDepotHasDemand depots demands = (node : ℕ) → ¬ IsDepotWithDemand depots demands node
+
+abbrev pub NoneIsTooHeavy : List ℕ → List ℕ → ℕ → Type 0
+NoneIsTooHeavy depots demands capacity = (node : ℕ) → ¬ IsTooHeavy depots demands capacity node
+
+-- no lower node has this fault
+pub record IsLowestDepotWithDemand (depots demands : List ℕ) (node : ℕ) : Type 0 where
+  pub has : IsDepotWithDemand depots demands node
+  pub lowest : (other : ℕ) → IsDepotWithDemand depots demands other → node ≤ other
+
+pub record IsLowestTooHeavy (depots demands : List ℕ) (capacity node : ℕ) : Type 0 where
+  pub has : IsTooHeavy depots demands capacity node
+  pub lowest : (other : ℕ) → IsTooHeavy depots demands capacity other → node ≤ other
+
+-- the request means a problem
+pub record IsAcceptable (request : Request) : Type 0 where
+  pub depots_empty : NoDepotHasDemand request.depots request.demands
+  pub chosen_listed : is_listed request.depots request.chosen ≡ true
+  pub customers_fit : NoneIsTooHeavy request.depots request.demands request.capacity

@@ -1,0 +1,37 @@
+-- Routes and plans of the capacitated vehicle routing problem (TSPLIB 95, section 1, type CVRP).
+use Rattle.std.specs.Prelude.{◌≡◌, ◌≢◌, ℕ, ◌+◌, ◌≤◌, List, [], ◌∷◌, ◌++◌}
+use Rattle.std.specs.List.{All, concat, sum_by}
+use Rattle.std.specs.List.Sorted.{IsPermutation}
+use Rattle.vrp_model.specs.Problem.{Problem, customers, demand_of, weight_of}
+
+abbrev pub load_of : Problem → List ℕ → ℕ
+load_of p stops = sum_by (demand_of p) stops
+
+-- from a place through the stops, to the last of them
+abbrev pub cost_along : Problem → ℕ → List ℕ → ℕ
+cost_along p at [] = 0
+cost_along p at (stop ∷ stops) = weight_of p at stop + cost_along p stop stops
+
+-- from the depot through the stops, and back
+abbrev pub route_cost : Problem → List ℕ → ℕ
+route_cost p stops = cost_along p 0 (stops ++ 0 ∷ [])
+
+abbrev pub plan_cost : Problem → List (List ℕ) → ℕ
+plan_cost p routes = sum_by (route_cost p) routes
+
+-- each customer is served once, and no truck is overloaded
+pub record IsLawful (p : Problem) (routes : List (List ℕ)) : Type 0 where
+  -- each customer stands in one route, once, and nothing else stands in any
+  pub served : IsPermutation (concat routes) (customers p)
+  pub stops : All (λ r. r ≢ []) routes
+  pub fits : All (λ r. load_of p r ≤ p.capacity) routes
+
+-- routes, and what they are said to cost
+pub record PricedPlan : Type 0 where
+  pub routes : List (List ℕ)
+  pub cost : ℕ
+
+-- a lawful plan of the problem, with its true cost
+pub record IsPlanOf (p : Problem) (plan : PricedPlan) : Type 0 where
+  pub lawful : IsLawful p plan.routes
+  pub priced : plan.cost ≡ plan_cost p plan.routes

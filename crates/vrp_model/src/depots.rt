@@ -1,0 +1,79 @@
+//! The listed depots of a file, and the nodes that are at fault under them.
+ghost use Rattle.std.specs.Prelude.{◌≡◌, ℕ, ◌+◌, ◌-◌, ◌≤◌, ◌<◌, MatchOption, List, length, slice_index, false};
+ghost use Rattle.vrp_model.specs.Request.{is_listed, NoDepotHasDemand, NoneIsTooHeavy, IsLowestDepotWithDemand, IsLowestTooHeavy};
+
+use std::marker::Model;
+
+// A mark for each node number up to the most nodes of a file.
+const MARKS: usize = 1_201;
+
+/// The listed depots, with a mark for each node: a look-up takes one step, however often a depot is listed.
+#[derive(Drop)]
+pub(crate) struct Depots<'a> {
+    listed: &'a [u16],
+    marks: [bool; MARKS],
+}
+
+impl<'a> Model for Depots<'a> {
+    ghost use Rattle.std.specs.Prelude.{List, ℕ};
+    ghost use Rattle.vrp_model.specs.Marks.{AreMarks};
+
+    ghost Value = { List ℕ };
+
+    ghost view = { λ d. d.listed.now };
+
+    ghost invariant = { λ d. AreMarks d.listed.now d.marks };
+}
+
+impl<'a> Depots<'a> {
+    /// Marks the listed nodes.
+    pub(crate) fn new(listed: &'a [u16]) -> Depots<'a>
+        requires { (k : ℕ) → slice_index listed.now k ≤ 1200 }
+        ensures { result ≡ listed.now }
+    {
+        let mut marks = [false; MARKS];
+        for depot in listed {
+            marks[usize::from(*depot)] = true;
+        }
+        Depots { listed, marks }
+    }
+
+    /// Whether a node is listed.
+    pub(crate) fn contains(&self, node: u16) -> bool
+        requires { node ≤ 1200 }
+        ensures { result ≡ is_listed self.now node }
+    {
+        self.marks[usize::from(node)]
+    }
+
+    /// The lowest listed node that has a demand.
+    pub(crate) fn lowest_with_demand(&self, demands: &[u64]) -> Option<u16>
+        requires few { length demands.now ≤ 1200 }
+        requires from_one { is_listed self.now 0 ≡ false }
+        ensures { MatchOption result (NoDepotHasDemand self.now demands.now) (IsLowestDepotWithDemand self.now demands.now) }
+    {
+        let count = demands.len() as u16;
+        for index in 0..count {
+            let node = index + 1;
+            if self.contains(node) && demands[usize::from(index)] != 0 {
+                return Some(node);
+            }
+        }
+        None
+    }
+
+    /// The lowest node that is not listed and has a demand above the capacity.
+    pub(crate) fn lowest_too_heavy(&self, demands: &[u64], capacity: u64) -> Option<u16>
+        requires few { length demands.now ≤ 1200 }
+        ensures { MatchOption result (NoneIsTooHeavy self.now demands.now capacity) (IsLowestTooHeavy self.now demands.now capacity) }
+    {
+        let count = demands.len() as u16;
+        for index in 0..count {
+            let node = index + 1;
+            if !self.contains(node) && demands[usize::from(index)] > capacity {
+                return Some(node);
+            }
+        }
+        None
+    }
+}

@@ -1,0 +1,163 @@
+//! An instance of the problem: the depot is place 0, and the customers are places 1 to m by rising node number.
+ghost use Rattle.std.specs.Prelude.{◌≡◌, ℕ, ◌+◌, ◌*◌, ◌-◌, ◌≤◌, ◌<◌, Option, unwrap_or, IfOk, IfErr, OnOk, Bool, not, filter, map, List, ◌∷◌, ◌++◌, length, slice_index, true, false};
+ghost use Rattle.std.specs.List.{range_with_len, flat_map};
+ghost use Rattle.vrp_model.specs.Grid.{entry_at};
+ghost use Rattle.vrp_model.specs.Problem.{place_count, node_of, demand_of, weight_of, IsProblem};
+ghost use Rattle.vrp_model.specs.Request.{is_listed, node_demand, IsAcceptable, problem_of, NoDepotHasDemand, NoneIsTooHeavy};
+
+use crate::depots::Depots;
+use crate::places::{demands_of, places, weights_between};
+use crate::weights::Weights;
+use std::alloc::{AllocError, Global};
+use std::marker::Model;
+use thiserror::Error;
+
+/// Why no instance was made: the first fault in this order. Each names the lowest node that has it.
+#[derive(Clone, Copy, Debug, PartialEq, Eq, Error)]
+pub enum InstanceError {
+    /// A listed depot has a demand.
+    #[error("node {0}: a depot has a demand")]
+    DepotDemand(u16),
+    /// The chosen node is not listed as a depot.
+    #[error("node {0}: not a depot")]
+    NotADepot(u16),
+    /// A customer's demand is above the capacity.
+    #[error("node {0}: demand above capacity")]
+    DemandOverCapacity(u16),
+    /// A growth was refused. The faults are looked for without memory, so none of them is there.
+    #[error("out of memory")]
+    OutOfMemory,
+}
+
+/// An instance of the problem.
+#[derive(Debug, Drop)]
+pub struct Instance {
+    nodes: Vec<u16>,
+    demands: Vec<u64>,
+    weights: Vec<u32>,
+    capacity: u64,
+}
+
+impl Model for Instance {
+    ghost use Rattle.vrp_model.specs.Problem.{Problem, IsProblem};
+
+    ghost Value = { Problem };
+
+    ghost view = { λ a. record { nodes = a.nodes.items; demands = a.demands.items; weights = a.weights.items; capacity = a.capacity } };
+
+    ghost invariant = { λ a. IsProblem (record { nodes = a.nodes.items; demands = a.demands.items; weights = a.weights.items; capacity = a.capacity }) };
+}
+
+impl Instance {
+    ghost use Rattle.vrp_model.specs.Request.{request_of};
+    ghost use Rattle.vrp_model.specs.Refusal.{IsRefusal};
+
+    /// The instance of a file's weights, its demands by node number, what a truck can carry, and its listed depots.
+    /// The depot is the chosen one, or else the first that is listed. A fault is looked for in the order of
+    /// `InstanceError`, and before any growth.
+    pub fn new(
+        alloc: Global,
+        weights: Weights,
+        demands: &[u64],
+        capacity: u64,
+        depots: &[u16],
+        chosen: Option<u16>,
+    ) -> Result<Instance, InstanceError>
+        requires one_demand_each { length demands.now ≡ weights.nodes }
+        requires some_depot { 0 < length depots.now }
+        requires depots_from_one { (k : ℕ) → k < length depots.now → 1 ≤ slice_index depots.now k }
+        requires depots_within { (k : ℕ) → k < length depots.now → slice_index depots.now k ≤ weights.nodes }
+        requires small_capacity { capacity ≤ 1000000000 }
+        ensures acceptable { OnOk result (IsAcceptable (request_of weights demands.now capacity depots.now chosen)) }
+        ensures value { IfOk result (λ instance. instance ≡ problem_of (request_of weights demands.now capacity depots.now chosen)) }
+        ensures refused { IfErr result (IsRefusal (request_of weights demands.now capacity depots.now chosen)) }
+    {
+        let depot = chosen.unwrap_or(depots[0]);
+        let listed = Depots::new(depots);
+        if let Some(node) = listed.lowest_with_demand(demands) {
+            return Err(InstanceError::DepotDemand(node));
+        }
+        if !depots.contains(&depot) {
+            return Err(InstanceError::NotADepot(depot));
+        }
+        if let Some(node) = listed.lowest_too_heavy(demands, capacity) {
+            return Err(InstanceError::DemandOverCapacity(node));
+        }
+        match Instance::at_depot(alloc, &weights, demands, capacity, &listed, depot) {
+            Ok(instance) => Ok(instance),
+            Err(_) => Err(InstanceError::OutOfMemory),
+        }
+    }
+
+    // The instance of a request that has no fault.
+    fn at_depot(
+        alloc: Global,
+        weights: &Weights,
+        demands: &[u64],
+        capacity: u64,
+        depots: &Depots<'_>,
+        depot: u16,
+    ) -> Result<Instance, AllocError>
+        requires one_demand_each { length demands.now ≡ weights.now.nodes }
+        requires from_one { 1 ≤ depot }
+        requires within { depot ≤ weights.now.nodes }
+        requires small_capacity { capacity ≤ 1000000000 }
+        requires acceptable { IsAcceptable (record { grid = weights.now; demands = demands.now; capacity = capacity; depots = depots.now; chosen = depot }) }
+        ensures { IfOk result (λ instance. instance ≡ problem_of (record { grid = weights.now; demands = demands.now; capacity = capacity; depots = depots.now; chosen = depot })) }
+    {
+        let nodes = places(alloc, weights.nodes(), depots, depot)?;
+        let weights = weights_between(alloc, weights, &nodes)?;
+        let demands = demands_of(alloc, &nodes, demands)?;
+        Ok(Instance {
+            nodes,
+            demands,
+            weights,
+            capacity,
+        })
+    }
+
+    /// How many customers there are: from 0 to 1,199.
+    pub fn customers(&self) -> u16
+        ensures value { result + 1 ≡ place_count self.now }
+        ensures few { result < 1200 }
+        // What is known of every instance.
+        ensures problem { IsProblem self.now }
+    {
+        (self.nodes.len() - 1) as u16
+    }
+
+    /// The file's node number of a place.
+    pub fn node(&self, place: u16) -> u16
+        requires { place < place_count self.now }
+        ensures { result ≡ node_of self.now place }
+    {
+        self.nodes[usize::from(place)]
+    }
+
+    /// The demand of a place; the depot's is 0.
+    pub fn demand(&self, place: u16) -> u64
+        requires { place < place_count self.now }
+        ensures value { result ≡ demand_of self.now place }
+        ensures fits { result ≤ self.now.capacity }
+    {
+        self.demands[usize::from(place)]
+    }
+
+    /// What one truck can carry.
+    pub fn capacity(&self) -> u64
+        ensures { result ≡ self.now.capacity }
+    {
+        self.capacity
+    }
+
+    /// The weight of the way from one place to another.
+    pub fn weight(&self, from: u16, to: u16) -> u64
+        requires from_within { from < place_count self.now }
+        requires to_within { to < place_count self.now }
+        ensures value { result ≡ weight_of self.now from to }
+        ensures small { result ≤ 1000000000 }
+    {
+        let row = usize::from(from) * self.nodes.len();
+        u64::from(self.weights[row + usize::from(to)])
+    }
+}

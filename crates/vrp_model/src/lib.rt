@@ -1,0 +1,19 @@
+//! The capacitated vehicle routing problem: exact weights, instances and plans, and the definitions that every other
+//! crate's promises cite (`specs/`).
+#![tactic(auto)]
+
+mod depots;
+mod instance;
+mod memory;
+mod metric;
+mod places;
+mod plan;
+mod root;
+mod weights;
+
+pub use instance::{Instance, InstanceError};
+pub use memory::NoMemory;
+pub use metric::Metric;
+pub use plan::Plan;
+pub use root::isqrt;
+pub use weights::Weights;

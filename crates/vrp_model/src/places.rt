@@ -1,0 +1,91 @@
+//! The places of an instance: which nodes they are, their demands, and the weights between them.
+ghost use Rattle.std.specs.Prelude.{◌≡◌, ℕ, ◌*◌, ◌≤◌, ◌<◌, true, IfOk, OnOk, ◌++◌, length, map, slice_index, vec_len};
+ghost use Rattle.std.specs.List.{flat_map};
+ghost use Rattle.vrp_model.specs.Grid.{entry_at};
+ghost use Rattle.vrp_model.specs.Request.{is_listed, node_demand};
+ghost use Rattle.vrp_model.specs.Places.{ArePlaces};
+
+use crate::depots::Depots;
+use crate::weights::Weights;
+use std::alloc::{AllocError, Global};
+
+/// The depot's node, and then each node that is not listed as a depot, by rising number.
+pub(crate) fn places(
+    alloc: Global,
+    nodes: u16,
+    depots: &Depots<'_>,
+    depot: u16,
+) -> Result<Vec<u16>, AllocError>
+    requires few { nodes ≤ 1200 }
+    requires from_one { 1 ≤ depot }
+    requires listed { is_listed depots.now depot ≡ true }
+    ensures { IfOk result (λ places. ArePlaces depots.now depot nodes places.items) }
+{
+    let mut places = Vec::with_capacity(alloc, usize::from(nodes) + 1)?;
+    places.push(depot)?;
+    for index in 0..nodes {
+        let node = index + 1;
+        if !depots.contains(node) {
+            places.push(node)?;
+        }
+    }
+    Ok(places)
+}
+
+/// The demand of each place.
+pub(crate) fn demands_of(
+    alloc: Global,
+    places: &[u16],
+    demands: &[u64],
+) -> Result<Vec<u64>, AllocError>
+    requires from_one { (k : ℕ) → k < length places.now → 1 ≤ slice_index places.now k }
+    requires within { (k : ℕ) → k < length places.now → slice_index places.now k ≤ length demands.now }
+    ensures { IfOk result (λ found. found.items ≡ map (node_demand demands.now) places.now) }
+{
+    let mut found = Vec::with_capacity(alloc, places.len())?;
+    for node in places {
+        found.push(demands[usize::from(*node) - 1])?;
+    }
+    Ok(found)
+}
+
+/// The weight from each place to each place, row by row.
+pub(crate) fn weights_between(
+    alloc: Global,
+    weights: &Weights,
+    places: &[u16],
+) -> Result<Vec<u32>, AllocError>
+    requires few { length places.now ≤ 1200 }
+    requires from_one { (k : ℕ) → k < length places.now → 1 ≤ slice_index places.now k }
+    requires within { (k : ℕ) → k < length places.now → slice_index places.now k ≤ weights.now.nodes }
+    ensures value { IfOk result (λ entries. entries.items ≡ flat_map (λ from. map (entry_at weights.now from) places.now) places.now) }
+    ensures square { IfOk result (λ entries. vec_len entries ≡ length places.now * length places.now) }
+    ensures small { IfOk result (λ entries. (k : ℕ) → slice_index entries.items k ≤ 1000000000) }
+{
+    let mut entries = Vec::with_capacity(alloc, places.len() * places.len())?;
+    for from in places {
+        push_row(&mut entries, weights, *from, places)?;
+    }
+    Ok(entries)
+}
+
+// Appends the weights from one node to each place.
+fn push_row(
+    entries: &mut Vec<u32>,
+    weights: &Weights,
+    from: u16,
+    places: &[u16],
+) -> Result<(), AllocError>
+    requires from_one { 1 ≤ from }
+    requires from_within { from ≤ weights.now.nodes }
+    requires to_one { (k : ℕ) → k < length places.now → 1 ≤ slice_index places.now k }
+    requires to_within { (k : ℕ) → k < length places.now → slice_index places.now k ≤ weights.now.nodes }
+    requires small { (k : ℕ) → slice_index entries.old.items k ≤ 1000000000 }
+    ensures row { OnOk result (entries.new.items ≡ entries.old.items ++ map (entry_at weights.now from) places.now) }
+    ensures still_small { (k : ℕ) → slice_index entries.new.items k ≤ 1000000000 }
+{
+    for to in places {
+        entries.push(weights.at(from, *to) as u32)?;
+    }
+    Ok(())
+}

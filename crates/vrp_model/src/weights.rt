@@ -1,0 +1,135 @@
+//! The weights between the nodes of a file.
+ghost use Rattle.std.specs.Prelude.{◌≡◌, ◌+◌, ◌*◌, ◌≤◌, ◌<◌, All, IfOk, length, vec_len, vec_capacity};
+ghost use Rattle.vrp_model.specs.Grid.{entry_at, IsCoordinate};
+ghost use Rattle.vrp_model.specs.Rows.{AreDistances, IsDistanceAt};
+
+use crate::memory::NoMemory;
+use crate::metric::Metric;
+use std::alloc::Global;
+use std::marker::Model;
+
+/// A weight from each node of a file to each node; nodes are numbered from 1.
+#[derive(Debug, Drop)]
+pub struct Weights {
+    nodes: u16,
+    entries: Vec<u32>,
+}
+
+impl Model for Weights {
+    ghost use Rattle.vrp_model.specs.Grid.{Grid, IsGrid};
+
+    ghost Value = { Grid };
+
+    ghost view = { λ w. record { nodes = w.nodes; entries = w.entries.items } };
+
+    ghost invariant = { λ w. IsGrid (record { nodes = w.nodes; entries = w.entries.items }) };
+}
+
+impl Weights {
+    ghost use Rattle.vrp_model.specs.Grid.{HasDistances};
+
+    /// The weights between these points by a metric: node k, from 1, has the k-th point. Each pair's distance is
+    /// computed once.
+    pub fn points(alloc: Global, metric: Metric, points: &[(i64, i64)]) -> Result<Weights, NoMemory>
+        requires some { 1 ≤ length points.now }
+        requires few { length points.now ≤ 1200 }
+        requires within { All (λ point. IsCoordinate point.0 × IsCoordinate point.1) points.now }
+        ensures { IfOk result (λ grid. HasDistances metric points.now grid) }
+    {
+        let nodes = points.len();
+        let mut entries = Vec::with_capacity(alloc, nodes * nodes)?;
+        for row in 0..nodes {
+            push_row(&mut entries, metric, points, row);
+        }
+        Ok(Weights {
+            nodes: nodes as u16,
+            entries,
+        })
+    }
+
+    /// How many nodes there are: from 1 to 1,200.
+    pub fn nodes(&self) -> u16
+        ensures value { result ≡ self.now.nodes }
+        ensures some { 1 ≤ result }
+        ensures few { result ≤ 1200 }
+    {
+        self.nodes
+    }
+
+    /// The weight of the way from one node to another.
+    pub fn at(&self, from: u16, to: u16) -> u64
+        requires from_one { 1 ≤ from }
+        requires from_within { from ≤ self.now.nodes }
+        requires to_one { 1 ≤ to }
+        requires to_within { to ≤ self.now.nodes }
+        ensures value { result ≡ entry_at self.now from to }
+        ensures small { result ≤ 1000000000 }
+    {
+        let nodes = usize::from(self.nodes);
+        let row = usize::from(from) - 1;
+        let column = usize::from(to) - 1;
+        u64::from(self.entries[row * nodes + column])
+    }
+}
+
+/// Enters the weights from one point to each, after the rows of the points before it.
+fn push_row(entries: &mut Vec<u32>, metric: Metric, points: &[(i64, i64)], row: usize)
+    requires few { length points.now ≤ 1200 }
+    requires within { All (λ point. IsCoordinate point.0 × IsCoordinate point.1) points.now }
+    requires row_within { row < length points.now }
+    requires next { vec_len entries.old ≡ row * length points.now }
+    requires room { vec_len entries.old + length points.now ≤ vec_capacity entries.old }
+    requires so_far { AreDistances metric points.now entries.old.items }
+    ensures len { vec_len entries.new ≡ vec_len entries.old + length points.now }
+    ensures capacity { vec_capacity entries.new ≡ vec_capacity entries.old }
+    ensures so_far { AreDistances metric points.now entries.new.items }
+{
+    for column in 0..points.len() {
+        let weight = next_weight(entries, metric, points, row, column);
+        entries.push_reserved(weight);
+    }
+}
+
+/// The weight whose entry comes next. Left of the diagonal it is that of the way back, which is entered already.
+fn next_weight(
+    entries: &[u32],
+    metric: Metric,
+    points: &[(i64, i64)],
+    row: usize,
+    column: usize,
+) -> u32
+    requires few { length points.now ≤ 1200 }
+    requires within { All (λ point. IsCoordinate point.0 × IsCoordinate point.1) points.now }
+    requires row_within { row < length points.now }
+    requires column_within { column < length points.now }
+    requires next { length entries.now ≡ row * length points.now + column }
+    requires so_far { AreDistances metric points.now entries.now }
+    ensures distance { IsDistanceAt metric points.now row column result }
+    ensures small { result ≤ 1000000000 }
+{
+    if column < row {
+        entries[column * points.len() + row]
+    } else if column == row {
+        0
+    } else {
+        metric.distance(points[row], points[column]) as u32
+    }
+}
+
+#[cfg(test)]
+mod tests {
+    use super::*;
+    use std::test::Fail;
+
+    #[test]
+    fn weights_of_three_points(rt: HostRuntime) -> Result<(), Fail> {
+        let weights = Weights::points(rt.alloc(), Metric::Euc2d, &[(0, 0), (3, 4), (6, 8)])?;
+        assert_eq!(rt; weights.nodes(), 3);
+        assert_eq!(rt; weights.at(1, 2), 5);
+        assert_eq!(rt; weights.at(2, 1), 5);
+        assert_eq!(rt; weights.at(1, 3), 10);
+        assert_eq!(rt; weights.at(2, 3), 5);
+        assert_eq!(rt; weights.at(2, 2), 0);
+        Ok(())
+    }
+}
