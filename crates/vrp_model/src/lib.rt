@@ -4,6 +4,7 @@
 
 mod depots;
 mod instance;
+mod law;
 mod memory;
 mod metric;
 mod places;
@@ -12,6 +13,7 @@ mod root;
 mod weights;
 
 pub use instance::{Instance, InstanceError};
+pub use law::one_distance;
 pub use memory::NoMemory;
 pub use metric::Metric;
 pub use plan::Plan;
