@@ -1,0 +1,30 @@
+-- What the program prints: a line for each route, the cost, and the verdict.
+use Rattle.std.specs.Prelude.{ℕ, ◌+◌, List, [], ◌∷◌, ◌++◌, codes, decimal}
+use Rattle.std.specs.List.{flat_map}
+use Rattle.vrp_model.specs.Problem.{Problem, node_of}
+use Rattle.vrp_model.specs.Route.{PricedPlan}
+use Rattle.vrp_command.specs.declared.verdict.Verdict.{Verdict}
+use Rattle.vrp_command.specs.declared.verdict.Verdict.TheVariants.{Proven, Open}
+
+-- the file's node numbers of a route's stops, with a space before each
+abbrev pub stops_text : Problem → List ℕ → List ℕ
+stops_text p stops = flat_map (λ place. codes " " ++ decimal (node_of p place)) stops
+
+abbrev pub route_line : Problem → ℕ → List ℕ → List ℕ
+route_line p number stops = codes "Route #" ++ decimal number ++ codes ":" ++ stops_text p stops ++ codes "\n"
+
+-- a line for each route, numbered from here on
+abbrev pub route_lines : Problem → ℕ → List (List ℕ) → List ℕ
+route_lines p number [] = []
+route_lines p number (stops ∷ routes) = route_line p number stops ++ route_lines p (number + 1) routes
+
+abbrev pub cost_line : ℕ → List ℕ
+cost_line cost = codes "Cost " ++ decimal cost ++ codes "\n"
+
+-- behind `Open` stands a number below which no lawful plan costs
+abbrev pub verdict_line : Verdict → List ℕ
+verdict_line Proven = codes "Proven\n"
+verdict_line (Open low) = codes "Open " ++ decimal low ++ codes "\n"
+
+abbrev pub report_of : Problem → PricedPlan → Verdict → List ℕ
+report_of p plan verdict = route_lines p 1 plan.routes ++ cost_line plan.cost ++ verdict_line verdict

@@ -1,0 +1,91 @@
+//! Why a run failed: the text of each fault, and the exit status of each outcome.
+ghost use Rattle.std.specs.Prelude.{◌≡◌, Some, IfOk, Result, string_bytes};
+ghost use Rattle.vrp_command.specs.Fault.{fault_text, exit_code, refusal_fault};
+ghost use Rattle.vrp_command.specs.declared.fault.RunError.TheVariants.{OutOfMemory};
+
+use crate::options::Status;
+use std::alloc::{AllocError, Global};
+use std::error::Error;
+use std::fmt;
+use vrp_model::{InstanceError, NoMemory};
+
+/// The bytes that were read are no plain file.
+#[derive(Clone, Copy, Debug, PartialEq, Eq)]
+pub struct NotPlain;
+
+/// Why a run failed. Nothing was written, but for `Write`, where a part of the report may have gone out.
+#[derive(Clone, Copy, Debug, PartialEq, Eq)]
+pub enum RunError {
+    /// The file is refused.
+    Text(NotPlain),
+    /// A growth was refused.
+    OutOfMemory,
+    /// A read failed.
+    Read,
+    /// A write failed, or the flush at the end.
+    Write,
+}
+
+impl fmt::Display for RunError {
+    ghost output = { λ fault. Some (fault_text fault) };
+
+    fn fmt<W: fmt::Write>(&self, f: &mut fmt::Formatter<W>) -> fmt::Result {
+        f.write_str(match self {
+            RunError::Text(NotPlain) => "not a plain file",
+            RunError::OutOfMemory => "out of memory",
+            RunError::Read => "read fault",
+            RunError::Write => "write fault",
+        })
+    }
+}
+
+impl Error for RunError {}
+
+impl From<AllocError> for RunError {
+    ghost from_gives = { λ _ fault. fault ≡ OutOfMemory };
+
+    fn from(_refusal: AllocError) -> RunError {
+        RunError::OutOfMemory
+    }
+}
+
+impl From<NoMemory> for RunError {
+    ghost from_gives = { λ _ fault. fault ≡ OutOfMemory };
+
+    fn from(_refusal: NoMemory) -> RunError {
+        RunError::OutOfMemory
+    }
+}
+
+impl From<InstanceError> for RunError {
+    ghost from_gives = { λ refusal fault. fault ≡ refusal_fault refusal };
+
+    fn from(refusal: InstanceError) -> RunError {
+        match refusal {
+            InstanceError::OutOfMemory => RunError::OutOfMemory,
+            InstanceError::DepotDemand(_) => RunError::Text(NotPlain),
+            InstanceError::NotADepot(_) => RunError::Text(NotPlain),
+            InstanceError::DemandOverCapacity(_) => RunError::Text(NotPlain),
+        }
+    }
+}
+
+/// The exit status of an outcome: 0 proven, 1 open, 3 a refused file, 4 no memory, 5 a read or write fault.
+pub fn exit_status(outcome: &Result<Status, RunError>) -> u8
+    ensures { result ≡ exit_code outcome.now }
+{
+    match outcome {
+        Ok(Status::Proven) => 0,
+        Ok(Status::Open) => 1,
+        Err(RunError::Text(_)) => 3,
+        Err(RunError::OutOfMemory) => 4,
+        Err(RunError::Read) | Err(RunError::Write) => 5,
+    }
+}
+
+/// The text of a fault, without the program's name and without a line end.
+pub fn fault_line(alloc: Global, fault: &RunError) -> Result<String, NoMemory>
+    ensures { IfOk result (λ text. string_bytes text ≡ fault_text fault.now) }
+{
+    Ok(fault.to_string(alloc)?)
+}

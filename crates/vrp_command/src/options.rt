@@ -1,0 +1,38 @@
+//! How a run is asked for, and how it ended.
+ghost use Rattle.vrp_command.specs.Options.{IsDefault};
+
+/// How a run is asked for.
+#[derive(Clone, Copy, Debug, PartialEq, Eq)]
+pub struct Options {
+    /// Threads, from 1 to 64.
+    pub workers: u32,
+    /// Parts into which the search is to be cut, from 1 to 65,536.
+    pub pieces: u32,
+    /// Partial plans that may be looked at in each part, from 1 to 1,000,000,000,000.
+    pub budget: u64,
+    /// The node that is the depot, or else the first that the file lists.
+    pub depot: Option<u16>,
+}
+
+impl Default for Options {
+    ghost is_default = { IsDefault };
+
+    /// One worker, 64 pieces, 10,000,000 partial plans a piece, and the first listed depot.
+    fn default() -> Options {
+        Options {
+            workers: 1,
+            pieces: 64,
+            budget: 10_000_000,
+            depot: None,
+        }
+    }
+}
+
+/// The verdict on the plan that was printed.
+#[derive(Clone, Copy, Debug, PartialEq, Eq)]
+pub enum Status {
+    /// No lawful plan costs less.
+    Proven,
+    /// A lawful plan may cost less.
+    Open,
+}

@@ -1,0 +1,93 @@
+//! The report: a line for each route, the cost, and the verdict.
+ghost use Rattle.std.specs.Prelude.{◌≡◌, ℕ, ◌+◌, ◌<◌, OnOk, IfOk, List, ◌++◌, decimal, string_bytes, All};
+ghost use Rattle.vrp_model.specs.Problem.{place_count};
+ghost use Rattle.vrp_command.specs.Report.{route_line, route_lines, stops_text, verdict_line, report_of};
+
+use crate::verdict::Verdict;
+use itoa::Buffer;
+use std::alloc::{AllocError, Global};
+use vrp_model::{Instance, Plan};
+
+/// The report on a plan of the instance.
+pub(crate) fn report(
+    alloc: Global,
+    instance: &Instance,
+    plan: &Plan,
+    verdict: Verdict,
+) -> Result<String, AllocError>
+    requires { All (λ route. All (λ place. place < place_count instance.now) route) plan.now.routes }
+    ensures { IfOk result (λ text. string_bytes text ≡ report_of instance.now plan.now verdict) }
+{
+    let mut text = String::new(alloc);
+    push_routes(&mut text, instance, plan)?;
+    text.push_str("Cost ")?;
+    push_number(&mut text, plan.cost())?;
+    text.push_str("\n")?;
+    push_verdict(&mut text, verdict)?;
+    Ok(text)
+}
+
+// Appends a line for each route.
+fn push_routes(text: &mut String, instance: &Instance, plan: &Plan) -> Result<(), AllocError>
+    requires { All (λ route. All (λ place. place < place_count instance.now) route) plan.now.routes }
+    ensures { OnOk result (string_bytes text.new ≡ string_bytes text.old ++ route_lines instance.now 1 plan.now.routes) }
+{
+    for index in 0..plan.routes() {
+        push_route(text, instance, index + 1, plan.route(index))?;
+    }
+    Ok(())
+}
+
+// Appends the line of one route, which has this number.
+fn push_route(
+    text: &mut String,
+    instance: &Instance,
+    number: usize,
+    route: &[u16],
+) -> Result<(), AllocError>
+    requires { All (λ place. place < place_count instance.now) route.now }
+    ensures { OnOk result (string_bytes text.new ≡ string_bytes text.old ++ route_line instance.now number route.now) }
+{
+    text.push_str("Route #")?;
+    push_number(text, number as u64)?;
+    text.push_str(":")?;
+    push_stops(text, instance, route)?;
+    text.push_str("\n")?;
+    Ok(())
+}
+
+// Appends a space and the node number of each stop.
+fn push_stops(text: &mut String, instance: &Instance, route: &[u16]) -> Result<(), AllocError>
+    requires { All (λ place. place < place_count instance.now) route.now }
+    ensures { OnOk result (string_bytes text.new ≡ string_bytes text.old ++ stops_text instance.now route.now) }
+{
+    for place in route {
+        text.push_str(" ")?;
+        push_number(text, u64::from(instance.node(*place)))?;
+    }
+    Ok(())
+}
+
+// Appends the last line.
+fn push_verdict(text: &mut String, verdict: Verdict) -> Result<(), AllocError>
+    ensures { OnOk result (string_bytes text.new ≡ string_bytes text.old ++ verdict_line verdict) }
+{
+    match verdict {
+        Verdict::Proven => text.push_str("Proven\n")?,
+        Verdict::Open(low) => {
+            text.push_str("Open ")?;
+            push_number(text, low)?;
+            text.push_str("\n")?;
+        }
+    }
+    Ok(())
+}
+
+// Appends a number in decimal.
+fn push_number(text: &mut String, number: u64) -> Result<(), AllocError>
+    ensures { OnOk result (string_bytes text.new ≡ string_bytes text.old ++ decimal number) }
+{
+    let mut buffer = Buffer::new();
+    text.push_str(buffer.format(number))?;
+    Ok(())
+}
