@@ -1,0 +1,68 @@
+//! Plans as lists of routes, each a list of node numbers, and what they have to be.
+
+use crate::file::File;
+use std::alloc::{AllocError, Global};
+
+/// A route of its own for each customer, by rising number.
+pub fn singles(alloc: Global, file: &File) -> Result<Vec<Vec<i64>>, AllocError> {
+    let mut routes = Vec::new(alloc);
+    for node in 1..=file.nodes() {
+        if node != file.depot {
+            routes.push(Vec::from_slice(alloc, &[node])?)?;
+        }
+    }
+    Ok(routes)
+}
+
+/// Whether each customer is served once and nothing else is, no route is empty, and no truck is overloaded.
+pub fn is_lawful(file: &File, routes: &[Vec<i64>]) -> bool {
+    for node in 1..=file.nodes() {
+        let wanted = if node == file.depot { 0u64 } else { 1u64 };
+        let served = times_served(routes, node);
+        if served != wanted {
+            return false;
+        }
+    }
+    routes.iter().all(|route| !route.is_empty() && load(file, route) <= file.capacity)
+}
+
+// How often a node stands in the routes.
+fn times_served(routes: &[Vec<i64>], node: i64) -> u64 {
+    let mut times = 0u64;
+    for route in routes {
+        for stop in route {
+            if *stop == node {
+                times = times.saturating_add(1);
+            }
+        }
+    }
+    times
+}
+
+/// What the routes cost.
+pub fn cost(file: &File, routes: &[Vec<i64>]) -> u64 {
+    let mut cost = 0u64;
+    for route in routes {
+        cost = cost.saturating_add(route_cost(file, route));
+    }
+    cost
+}
+
+// From the depot through the stops, and back.
+fn route_cost(file: &File, route: &[i64]) -> u64 {
+    let mut cost = 0u64;
+    let mut at = file.depot;
+    for stop in route {
+        cost = cost.saturating_add(file.weight(at, *stop));
+        at = *stop;
+    }
+    cost.saturating_add(file.weight(at, file.depot))
+}
+
+fn load(file: &File, route: &[i64]) -> i64 {
+    let mut load = 0i64;
+    for stop in route {
+        load = load.saturating_add(file.demand(*stop));
+    }
+    load
+}
