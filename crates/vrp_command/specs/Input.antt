@@ -8,3 +8,9 @@ pub record IsInput (old new : Option (List ℕ)) (bytes : List ℕ) : Type 0 whe
   pub taken : Consumes old new bytes
   pub bounded : length bytes ≤ 16777217
   pub whole : length bytes < 16777217 → IsAtEnd new
+
+-- Some of the bytes that a reader has left, and no more than are read at most.
+pub record TakesSome (old new : Option (List ℕ)) : Type 0 where
+  pub bytes : List ℕ
+  pub taken : Consumes old new bytes
+  pub bounded : length bytes ≤ 16777217

@@ -35,6 +35,13 @@ pub record RefusesInput (unread_old unread_new : Option (List ℕ)) : Type 0 whe
   pub input : IsInput unread_old unread_new bytes
   pub refused : IsNotPlain bytes
 
+-- what was read is a plain file, and means a problem
+pub record AcceptsInput (unread_old unread_new : Option (List ℕ)) : Type 0 where
+  pub bytes : List ℕ
+  pub input : IsInput unread_old unread_new bytes
+  pub problem : Problem
+  pub meant : MeansProblem bytes problem
+
 -- a fact where the fault is that the file is refused
 abbrev pub OnRefusedFile : RunError → Type 0 → Type 0
 OnRefusedFile (fault.Text _) P = P

@@ -20,7 +20,7 @@ impl Book {
         Book { plan }
     }
 
-    /// Offers a plan, and tells whether the book keeps it from now on. Left open: which of the two it keeps.
+    /// Offers a plan, and tells whether the book keeps it from now on. Left open on purpose: which of the two it keeps.
     pub(crate) fn offer(&mut self, alloc: Global, plan: &Plan) -> Result<bool, NoMemory>
         // Where both plans are lawful plans of an instance, the book keeps a lawful plan of it.
         ensures lawful { (p : Problem) → IsPlanOf p self.old.plan → IsPlanOf p plan.now → IsPlanOf p self.new.plan }
@@ -38,5 +38,27 @@ impl Book {
         ensures { result.now ≡ self.now.plan }
     {
         &self.plan
+    }
+}
+
+#[cfg(test)]
+mod tests {
+    use super::*;
+    use crate::meaning::instance_of;
+    use crate::tests::{MIDDLE, SMALL};
+    use std::test::*;
+
+    #[test]
+    fn keeps_the_cheaper(rt: HostRuntime) -> Result<(), Fail> {
+        let far = instance_of(rt.alloc(), SMALL.as_bytes())?;
+        let near = instance_of(rt.alloc(), MIDDLE.as_bytes())?;
+        let far = Plan::singles(rt.alloc(), &far)?;
+        let near = Plan::singles(rt.alloc(), &near)?;
+        let mut book = Book::open(far.copy(rt.alloc())?);
+        for (offered, is_kept, cost) in [(&far, false, 30), (&near, true, 20), (&far, false, 20)] {
+            assert_eq!(rt; book.offer(rt.alloc(), offered)?, is_kept);
+            assert_eq!(rt; book.plan().cost(), cost);
+        }
+        Ok(())
     }
 }

@@ -2,7 +2,8 @@
 ghost use Rattle.std.specs.Prelude.{◌≡◌, ◌≢◌, None, IfOk, IfErr, OnOk, string_bytes};
 ghost use Rattle.std.specs.Io.KnownBytes.{Appends, Keeps};
 ghost use Rattle.vrp_command.specs.Meaning.{IsNotPlain};
-ghost use Rattle.vrp_command.specs.Run.{ReportsSingles, PrintsSingles, RefusesInput, OnRefusedFile};
+ghost use Rattle.vrp_command.specs.Run.{ReportsSingles, PrintsSingles, RefusesInput, AcceptsInput, OnRefusedFile};
+ghost use Rattle.vrp_command.specs.Input.{TakesSome};
 
 use crate::book::Book;
 use crate::fault::RunError;
@@ -27,6 +28,8 @@ pub fn run<R: Read, W: Write>(
     ensures open { IfOk result (λ status. status ≡ Status.Open) }
     ensures printed { OnOk result (PrintsSingles (R.remaining input.old) (R.remaining input.new) (W.contents output.old) (W.contents output.new)) }
     ensures refused { IfErr result (λ fault. OnRefusedFile fault (RefusesInput (R.remaining input.old) (R.remaining input.new))) }
+    ensures unwritten { IfErr result (λ fault. fault ≡ RunError.Write → AcceptsInput (R.remaining input.old) (R.remaining input.new)) }
+    ensures taken { TakesSome (R.remaining input.old) (R.remaining input.new) }
     ensures silent { IfErr result (λ fault. fault ≢ RunError.Write → Keeps (W.contents output.old) (W.contents output.new)) }
 {
     let bytes = read_input(alloc, input)?;

@@ -1,14 +1,12 @@
 //! Reading the input, up to one byte more than a file may have.
 ghost use Rattle.std.specs.Prelude.{◌≡◌, ℕ, ◌+◌, ◌≤◌, ◌<◌, ◌⊎◌, List, ◌++◌, length, IfOk, IfErr, vec_len};
 ghost use Rattle.std.specs.Io.KnownBytes.{Consumes, IsAtEnd};
-ghost use Rattle.vrp_command.specs.Input.{IsInput};
+ghost use Rattle.vrp_command.specs.Input.{IsInput, TakesSome};
 
 use crate::fault::RunError;
+use crate::plain::MAX_BYTES;
 use std::alloc::{AllocError, Global};
 use std::io::Read;
-
-/// The most bytes that a file may have.
-pub(crate) const MAX_BYTES: usize = 16_777_216;
 
 // How many bytes are asked for at once.
 const BUFFER: usize = 65_536;
@@ -16,6 +14,7 @@ const BUFFER: usize = 65_536;
 /// Reads to the end of the input, or to one byte more than a file may have. Each error of a read is a fault at once.
 pub(crate) fn read_input<R: Read>(alloc: Global, input: &mut R) -> Result<Vec<u8>, RunError>
     ensures read { IfOk result (λ bytes. IsInput (R.remaining input.old) (R.remaining input.new) bytes.items) }
+    ensures taken { TakesSome (R.remaining input.old) (R.remaining input.new) }
     ensures faults { IfErr result (λ fault. (fault ≡ RunError.OutOfMemory) ⊎ (fault ≡ RunError.Read)) }
 {
     let mut bytes = Vec::new(alloc);
@@ -44,6 +43,7 @@ fn read_once<R: Read>(
 ) -> Result<usize, RunError>
     ensures read { IfOk result (λ count. (more : List ℕ) × Consumes (R.remaining input.old) (R.remaining input.new) more
         × (bytes.new.items ≡ bytes.old.items ++ more) × (length more ≡ count)) }
+    ensures taken { (more : List ℕ) × Consumes (R.remaining input.old) (R.remaining input.new) more × (length more ≤ length buffer.old) }
     ensures bounded { IfOk result (λ count. count ≤ length buffer.old) }
     ensures end { IfOk result (λ count. count ≡ 0 → 0 < length buffer.old → IsAtEnd (R.remaining input.new)) }
     ensures faults { IfErr result (λ fault. (fault ≡ RunError.OutOfMemory) ⊎ (fault ≡ RunError.Read)) }

@@ -10,6 +10,8 @@ mod meaning;
 mod options;
 mod plain;
 mod report;
+#[cfg(test)]
+mod tests;
 mod verdict;
 
 pub use command::run;

@@ -9,4 +9,4 @@ mod sections;
 mod tests;
 
 pub(crate) use file::{PlainError, PlainFile};
-pub(crate) use reading::read_plain;
+pub(crate) use reading::{MAX_BYTES, read_plain};

@@ -1,7 +1,7 @@
 //! The report: a line for each route, the cost, and the verdict.
 ghost use Rattle.std.specs.Prelude.{◌≡◌, ℕ, ◌+◌, ◌<◌, OnOk, IfOk, List, ◌++◌, decimal, string_bytes, All};
 ghost use Rattle.vrp_model.specs.Problem.{place_count};
-ghost use Rattle.vrp_command.specs.Report.{route_line, route_lines, stops_text, verdict_line, report_of};
+ghost use Rattle.vrp_command.specs.Report.{route_line, route_lines, stops_text, cost_line, verdict_line, report_of};
 
 use crate::verdict::Verdict;
 use itoa::Buffer;
@@ -20,9 +20,7 @@ pub(crate) fn report(
 {
     let mut text = String::new(alloc);
     push_routes(&mut text, instance, plan)?;
-    text.push_str("Cost ")?;
-    push_number(&mut text, plan.cost())?;
-    text.push_str("\n")?;
+    push_cost(&mut text, plan.cost())?;
     push_verdict(&mut text, verdict)?;
     Ok(text)
 }
@@ -65,6 +63,16 @@ fn push_stops(text: &mut String, instance: &Instance, route: &[u16]) -> Result<(
         text.push_str(" ")?;
         push_number(text, u64::from(instance.node(*place)))?;
     }
+    Ok(())
+}
+
+// Appends the line of the cost.
+fn push_cost(text: &mut String, cost: u64) -> Result<(), AllocError>
+    ensures { OnOk result (string_bytes text.new ≡ string_bytes text.old ++ cost_line cost) }
+{
+    text.push_str("Cost ")?;
+    push_number(text, cost)?;
+    text.push_str("\n")?;
     Ok(())
 }
 

@@ -2,7 +2,7 @@
 
 /// What the last line of the report says of the plan above it.
 #[derive(Clone, Copy, Debug, PartialEq, Eq)]
-pub enum Verdict {
+pub(crate) enum Verdict {
     /// No lawful plan costs less.
     Proven,
     /// No lawful plan costs less than this.

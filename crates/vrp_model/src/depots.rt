@@ -4,7 +4,7 @@ ghost use Rattle.vrp_model.specs.Request.{is_listed, NoDepotHasDemand, NoneIsToo
 
 use std::marker::Model;
 
-// A mark for each node number up to the most nodes of a file.
+// A mark for each node number from 0 to 1,200, the most nodes of a file.
 const MARKS: usize = 1_201;
 
 /// The listed depots, with a mark for each node: a look-up takes one step, however often a depot is listed.

@@ -24,7 +24,7 @@ pub enum InstanceError {
     /// A customer's demand is above the capacity.
     #[error("node {0}: demand above capacity")]
     DemandOverCapacity(u16),
-    /// A growth was refused. The faults are looked for without memory, so none of them is there.
+    /// A growth was refused. The faults are looked for before any growth, so the request has none.
     #[error("out of memory")]
     OutOfMemory,
 }
@@ -77,6 +77,7 @@ impl Instance {
         if let Some(node) = listed.lowest_with_demand(demands) {
             return Err(InstanceError::DepotDemand(node));
         }
+        // The chosen node may be past every mark, so the list itself is looked through.
         if !depots.contains(&depot) {
             return Err(InstanceError::NotADepot(depot));
         }
@@ -159,5 +160,99 @@ impl Instance {
     {
         let row = usize::from(from) * self.nodes.len();
         u64::from(self.weights[row + usize::from(to)])
+    }
+}
+
+#[cfg(test)]
+mod tests {
+    use super::InstanceError::{DemandOverCapacity, DepotDemand, NotADepot, OutOfMemory};
+    use super::*;
+    use crate::fixture::{Case, three_nodes};
+    use std::test::Fail;
+
+    // A case, and the node and the demand of each place.
+    type Made<'a> = (Case<'a>, &'a [u16], &'a [u64]);
+
+    #[test]
+    fn places_of_cases(rt: HostRuntime) -> Result<(), Fail> {
+        let table: [Made<'_>; 6] = [
+            (case([0, 1, 1], &[1], None), &[1, 2, 3], &[0, 1, 1]),
+            (case([1, 0, 1], &[2], None), &[2, 1, 3], &[0, 1, 1]),
+            (case([0, 0, 1], &[1, 2], Some(2)), &[2, 3], &[0, 1]),
+            (case([0, 0, 1], &[1, 2], None), &[1, 3], &[0, 1]),
+            (case([0, 0, 1], &[1, 1, 2, 2, 1], None), &[1, 3], &[0, 1]),
+            (case([0, 0, 1], &[2, 1], None), &[2, 3], &[0, 1]),
+        ];
+        for (case, nodes, demands) in table {
+            let instance = three_nodes(&rt, rt.alloc(), case)?;
+            let places = instance.customers() + 1;
+            assert_eq!(rt; usize::from(places), nodes.len(), "{case:?}");
+            assert_eq!(rt; usize::from(places), demands.len(), "{case:?}");
+            for place in 0..places {
+                assert_eq!(rt; instance.node(place), nodes[usize::from(place)], "{case:?}");
+                assert_eq!(rt;
+                    instance.demand(place),
+                    demands[usize::from(place)],
+                    "{case:?}"
+                );
+            }
+            assert_eq!(rt; instance.capacity(), 2);
+        }
+        Ok(())
+    }
+
+    #[test]
+    fn weights_between_places(rt: HostRuntime) -> Result<(), Fail> {
+        let instance = three_nodes(&rt, rt.alloc(), case([0, 1, 1], &[1], None))?;
+        assert_eq!(rt; instance.customers(), 2);
+        for (from, to, weight) in [(0, 1, 5), (0, 2, 10), (1, 2, 5), (2, 1, 5), (2, 2, 0)] {
+            assert_eq!(rt; instance.weight(from, to), weight, "from {from} to {to}");
+        }
+        Ok(())
+    }
+
+    #[test]
+    fn refused_cases(rt: HostRuntime) {
+        let table: [(Case<'_>, InstanceError); 8] = [
+            (case([0, 0, 1], &[1, 2], Some(3)), NotADepot(3)),
+            (case([0, 0, 1], &[1, 2], Some(65_535)), NotADepot(65_535)),
+            (case([0, 3, 1], &[1], None), DemandOverCapacity(2)),
+            (case([0, 3, 3], &[1], None), DemandOverCapacity(2)),
+            // the first fault of two
+            (case([5, 3, 1], &[1], None), DepotDemand(1)),
+            (case([5, 0, 1], &[1], Some(2)), DepotDemand(1)),
+            (case([0, 3, 1], &[1], Some(3)), NotADepot(3)),
+            // the lowest node, though another is listed first
+            (case([1, 4, 0], &[2, 1], None), DepotDemand(1)),
+        ];
+        for (case, error) in table {
+            assert_eq!(rt;
+                three_nodes(&rt, rt.alloc(), case).err(),
+                Some(error),
+                "{case:?}"
+            );
+        }
+    }
+
+    #[test]
+    fn texts_of_errors(rt: HostRuntime) -> Result<(), Fail> {
+        let table = [
+            (DepotDemand(7), "node 7: a depot has a demand"),
+            (NotADepot(7), "node 7: not a depot"),
+            (DemandOverCapacity(7), "node 7: demand above capacity"),
+            (OutOfMemory, "out of memory"),
+        ];
+        for (error, text) in table {
+            assert_eq!(rt; error.to_string(rt.alloc())?.as_str(), text);
+        }
+        Ok(())
+    }
+
+    fn case<'a>(demands: [u64; 3], depots: &'a [u16], chosen: Option<u16>) -> Case<'a> {
+        Case {
+            demands,
+            depots,
+            chosen,
+        }
     }
 }

@@ -3,6 +3,8 @@
 #![tactic(auto)]
 
 mod depots;
+#[cfg(test)]
+mod fixture;
 mod instance;
 mod law;
 mod memory;

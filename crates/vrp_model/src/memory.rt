@@ -5,7 +5,7 @@ use std::alloc::{AllocError, AllocFailed};
 use thiserror::Error;
 
 /// A growth was refused: there was no memory for it.
-#[derive(Clone, Copy, Debug, PartialEq, Eq, Drop, Error)]
+#[derive(Clone, Copy, Debug, PartialEq, Eq, Error)]
 #[error("out of memory")]
 pub struct NoMemory;
 
@@ -18,5 +18,17 @@ impl From<AllocError> for NoMemory {
 impl<T: Drop> From<AllocFailed<T>> for NoMemory {
     fn from(_refusal: AllocFailed<T>) -> NoMemory {
         NoMemory
+    }
+}
+
+#[cfg(test)]
+mod tests {
+    use super::*;
+    use std::test::Fail;
+
+    #[test]
+    fn text(rt: HostRuntime) -> Result<(), Fail> {
+        assert_eq!(rt; NoMemory.to_string(rt.alloc())?.as_str(), "out of memory");
+        Ok(())
     }
 }

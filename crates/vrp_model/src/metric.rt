@@ -34,7 +34,7 @@ impl Metric {
     }
 }
 
-/// The whole number that is nearest to the root of a square.
+// The whole number that is nearest to the root of a square.
 fn nearest_root(square: u64) -> u64
     ensures { IsEuclidean square result }
 {

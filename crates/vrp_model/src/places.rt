@@ -21,7 +21,7 @@ pub(crate) fn places(
     requires listed { is_listed depots.now depot ≡ true }
     ensures { IfOk result (λ places. ArePlaces depots.now depot nodes places.items) }
 {
-    let mut places = Vec::with_capacity(alloc, usize::from(nodes) + 1)?;
+    let mut places = Vec::with_capacity(alloc, usize::from(nodes))?;
     places.push(depot)?;
     for index in 0..nodes {
         let node = index + 1;

@@ -9,17 +9,17 @@ use crate::memory::NoMemory;
 use std::alloc::Global;
 use std::marker::Model;
 
-/// The stops of one route, by their indexes in the plan's list.
+// The stops of one route, by their indexes in the plan's list.
 #[derive(Clone, Copy, Debug, PartialEq, Eq)]
-pub struct Span {
-    pub start: usize,
-    pub end: usize,
+struct Span {
+    start: usize,
+    end: usize,
 }
 
 /// A plan: routes, each a list of places, and their cost.
 #[derive(Debug, Drop)]
 pub struct Plan {
-    // the stops of all routes, one route after the other
+    // The stops of all routes, one route after the other.
     stops: Vec<u16>,
     routes: Vec<Span>,
     cost: u64,
@@ -108,11 +108,83 @@ impl Plan {
     }
 
     /// The places of a route, in the order in which they are served.
-    pub fn route(&self, k: usize) -> &[u16]
-        requires { k < length self.now.routes }
-        ensures { slice_get self.now.routes k ≡ Some result.now }
+    pub fn route(&self, index: usize) -> &[u16]
+        requires { index < length self.now.routes }
+        ensures { slice_get self.now.routes index ≡ Some result.now }
     {
-        let span = self.routes[k];
+        let span = self.routes[index];
         &self.stops[span.start..span.end]
+    }
+}
+
+#[cfg(test)]
+mod tests {
+    use super::*;
+    use crate::fixture::{Case, three_nodes};
+    use crate::metric::Metric;
+    use crate::weights::Weights;
+    use std::test::Fail;
+
+    #[test]
+    fn one_truck_for_each_customer(rt: HostRuntime) -> Result<(), Fail> {
+        let case = Case {
+            demands: [0, 1, 1],
+            depots: &[1],
+            chosen: None,
+        };
+        let instance = three_nodes(&rt, rt.alloc(), case)?;
+        let plan = Plan::singles(rt.alloc(), &instance)?;
+        let copy = plan.copy(rt.alloc())?;
+        for plan in [&plan, &copy] {
+            assert_eq!(rt; plan.routes(), 2);
+            assert_eq!(rt; plan.route(0), [1].as_slice());
+            assert_eq!(rt; plan.route(1), [2].as_slice());
+            assert_eq!(rt; plan.cost(), 30);
+        }
+        Ok(())
+    }
+
+    #[test]
+    fn costs_of_singles(rt: HostRuntime) -> Result<(), Fail> {
+        let table: [([u64; 3], &[u16], Option<u16>, usize, u64); 5] = [
+            ([1, 0, 1], &[2], None, 2, 20),
+            ([0, 0, 1], &[1, 2], Some(2), 1, 10),
+            ([0, 0, 1], &[1, 2], None, 1, 20),
+            ([0, 0, 1], &[1, 1, 2, 2, 1], None, 1, 20),
+            ([0, 0, 0], &[3, 1, 2], None, 0, 0),
+        ];
+        for (demands, depots, chosen, routes, cost) in table {
+            let case = Case {
+                demands,
+                depots,
+                chosen,
+            };
+            let instance = three_nodes(&rt, rt.alloc(), case)?;
+            let plan = Plan::singles(rt.alloc(), &instance)?;
+            assert_eq!(rt; plan.routes(), routes, "{case:?}");
+            assert_eq!(rt; plan.cost(), cost, "{case:?}");
+        }
+        Ok(())
+    }
+
+    #[test]
+    fn depot_alone(rt: HostRuntime) -> Result<(), Fail> {
+        let weights = Weights::points(rt.alloc(), Metric::Euc2d, &[(3, 4)])?;
+        let instance = Instance::new(rt.alloc(), weights, &[0], 2, &[1], None)?;
+        assert_eq!(rt; instance.customers(), 0);
+        let plan = Plan::singles(rt.alloc(), &instance)?;
+        assert_eq!(rt; plan.routes(), 0);
+        assert_eq!(rt; plan.cost(), 0);
+        Ok(())
+    }
+
+    #[test]
+    fn customer_at_the_far_corner(rt: HostRuntime) -> Result<(), Fail> {
+        let points = [(-100_000_000, -100_000_000), (100_000_000, 100_000_000)];
+        let weights = Weights::points(rt.alloc(), Metric::Euc2d, &points)?;
+        let instance = Instance::new(rt.alloc(), weights, &[0, 1], 2, &[1], None)?;
+        let plan = Plan::singles(rt.alloc(), &instance)?;
+        assert_eq!(rt; plan.cost(), 565_685_424);
+        Ok(())
     }
 }

@@ -72,7 +72,7 @@ impl Weights {
     }
 }
 
-/// Enters the weights from one point to each, after the rows of the points before it.
+// Enters the weights from one point to each, after the rows of the points before it.
 fn push_row(entries: &mut Vec<u32>, metric: Metric, points: &[(i64, i64)], row: usize)
     requires few { length points.now ≤ 1200 }
     requires within { All (λ point. IsCoordinate point.0 × IsCoordinate point.1) points.now }
@@ -90,7 +90,7 @@ fn push_row(entries: &mut Vec<u32>, metric: Metric, points: &[(i64, i64)], row: 
     }
 }
 
-/// The weight whose entry comes next. Left of the diagonal it is that of the way back, which is entered already.
+// The weight whose entry comes next. Left of the diagonal it is that of the way back, which is entered already.
 fn next_weight(
     entries: &[u32],
     metric: Metric,

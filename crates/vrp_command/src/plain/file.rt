@@ -1,5 +1,4 @@
 //! What a plain file states, and why a file could not be read.
-
 ghost use Rattle.std.specs.Prelude.{◌≡◌};
 ghost use Rattle.vrp_command.specs.declared.plain.file.PlainError.TheVariants.{OutOfMemory};
 

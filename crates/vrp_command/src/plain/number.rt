@@ -1,14 +1,13 @@
 //! Numbers of one to ten digits.
-
 ghost use Rattle.std.specs.Prelude.{◌≡◌, ◌≢◌, ◌<◌, ◌^◌, ℕ, ℤ, pos, Some, IfSome, MatchOption};
 ghost use Rattle.vrp_command.specs.Plain.{unsigned_number, number_of, number_after, IsCoordinate};
 
-/// The most digits that a number has.
+// The most digits that a number has.
 const MAX_DIGITS: usize = 10;
-/// How far a coordinate lies from 0 at most.
+// How far a coordinate lies from 0 at most.
 const MAX_COORDINATE: i64 = 100_000_000;
 
-/// The number that one to ten digits write.
+// The number that one to ten digits write.
 fn unsigned(text: &[u8]) -> Option<u64>
     ensures value { result ≡ unsigned_number text.now }
     ensures small { IfSome result (λ number. number < 10 ^ 10) }
@@ -26,7 +25,7 @@ fn unsigned(text: &[u8]) -> Option<u64>
     Some(value)
 }
 
-/// The number that one to ten digits write, behind a minus sign or alone.
+// The number that one to ten digits write, behind a minus sign or alone.
 fn number(text: &[u8]) -> Option<i64>
     ensures { result ≡ number_of text.now }
 {
@@ -42,7 +41,7 @@ fn number(text: &[u8]) -> Option<i64>
     }
 }
 
-/// The number that stands behind `keyword` and is all that stands there.
+// The number that stands behind `keyword` and is all that stands there.
 fn number_after(keyword: &[u8], text: &[u8]) -> Option<i64>
     ensures { result ≡ number_after keyword.now text.now }
 {

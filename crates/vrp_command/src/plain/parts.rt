@@ -1,5 +1,4 @@
 //! The parts of a text between the places of one byte.
-
 ghost use Rattle.std.specs.Prelude.{◌≡◌, ◌==◌, ◌↔◌, ℕ, List, [], ◌∷◌, if◌then◌else◌, IsTrue, drop};
 ghost use Rattle.std.specs.List.{slice_split};
 ghost use Rattle.vrp_command.specs.Plain.{line};
@@ -10,7 +9,7 @@ use std::marker::Model;
 /// The parts that are left of a text that the byte `SEPARATOR` cuts.
 #[derive(Drop)]
 pub(super) struct Parts<'a, const SEPARATOR: u8> {
-    /// What stands behind the last separator that was passed, and nothing once the last part was given.
+    // What stands behind the last separator that was passed, and nothing once the last part was given.
     rest: &'a [u8],
     ended: bool,
 }

@@ -1,5 +1,4 @@
 //! Reading a plain file.
-
 ghost use Rattle.std.specs.Prelude.{IfOk, IsErrOf};
 ghost use Rattle.vrp_command.specs.Plain.{Statement, Spells};
 ghost use Rattle.vrp_command.specs.PlainParts.{statement_of};
@@ -8,8 +7,8 @@ use crate::plain::file::{PlainError, PlainFile};
 use crate::plain::sections::{Lines, read_demands, read_head, read_points, read_tail};
 use std::alloc::Global;
 
-/// The most bytes of a file.
-const MAX_BYTES: usize = 16_777_216;
+/// The most bytes that a file may have.
+pub(crate) const MAX_BYTES: usize = 16_777_216;
 
 /// Reads a plain file in one pass. `OutOfMemory` only where a growth was refused.
 pub(crate) fn read_plain(alloc: Global, bytes: &[u8]) -> Result<PlainFile, PlainError>

@@ -1,5 +1,4 @@
 //! The sections of a plain file.
-
 ghost use Rattle.std.specs.Prelude.{◌≡◌, ◌+◌, ◌≤◌, ◌↔◌, ℕ, ℤ, pos, List, ◌∷◌, [], length, map, drop, codes, IsTrue, Some, MatchOption};
 ghost use Rattle.vrp_command.specs.Plain.{is_remark, without_remarks, line, IsHead, IsPointLine, IsDemandLine, IsPointSection, IsDemandSection, IsTail};
 ghost use Rattle.vrp_command.specs.PlainParts.{MatchRead};
@@ -9,26 +8,26 @@ use crate::plain::number::{coordinate, natural, natural_after};
 use crate::plain::parts::Parts;
 use std::alloc::Global;
 
-/// The most nodes of a file.
+// The most nodes of a file.
 const MAX_NODES: u64 = 1_200;
-/// The most that a truck carries.
+// The most that a truck carries.
 const MAX_CAPACITY: u64 = 1_000_000_000;
-/// The most that a node wants.
+// The most that a node wants.
 const MAX_DEMAND: u64 = 1_000_000_000;
 
 /// The lines of a file that are left.
 pub(super) type Lines<'a> = Parts<'a, b'\n'>;
-/// The tokens of a line that are left.
+// The tokens of a line that are left.
 type Tokens<'a> = Parts<'a, b' '>;
 
-/// Whether a line is a name or a comment.
+// Whether a line is a name or a comment.
 fn is_remark(text: &[u8]) -> bool
     ensures { result ≡ is_remark text.now }
 {
     text.starts_with(b"NAME :") || text.starts_with(b"COMMENT :")
 }
 
-/// The first line that is no remark.
+// The first line that is no remark.
 fn first_line<'a>(lines: &mut Lines<'a>) -> &'a [u8]
     ensures value { result.now ≡ line (without_remarks lines.old) 0 }
     ensures after { lines.new ≡ drop 1 (without_remarks lines.old) }
@@ -61,7 +60,7 @@ pub(super) fn read_head(lines: &mut Lines<'_>) -> Option<(u16, u64)>
     Some((nodes as u16, capacity))
 }
 
-/// The point that the line of this node states.
+// The point that the line of this node states.
 fn point_of(text: &[u8], node: u16) -> Option<(i64, i64)>
     ensures { MatchOption result
         ((point : ℤ × ℤ) → IsPointLine text.now node point → ⊥)
@@ -80,7 +79,7 @@ fn point_of(text: &[u8], node: u16) -> Option<(i64, i64)>
     Some((east, north))
 }
 
-/// The demand that the line of this node states.
+// The demand that the line of this node states.
 fn demand_of(text: &[u8], node: u16) -> Option<u64>
     ensures { MatchOption result
         ((demand : ℕ) → IsDemandLine text.now node demand → ⊥)

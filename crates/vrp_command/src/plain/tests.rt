@@ -1,9 +1,7 @@
+//! Which files are accepted, and which are refused.
 use super::*;
+use crate::tests::SMALL;
 use std::test::*;
-
-/// A small file.
-const SMALL: &str =
-    "NAME : A\nCOMMENT : three nodes\nTYPE : CVRP\nDIMENSION : 3\nEDGE_WEIGHT_TYPE : EUC_2D\nCAPACITY : 2\nNODE_COORD_SECTION\n1 0 0\n2 3 4\n3 6 8\nDEMAND_SECTION\n1 0\n2 1\n3 1\nDEPOT_SECTION\n1\n-1\nEOF\n";
 
 #[test]
 fn small_file(rt: HostRuntime) -> Result<(), Fail> {
@@ -15,7 +13,7 @@ fn small_file(rt: HostRuntime) -> Result<(), Fail> {
     Ok(())
 }
 
-/// The small file with one text in place of another is accepted, and its second point is this.
+// The small file with one text in place of another is accepted, and its second point is this.
 #[test]
 fn accepted(rt: HostRuntime) -> Result<(), Fail> {
     for (old, new, point) in [
@@ -33,7 +31,7 @@ fn accepted(rt: HostRuntime) -> Result<(), Fail> {
     Ok(())
 }
 
-/// The small file with one text in place of another is refused.
+// The small file with one text in place of another is refused.
 #[test]
 fn refused(rt: HostRuntime) -> Result<(), Fail> {
     for (old, new) in [

@@ -1,0 +1,27 @@
+//! Tests by values from outside.
+
+mod faults;
+mod files;
+mod outcomes;
+
+use crate::{Options, RunError, Status, run};
+use std::alloc::Global;
+
+/// A small file: three nodes on a line, 5 apart, and the depot at one end.
+pub(crate) const SMALL: &str =
+    "NAME : A\nCOMMENT : three nodes\nTYPE : CVRP\nDIMENSION : 3\nEDGE_WEIGHT_TYPE : EUC_2D\nCAPACITY : 2\nNODE_COORD_SECTION\n1 0 0\n2 3 4\n3 6 8\nDEMAND_SECTION\n1 0\n2 1\n3 1\nDEPOT_SECTION\n1\n-1\nEOF\n";
+
+/// The small file with the node in the middle as its depot.
+pub(crate) const MIDDLE: &str =
+    "TYPE : CVRP\nDIMENSION : 3\nEDGE_WEIGHT_TYPE : EUC_2D\nCAPACITY : 2\nNODE_COORD_SECTION\n1 0 0\n2 3 4\n3 6 8\nDEMAND_SECTION\n1 1\n2 0\n3 1\nDEPOT_SECTION\n2\n-1\nEOF\n";
+
+// The report on the small file.
+const REPORT: &str = "Route #1: 2\nRoute #2: 3\nCost 30\nOpen 0\n";
+
+// What a run over these bytes answers, and what it writes.
+fn run_on(alloc: Global, bytes: &[u8]) -> (Result<Status, RunError>, Vec<u8>) {
+    let mut input = bytes;
+    let mut output = Vec::new(alloc);
+    let outcome = run(alloc, Options::default(), &mut input, &mut output);
+    (outcome, output)
+}

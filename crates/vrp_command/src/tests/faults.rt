@@ -1,0 +1,156 @@
+//! Readers and writers that fail, give or take little, or never end.
+use super::{REPORT, SMALL};
+use crate::{NotPlain, Options, RunError, Status, run};
+use std::alloc::Global;
+use std::io;
+use std::io::{ErrorKind, Read, Write};
+use std::test::*;
+
+// Gives its bytes, so many at a time. One of its reads fails, and the next goes on behind it.
+#[derive(Drop)]
+struct Flaky<'a> {
+    rest: &'a [u8],
+    most: usize,
+    reads: usize,
+    failing: usize,
+    kind: ErrorKind,
+}
+
+impl Read for Flaky<'_> {
+    fn read(&mut self, buffer: &mut [u8]) -> io::Result<usize> {
+        self.reads = self.reads.saturating_add(1);
+        if self.reads == self.failing {
+            return Err(io::Error::from(self.kind));
+        }
+        let count = self.rest.len().min(self.most).min(buffer.len());
+        buffer[..count].copy_from_slice(&self.rest[..count]);
+        self.rest = &self.rest[count..];
+        Ok(count)
+    }
+}
+
+// The small file, so many bytes at a time, of which one read fails, counted from 1.
+fn small_in_parts(most: usize, failing: usize, kind: ErrorKind) -> Flaky<'static> {
+    Flaky {
+        rest: SMALL.as_bytes(),
+        most,
+        reads: 0,
+        failing,
+        kind,
+    }
+}
+
+// Gives line feeds for ever, and counts them.
+#[derive(Drop)]
+struct Endless {
+    given: usize,
+}
+
+impl Read for Endless {
+    fn read(&mut self, buffer: &mut [u8]) -> io::Result<usize> {
+        buffer.fill(b'\n');
+        self.given = self.given.saturating_add(buffer.len());
+        Ok(buffer.len())
+    }
+}
+
+// Takes so many bytes at a time, up to its room. Then it fails, or takes nothing.
+#[derive(Drop)]
+struct Narrow {
+    taken: Vec<u8>,
+    most: usize,
+    room: usize,
+    fails_when_full: bool,
+    flushes: usize,
+    fails_at_flush: bool,
+}
+
+impl Write for Narrow {
+    fn write(&mut self, bytes: &[u8]) -> io::Result<usize> {
+        let left = self.room.saturating_sub(self.taken.len());
+        let count = bytes.len().min(self.most).min(left);
+        if count == 0 && self.fails_when_full {
+            return Err(io::Error::from(ErrorKind::BrokenPipe));
+        }
+        self.taken.extend_from_slice(&bytes[..count])?;
+        Ok(count)
+    }
+
+    fn flush(&mut self) -> io::Result<()> {
+        self.flushes = self.flushes.saturating_add(1);
+        if self.fails_at_flush {
+            return Err(io::Error::from(ErrorKind::BrokenPipe));
+        }
+        Ok(())
+    }
+}
+
+fn room_for(alloc: Global, most: usize, room: usize) -> Narrow {
+    Narrow {
+        taken: Vec::new(alloc),
+        most,
+        room,
+        fails_when_full: true,
+        flushes: 0,
+        fails_at_flush: false,
+    }
+}
+
+#[test]
+fn little_at_a_time(rt: HostRuntime) {
+    for most in [1, 7, 70_000] {
+        let mut input = small_in_parts(most, 0, ErrorKind::Other);
+        let mut output = room_for(rt.alloc(), most, usize::MAX);
+        let outcome = run(rt.alloc(), Options::default(), &mut input, &mut output);
+        assert_eq!(rt; outcome, Ok(Status::Open));
+        assert_eq!(rt; output.taken.as_slice(), REPORT.as_bytes());
+        assert_eq!(rt; output.flushes, 1);
+    }
+}
+
+#[test]
+fn failed_reads(rt: HostRuntime) {
+    for (most, failing, kind) in [
+        (70_000, 1, ErrorKind::Other),
+        (50, 2, ErrorKind::Other),
+        (50, 2, ErrorKind::Interrupted),
+        (70_000, 2, ErrorKind::UnexpectedEof),
+    ] {
+        let mut input = small_in_parts(most, failing, kind);
+        let mut output = room_for(rt.alloc(), 70_000, usize::MAX);
+        let outcome = run(rt.alloc(), Options::default(), &mut input, &mut output);
+        assert_eq!(rt; outcome, Err(RunError::Read), "read {failing}");
+        assert_eq!(rt; input.reads, failing);
+        assert!(rt; output.taken.is_empty());
+        assert_eq!(rt; output.flushes, 0);
+    }
+}
+
+#[test]
+fn endless_input(rt: HostRuntime) {
+    let mut input = Endless { given: 0 };
+    let mut output = room_for(rt.alloc(), 70_000, usize::MAX);
+    let outcome = run(rt.alloc(), Options::default(), &mut input, &mut output);
+    assert_eq!(rt; outcome, Err(RunError::Text(NotPlain)));
+    assert_eq!(rt; input.given, 16_777_217);
+    assert!(rt; output.taken.is_empty());
+}
+
+#[test]
+fn failed_writes(rt: HostRuntime) {
+    for (room, fails_when_full, fails_at_flush, written) in [
+        (5, true, false, "Route"),
+        (5, false, false, "Route"),
+        (0, false, false, ""),
+        (0, true, false, ""),
+        (usize::MAX, false, true, REPORT),
+    ] {
+        let mut input = SMALL.as_bytes();
+        let mut output = room_for(rt.alloc(), 70_000, room);
+        output.fails_when_full = fails_when_full;
+        output.fails_at_flush = fails_at_flush;
+        let outcome = run(rt.alloc(), Options::default(), &mut input, &mut output);
+        assert_eq!(rt; outcome, Err(RunError::Write), "at {room}");
+        assert_eq!(rt; output.taken.as_slice(), written.as_bytes(), "at {room}");
+    }
+}
