@@ -16,7 +16,12 @@ fn main(rt: HostRuntime) -> ExitCode {
             ExitCode::from(COMMAND_LINE)
         }
         Ok(false) => {
-            let outcome = run(rt.alloc(), Options::default(), &mut rt.reader(), &mut io::writer(&rt));
+            let outcome = run(
+                rt.alloc(),
+                Options::default(),
+                &mut rt.reader(),
+                &mut io::writer(&rt),
+            );
             end(&rt, outcome)
         }
         Err(fault) => end(&rt, Err(fault)),
