@@ -42,7 +42,7 @@ fn fault_lines(rt: HostRuntime) -> Result<(), Fail> {
     Ok(())
 }
 
-// Says something where a growth is refused: run it by `rt try --test --fail-alloc 1..`.
+// Says something where a growth is refused: run it by `rt try --test --fail-alloc N`, N from 1 on.
 #[test]
 fn refused_growth(rt: HostRuntime) {
     let mut written = [0u8; 39];

@@ -1,4 +1,4 @@
-use Rattle.std.proofs.Common.{◌≡◌, ℕ, List, sym, subst, ◌∙◌}
+use Rattle.std.proofs.Common.{◌≡◌, ℕ, List, sym, subst, ◌∙◌, arith}
 use Rattle.std.proofs.lemmas.Result.{err_from_is_err_and}
 use Rattle.vrp_command.specs.declared.plain.file.PlainError.TheVariants.{NotPlain}
 use Rattle.vrp_command.specs.Plain.{Statement, IsBody, without_remarks}
@@ -32,4 +32,4 @@ returns-clause-stated c =
     let body = body_found (without_remarks c.of-lines.result) c.in-Some.nodes c.read_head.new.lines c.read_points.new.lines c.read_demands.new.lines
     statement
     c.in-Some.ensures.0 c.in-Some.ensures.1 points.0 points.1 points.2 demands.0 demands.1 demands.2 c.in-Some-read_tail.ensures in
-    record { short = c.if-bytes-gt-MAX_BYTES.false; body = subst (λ (x : List (List ℕ)). IsBody (without_remarks x) statement) c.of-lines.ensures body }
+    record { short = omega (arith, c.if-bytes-gt-MAX_BYTES.false); body = subst (λ (x : List (List ℕ)). IsBody (without_remarks x) statement) c.of-lines.ensures body }
