@@ -1,3 +1,4 @@
+pub mod Ceilings
 pub mod Distances
 pub mod Euclid
 pub mod InstanceLemmas

@@ -1,6 +1,6 @@
 //! How the weight between two points comes from their coordinates.
 ghost use Rattle.std.specs.Prelude.{◌≡◌, ℕ, ◌≤◌};
-ghost use Rattle.vrp_model.specs.Distance.{IsEuclidean};
+ghost use Rattle.vrp_model.specs.Distance.{IsCeiling, IsEuclidean, IsPseudoEuclidean};
 ghost use Rattle.vrp_model.specs.Grid.{IsCoordinate};
 
 use crate::root::isqrt;
@@ -10,6 +10,14 @@ use crate::root::isqrt;
 pub enum Metric {
     /// `EUC_2D`: the straight line, to the nearest whole number.
     Euc2d,
+    /// `CEIL_2D`: the straight line, rounded up.
+    Ceil2d,
+    /// `MAN_2D`: the sum of the coordinates' differences.
+    Man2d,
+    /// `MAX_2D`: the greater of the coordinates' differences.
+    Max2d,
+    /// `ATT`: the pseudo-Euclidean distance, the root of a tenth of the square, rounded up.
+    Att,
 }
 
 impl Metric {
@@ -24,12 +32,17 @@ impl Metric {
         ensures distance { IsDistance self from to result }
         // No other number is the distance.
         ensures only { (other : ℕ) → IsDistance self from to other → other ≡ result }
-        ensures small { result ≤ 282842712 }
+        ensures small { result ≤ 400000000 }
     {
         let east = from.0.abs_diff(to.0);
         let north = from.1.abs_diff(to.1);
+        let square = east * east + north * north;
         match self {
-            Metric::Euc2d => nearest_root(east * east + north * north),
+            Metric::Euc2d => nearest_root(square),
+            Metric::Ceil2d => ceiling_root(square),
+            Metric::Man2d => east + north,
+            Metric::Max2d => east.max(north),
+            Metric::Att => pseudo_root(square),
         }
     }
 }
@@ -46,36 +59,64 @@ fn nearest_root(square: u64) -> u64
     }
 }
 
+// The least whole number that is no less than the root of a square.
+fn ceiling_root(square: u64) -> u64
+    ensures { IsCeiling square result }
+{
+    let root = isqrt(square);
+    if root * root < square { root + 1 } else { root }
+}
+
+// The least whole number that is no less than the root of a tenth of a square.
+fn pseudo_root(square: u64) -> u64
+    ensures { IsPseudoEuclidean square result }
+{
+    ceiling_root(square.div_ceil(10))
+}
+
 #[cfg(test)]
 mod tests {
     use super::*;
 
     #[test]
     fn distances(rt: HostRuntime) {
-        let table: [(u8, u8, u64); 12] = [
-            (0, 0, 0),
-            (0, 1, 1),
-            (1, 1, 1),
-            (1, 2, 2),
-            (2, 2, 3),
-            (1, 3, 3),
-            (3, 3, 4),
-            (3, 4, 5),
-            (2, 6, 6),
-            (2, 9, 9),
-            (3, 9, 9),
-            (6, 8, 10),
+        let table: [((u8, u8), u64, u64, u64); 12] = [
+            ((0, 0), 0, 0, 0),
+            ((0, 1), 1, 1, 1),
+            ((1, 1), 1, 2, 1),
+            ((1, 2), 2, 3, 1),
+            ((2, 2), 3, 3, 1),
+            ((1, 3), 3, 4, 1),
+            ((3, 3), 4, 5, 2),
+            ((3, 4), 5, 5, 2),
+            ((2, 6), 6, 7, 2),
+            ((2, 9), 9, 10, 3),
+            ((3, 9), 9, 10, 3),
+            ((6, 8), 10, 10, 4),
         ];
-        for (east, north, weight) in table {
+        for ((east, north), euclidean, ceiling, pseudo_euclidean) in table {
             let to = (i64::from(east), i64::from(north));
-            assert_eq!(rt; Metric::Euc2d.distance((0, 0), to), weight);
+            assert_eq!(rt; Metric::Euc2d.distance((0, 0), to), euclidean);
+            assert_eq!(rt; Metric::Ceil2d.distance((0, 0), to), ceiling);
+            assert_eq!(rt; Metric::Att.distance((0, 0), to), pseudo_euclidean);
         }
     }
 
     #[test]
-    fn longest_distance(rt: HostRuntime) {
+    fn distances_along_the_axes(rt: HostRuntime) {
+        assert_eq!(rt; Metric::Man2d.distance((0, 0), (1, 1)), 2);
+        assert_eq!(rt; Metric::Max2d.distance((0, 0), (1, 1)), 1);
+        assert_eq!(rt; Metric::Att.distance((0, 0), (0, 10)), 4);
+    }
+
+    #[test]
+    fn longest_distances(rt: HostRuntime) {
         let corner = (-100_000_000, -100_000_000);
         let opposite = (100_000_000, 100_000_000);
         assert_eq!(rt; Metric::Euc2d.distance(corner, opposite), 282_842_712);
+        assert_eq!(rt; Metric::Ceil2d.distance(corner, opposite), 282_842_713);
+        assert_eq!(rt; Metric::Man2d.distance(corner, opposite), 400_000_000);
+        assert_eq!(rt; Metric::Max2d.distance(corner, opposite), 200_000_000);
+        assert_eq!(rt; Metric::Att.distance(corner, opposite), 89_442_720);
     }
 }

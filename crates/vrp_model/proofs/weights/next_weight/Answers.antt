@@ -1,4 +1,5 @@
-use Rattle.std.proofs.Common.{length, arith}
+use Rattle.std.proofs.Common.{◌≡◌, length, arith}
+use Rattle.vrp_model.proofs.Distances.{IsDistance-self}
 use Rattle.vrp_model.proofs.Rows.{place_before, IsDistanceAt-read, IsDistanceAt-turned}
 use Rattle.vrp_model.proofs.weights.next_weight.Goals as goal
 
@@ -11,3 +12,8 @@ returns-then-column-row-clause-distance c =
 pub returns-else-column-row-2-clause-distance : goal.returns-else-column-row-2-clause-distance
 returns-else-column-row-2-clause-distance c =
     IsDistanceAt-read c.args.metric c.args.points.now c.args.row c.args.column _ _ _ c.distance.ensures.distance
+
+pub returns-then-column-row-2-clause-distance : goal.returns-then-column-row-2-clause-distance
+returns-then-column-row-2-clause-distance c = λ from to a b.
+    let same : from ≡ to = cc in
+    rw (← same) (IsDistance-self c.args.metric from)

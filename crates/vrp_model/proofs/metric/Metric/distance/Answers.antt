@@ -1,29 +1,39 @@
 use Rattle.std.proofs.Common.{arith}
 use Rattle.vrp_model.specs.Distance.{IsDistance}
-use Rattle.vrp_model.proofs.Distances.{apart_words, apart_small, square_small, square_between_small, IsDistance-euclidean, IsDistance-one, IsDistance-small}
+use Rattle.vrp_model.proofs.Distances.{square_of_words, square_between_small, IsDistance-one, IsDistance-small}
 use Rattle.vrp_model.proofs.metric.Metric.distance.Goals as goal
 
-is_distance : (c : goal.After-nearest_root) → IsDistance c.args.self c.args.from c.args.to c.nearest_root.result
-is_distance c =
-    let east = apart_words _ _ _ c.requires.from_east c.requires.to_east c.abs_diff-east.ensures in
-    let north = apart_words _ _ _ c.requires.from_north c.requires.to_north c.abs_diff-north.ensures in
-    IsDistance-euclidean c.args.self c.args.from c.args.to _ _ _ east north c.nearest_root.ensures
+pub overflow_add-square : goal.overflow_add-square
+overflow_add-square c =
+    let square = square_of_words c.args.from c.args.to _ _ c.requires.from_east c.requires.from_north c.requires.to_east c.requires.to_north c.abs_diff-east.ensures c.abs_diff-north.ensures in
+    rw square (omega (arith, square_between_small c.args.from c.args.to c.requires.from_east c.requires.from_north c.requires.to_east c.requires.to_north))
 
-pub overflow_add-east : goal.overflow_add-east
-overflow_add-east c =
-    let east = apart_words _ _ _ c.requires.from_east c.requires.to_east c.abs_diff-east.ensures in
-    let north = apart_words _ _ _ c.requires.from_north c.requires.to_north c.abs_diff-north.ensures in
-    let east_small = apart_small _ _ c.requires.from_east c.requires.to_east in
-    let north_small = apart_small _ _ c.requires.from_north c.requires.to_north in
-    omega (arith, square_small c.abs_diff-east.result c.abs_diff-north.result (omega arith) (omega arith))
+is_euclidean : (c : goal.After-nearest_root) → IsDistance c.args.self c.args.from c.args.to c.nearest_root.result
+is_euclidean c =
+    let square = square_of_words c.args.from c.args.to _ _ c.requires.from_east c.requires.from_north c.requires.to_east c.requires.to_north c.abs_diff-east.ensures c.abs_diff-north.ensures in
+    rw (c.in-Euc2d.is, ← square) c.nearest_root.ensures
 
-pub returns-clause-distance : goal.returns-clause-distance
-returns-clause-distance c = is_distance c
+is_ceiling : (c : goal.After-ceiling_root) → IsDistance c.args.self c.args.from c.args.to c.ceiling_root.result
+is_ceiling c =
+    let square = square_of_words c.args.from c.args.to _ _ c.requires.from_east c.requires.from_north c.requires.to_east c.requires.to_north c.abs_diff-east.ensures c.abs_diff-north.ensures in
+    rw (c.in-Ceil2d.is, ← square) c.ceiling_root.ensures
 
-pub returns-clause-only : goal.returns-clause-only
-returns-clause-only c = λ other h. IsDistance-one c.args.self c.args.from c.args.to other _ h (is_distance c)
+is_pseudo_euclidean : (c : goal.After-pseudo_root) → IsDistance c.args.self c.args.from c.args.to c.pseudo_root.result
+is_pseudo_euclidean c =
+    let square = square_of_words c.args.from c.args.to _ _ c.requires.from_east c.requires.from_north c.requires.to_east c.requires.to_north c.abs_diff-east.ensures c.abs_diff-north.ensures in
+    rw (c.in-Att.is, ← square) c.pseudo_root.ensures
 
-pub returns-clause-small : goal.returns-clause-small
-returns-clause-small c =
-    let small = square_between_small c.args.from c.args.to c.requires.from_east c.requires.from_north c.requires.to_east c.requires.to_north in
-    IsDistance-small c.args.self c.args.from c.args.to _ small (is_distance c)
+pub returns-in-Euc2d-clause-only : goal.returns-in-Euc2d-clause-only
+returns-in-Euc2d-clause-only c = λ other h. IsDistance-one c.args.self c.args.from c.args.to other _ h (is_euclidean c)
+
+pub returns-in-Euc2d-clause-small : goal.returns-in-Euc2d-clause-small
+returns-in-Euc2d-clause-small c =
+    IsDistance-small c.args.self c.args.from c.args.to _ c.requires.from_east c.requires.from_north c.requires.to_east c.requires.to_north (is_euclidean c)
+
+pub returns-in-Ceil2d-clause-small : goal.returns-in-Ceil2d-clause-small
+returns-in-Ceil2d-clause-small c =
+    IsDistance-small c.args.self c.args.from c.args.to _ c.requires.from_east c.requires.from_north c.requires.to_east c.requires.to_north (is_ceiling c)
+
+pub returns-in-Att-clause-small : goal.returns-in-Att-clause-small
+returns-in-Att-clause-small c =
+    IsDistance-small c.args.self c.args.from c.args.to _ c.requires.from_east c.requires.from_north c.requires.to_east c.requires.to_north (is_pseudo_euclidean c)
