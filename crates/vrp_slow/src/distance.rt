@@ -2,7 +2,7 @@
 
 /// The whole number that is nearest to the distance of two points: the first k, from 0 on, with 4 s < (2 k + 1)²,
 /// where s is the square of the distance.
-pub fn nearest(from: (i64, i64), to: (i64, i64)) -> u64 {
+pub(crate) fn nearest(from: (i64, i64), to: (i64, i64)) -> u64 {
     let east = u128::from(from.0.abs_diff(to.0));
     let north = u128::from(from.1.abs_diff(to.1));
     let square = east

@@ -10,7 +10,7 @@ const MOST_DEMAND: i64 = 1_000_000_000;
 
 /// What a plain file states: node k, from 1, has the k-th point and the k-th demand.
 #[derive(Debug, Drop)]
-pub struct File {
+pub(crate) struct File {
     pub points: Vec<(i64, i64)>,
     pub demands: Vec<i64>,
     pub capacity: i64,
@@ -19,7 +19,7 @@ pub struct File {
 
 /// Why there is no file to evaluate.
 #[derive(Clone, Copy, Debug, PartialEq, Eq)]
-pub enum Refusal {
+pub(crate) enum Refusal {
     NotPlain,
     NoMemory,
 }
@@ -32,12 +32,12 @@ impl From<AllocError> for Refusal {
 
 impl File {
     /// How many nodes there are.
-    pub fn nodes(&self) -> i64 {
+    pub(crate) fn nodes(&self) -> i64 {
         self.points.len() as i64
     }
 
     /// The distance between two nodes.
-    pub fn weight(&self, from: i64, to: i64) -> u64 {
+    pub(crate) fn weight(&self, from: i64, to: i64) -> u64 {
         match (at(&self.points, from), at(&self.points, to)) {
             (Some(from), Some(to)) => nearest(from, to),
             _ => u64::MAX,
@@ -45,7 +45,7 @@ impl File {
     }
 
     /// The demand of a node.
-    pub fn demand(&self, node: i64) -> i64 {
+    pub(crate) fn demand(&self, node: i64) -> i64 {
         at(&self.demands, node).unwrap_or(0)
     }
 }
@@ -57,7 +57,7 @@ fn at<T: Copy>(items: &[T], node: i64) -> Option<T> {
 }
 
 /// Reads a plain file.
-pub fn read(alloc: Global, text: &str) -> Result<File, Refusal> {
+pub(crate) fn read(alloc: Global, text: &str) -> Result<File, Refusal> {
     if text.len() > 16_777_216 {
         return Err(Refusal::NotPlain);
     }

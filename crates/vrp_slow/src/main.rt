@@ -1,5 +1,6 @@
 //! A plain slow evaluator: what the definitions say, computed the long way round from the text of a file, beside what
-//! the command prints for it. It prints one line for each file that its command line names.
+//! the command prints for it. It prints one line for each file that its command line names. It has no clauses: the
+//! definitions are compared with it, so it does not lean on them.
 #![tactic(auto)]
 
 mod distance;

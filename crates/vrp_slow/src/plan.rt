@@ -4,7 +4,7 @@ use crate::file::File;
 use std::alloc::{AllocError, Global};
 
 /// A route of its own for each customer, by rising number.
-pub fn singles(alloc: Global, file: &File) -> Result<Vec<Vec<i64>>, AllocError> {
+pub(crate) fn singles(alloc: Global, file: &File) -> Result<Vec<Vec<i64>>, AllocError> {
     let mut routes = Vec::new(alloc);
     for node in 1..=file.nodes() {
         if node != file.depot {
@@ -15,7 +15,7 @@ pub fn singles(alloc: Global, file: &File) -> Result<Vec<Vec<i64>>, AllocError> 
 }
 
 /// Whether each customer is served once and nothing else is, no route is empty, and no truck is overloaded.
-pub fn is_lawful(file: &File, routes: &[Vec<i64>]) -> bool {
+pub(crate) fn is_lawful(file: &File, routes: &[Vec<i64>]) -> bool {
     for node in 1..=file.nodes() {
         let wanted = if node == file.depot { 0u64 } else { 1u64 };
         let served = times_served(routes, node);
@@ -40,7 +40,7 @@ fn times_served(routes: &[Vec<i64>], node: i64) -> u64 {
 }
 
 /// What the routes cost.
-pub fn cost(file: &File, routes: &[Vec<i64>]) -> u64 {
+pub(crate) fn cost(file: &File, routes: &[Vec<i64>]) -> u64 {
     let mut cost = 0u64;
     for route in routes {
         cost = cost.saturating_add(route_cost(file, route));
