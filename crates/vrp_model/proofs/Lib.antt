@@ -1,6 +1,8 @@
 pub mod Ceilings
+pub mod Counting
 pub mod Distances
 pub mod Euclid
+pub mod Filling
 pub mod InstanceLemmas
 pub mod PlacesLemmas
 pub mod PlanLemmas

@@ -1,5 +1,7 @@
 pub mod Distance
 pub mod Grid
+pub mod Layout
+pub mod Listing
 pub mod Marks
 pub mod Places
 pub mod Problem

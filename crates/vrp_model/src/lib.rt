@@ -7,6 +7,8 @@ mod depots;
 mod fixture;
 mod instance;
 mod law;
+mod layout;
+mod matrix;
 mod memory;
 mod metric;
 mod places;
@@ -16,6 +18,7 @@ mod weights;
 
 pub use instance::{Instance, InstanceError};
 pub use law::one_distance;
+pub use layout::Layout;
 pub use memory::NoMemory;
 pub use metric::Metric;
 pub use plan::Plan;

@@ -1,8 +1,10 @@
 //! The weights between the nodes of a file.
-ghost use Rattle.std.specs.Prelude.{◌≡◌, ◌+◌, ◌*◌, ◌≤◌, ◌<◌, All, IfOk, length, vec_len, vec_capacity};
+ghost use Rattle.std.specs.Prelude.{◌≡◌, ℕ, ◌+◌, ◌*◌, ◌≤◌, ◌<◌, All, IfOk, length, slice_index, vec_len, vec_capacity};
 ghost use Rattle.vrp_model.specs.Grid.{entry_at, IsCoordinate};
 ghost use Rattle.vrp_model.specs.Rows.{AreDistances, IsDistanceAt};
 
+use crate::layout::Layout;
+use crate::matrix;
 use crate::memory::NoMemory;
 use crate::metric::Metric;
 use std::alloc::Global;
@@ -27,6 +29,7 @@ impl Model for Weights {
 
 impl Weights {
     ghost use Rattle.vrp_model.specs.Grid.{HasDistances};
+    ghost use Rattle.vrp_model.specs.Layout.{cells, HasEntries};
 
     /// The weights between these points by a metric: node k, from 1, has the k-th point. Each pair's distance is
     /// computed once.
@@ -44,6 +47,28 @@ impl Weights {
         Ok(Weights {
             nodes: nodes as u16,
             entries,
+        })
+    }
+
+    /// The weights between n nodes, 1 to 1,200, of which a file lists some in a layout: as many entries as
+    /// `Layout::entries` says, each at most 1,000,000,000. A node's weight to itself is 0 where the layout has no diagonal.
+    pub fn matrix(
+        alloc: Global,
+        layout: Layout,
+        entries: &[u64],
+        n: u16,
+    ) -> Result<Weights, NoMemory>
+        requires some { 1 ≤ n }
+        requires few { n ≤ 1200 }
+        requires count { length entries.now ≡ length (cells layout n) }
+        requires small { (k : ℕ) → slice_index entries.now k ≤ 1000000000 }
+        ensures nodes { IfOk result (λ grid. grid.nodes ≡ n) }
+        ensures entries { IfOk result (λ grid. HasEntries layout entries.now grid) }
+    {
+        let square = matrix::square(alloc, layout, entries, n)?;
+        Ok(Weights {
+            nodes: n,
+            entries: square,
         })
     }
 
@@ -119,6 +144,7 @@ fn next_weight(
 #[cfg(test)]
 mod tests {
     use super::*;
+    use std::process::Abort;
     use std::test::Fail;
 
     #[test]
@@ -130,6 +156,111 @@ mod tests {
         assert_eq!(rt; weights.at(1, 3), 10);
         assert_eq!(rt; weights.at(2, 3), 5);
         assert_eq!(rt; weights.at(2, 2), 0);
+        Ok(())
+    }
+
+    // The weights of three or four nodes in a layout, by the entries of a file.
+    fn matrix(
+        rt: &impl Abort,
+        alloc: Global,
+        layout: Layout,
+        entries: &[u64],
+        n: u16,
+    ) -> Result<Weights, NoMemory>
+        ensures { IfOk result (λ grid. grid.nodes ≡ n) }
+    {
+        assert!(rt; 1 <= n && n <= 4 && entries.len() == layout.entries(n));
+        assert!(rt; entries.iter().all(|&entry| entry <= 100));
+        Weights::matrix(alloc, layout, entries, n)
+    }
+
+    // Asserts that the k-th of these cells, from 1, has the weight k both ways, and that the diagonal has no weight.
+    fn assert_triangle(
+        rt: &impl Abort,
+        alloc: Global,
+        layout: Layout,
+        n: u16,
+        cells: &[(u16, u16)],
+    ) -> Result<(), NoMemory> {
+        let entries = [1, 2, 3, 4, 5, 6];
+        assert!(rt; cells.len() <= 6);
+        let weights = matrix(rt, alloc, layout, &entries[..cells.len()], n)?;
+        for (k, &(row, column)) in cells.iter().enumerate() {
+            assert!(rt; 1 <= row && row <= n && 1 <= column && column <= n);
+            assert_eq!(rt; weights.at(row, column), k as u64 + 1);
+            assert_eq!(rt; weights.at(column, row), k as u64 + 1);
+        }
+        for node in 1..weights.nodes() + 1 {
+            assert_eq!(rt; weights.at(node, node), 0);
+        }
+        Ok(())
+    }
+
+    #[test]
+    fn triangles_of_three_nodes(rt: HostRuntime) -> Result<(), Fail> {
+        let cases = [
+            (Layout::UpperRow, [(1, 2), (1, 3), (2, 3)]),
+            (Layout::LowerRow, [(2, 1), (3, 1), (3, 2)]),
+            (Layout::UpperCol, [(1, 2), (1, 3), (2, 3)]),
+            (Layout::LowerCol, [(2, 1), (3, 1), (3, 2)]),
+        ];
+        for (layout, cells) in cases {
+            assert_triangle(&rt, rt.alloc(), layout, 3, &cells)?;
+        }
+        Ok(())
+    }
+
+    #[test]
+    fn triangles_of_four_nodes(rt: HostRuntime) -> Result<(), Fail> {
+        let cases = [
+            (
+                Layout::UpperRow,
+                [(1, 2), (1, 3), (1, 4), (2, 3), (2, 4), (3, 4)],
+            ),
+            (
+                Layout::UpperCol,
+                [(1, 2), (1, 3), (2, 3), (1, 4), (2, 4), (3, 4)],
+            ),
+            (
+                Layout::LowerRow,
+                [(2, 1), (3, 1), (3, 2), (4, 1), (4, 2), (4, 3)],
+            ),
+            (
+                Layout::LowerCol,
+                [(2, 1), (3, 1), (4, 1), (3, 2), (4, 2), (4, 3)],
+            ),
+        ];
+        for (layout, cells) in cases {
+            assert_triangle(&rt, rt.alloc(), layout, 4, &cells)?;
+        }
+        Ok(())
+    }
+
+    #[test]
+    fn full_matrix_holds_one_way(rt: HostRuntime) -> Result<(), Fail> {
+        let entries = [0, 1, 9, 9, 0, 1, 1, 9, 0];
+        let weights = matrix(&rt, rt.alloc(), Layout::FullMatrix, &entries, 3)?;
+        assert_eq!(rt; weights.at(1, 2), 1);
+        assert_eq!(rt; weights.at(2, 1), 9);
+        assert_eq!(rt; weights.at(1, 3), 9);
+        Ok(())
+    }
+
+    #[test]
+    fn diagonal_is_listed(rt: HostRuntime) -> Result<(), Fail> {
+        let weights = matrix(
+            &rt,
+            rt.alloc(),
+            Layout::UpperDiagCol,
+            &[1, 2, 3, 4, 5, 6],
+            3,
+        )?;
+        assert_eq!(rt; weights.at(1, 1), 1);
+        assert_eq!(rt; weights.at(1, 2), 2);
+        assert_eq!(rt; weights.at(2, 2), 3);
+        assert_eq!(rt; weights.at(1, 3), 4);
+        assert_eq!(rt; weights.at(2, 3), 5);
+        assert_eq!(rt; weights.at(3, 3), 6);
         Ok(())
     }
 }

@@ -1,0 +1,75 @@
+//! The square of weights that a matrix in a file means.
+ghost use Rattle.std.specs.Prelude.{◌≡◌, ℕ, ◌+◌, ◌-◌, ◌*◌, ◌≤◌, IfOk, length, slice_index, vec_len};
+ghost use Rattle.vrp_model.specs.Layout.{cells, HasEntries};
+ghost use Rattle.vrp_model.specs.Listing.{IsListed, IsWritten, IsFilled};
+
+use crate::layout::Layout;
+use crate::memory::NoMemory;
+use std::alloc::Global;
+
+/// The weights from each node to each, row by row, of which a file lists some in a layout.
+pub(crate) fn square(
+    alloc: Global,
+    layout: Layout,
+    entries: &[u64],
+    nodes: u16,
+) -> Result<Vec<u32>, NoMemory>
+    requires few { nodes ≤ 1200 }
+    requires count { length entries.now ≡ length (cells layout nodes) }
+    requires small { (k : ℕ) → slice_index entries.now k ≤ 1000000000 }
+    ensures len { IfOk result (λ square. vec_len square ≡ nodes * nodes) }
+    ensures entries { IfOk result (λ square. HasEntries layout entries.now (record { nodes = nodes; entries = square.items })) }
+    ensures small { IfOk result (λ square. (k : ℕ) → slice_index square.items k ≤ 1000000000) }
+{
+    let side = usize::from(nodes);
+    let mut square = vec![in alloc; 0u32; side * side]?;
+    let mut next = 0;
+    for line in 1..nodes + 1 {
+        next = fill_line(&mut square, layout, entries, nodes, line, next);
+    }
+    Ok(square)
+}
+
+// Enters the weights of one line, after those of the lines before it, and returns which entry comes next.
+fn fill_line(
+    square: &mut [u32],
+    layout: Layout,
+    entries: &[u64],
+    nodes: u16,
+    line: u16,
+    first: usize,
+) -> usize
+    requires few { nodes ≤ 1200 }
+    requires count { length entries.now ≡ length (cells layout nodes) }
+    requires small { (k : ℕ) → slice_index entries.now k ≤ 1000000000 }
+    requires room { length square.old ≡ nodes * nodes }
+    requires line_from_one { 1 ≤ line }
+    requires line_within { line ≤ nodes }
+    requires so_far { IsFilled layout nodes entries.now square.old first (line - 1) (nodes + 1) }
+    ensures { IsFilled layout nodes entries.now square.new result line (nodes + 1) }
+{
+    let mut next = first;
+    for across in 1..nodes + 1 {
+        let (row, column) = layout.cell(line, across);
+        if layout.lists(row, column) {
+            write(square, layout, nodes, row, column, entries[next] as u32);
+            next += 1;
+        }
+    }
+    next
+}
+
+// Enters the weight of a cell, and the same for the way back unless the weights hold one way only.
+fn write(square: &mut [u32], layout: Layout, nodes: u16, row: u16, column: u16, weight: u32)
+    requires room { length square.old ≡ nodes * nodes }
+    requires listed { IsListed layout nodes row column }
+    ensures { IsWritten layout nodes row column weight square.old square.new }
+{
+    let side = usize::from(nodes);
+    let row = usize::from(row) - 1;
+    let column = usize::from(column) - 1;
+    square[row * side + column] = weight;
+    if !layout.is_full() {
+        square[column * side + row] = weight;
+    }
+}
