@@ -43,7 +43,8 @@ fn reports(rt: HostRuntime) -> Result<(), Fail> {
 #[test]
 fn refused(rt: HostRuntime) -> Result<(), Fail> {
     for (old, new) in [
-        ("EOF\n", ""),
+        (SMALL, ""),
+        (SMALL, "\0\u{1}\n\u{7f}\u{ffff}"),
         ("SECTION\n1 0\n", "SECTION\n1 1\n"),
         ("\n3 1\n", "\n3 3\n"),
     ] {
