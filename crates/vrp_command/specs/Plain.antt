@@ -1,9 +1,10 @@
 -- Plain files: the CVRP files of TSPLIB 95 (sections 1.1, the specification part, and 1.2, the data part) that are
 -- EUC_2D with one depot, and are spelled without any freedom but in their numbers and remarks.
-use Rattle.std.specs.Prelude.{◌≡◌, ℕ, ◌+◌, ◌*◌, ◌≤◌, ℤ, pos, neg_ℤ, ◌≤ℤ◌, Bool, ◌&&◌, ◌||◌, ◌==◌, nat_eq, nat_le, if◌then◌else◌, Option, Some, None, option_map, List, [], ◌∷◌, length, map, drop, codes, slice_index, slice_index_or, slice_get}
+use Rattle.std.specs.Prelude.{◌≡◌, ℕ, ◌+◌, ◌*◌, ◌≤◌, ℤ, pos, neg_ℤ, Bool, ◌&&◌, ◌||◌, ◌==◌, nat_eq, nat_le, if◌then◌else◌, Option, Some, None, option_map, List, [], ◌∷◌, length, map, drop, codes, slice_index, slice_index_or, slice_get}
 use Rattle.std.specs.List.{slice_split, starts_with}
 use Rattle.std.specs.Str.{all_ascii_digits}
 use Rattle.std.specs.Str.Parse.{digits_value}
+use Rattle.vrp_model.specs.Grid.{IsCoordinate}
 
 -- The lines of a file: what stands between its line feeds, and what stands behind the last of them.
 abbrev pub lines_of : List ℕ → List (List ℕ)
@@ -38,9 +39,6 @@ without_remarks (text ∷ lines) = if is_remark text then without_remarks lines 
 
 abbrev pub line : List (List ℕ) → ℕ → List ℕ
 line lines k = slice_index_or lines k []
-
-abbrev pub IsCoordinate : ℤ → Type 0
-IsCoordinate z = (neg_ℤ (pos 100000000) ≤ℤ z) × (z ≤ℤ pos 100000000)
 
 -- what a plain file states: a point and a demand for each node by rising number, what a truck carries, and the depot's node
 pub record Statement : Type 0 where

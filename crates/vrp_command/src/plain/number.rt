@@ -1,6 +1,7 @@
 //! Numbers of one to ten digits.
 ghost use Rattle.std.specs.Prelude.{◌≡◌, ◌≢◌, ◌<◌, ◌^◌, ℕ, ℤ, pos, Some, IfSome, MatchOption};
-ghost use Rattle.vrp_command.specs.Plain.{unsigned_number, number_of, number_after, IsCoordinate};
+ghost use Rattle.vrp_model.specs.Grid.{IsCoordinate};
+ghost use Rattle.vrp_command.specs.Plain.{unsigned_number, number_of, number_after};
 
 // The most digits that a number has.
 const MAX_DIGITS: usize = 10;
