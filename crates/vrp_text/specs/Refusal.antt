@@ -1,0 +1,11 @@
+-- The error of a file from which no instance can be made.
+use Rattle.vrp_model.specs.declared.instance.InstanceError.{InstanceError}
+use Rattle.vrp_model.specs.declared.instance.InstanceError.TheVariants as refusal
+use Rattle.vrp_text.specs.declared.error.TextError.{TextError}
+use Rattle.vrp_text.specs.declared.error.TextError.TheVariants as error
+
+abbrev pub refusal_of : InstanceError → TextError
+refusal_of refusal.OutOfMemory = error.OutOfMemory
+refusal_of (refusal.DepotDemand node) = error.Instance (refusal.DepotDemand node)
+refusal_of (refusal.NotADepot node) = error.Instance (refusal.NotADepot node)
+refusal_of (refusal.DemandOverCapacity node) = error.Instance (refusal.DemandOverCapacity node)

@@ -1,0 +1,119 @@
+-- The data of a part: which tokens may stand in it, and the numbers that they write (TSPLIB 95, section 1.2).
+use Rattle.std.specs.Int.Signed.{◌≤ℤ◌}
+use Rattle.std.specs.Prelude.{◌≡◌, ◌<◌, get_or, ℕ, ◌+◌, ◌%◌, ℤ, pos, neg_ℤ, Bool, ◌==◌, nat_lt, if◌then◌else◌, Option, Some, None, Result, Ok, Err, List, [], ◌∷◌, ◌++◌, length}
+use Rattle.std.specs.Option.{option_or}
+use Rattle.vrp_text.specs.Numeral.{number_of}
+use Rattle.vrp_text.specs.declared.fault.LineFault.{LineFault}
+use Rattle.vrp_text.specs.declared.error.Key.TheVariants as key
+use Rattle.vrp_text.specs.declared.error.TextError.{TextError}
+use Rattle.vrp_text.specs.declared.error.TextError.TheVariants as error
+use Rattle.vrp_text.specs.declared.fault.LineFault.TheVariants as fault
+use Rattle.vrp_text.specs.declared.keyword.Keyword.{Keyword}
+use Rattle.vrp_text.specs.declared.keyword.Keyword.TheVariants as keyword
+use Rattle.vrp_text.specs.declared.section.Content.{Content}
+use Rattle.vrp_text.specs.declared.section.Content.TheVariants.{Nothing, Anything, Numbers}
+use Rattle.vrp_text.specs.declared.section.Section.{Section}
+use Rattle.vrp_text.specs.declared.section.Section.TheVariants as section
+
+-- a fault on this line
+abbrev pub at_line : ℕ → LineFault → TextError
+at_line line fault.DataOutside = error.DataOutside line
+at_line line fault.UnknownKeyword = error.UnknownKeyword line
+at_line line fault.Repeated = error.Repeated line
+at_line line fault.BadValue = error.BadValue line
+at_line line fault.Unsupported = error.Unsupported line
+at_line line fault.BadNumber = error.BadNumber line
+at_line line fault.NotWhole = error.NotWhole line
+
+-- from 0, the lowest and the highest number that may stand at a place of a section
+abbrev pub lowest : Section → ℕ → ℤ
+lowest section.Coordinates place = if place % 3 == 0 then neg_ℤ (pos 1000000000) else neg_ℤ (pos 100000000)
+lowest section.Weights place = pos 0
+lowest section.Demands place = if place % 2 == 0 then neg_ℤ (pos 1000000000) else pos 0
+lowest section.Depots place = neg_ℤ (pos 1000000000)
+
+abbrev pub highest : Section → ℕ → ℤ
+highest section.Coordinates place = if place % 3 == 0 then pos 1000000000 else pos 100000000
+highest section.Weights place = pos 1000000000
+highest section.Demands place = pos 1000000000
+highest section.Depots place = pos 1000000000
+
+abbrev pub token_number : Section → ℕ → List ℕ → Result ℤ LineFault
+token_number section place token = number_of (lowest section place) (highest section place) token
+
+abbrev pub fault_of : Result ℤ LineFault → Option LineFault
+fault_of (Ok number) = None
+fault_of (Err fault) = Some fault
+
+-- the fault of the first faulty token, where the first of these tokens stands at this place of the section
+abbrev pub tokens_fault : Section → ℕ → List (List ℕ) → Option LineFault
+tokens_fault section place [] = None
+tokens_fault section place (token ∷ tokens) = option_or (fault_of (token_number section place token)) (tokens_fault section (place + 1) tokens)
+
+abbrev pub on_line : ℕ → Option LineFault → Option TextError
+on_line line None = None
+on_line line (Some fault) = Some (at_line line fault)
+
+-- the fault of the first faulty line, where the first of these lines has this number
+abbrev pub data_fault : Section → ℕ → ℕ → List (List (List ℕ)) → Option TextError
+data_fault section line place [] = None
+data_fault section line place (tokens ∷ lines) =
+    option_or (on_line line (tokens_fault section place tokens)) (data_fault section (line + 1) (place + length tokens) lines)
+
+-- the first line that is not blank, where none may have data
+abbrev pub outside_fault : ℕ → List (List (List ℕ)) → Option TextError
+outside_fault line [] = None
+outside_fault line (tokens ∷ lines) = if nat_lt 0 (length tokens) then Some (error.DataOutside line) else outside_fault (line + 1) lines
+
+-- the number of a token that is no fault
+abbrev pub number_or_zero : Result ℤ LineFault → ℤ
+number_or_zero (Ok number) = number
+number_or_zero (Err fault) = pos 0
+
+abbrev pub numbers_from : Section → ℕ → List (List ℕ) → List ℤ
+numbers_from section place [] = []
+numbers_from section place (token ∷ tokens) = number_or_zero (token_number section place token) ∷ numbers_from section (place + 1) tokens
+
+-- the numbers that data lines write, from this place of the section on
+abbrev pub data_numbers : Section → ℕ → List (List (List ℕ)) → List ℤ
+data_numbers section place [] = []
+data_numbers section place (tokens ∷ lines) = numbers_from section place tokens ++ data_numbers section (place + length tokens) lines
+
+-- What may stand in the data lines behind a keyword: nothing, anything, which is not looked at, or the numbers of a section.
+-- An explicit file has weights, and its coordinates are not used; in any other file it is the other way round.
+abbrev pub content_of : Bool → Option Keyword → Content
+content_of explicit None = Nothing
+content_of explicit (Some keyword.Remark) = Nothing
+content_of explicit (Some keyword.Display) = Anything
+content_of explicit (Some keyword.Unsupported) = Nothing
+content_of explicit (Some keyword.End) = Nothing
+content_of explicit (Some (keyword.Key key.Problem)) = Nothing
+content_of explicit (Some (keyword.Key key.Dimension)) = Nothing
+content_of explicit (Some (keyword.Key key.Capacity)) = Nothing
+content_of explicit (Some (keyword.Key key.WeightKind)) = Nothing
+content_of explicit (Some (keyword.Key key.WeightFormat)) = Nothing
+content_of explicit (Some (keyword.Key key.NodeCoord)) = if explicit then Anything else Numbers section.Coordinates
+content_of explicit (Some (keyword.Key key.EdgeWeight)) = if explicit then Numbers section.Weights else Anything
+content_of explicit (Some (keyword.Key key.Demand)) = Numbers section.Demands
+content_of explicit (Some (keyword.Key key.Depot)) = Numbers section.Depots
+
+abbrev pub content_fault : Content → ℕ → List (List (List ℕ)) → Option TextError
+content_fault Nothing line lines = outside_fault line lines
+content_fault Anything line lines = None
+content_fault (Numbers section) line lines = data_fault section line 0 lines
+
+-- the numbers of a part; those that are not used are no numbers
+abbrev pub content_numbers : Content → List (List (List ℕ)) → List ℤ
+content_numbers Nothing lines = []
+content_numbers Anything lines = []
+content_numbers (Numbers section) lines = data_numbers section 0 lines
+
+-- each number may stand at its place, the first of them at this one
+abbrev pub AreWithin : Section → ℕ → List ℤ → Type 0
+AreWithin section place numbers =
+    (k : ℕ) → k < length numbers → (lowest section (place + k) ≤ℤ get_or numbers k (pos 0)) × (get_or numbers k (pos 0) ≤ℤ highest section (place + k))
+
+abbrev pub FitContent : Content → List ℤ → Type 0
+FitContent Nothing numbers = numbers ≡ []
+FitContent Anything numbers = numbers ≡ []
+FitContent (Numbers section) numbers = AreWithin section 0 numbers

@@ -1,0 +1,130 @@
+//! Why a file is refused.
+ghost use Rattle.std.specs.Prelude.{◌≡◌, Some};
+ghost use Rattle.vrp_text.specs.Keyword.{key_text};
+ghost use Rattle.vrp_text.specs.Refusal.{refusal_of};
+ghost use Rattle.vrp_text.specs.declared.error.TextError.TheVariants.{OutOfMemory};
+
+use std::alloc::{AllocError, AllocFailed};
+use std::fmt;
+use thiserror::Error;
+use vrp_model::{InstanceError, NoMemory};
+
+/// What a file states once, in the order in which it is looked for.
+#[derive(Clone, Copy, Debug, PartialEq, Eq)]
+pub enum Key {
+    /// TYPE
+    Problem,
+    /// DIMENSION
+    Dimension,
+    /// CAPACITY
+    Capacity,
+    /// EDGE_WEIGHT_TYPE
+    WeightKind,
+    /// EDGE_WEIGHT_FORMAT
+    WeightFormat,
+    /// NODE_COORD_SECTION
+    NodeCoord,
+    /// EDGE_WEIGHT_SECTION
+    EdgeWeight,
+    /// DEMAND_SECTION
+    Demand,
+    /// DEPOT_SECTION
+    Depot,
+}
+
+impl fmt::Display for Key {
+    ghost output = { λ key. Some (key_text key) };
+
+    fn fmt<W: fmt::Write>(&self, f: &mut fmt::Formatter<W>) -> fmt::Result {
+        f.write_str(match self {
+            Key::Problem => "TYPE",
+            Key::Dimension => "DIMENSION",
+            Key::Capacity => "CAPACITY",
+            Key::WeightKind => "EDGE_WEIGHT_TYPE",
+            Key::WeightFormat => "EDGE_WEIGHT_FORMAT",
+            Key::NodeCoord => "NODE_COORD_SECTION",
+            Key::EdgeWeight => "EDGE_WEIGHT_SECTION",
+            Key::Demand => "DEMAND_SECTION",
+            Key::Depot => "DEPOT_SECTION",
+        })
+    }
+}
+
+/// Why a file is refused. Lines are numbered from 1.
+#[derive(Clone, Copy, Debug, PartialEq, Eq, Error)]
+pub enum TextError {
+    /// A data line stands where no section is.
+    #[error("line {0}: data outside a section")]
+    DataOutside(u32),
+    /// A keyword that the standard doesn't have.
+    #[error("line {0}: unknown keyword")]
+    UnknownKeyword(u32),
+    /// A keyword of `Key` that an earlier line bears.
+    #[error("line {0}: repeated keyword")]
+    Repeated(u32),
+    /// A keyword's value is missing, unknown, no whole number or out of range, or text stands behind a section's keyword.
+    #[error("line {0}: bad value")]
+    BadValue(u32),
+    /// A keyword or a value of the standard that is left out here.
+    #[error("line {0}: not supported")]
+    Unsupported(u32),
+    /// A token that is no numeral, or whose whole value is out of range.
+    #[error("line {0}: bad number")]
+    BadNumber(u32),
+    /// A numeral whose value is not whole.
+    #[error("line {0}: number is not whole")]
+    NotWhole(u32),
+    /// A keyword or a section that is needed is not there: the first in the order of `Key`.
+    #[error("missing {0}")]
+    Missing(Key),
+    /// A section has another number of tokens than it needs, or lists no depot: the first in the order of `Key`.
+    #[error("wrong count in {0}")]
+    WrongCount(Key),
+    /// A node number from 1 to the dimension is wanted, and each once where the section has one line a node.
+    #[error("bad node {1} in {0}")]
+    BadNode(Key, i64),
+    /// The file can be read, but no instance can be made from it. Never with `InstanceError::OutOfMemory`.
+    #[error("{0}")]
+    Instance(InstanceError),
+    /// More than 16,777,216 bytes.
+    #[error("input too long")]
+    TooLong,
+    /// A growth was refused.
+    #[error("out of memory")]
+    OutOfMemory,
+}
+
+impl From<AllocError> for TextError {
+    ghost from_gives = { λ _ error. error ≡ OutOfMemory };
+
+    fn from(_refusal: AllocError) -> TextError {
+        TextError::OutOfMemory
+    }
+}
+
+impl<T: Drop> From<AllocFailed<T>> for TextError {
+    ghost from_gives = { λ _ error. error ≡ OutOfMemory };
+
+    fn from(_refusal: AllocFailed<T>) -> TextError {
+        TextError::OutOfMemory
+    }
+}
+
+impl From<NoMemory> for TextError {
+    ghost from_gives = { λ _ error. error ≡ OutOfMemory };
+
+    fn from(_refusal: NoMemory) -> TextError {
+        TextError::OutOfMemory
+    }
+}
+
+impl From<InstanceError> for TextError {
+    ghost from_gives = { λ refusal error. error ≡ refusal_of refusal };
+
+    fn from(refusal: InstanceError) -> TextError {
+        match refusal {
+            InstanceError::OutOfMemory => TextError::OutOfMemory,
+            _ => TextError::Instance(refusal),
+        }
+    }
+}

@@ -1,0 +1,80 @@
+//! From the bytes of a file to the instance that they mean.
+ghost use Rattle.std.specs.Prelude.{◌≡◌, ◌≢◌, ◌≤◌, Ok, Err, Some, None, IfOk, IfErr};
+ghost use Rattle.vrp_text.specs.Complete.{count_fault, nodes_fault, source_count_fault, source_node_fault};
+ghost use Rattle.vrp_text.specs.Meaning.{HasWeights, MeansProblem, MeansRefusal, or_fault, reading_of};
+ghost use Rattle.vrp_text.specs.Sources.{complete_in, source_in};
+ghost use Rattle.vrp_text.specs.Step.{IsInRange, IsSourceInRange};
+ghost use Rattle.vrp_text.specs.Meant.{StatesProblem, IsStatedRefusal};
+
+use crate::complete::{Complete, Source, listed_depots};
+use crate::error::TextError;
+use crate::nodes::{demands_of, depots_of, entries_of, points_of};
+use crate::reading::read_statements;
+use std::alloc::Global;
+use vrp_model::{Instance, Weights};
+
+/// The instance that a CVRP file means (TSPLIB 95, section 1), with the chosen node as its depot, or the first listed
+/// depot where none is chosen. The refusal is the first that the file means, in this order: too long; the fault of the
+/// first faulty line; a missing keyword or section; a wrong count; a bad node; a fault of the instance. `OutOfMemory` may
+/// come in place of any answer.
+pub fn read(alloc: Global, bytes: &[u8], chosen: Option<u16>) -> Result<Instance, TextError>
+    ensures meant { IfOk result (MeansProblem bytes.now chosen) }
+    ensures refused { IfErr result (λ error. error ≢ TextError.OutOfMemory → MeansRefusal bytes.now chosen error) }
+{
+    let complete = read_complete(alloc, bytes)?;
+    instance_of(alloc, &complete, chosen)
+}
+
+// What a file states, where no line is at fault, nothing is missing and the counts are right.
+fn read_complete(alloc: Global, bytes: &[u8]) -> Result<Complete, TextError>
+    ensures read { IfOk result (λ complete. reading_of bytes.now ≡ or_fault (nodes_fault (complete_in complete)) (Ok (complete_in complete))) }
+    ensures counted { IfOk result (λ complete. count_fault (complete_in complete) ≡ None) }
+    ensures in_range { IfOk result (λ complete. IsInRange (complete_in complete)) }
+    ensures refused { IfErr result (λ error. error ≢ TextError.OutOfMemory → reading_of bytes.now ≡ Err error) }
+{
+    let statements = read_statements(alloc, bytes)?;
+    let complete = statements.complete()?;
+    complete.check_counts()?;
+    Ok(complete)
+}
+
+// The instance that is stated, where the nodes are right and a truck can serve each customer.
+fn instance_of(
+    alloc: Global,
+    complete: &Complete,
+    chosen: Option<u16>,
+) -> Result<Instance, TextError>
+    requires counted { count_fault (complete_in complete.now) ≡ None }
+    requires in_range { IsInRange (complete_in complete.now) }
+    ensures sound { IfOk result (λ _. nodes_fault (complete_in complete.now) ≡ None) }
+    ensures meant { IfOk result (StatesProblem (complete_in complete.now) chosen) }
+    ensures refused { IfErr result (λ error. error ≢ TextError.OutOfMemory → IsStatedRefusal (complete_in complete.now) chosen error) }
+{
+    let weights = weights_of(alloc, complete.nodes, &complete.source)?;
+    let demands = demands_of(alloc, complete.nodes, &complete.demands)?;
+    let depots = depots_of(alloc, complete.nodes, listed_depots(&complete.depots))?;
+    Ok(Instance::new(alloc, weights, &demands, complete.capacity, &depots, chosen)?)
+}
+
+// The weights between all nodes.
+fn weights_of(alloc: Global, nodes: u16, source: &Source) -> Result<Weights, TextError>
+    requires some { 1 ≤ nodes }
+    requires few { nodes ≤ 1200 }
+    requires count { source_count_fault nodes (source_in source.now) ≡ None }
+    requires within { IsSourceInRange (source_in source.now) }
+    ensures sound { IfOk result (λ _. source_node_fault nodes (source_in source.now) ≡ None) }
+    ensures nodes { IfOk result (λ grid. grid.nodes ≡ nodes) }
+    ensures weights { IfOk result (HasWeights nodes (source_in source.now)) }
+    ensures refused { IfErr result (λ error. error ≢ TextError.OutOfMemory → source_node_fault nodes (source_in source.now) ≡ Some error) }
+{
+    match source {
+        Source::Points(metric, numbers) => {
+            let points = points_of(alloc, nodes, numbers)?;
+            Ok(Weights::points(alloc, *metric, &points)?)
+        }
+        Source::Matrix(layout, numbers) => {
+            let entries = entries_of(alloc, numbers)?;
+            Ok(Weights::matrix(alloc, *layout, &entries, nodes)?)
+        }
+    }
+}

@@ -1,0 +1,68 @@
+//! The keys that the lines of a file bear.
+ghost use Rattle.std.specs.Prelude.{◌≡◌, ◌<◌};
+ghost use Rattle.vrp_text.specs.Keyword.{rank};
+
+use crate::error::Key;
+use std::marker::Model;
+
+// How many keys there are.
+const KEYS: usize = 9;
+
+/// A set of keys.
+#[derive(Debug, Drop)]
+pub(crate) struct Keys {
+    // A mark for each key, by its rank.
+    marks: [bool; KEYS],
+}
+
+impl Model for Keys {
+    ghost use Rattle.std.specs.Prelude.{List, Bool};
+
+    ghost Value = { List Bool };
+
+    ghost view = { λ keys. keys.marks };
+}
+
+impl Keys {
+    ghost use Rattle.std.specs.Prelude.{◌≡◌, ◌||◌, ◌==◌, false, not};
+    ghost use Rattle.vrp_text.specs.Keyword.{is_marked, rank};
+    ghost use Rattle.vrp_text.specs.declared.error.Key.{Key};
+
+    /// No key.
+    pub(crate) fn new() -> Self
+        ensures { (key : Key) → is_marked result key ≡ false }
+    {
+        Keys {
+            marks: [false; KEYS],
+        }
+    }
+
+    /// Takes a key in, and tells whether it was not in yet.
+    pub(crate) fn insert(&mut self, key: Key) -> bool
+        ensures fresh { result ≡ not (is_marked self.old key) }
+        ensures marked { (other : Key) → is_marked self.new other ≡ (is_marked self.old other || rank other == rank key) }
+    {
+        let place = rank(key);
+        let was_in = self.marks[place];
+        self.marks[place] = true;
+        !was_in
+    }
+}
+
+// The place of a key among all keys.
+fn rank(key: Key) -> usize
+    ensures value { result ≡ rank key }
+    ensures within { result < 9 }
+{
+    match key {
+        Key::Problem => 0,
+        Key::Dimension => 1,
+        Key::Capacity => 2,
+        Key::WeightKind => 3,
+        Key::WeightFormat => 4,
+        Key::NodeCoord => 5,
+        Key::EdgeWeight => 6,
+        Key::Demand => 7,
+        Key::Depot => 8,
+    }
+}

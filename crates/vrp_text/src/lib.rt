@@ -1,0 +1,20 @@
+//! CVRP files of TSPLIB 95: from their bytes to the instances that they mean.
+#![tactic(auto)]
+
+mod complete;
+mod error;
+mod fault;
+mod instance;
+mod keys;
+mod keyword;
+mod lines;
+mod nodes;
+mod numeral;
+mod reading;
+mod section;
+mod statements;
+mod tokens;
+mod value;
+
+pub use error::{Key, TextError};
+pub use instance::read;

@@ -1,0 +1,132 @@
+//! The sections that have a row for each node, and the depots: numbers become nodes.
+ghost use Rattle.std.specs.Prelude.{◌≡◌, ◌≢◌, ◌+◌, ◌*◌, ◌≤◌, ◌<◌, ℕ, pos, true, false, unsigned_abs, map, length, get_or, set, replicate, slice_index, IfOk, IfErr, Some, None, MatchOption, [], not};
+ghost use Rattle.std.specs.List.{All};
+ghost use Rattle.vrp_model.specs.Grid.{IsCoordinate};
+ghost use Rattle.vrp_text.specs.Complete.{bad_node, demands_of, is_node, no_node, node_fault, points_of, row_nodes};
+ghost use Rattle.vrp_text.specs.Given.{IsGivenOrNone};
+ghost use Rattle.vrp_text.specs.Section.{AreWithin};
+ghost use Rattle.vrp_text.specs.declared.section.Section.TheVariants.{Coordinates};
+
+use crate::error::{Key, TextError};
+use std::alloc::{AllocError, Global};
+use std::marker::Model;
+
+// The nodes that were given so far.
+#[derive(Debug, Drop)]
+struct GivenNodes {
+    // A mark for each node.
+    marks: Vec<bool>,
+}
+
+impl Model for GivenNodes {
+    ghost use Rattle.std.specs.Prelude.{Bool, List};
+
+    ghost Value = { List Bool };
+
+    ghost view = { λ given. given.marks.items };
+}
+
+impl GivenNodes {
+    // No node is given.
+    fn none(alloc: Global, nodes: u16) -> Result<GivenNodes, AllocError>
+        ensures { IfOk result (λ given. given ≡ replicate nodes false) }
+    {
+        Ok(GivenNodes {
+            marks: vec![in alloc; false; usize::from(nodes)]?,
+        })
+    }
+
+    // Marks a node as given, and tells its place, from 0. None where the number is no node, or was given before.
+    fn give(&mut self, number: i64) -> Option<usize>
+        requires few { length self.old ≤ 1200 }
+        ensures { MatchOption result
+            ((self.new ≡ self.old) × (IsGivenOrNone self.old number))
+            (λ place. (place < length self.old) × (number ≡ pos (place + 1)) × (get_or self.old place false ≡ false) × (self.new ≡ set self.old place true)) }
+    {
+        if number < 1 || number > self.marks.len() as i64 {
+            return None;
+        }
+        let place = (number - 1) as usize;
+        if self.marks[place] {
+            return None;
+        }
+        self.marks[place] = true;
+        Some(place)
+    }
+}
+
+/// The points of all nodes, by rising node, from a node and two coordinates for each.
+pub(crate) fn points_of(
+    alloc: Global,
+    nodes: u16,
+    numbers: &[i64],
+) -> Result<Vec<(i64, i64)>, TextError>
+    requires few { nodes ≤ 1200 }
+    requires rows { length numbers.now ≡ 3 * nodes }
+    requires within { AreWithin Coordinates 0 numbers.now }
+    ensures sound { IfOk result (λ _. bad_node nodes [] (row_nodes 3 nodes numbers.now) ≡ None) }
+    ensures value { IfOk result (λ points. points.items ≡ points_of nodes numbers.now) }
+    ensures small { IfOk result (λ points. All (λ point. IsCoordinate point.0 × IsCoordinate point.1) points.items) }
+    ensures refused { IfErr result (λ error. error ≢ TextError.OutOfMemory → node_fault Key.NodeCoord (bad_node nodes [] (row_nodes 3 nodes numbers.now)) ≡ Some error) }
+{
+    let mut given = GivenNodes::none(alloc, nodes)?;
+    let mut points = vec![in alloc; (0i64, 0i64); usize::from(nodes)]?;
+    for row in 0..usize::from(nodes) {
+        let number = numbers[3 * row];
+        let Some(place) = given.give(number) else {
+            return Err(TextError::BadNode(Key::NodeCoord, number));
+        };
+        points[place] = (numbers[3 * row + 1], numbers[3 * row + 2]);
+    }
+    Ok(points)
+}
+
+/// The demands of all nodes, by rising node, from a node and its demand for each.
+pub(crate) fn demands_of(alloc: Global, nodes: u16, numbers: &[i64]) -> Result<Vec<u64>, TextError>
+    requires few { nodes ≤ 1200 }
+    requires rows { length numbers.now ≡ 2 * nodes }
+    ensures sound { IfOk result (λ _. bad_node nodes [] (row_nodes 2 nodes numbers.now) ≡ None) }
+    ensures value { IfOk result (λ demands. demands.items ≡ demands_of nodes numbers.now) }
+    ensures refused { IfErr result (λ error. error ≢ TextError.OutOfMemory → node_fault Key.Demand (bad_node nodes [] (row_nodes 2 nodes numbers.now)) ≡ Some error) }
+{
+    let mut given = GivenNodes::none(alloc, nodes)?;
+    let mut demands = vec![in alloc; 0u64; usize::from(nodes)]?;
+    for row in 0..usize::from(nodes) {
+        let number = numbers[2 * row];
+        let Some(place) = given.give(number) else {
+            return Err(TextError::BadNode(Key::Demand, number));
+        };
+        demands[place] = numbers[2 * row + 1].unsigned_abs();
+    }
+    Ok(demands)
+}
+
+/// The nodes of the depots.
+pub(crate) fn depots_of(alloc: Global, nodes: u16, numbers: &[i64]) -> Result<Vec<u16>, TextError>
+    ensures sound { IfOk result (λ _. no_node nodes numbers.now ≡ None) }
+    ensures value { IfOk result (λ depots. depots.items ≡ map unsigned_abs numbers.now) }
+    ensures from_one { IfOk result (λ depots. (k : ℕ) → k < length depots.items → 1 ≤ slice_index depots.items k) }
+    ensures within { IfOk result (λ depots. (k : ℕ) → k < length depots.items → slice_index depots.items k ≤ nodes) }
+    ensures refused { IfErr result (λ error. error ≢ TextError.OutOfMemory → node_fault Key.Depot (no_node nodes numbers.now) ≡ Some error) }
+{
+    let mut depots = Vec::with_capacity(alloc, numbers.len())?;
+    for number in numbers {
+        if *number < 1 || *number > i64::from(nodes) {
+            return Err(TextError::BadNode(Key::Depot, *number));
+        }
+        depots.push(*number as u16)?;
+    }
+    Ok(depots)
+}
+
+/// The weights that a matrix lists.
+pub(crate) fn entries_of(alloc: Global, numbers: &[i64]) -> Result<Vec<u64>, TextError>
+    ensures value { IfOk result (λ entries. entries.items ≡ map unsigned_abs numbers.now) }
+    ensures refused { IfErr result (λ error. error ≡ TextError.OutOfMemory) }
+{
+    let mut entries = Vec::with_capacity(alloc, numbers.len())?;
+    for number in numbers {
+        entries.push(number.unsigned_abs())?;
+    }
+    Ok(entries)
+}

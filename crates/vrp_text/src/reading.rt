@@ -1,0 +1,118 @@
+//! One pass over the lines of a file, each of which states something or is at fault.
+ghost use Rattle.std.specs.Prelude.{◌≡◌, ◌≢◌, ◌≤◌, ◌||◌, IfOk, IfErr, Err, Some, None, [], length};
+ghost use Rattle.vrp_text.specs.Keyword.{is_marked};
+ghost use Rattle.vrp_text.specs.Line.{lines_of, tokens_of};
+ghost use Rattle.vrp_text.specs.Meaning.{all_stated, line_fault, reading_of};
+ghost use Rattle.vrp_text.specs.Part.{before_end, parts_from};
+ghost use Rattle.vrp_text.specs.Section.{content_of, content_numbers};
+ghost use Rattle.vrp_text.specs.Stated.{is_explicit, is_same_key, keyword_fault, parts_fault, stated_by};
+ghost use Rattle.vrp_text.specs.Step.{fault_of_part, with_part, with_keyword};
+ghost use Rattle.vrp_text.specs.Unread.{parts_left, data_left};
+ghost use Rattle.vrp_text.specs.declared.error.Key.{Key};
+
+use crate::error::{Key, TextError};
+use crate::fault::LineFault;
+use crate::keys::Keys;
+use crate::keyword::Keyword;
+use crate::lines::{Heading, Lines};
+use crate::section::{Content, content_of, read_content};
+use crate::statements::{Statements, no_value, value};
+use std::alloc::Global;
+
+/// The most bytes that a file may have.
+pub(crate) const MAX_BYTES: usize = 16_777_216;
+
+// Whether the first EDGE_WEIGHT_TYPE of the lines is EXPLICIT.
+fn is_explicit(lines: &mut Lines<'_>) -> bool
+    ensures { result ≡ is_explicit (parts_left lines.old) }
+{
+    while let Some(heading) = lines.next_heading() {
+        if let Some(Keyword::Key(Key::WeightKind)) = heading.keyword {
+            return value(heading.behind) == b"EXPLICIT".as_slice();
+        }
+    }
+    false
+}
+
+// Reads what stands on the line of a keyword, where the keys of earlier lines are known.
+fn read_keyword(
+    explicit: bool,
+    keyword: Option<Keyword>,
+    behind: &[u8],
+    keys: &mut Keys,
+    statements: &mut Statements,
+) -> Result<(), LineFault>
+    ensures sound { IfOk result (λ _. keyword_fault explicit (is_marked keys.old) keyword (tokens_of behind.now) ≡ None) }
+    ensures marked { IfOk result (λ _. (key : Key) → is_marked keys.new key ≡ (is_marked keys.old key || is_same_key key keyword)) }
+    ensures read { IfOk result (λ _. statements.new ≡ with_keyword explicit keyword (tokens_of behind.now) statements.old) }
+    ensures refused { IfErr result (λ fault. keyword_fault explicit (is_marked keys.old) keyword (tokens_of behind.now) ≡ Some fault) }
+{
+    match keyword {
+        None => Err(LineFault::UnknownKeyword),
+        Some(Keyword::Unsupported) => Err(LineFault::Unsupported),
+        Some(Keyword::Remark) => Ok(()),
+        Some(Keyword::End) => Ok(()),
+        Some(Keyword::Display) => no_value(behind),
+        Some(Keyword::Key(key)) => {
+            if !keys.insert(key) {
+                return Err(LineFault::Repeated);
+            }
+            statements.read_value(explicit, key, behind)
+        }
+    }
+}
+
+// Reads a part behind its keyword: what stands on the keyword's line, and the data lines.
+fn read_part(
+    alloc: Global,
+    explicit: bool,
+    heading: &Heading<'_>,
+    lines: &mut Lines<'_>,
+    keys: &mut Keys,
+    statements: &mut Statements,
+) -> Result<(), TextError>
+    ensures sound { IfOk result (λ _. fault_of_part explicit (is_marked keys.old) heading.now.number heading.now.keyword (tokens_of heading.now.behind.now) lines.old.number (data_left lines.old) ≡ None) }
+    ensures marked { IfOk result (λ _. (key : Key) → is_marked keys.new key ≡ (is_marked keys.old key || is_same_key key heading.now.keyword)) }
+    ensures read { IfOk result (λ _. statements.new ≡ with_part explicit heading.now.keyword (tokens_of heading.now.behind.now) (content_numbers (content_of explicit heading.now.keyword) (data_left lines.old)) statements.old) }
+    ensures passed { IfOk result (λ _. parts_left lines.new ≡ parts_left lines.old) }
+    ensures refused { IfErr result (λ error. error ≢ TextError.OutOfMemory → fault_of_part explicit (is_marked keys.old) heading.now.number heading.now.keyword (tokens_of heading.now.behind.now) lines.old.number (data_left lines.old) ≡ Some error) }
+{
+    if let Err(fault) = read_keyword(explicit, heading.keyword, heading.behind, keys, statements) {
+        return Err(fault.at(heading.number));
+    }
+    let numbers = read_content(alloc, lines, content_of(explicit, heading.keyword))?;
+    if let Some(Keyword::Key(key)) = heading.keyword {
+        statements.put_numbers(key, numbers);
+    }
+    Ok(())
+}
+
+// Reads all parts that are left.
+fn read_parts(alloc: Global, explicit: bool, lines: &mut Lines<'_>) -> Result<Statements, TextError>
+    ensures sound { IfOk result (λ _. parts_fault explicit [] (parts_left lines.old) ≡ None) }
+    ensures read { IfOk result (λ statements. statements ≡ stated_by explicit (parts_left lines.old)) }
+    ensures refused { IfErr result (λ error. error ≢ TextError.OutOfMemory → parts_fault explicit [] (parts_left lines.old) ≡ Some error) }
+{
+    let mut keys = Keys::new();
+    let mut statements = Statements::new();
+    while let Some(heading) = lines.next_heading() {
+        read_part(alloc, explicit, &heading, lines, &mut keys, &mut statements)?;
+    }
+    Ok(statements)
+}
+
+/// Reads what the lines of a file state.
+pub(crate) fn read_statements(alloc: Global, bytes: &[u8]) -> Result<Statements, TextError>
+    ensures short { IfOk result (λ _. length bytes.now ≤ 16777216) }
+    ensures sound { IfOk result (λ _. line_fault (before_end (lines_of bytes.now)) ≡ None) }
+    ensures read { IfOk result (λ statements. statements ≡ all_stated (before_end (lines_of bytes.now))) }
+    ensures refused { IfErr result (λ error. error ≢ TextError.OutOfMemory → reading_of bytes.now ≡ Err error) }
+{
+    if bytes.len() > MAX_BYTES {
+        return Err(TextError::TooLong);
+    }
+    let explicit = is_explicit(&mut Lines::of(bytes));
+    let mut lines = Lines::of(bytes);
+    read_content(alloc, &mut lines, Content::Nothing)?;
+    read_parts(alloc, explicit, &mut lines)
+}
