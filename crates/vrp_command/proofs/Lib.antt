@@ -1,14 +1,3 @@
-pub mod BodyLemmas
-pub mod Carried
-pub mod LineLemmas
-pub mod NumberLemmas
-pub mod OneMeaning
-pub mod PartsLemmas
 pub mod PlaceLemmas
-pub mod RemarkLemmas
+pub mod RefusalLemmas
 pub mod ReportLemmas
-pub mod RequestLemmas
-pub mod SameLines
-pub mod SectionLemmas
-pub mod Statements
-pub mod TokenLemmas

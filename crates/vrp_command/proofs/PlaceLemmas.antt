@@ -1,13 +1,10 @@
--- The places of the singles plan, and the points of a plain file, one by one.
+-- The places of the singles plan, one by one.
 use Rattle.std.proofs.Common.{ℕ, ◌-◌, ◌<◌, List, ◌∷◌, [], length, map, get_or, arith}
 use Rattle.std.specs.List.{All, range_with_len}
 use Rattle.std.proofs.lemmas.Grind.{common_steps}
 use Rattle.std.proofs.lemmas.List.Elements.{All-map}
 use Rattle.std.proofs.lemmas.List.FromFn.{get_or-range_with_len, length-range_with_len}
-use Rattle.std.proofs.lemmas.Option.{slice_get-get_or}
 use Rattle.vrp_model.specs.Problem.{Problem, customers, place_count}
-use Rattle.vrp_model.specs.Grid.{IsCoordinate}
-use Rattle.vrp_command.specs.Plain.{Statement, Spells}
 
 customer_within : (count k d : ℕ) → k < length (range_with_len 1 (count - 1)) → get_or (range_with_len 1 (count - 1)) k d < count
 customer_within count k d inside =
@@ -17,8 +14,3 @@ customer_within count k d inside =
 -- each stop of the singles plan is a place of the problem
 pub singles_within : (p : Problem) → All (λ route. All (λ place. place < place_count p) route) (map (λ customer. customer ∷ []) (customers p))
 singles_within p = All-map (λ route. All (λ place. place < place_count p) route) (λ customer. customer ∷ []) (customers p) (λ k d inside k' d' one. grind (arith, common_steps, customer_within (place_count p) k d inside))
-
-pub coordinates_within : (bytes : List ℕ) (statement : Statement) → Spells bytes statement → All (λ point. IsCoordinate point.0 × IsCoordinate point.1) statement.points
-coordinates_within bytes statement spelled = λ k d inside.
-    let here = spelled.body.point_section.each k (get_or statement.points k d) (slice_get-get_or statement.points k d inside) in
-    (here.east, here.north)

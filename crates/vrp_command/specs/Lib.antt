@@ -1,8 +1,6 @@
 pub mod Fault
 pub mod Input
-pub mod Meaning
 pub mod Options
-pub mod Plain
-pub mod PlainParts
+pub mod Refusal
 pub mod Report
 pub mod Run

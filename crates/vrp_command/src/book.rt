@@ -44,14 +44,14 @@ impl Book {
 #[cfg(test)]
 mod tests {
     use super::*;
-    use crate::meaning::instance_of;
     use crate::tests::{MIDDLE, SMALL};
     use std::test::*;
+    use vrp_text::read;
 
     #[test]
     fn keeps_the_cheaper(rt: HostRuntime) -> Result<(), Fail> {
-        let far = instance_of(rt.alloc(), SMALL.as_bytes())?;
-        let near = instance_of(rt.alloc(), MIDDLE.as_bytes())?;
+        let far = read(rt.alloc(), SMALL.as_bytes(), None)?;
+        let near = read(rt.alloc(), MIDDLE.as_bytes(), None)?;
         let far = Plan::singles(rt.alloc(), &far)?;
         let near = Plan::singles(rt.alloc(), &near)?;
         let mut book = Book::open(far.copy(rt.alloc())?);

@@ -4,20 +4,18 @@ ghost use Rattle.vrp_command.specs.Fault.{fault_text, exit_code, refusal_fault};
 ghost use Rattle.vrp_command.specs.declared.fault.RunError.TheVariants.{OutOfMemory};
 
 use crate::options::Status;
+use crate::refusal::Refusal;
 use std::alloc::{AllocError, Global};
 use std::error::Error;
 use std::fmt;
-use vrp_model::{InstanceError, NoMemory};
-
-/// The bytes that were read are no plain file.
-#[derive(Clone, Copy, Debug, PartialEq, Eq)]
-pub struct NotPlain;
+use vrp_model::NoMemory;
+use vrp_text::TextError;
 
 /// Why a run failed. Nothing was written, but for `Write`, where a part of the report may have gone out.
 #[derive(Clone, Copy, Debug, PartialEq, Eq)]
 pub enum RunError {
-    /// The file is refused.
-    Text(NotPlain),
+    /// The file is refused. Never for want of memory.
+    Text(TextError),
     /// A growth was refused.
     OutOfMemory,
     /// A read failed.
@@ -30,12 +28,12 @@ impl fmt::Display for RunError {
     ghost output = { λ fault. Some (fault_text fault) };
 
     fn fmt<W: fmt::Write>(&self, f: &mut fmt::Formatter<W>) -> fmt::Result {
-        f.write_str(match self {
-            RunError::Text(NotPlain) => "not a plain file",
-            RunError::OutOfMemory => "out of memory",
-            RunError::Read => "read fault",
-            RunError::Write => "write fault",
-        })
+        match self {
+            RunError::Text(refusal) => write!(f, "{}", Refusal(*refusal)),
+            RunError::OutOfMemory => f.write_str("out of memory"),
+            RunError::Read => f.write_str("read fault"),
+            RunError::Write => f.write_str("write fault"),
+        }
     }
 }
 
@@ -57,15 +55,13 @@ impl From<NoMemory> for RunError {
     }
 }
 
-impl From<InstanceError> for RunError {
+impl From<TextError> for RunError {
     ghost from_gives = { λ refusal fault. fault ≡ refusal_fault refusal };
 
-    fn from(refusal: InstanceError) -> RunError {
+    fn from(refusal: TextError) -> RunError {
         match refusal {
-            InstanceError::OutOfMemory => RunError::OutOfMemory,
-            InstanceError::DepotDemand(_) => RunError::Text(NotPlain),
-            InstanceError::NotADepot(_) => RunError::Text(NotPlain),
-            InstanceError::DemandOverCapacity(_) => RunError::Text(NotPlain),
+            TextError::OutOfMemory => RunError::OutOfMemory,
+            _ => RunError::Text(refusal),
         }
     }
 }

@@ -4,9 +4,9 @@ ghost use Rattle.std.specs.Io.KnownBytes.{Consumes, IsAtEnd};
 ghost use Rattle.vrp_command.specs.Input.{IsInput, TakesSome};
 
 use crate::fault::RunError;
-use crate::plain::MAX_BYTES;
 use std::alloc::{AllocError, Global};
 use std::io::Read;
+use vrp_text::MAX_BYTES;
 
 // How many bytes are asked for at once.
 const BUFFER: usize = 65_536;

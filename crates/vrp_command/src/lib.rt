@@ -5,16 +5,13 @@ mod book;
 mod command;
 mod fault;
 mod input;
-mod law;
-mod meaning;
 mod options;
-mod plain;
+mod refusal;
 mod report;
 #[cfg(test)]
 mod tests;
 mod verdict;
 
 pub use command::run;
-pub use fault::{NotPlain, RunError, exit_status, fault_line};
-pub use law::one_meaning;
+pub use fault::{RunError, exit_status, fault_line};
 pub use options::{Options, Status};

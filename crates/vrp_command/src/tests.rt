@@ -20,8 +20,21 @@ const REPORT: &str = "Route #1: 2\nRoute #2: 3\nCost 30\nOpen 0\n";
 
 // What a run over these bytes answers, and what it writes.
 fn run_on(alloc: Global, bytes: &[u8]) -> (Result<Status, RunError>, Vec<u8>) {
+    run_with(alloc, bytes, None)
+}
+
+// The same with a node chosen as the depot.
+fn run_with(
+    alloc: Global,
+    bytes: &[u8],
+    depot: Option<u16>,
+) -> (Result<Status, RunError>, Vec<u8>) {
     let mut input = bytes;
     let mut output = Vec::new(alloc);
-    let outcome = run(alloc, Options::default(), &mut input, &mut output);
+    let options = Options {
+        depot,
+        ..Options::default()
+    };
+    let outcome = run(alloc, options, &mut input, &mut output);
     (outcome, output)
 }

@@ -3,6 +3,16 @@ pub mod LineLemmas
 pub mod LongNumerals
 pub mod NodeLemmas
 pub mod NumeralLemmas
+pub mod OneGrid
+pub mod OneProblem
+pub mod OneRefusal
+pub mod PlainFile
+pub mod PlainLaw
+pub mod PlainLines
+pub mod PlainNumbers
+pub mod PlainOrder
+pub mod PlainParts
+pub mod PlainRows
 pub mod ReadingLemmas
 pub mod SectionLemmas
 pub mod TokenLemmas

@@ -8,6 +8,8 @@ pub mod Meaning
 pub mod Meant
 pub mod Numeral
 pub mod Part
+pub mod Plain
+pub mod PlainMeaning
 pub mod ReadNumeral
 pub mod Refusal
 pub mod Section

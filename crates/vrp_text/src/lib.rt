@@ -7,6 +7,7 @@ mod fault;
 mod instance;
 mod keys;
 mod keyword;
+mod law;
 mod lines;
 mod nodes;
 mod numeral;
@@ -18,3 +19,5 @@ mod value;
 
 pub use error::{Key, TextError};
 pub use instance::read;
+pub use law::{one_meaning, plain_files};
+pub use reading::MAX_BYTES;

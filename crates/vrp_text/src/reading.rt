@@ -20,7 +20,7 @@ use crate::statements::{Statements, no_value, value};
 use std::alloc::Global;
 
 /// The most bytes that a file may have.
-pub(crate) const MAX_BYTES: usize = 16_777_216;
+pub const MAX_BYTES: usize = 16_777_216;
 
 // Whether the first EDGE_WEIGHT_TYPE of the lines is EXPLICIT.
 fn is_explicit(lines: &mut Lines<'_>) -> bool

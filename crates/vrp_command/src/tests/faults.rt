@@ -1,10 +1,11 @@
 //! Readers and writers that fail, give or take little, or never end.
 use super::{REPORT, SMALL};
-use crate::{NotPlain, Options, RunError, Status, run};
+use crate::{Options, RunError, Status, run};
 use std::alloc::Global;
 use std::io;
 use std::io::{ErrorKind, Read, Write};
 use std::test::*;
+use vrp_text::TextError;
 
 // Gives its bytes, so many at a time. One of its reads fails, and the next goes on behind it.
 #[derive(Drop)]
@@ -131,7 +132,7 @@ fn endless_input(rt: HostRuntime) {
     let mut input = Endless { given: 0 };
     let mut output = room_for(rt.alloc(), 70_000, usize::MAX);
     let outcome = run(rt.alloc(), Options::default(), &mut input, &mut output);
-    assert_eq!(rt; outcome, Err(RunError::Text(NotPlain)));
+    assert_eq!(rt; outcome, Err(RunError::Text(TextError::TooLong)));
     assert_eq!(rt; input.given, 16_777_217);
     assert!(rt; output.taken.is_empty());
 }

@@ -1,8 +1,10 @@
 //! The reports on whole files, and files that are refused.
-use super::{MIDDLE, REPORT, SMALL, run_on};
-use crate::{NotPlain, RunError, Status};
+use super::{MIDDLE, REPORT, SMALL, run_on, run_with};
+use crate::{RunError, Status};
 use std::alloc::Global;
 use std::test::*;
+use vrp_model::InstanceError;
+use vrp_text::{Key, TextError};
 
 // A file of this many bytes: the small file behind a long comment.
 fn long_file(alloc: Global, length: usize) -> Result<Vec<u8>, Fail> {
@@ -40,36 +42,79 @@ fn reports(rt: HostRuntime) -> Result<(), Fail> {
     Ok(())
 }
 
+// The small file with one text in place of another, and with a chosen depot, is refused for this.
 #[test]
 fn refused(rt: HostRuntime) -> Result<(), Fail> {
-    for (old, new) in [
-        (SMALL, ""),
-        (SMALL, "\0\u{1}\n\u{7f}\u{ffff}"),
-        ("SECTION\n1 0\n", "SECTION\n1 1\n"),
-        ("\n3 1\n", "\n3 3\n"),
+    for (old, new, depot, refusal) in [
+        (SMALL, "", None, TextError::Missing(Key::Problem)),
+        (
+            SMALL,
+            "\0\u{1}\n\u{7f}\u{ffff}",
+            None,
+            TextError::DataOutside(1),
+        ),
+        (
+            "\n1 0\n2 1",
+            "\n1 5\n2 1",
+            None,
+            TextError::Instance(InstanceError::DepotDemand(1)),
+        ),
+        (
+            "\n2 1\n",
+            "\n2 3\n",
+            None,
+            TextError::Instance(InstanceError::DemandOverCapacity(2)),
+        ),
+        (
+            "EOF",
+            "EOF",
+            Some(3),
+            TextError::Instance(InstanceError::NotADepot(3)),
+        ),
+        (
+            "EOF",
+            "EOF",
+            Some(1200),
+            TextError::Instance(InstanceError::NotADepot(1200)),
+        ),
+        (
+            "\n2 1\n",
+            "\n2 1\nCAPACITY : 2\n",
+            None,
+            TextError::Repeated(14),
+        ),
     ] {
         let text = SMALL.replacen(rt.alloc(), old, new, 1)?;
-        let (outcome, written) = run_on(rt.alloc(), text.as_bytes());
-        assert_eq!(rt; outcome, Err(RunError::Text(NotPlain)), "at {new}");
+        let (outcome, written) = run_with(rt.alloc(), text.as_bytes(), depot);
+        assert_eq!(rt; outcome, Err(RunError::Text(refusal)), "at {new}");
         assert!(rt; written.is_empty(), "at {new}");
     }
     Ok(())
 }
 
+// Two depots are listed: the first is the depot unless the other is chosen, and neither is a customer.
 #[test]
-fn cut_anywhere(rt: HostRuntime) {
-    for end in 0..SMALL.len() {
-        let (outcome, written) = run_on(rt.alloc(), &SMALL.as_bytes()[..end]);
-        assert_eq!(rt; outcome, Err(RunError::Text(NotPlain)), "cut at {end}");
-        assert!(rt; written.is_empty(), "cut at {end}");
+fn chosen_depots(rt: HostRuntime) -> Result<(), Fail> {
+    let text = SMALL
+        .replacen(rt.alloc(), "\n2 1\n", "\n2 0\n", 1)?
+        .replacen(rt.alloc(), "SECTION\n1\n-1", "SECTION\n1 2\n-1", 1)?;
+    for (depot, report) in [
+        (None, "Route #1: 3\nCost 20\nOpen 0\n"),
+        (Some(1), "Route #1: 3\nCost 20\nOpen 0\n"),
+        (Some(2), "Route #1: 3\nCost 10\nOpen 0\n"),
+    ] {
+        let (outcome, written) = run_with(rt.alloc(), text.as_bytes(), depot);
+        assert_eq!(rt; outcome, Ok(Status::Open));
+        assert_eq!(rt; written.as_slice(), report.as_bytes());
     }
+    Ok(())
 }
 
 #[test]
 fn longest_file(rt: HostRuntime) -> Result<(), Fail> {
     for (length, answer, report) in [
         (16_777_216, Ok(Status::Open), REPORT),
-        (16_777_217, Err(RunError::Text(NotPlain)), ""),
+        (16_777_217, Err(RunError::Text(TextError::TooLong)), ""),
     ] {
         let bytes = long_file(rt.alloc(), length)?;
         assert_eq!(rt; bytes.len(), length);

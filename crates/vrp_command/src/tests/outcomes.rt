@@ -1,7 +1,9 @@
 //! The options, the texts and the exit statuses, and growths that are refused.
 use super::{REPORT, SMALL};
-use crate::{NotPlain, Options, RunError, Status, exit_status, fault_line, run};
+use crate::{Options, RunError, Status, exit_status, fault_line, run};
 use std::test::*;
+use vrp_model::InstanceError;
+use vrp_text::{Key, TextError};
 
 #[test]
 fn default_options(rt: HostRuntime) {
@@ -19,7 +21,7 @@ fn exit_statuses(rt: HostRuntime) {
     for (outcome, status) in [
         (Ok(Status::Proven), 0),
         (Ok(Status::Open), 1),
-        (Err(RunError::Text(NotPlain)), 3),
+        (Err(RunError::Text(TextError::TooLong)), 3),
         (Err(RunError::OutOfMemory), 4),
         (Err(RunError::Read), 5),
         (Err(RunError::Write), 5),
@@ -31,13 +33,76 @@ fn exit_statuses(rt: HostRuntime) {
 #[test]
 fn fault_lines(rt: HostRuntime) -> Result<(), Fail> {
     for (fault, line) in [
-        (RunError::Text(NotPlain), "not a plain file"),
         (RunError::OutOfMemory, "out of memory"),
         (RunError::Read, "read fault"),
         (RunError::Write, "write fault"),
     ] {
         assert_eq!(rt; fault_line(rt.alloc(), &fault)?.as_str(), line);
         assert_eq!(rt; fault.to_string(rt.alloc())?.as_str(), line);
+    }
+    Ok(())
+}
+
+// The text of a refused file is the one that the refusal itself prints.
+#[test]
+fn refusal_lines(rt: HostRuntime) -> Result<(), Fail> {
+    for (refusal, line) in [
+        (TextError::DataOutside(7), "line 7: data outside a section"),
+        (TextError::UnknownKeyword(10), "line 10: unknown keyword"),
+        (TextError::Repeated(7), "line 7: repeated keyword"),
+        (TextError::BadValue(6), "line 6: bad value"),
+        (
+            TextError::Unsupported(16_777_217),
+            "line 16777217: not supported",
+        ),
+        (TextError::BadNumber(10), "line 10: bad number"),
+        (TextError::NotWhole(9), "line 9: number is not whole"),
+        (TextError::Missing(Key::Problem), "missing TYPE"),
+        (TextError::Missing(Key::Dimension), "missing DIMENSION"),
+        (TextError::Missing(Key::Capacity), "missing CAPACITY"),
+        (
+            TextError::Missing(Key::WeightKind),
+            "missing EDGE_WEIGHT_TYPE",
+        ),
+        (
+            TextError::Missing(Key::WeightFormat),
+            "missing EDGE_WEIGHT_FORMAT",
+        ),
+        (
+            TextError::Missing(Key::NodeCoord),
+            "missing NODE_COORD_SECTION",
+        ),
+        (
+            TextError::WrongCount(Key::EdgeWeight),
+            "wrong count in EDGE_WEIGHT_SECTION",
+        ),
+        (
+            TextError::BadNode(Key::Demand, 2),
+            "bad node 2 in DEMAND_SECTION",
+        ),
+        (
+            TextError::BadNode(Key::Depot, -7),
+            "bad node -7 in DEPOT_SECTION",
+        ),
+        (
+            TextError::Instance(InstanceError::DepotDemand(1)),
+            "node 1: a depot has a demand",
+        ),
+        (
+            TextError::Instance(InstanceError::NotADepot(3)),
+            "node 3: not a depot",
+        ),
+        (
+            TextError::Instance(InstanceError::DemandOverCapacity(2)),
+            "node 2: demand above capacity",
+        ),
+        (TextError::TooLong, "input too long"),
+    ] {
+        assert_eq!(rt;
+            fault_line(rt.alloc(), &RunError::Text(refusal))?.as_str(),
+            line
+        );
+        assert_eq!(rt; refusal.to_string(rt.alloc())?.as_str(), line);
     }
     Ok(())
 }
