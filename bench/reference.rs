@@ -1,5 +1,5 @@
-// A plain reference in Rust for bench/plain_file.sh: reads a plain file, keeps the weight of each pair of nodes, and prints
-// the same report. It trusts its input. Build: rustc -O bench/reference.rs
+// A plain reference in Rust for bench/read.sh: reads a file of points (EUC_2D) or of a full matrix, keeps the weight of each
+// pair of nodes, and prints the same report. It trusts its input. Build: rustc -O bench/reference.rs
 use std::io::{Read, Write};
 
 fn weight(from: (i64, i64), to: (i64, i64)) -> u64 {
@@ -10,25 +10,40 @@ fn weight(from: (i64, i64), to: (i64, i64)) -> u64 {
     if square - root * root > root { root + 1 } else { root }
 }
 
-fn main() {
-    let mut text = String::new();
-    std::io::stdin().read_to_string(&mut text).unwrap();
-    let mut lines = text.lines().skip_while(|line| *line != "NODE_COORD_SECTION").skip(1);
-    let mut points = Vec::new();
-    for line in lines.by_ref().take_while(|line| *line != "DEMAND_SECTION") {
-        let mut numbers = line.split(' ').skip(1).map(|token| token.parse::<i64>().unwrap());
-        points.push((numbers.next().unwrap(), numbers.next().unwrap()));
+// The numbers of a section: all tokens from its keyword to the next line that begins with a letter.
+fn numbers(text: &str, keyword: &str) -> Vec<i64> {
+    text.lines()
+        .skip_while(|line| *line != keyword)
+        .skip(1)
+        .take_while(|line| !line.starts_with(|c: char| c.is_ascii_alphabetic()))
+        .flat_map(|line| line.split_ascii_whitespace())
+        .map(|token| token.parse().unwrap())
+        .collect()
+}
+
+fn weights(text: &str, n: usize) -> Vec<u32> {
+    if text.contains("EXPLICIT") {
+        return numbers(text, "EDGE_WEIGHT_SECTION").into_iter().map(|weight| weight as u32).collect();
     }
-    let n = points.len();
-    let depot = lines.skip_while(|line| *line != "DEPOT_SECTION").nth(1).unwrap().parse::<usize>().unwrap() - 1;
+    let points = numbers(text, "NODE_COORD_SECTION");
+    let point = |k: usize| (points[3 * k + 1], points[3 * k + 2]);
     let mut weights = vec![0u32; n * n];
     for row in 0..n {
         for column in 0..row {
-            let way = weight(points[row], points[column]) as u32;
+            let way = weight(point(row), point(column)) as u32;
             weights[row * n + column] = way;
             weights[column * n + row] = way;
         }
     }
+    weights
+}
+
+fn main() {
+    let mut text = String::new();
+    std::io::stdin().read_to_string(&mut text).unwrap();
+    let n = numbers(&text, "DEMAND_SECTION").len() / 2;
+    let depot = numbers(&text, "DEPOT_SECTION")[0] as usize - 1;
+    let weights = weights(&text, n);
     let mut report = String::new();
     let mut cost = 0u64;
     let mut number = 0;

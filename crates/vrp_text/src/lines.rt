@@ -23,6 +23,10 @@ fn split_line(bytes: &[u8]) -> (&[u8], Option<&[u8]>)
         (λ rest. (length rest.now < length bytes.now)
         × (slice_split (λ byte. byte == 10) bytes.now ≡ result.0.now ∷ slice_split (λ byte. byte == 10) rest.now)) }
 {
+    // Blank lines are many in odd files, and need no search.
+    if let [b'\n', rest @ ..] = bytes {
+        return (&[], Some(rest));
+    }
     match memchr(b'\n', bytes) {
         Some(end) => (&bytes[..end], Some(&bytes[end + 1..])),
         None => (bytes, None),
