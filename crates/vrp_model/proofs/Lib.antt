@@ -7,3 +7,10 @@ pub mod InstanceLemmas
 pub mod PlacesLemmas
 pub mod PlanLemmas
 pub mod Rows
+pub mod Words
+pub mod Children
+pub mod ChildCases
+pub mod FrontsBefore
+pub mod Rearranged
+pub mod PlanWords
+pub mod Rising

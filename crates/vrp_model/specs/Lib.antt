@@ -10,3 +10,4 @@ pub mod Request
 pub mod Route
 pub mod Rows
 pub mod Stops
+pub mod Word

@@ -1,9 +1,47 @@
 //! What is true of the definitions, whatever the code does.
-ghost use Rattle.std.specs.Prelude.{◌≡◌, ℕ, ℤ};
+ghost use Rattle.std.specs.Prelude.{◌≡◌, ◌≢◌, ◌↔◌, ℕ, ℤ, List, [], ◌∷◌, ◌++◌};
+ghost use Rattle.std.specs.List.Sorted.{IsPermutation, IsStrictlyIncreasing};
 ghost use Rattle.vrp_model.specs.Distance.{IsDistance};
+ghost use Rattle.vrp_model.specs.Problem.{IsProblem, Problem};
+ghost use Rattle.vrp_model.specs.Route.{IsLawful, plan_cost};
+ghost use Rattle.vrp_model.specs.Word.{BeginsWith, IsFront, IsLawfulWord, MakesChild, TreeHasAtLeast, first_stops, word_cost, word_of};
 ghost use Rattle.vrp_model.specs.declared.metric.Metric.{Metric};
 
 /// Two points have one distance by a metric, and no other.
 pub fn one_distance()
     ensures { (metric : Metric) (a b : ℤ × ℤ) (j k : ℕ) → IsDistance metric a b j → IsDistance metric a b k → j ≡ k }
+{}
+
+/// A lawful word is the word of a lawful plan whose routes rise by first customer, and costs what the plan costs.
+pub fn words_are_plans()
+    ensures { (p : Problem) (word : List ℕ) → IsLawfulWord p word
+        → (routes : List (List ℕ)) × (word ≡ word_of routes) × IsLawful p routes × IsStrictlyIncreasing (first_stops routes) × (plan_cost p routes ≡ word_cost p word) }
+{}
+
+/// The word of a lawful plan whose routes rise by first customer is a lawful word of the same cost.
+pub fn plans_are_words()
+    ensures { (p : Problem) (routes : List (List ℕ)) → IsLawful p routes → IsStrictlyIncreasing (first_stops routes)
+        → IsLawfulWord p (word_of routes) × (word_cost p (word_of routes) ≡ plan_cost p routes) }
+{}
+
+/// The routes of a lawful plan can be put in the order of their first customers, which is a lawful plan of the same cost.
+pub fn plans_can_rise()
+    ensures { (p : Problem) (routes : List (List ℕ)) → IsLawful p routes
+        → (others : List (List ℕ)) × IsPermutation routes others × IsLawful p others × IsStrictlyIncreasing (first_stops others) × (plan_cost p others ≡ plan_cost p routes) }
+{}
+
+/// A symbol makes a child of a front in three cases, and in no other.
+pub fn child_cases()
+    ensures { (p : Problem) (front : List ℕ) (k : ℕ) → IsProblem p → IsFront p front → (IsFront p (front ++ k ∷ []) ↔ MakesChild p front k) }
+{}
+
+/// A lawful word that goes on behind a front is under one of its children, and under no other.
+pub fn one_child()
+    ensures { (p : Problem) (front word : List ℕ) → IsFront p front → IsLawfulWord p word → BeginsWith word front → word ≢ front
+        → (k : ℕ) × IsFront p (front ++ k ∷ []) × BeginsWith word (front ++ k ∷ []) × ((j : ℕ) → BeginsWith word (front ++ j ∷ []) → j ≡ k) }
+{}
+
+/// The tree of a front is no smaller than that of a longer one.
+pub fn longer_trees()
+    ensures { (p : Problem) (front longer : List ℕ) (n : ℕ) → BeginsWith longer front → TreeHasAtLeast p longer n → TreeHasAtLeast p front n }
 {}

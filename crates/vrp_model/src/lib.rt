@@ -17,7 +17,10 @@ mod root;
 mod weights;
 
 pub use instance::{Instance, InstanceError};
-pub use law::one_distance;
+pub use law::{
+    child_cases, longer_trees, one_child, one_distance, plans_are_words, plans_can_rise,
+    words_are_plans,
+};
 pub use layout::Layout;
 pub use memory::NoMemory;
 pub use metric::Metric;

@@ -1,0 +1,5 @@
+use Rattle.vrp_model.proofs.FrontsBefore.{longer_tree}
+use Rattle.vrp_model.proofs.law.longer_trees.Goals as goal
+
+pub returns : goal.returns
+returns c = longer_tree

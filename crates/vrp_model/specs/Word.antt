@@ -1,0 +1,80 @@
+-- A plan as one list, its word: its routes by rising first customer, each followed by 0, the depot. A front is what a word
+-- may begin with: a partial plan.
+use Rattle.std.specs.Prelude.{◌≡◌, ◌≢◌, ◌⊎◌, ℕ, ◌+◌, ◌-◌, ◌≤◌, ◌<◌, ◌==◌, not, List, [], ◌∷◌, ◌++◌, length, map, slice_index, slice_index_or}
+use Rattle.std.specs.List.{All, AllPairs, Contains, filter, flat_map, slice_split}
+use Rattle.std.specs.List.Sorted.{IsStrictlyIncreasing}
+use Rattle.vrp_model.specs.Problem.{Problem, customers, demand_of}
+use Rattle.vrp_model.specs.Route.{load_of, cost_along}
+
+abbrev pub word_of : List (List ℕ) → List ℕ
+word_of routes = flat_map (λ r. r ++ 0 ∷ []) routes
+
+-- the stops of each route, those of the open one last where there is one: what stands between the zeros
+abbrev pub routes_of : List ℕ → List (List ℕ)
+routes_of word = filter (λ r. not (length r == 0)) (slice_split (λ k. k == 0) word)
+
+-- the customers, in the order in which they stand
+abbrev pub served_in : List ℕ → List ℕ
+served_in word = filter (λ k. not (k == 0)) word
+
+-- the first customer of each route
+abbrev pub first_stops : List (List ℕ) → List ℕ
+first_stops routes = map (λ r. slice_index r 0) routes
+
+abbrev pub last_symbol : List ℕ → ℕ
+last_symbol word = slice_index word (length word - 1)
+
+-- a customer stands last: its route isn't closed by a 0 yet
+abbrev pub IsOpen : List ℕ → Type 0
+IsOpen word = 0 < last_symbol word
+
+-- a 0 stands behind a customer: not at the front, and not behind a 0. Before the list stands this symbol
+abbrev pub HasStops : ℕ → List ℕ → Type 0
+HasStops before [] = Unit {0}
+HasStops before (symbol ∷ word) = (symbol ≡ 0 → 0 < before) × HasStops symbol word
+
+pub record IsFront (p : Problem) (word : List ℕ) : Type 0 where
+  pub known : All (Contains (customers p)) (served_in word)
+  pub once : AllPairs (λ a b. a ≢ b) (served_in word)
+  -- no route is empty
+  pub stops : HasStops 0 word
+  pub fits : All (λ r. load_of p r ≤ p.capacity) (routes_of word)
+  pub rising : IsStrictlyIncreasing (first_stops (routes_of word))
+
+-- a front that has every customer and no open route
+pub record IsLawfulWord (p : Problem) (word : List ℕ) : Type 0 where
+  pub front : IsFront p word
+  pub every : All (Contains (served_in word)) (customers p)
+  pub closed : last_symbol word ≡ 0
+
+-- what is paid along the word, from the depot
+abbrev pub word_cost : Problem → List ℕ → ℕ
+word_cost p word = cost_along p 0 word
+
+abbrev pub BeginsWith : List ℕ → List ℕ → Type 0
+BeginsWith word front = (rest : List ℕ) × (word ≡ front ++ rest)
+
+-- no plan under the front costs less
+abbrev pub NoneCheaperUnder : Problem → List ℕ → ℕ → Type 0
+NoneCheaperUnder p front cost = (word : List ℕ) → IsLawfulWord p word → BeginsWith word front → cost ≤ word_cost p word
+
+-- the tree of a front has at least so many fronts: those that begin with it, itself among them
+abbrev pub TreeHasAtLeast : Problem → List ℕ → ℕ → Type 0
+TreeHasAtLeast p front n =
+    (fronts : List (List ℕ)) × AllPairs (λ a b. a ≢ b) fronts × All (λ w. IsFront p w × BeginsWith w front) fronts × (n ≤ length fronts)
+
+-- the route that stands last, and nothing where there is none
+abbrev pub last_route : List ℕ → List ℕ
+last_route word = slice_index_or (routes_of word) (length (routes_of word) - 1) []
+
+-- the symbols that make a child of a front, in three cases: the depot, where a route is open; an unserved customer, where a
+-- route is open that can still carry its demand; an unserved customer, where no route is open and the customer is above the
+-- first one of the last route, or there is no route yet
+abbrev pub IsUnserved : Problem → List ℕ → ℕ → Type 0
+IsUnserved p word k = Contains (customers p) k × All (λ served. served ≢ k) (served_in word)
+
+abbrev pub MakesChild : Problem → List ℕ → ℕ → Type 0
+MakesChild p word k =
+    ((k ≡ 0) × IsOpen word)
+    ⊎ (IsUnserved p word k × IsOpen word × (load_of p (last_route word) + demand_of p k ≤ p.capacity))
+    ⊎ (IsUnserved p word k × (last_symbol word ≡ 0) × (slice_index (last_route word) 0 < k))
