@@ -14,3 +14,4 @@ pub mod FrontsBefore
 pub mod Rearranged
 pub mod PlanWords
 pub mod Rising
+pub mod WordReading

@@ -1,15 +1,17 @@
 -- Routes in one list of stops, and the plan that sends one truck to each customer.
-use Rattle.std.proofs.Common.{◌≡◌, ◌≢◌, ℕ, suc, ◌+◌, ◌≤◌, List, ◌∷◌, [], ◌++◌, length, get_or, map, slice_range, ◌∙◌, ap, refl, arith}
+use Rattle.std.proofs.Common.{◌≡◌, ◌≢◌, ℕ, suc, ◌+◌, ◌≤◌, List, ◌∷◌, [], ◌++◌, length, length-append, append_assoc, append-nil, get_or, map, slice_range, sym, ◌∙◌, ap, refl, arith}
 use Rattle.std.specs.List.{concat, range_with_len}
 use Rattle.std.proofs.lemmas.Grind.{common_steps, pieces}
 use Rattle.std.proofs.lemmas.List.{map-append}
-use Rattle.std.proofs.lemmas.List.Elements.{All-map}
+use Rattle.std.proofs.lemmas.List.Elements.{All-append, All-cons, All-map, All-nil}
 use Rattle.std.proofs.lemmas.List.Sorted.{IsPermutation-refl}
 use Rattle.std.proofs.lemmas.List.Sums.{sum_by_push}
+use Rattle.vrp_model.proofs.Words.{word_of-append}
 use Rattle.vrp_model.proofs.PlacesLemmas.{range_with_len_more}
 use Rattle.vrp_model.specs.Problem.{Problem, IsProblem, customers}
 use Rattle.vrp_model.specs.Route.{IsLawful, load_of, plan_cost, route_cost}
-use Rattle.vrp_model.specs.Stops.{routes_in, AreWithin}
+use Rattle.vrp_model.specs.Stops.{routes_in, AreWithin, IsKept, IsWithin}
+use Rattle.vrp_model.specs.Word.{word_of}
 use Rattle.vrp_model.specs.declared.plan.Span.{Span}
 
 -- a part of a list that ends before more is appended stays
@@ -26,11 +28,32 @@ routes_in-append stops more (span ∷ spans) within =
     cc
 
 -- the appended stops are the new route
-pub routes_in_push : (stops route : List ℕ) (spans : List Span) (span : Span) → AreWithin stops spans → span.start ≡ length stops → span.end ≡ length stops + length route → routes_in (stops ++ route) (spans ++ span ∷ []) ≡ routes_in stops spans ++ route ∷ []
-routes_in_push stops route spans span within start end =
-    let earlier = routes_in-append stops route spans within in
-    let new : slice_range (stops ++ route) span.start span.end ≡ route = grind (arith, common_steps, pieces) in
+pub routes_in_push : (word route : List ℕ) (spans : List Span) (span : Span) → AreWithin word spans → span.start ≡ length word → span.end ≡ length word + length route
+    → routes_in ((word ++ route) ++ 0 ∷ []) (spans ++ span ∷ []) ≡ routes_in word spans ++ route ∷ []
+routes_in_push word route spans span within start end =
+    let assoc : (word ++ route) ++ 0 ∷ [] ≡ word ++ (route ++ 0 ∷ []) = append_assoc word route (0 ∷ []) in
+    let earlier : routes_in ((word ++ route) ++ 0 ∷ []) spans ≡ routes_in word spans = ap (λ (w : List ℕ). routes_in w spans) assoc ∙ routes_in-append word (route ++ 0 ∷ []) spans within in
+    let long : length (word ++ route) ≡ length word + length route = length-append word route in
+    let cut : slice_range ((word ++ route) ++ 0 ∷ []) span.start span.end ≡ slice_range (word ++ route) span.start span.end = slice_range-append (word ++ route) (0 ∷ []) span.start span.end (omega arith) (omega arith) in
+    let new : slice_range (word ++ route) span.start span.end ≡ route = grind (arith, common_steps, pieces) in
     map-append _ spans (span ∷ []) ∙ cc
+
+-- the word, and the spans within it, when a route is appended
+pub IsKept-push : (word route : List ℕ) (spans : List Span) (span : Span) → IsKept word spans → span.start ≡ length word → span.end ≡ length word + length route → IsKept ((word ++ route) ++ 0 ∷ []) (spans ++ span ∷ [])
+IsKept-push word route spans span kept start end =
+    let long : length ((word ++ route) ++ 0 ∷ []) ≡ length word + length route + 1 = length-append (word ++ route) (0 ∷ []) ∙ ap (λ n. n + 1) (length-append word route) in
+    let routes = routes_in_push word route spans span kept.within start end in
+    record {
+      within = All-append (IsWithin ((word ++ route) ++ 0 ∷ [])) spans (span ∷ [])
+          (λ k d lt. let here = kept.within k d lt in record { rising = here.rising; bound = omega (arith, here.bound, long) })
+          (All-cons (IsWithin ((word ++ route) ++ 0 ∷ [])) span [] (record { rising = omega arith; bound = omega (arith, long) }) (All-nil (IsWithin ((word ++ route) ++ 0 ∷ []))));
+      is_word =
+          append_assoc word route (0 ∷ [])
+          ∙ ap (λ (w : List ℕ). w ++ (route ++ 0 ∷ [])) kept.is_word
+          ∙ ap (λ (w : List ℕ). word_of (routes_in word spans) ++ w) (sym (append-nil (route ++ 0 ∷ [])))
+          ∙ sym (word_of-append (routes_in word spans) (route ∷ []))
+          ∙ ap word_of (sym routes);
+    }
 
 concat_singles : (xs : List ℕ) → concat (map (λ x. x ∷ []) xs) ≡ xs
 concat_singles [] = refl

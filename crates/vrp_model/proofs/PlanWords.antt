@@ -31,7 +31,7 @@ served_by (route ∷ routes) are =
     ∙ ap (λ (xs : List ℕ). xs ++ served_in (word_of routes)) (filter-append (λ k. not (k == 0)) route (0 ∷ []) ∙ append-nil (served_in route) ∙ all_stops_kept route are.0)
     ∙ ap (λ (xs : List ℕ). route ++ xs) (served_by routes are.2)
 
-cost_parts : (p : Problem) (at : ℕ) (xs ys : List ℕ) → cost_along p at (xs ++ ys) ≡ cost_along p at xs + cost_along p (last_behind at xs) ys
+pub cost_parts : (p : Problem) (at : ℕ) (xs ys : List ℕ) → cost_along p at (xs ++ ys) ≡ cost_along p at xs + cost_along p (last_behind at xs) ys
 cost_parts p at [] ys = omega arith
 cost_parts p at (x ∷ xs) ys = omega (arith, cost_parts p x xs ys)
 
@@ -127,6 +127,16 @@ stops_of_closed (route ∷ routes) before are =
     HasStops-append before (route ++ 0 ∷ []) (word_of routes)
     (HasStops-append before route (0 ∷ []) (stops_alone before route are.0) ((λ _. last_stop before route are.0 are.1), tt))
     (stops_of_closed routes (last_behind before (route ++ 0 ∷ [])) are.2)
+
+-- the routes of a lawful plan are closed ones
+pub closed_plan : (p : Problem) (routes : List (List ℕ)) → IsLawful p routes → AreClosed routes
+closed_plan p routes lawful =
+    closed_from routes lawful.stops (λ i d lt. customer_is_some p (get_or (concat routes) i d) (Contains-permutation (concat routes) (customers p) (get_or (concat routes) i d) lawful.served (contains_each (concat routes) i d lt)))
+
+-- the routes whose word is lawful are lawful
+pub lawful_of_closed : (p : Problem) (word : List ℕ) (routes : List (List ℕ)) → IsLawfulWord p word → word ≡ word_of routes → AreClosed routes → IsLawful p routes
+unfolding plan_of_closed
+lawful_of_closed p word routes lawful is are = (plan_of_closed p word routes lawful is are).2
 
 pub word_of_plan : (p : Problem) (routes : List (List ℕ)) → IsLawful p routes → IsStrictlyIncreasing (first_stops routes)
     → IsLawfulWord p (word_of routes) × (word_cost p (word_of routes) ≡ plan_cost p routes)

@@ -28,7 +28,7 @@ pub record Shape (word : List ℕ) : Type 0 where
   pub are_closed : AreClosed closed
   pub are_stops : IsStops open_stops
 
-is_stop : (k : ℕ) → 0 < k → (k == 0) ≡ false
+pub is_stop : (k : ℕ) → 0 < k → (k == 0) ≡ false
 is_stop k some = grind (arith, nat_tests)
 
 pub one_stop : (k : ℕ) → 0 < k → IsStops (k ∷ [])

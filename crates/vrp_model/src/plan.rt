@@ -1,15 +1,17 @@
 //! Plans: the routes of the trucks, and what they cost.
-ghost use Rattle.std.specs.Prelude.{◌≡◌, ℕ, ◌+◌, ◌<◌, ◌≤◌, Some, IfOk, OnOk, List, [], ◌∷◌, ◌++◌, ◌^◌, length, map, slice_get};
+ghost use Rattle.std.specs.Prelude.{◌≡◌, ℕ, ◌+◌, ◌*◌, ◌<◌, ◌≤◌, ◌==◌, false, Some, IfOk, OnOk, List, [], ◌∷◌, ◌++◌, ◌^◌, length, map, slice_get};
+ghost use Rattle.std.specs.List.{All, position_or_len};
 ghost use Rattle.vrp_model.specs.Problem.{customers, place_count};
-ghost use Rattle.vrp_model.specs.Route.{IsPlanOf, plan_cost};
-ghost use Rattle.vrp_model.specs.Stops.{routes_in};
+ghost use Rattle.vrp_model.specs.Route.{IsPlanOf, plan_cost, route_cost};
+ghost use Rattle.vrp_model.specs.Stops.{routes_in, IsWordEnd};
+ghost use Rattle.vrp_model.specs.Word.{IsLawfulWord, word_of};
 
 use crate::instance::Instance;
 use crate::memory::NoMemory;
 use std::alloc::Global;
 use std::marker::Model;
 
-// The stops of one route, by their indexes in the plan's list.
+// The stops of one route, by their indexes in the plan's word.
 #[derive(Clone, Copy, Debug, PartialEq, Eq)]
 struct Span {
     start: usize,
@@ -19,21 +21,21 @@ struct Span {
 /// A plan: routes, each a list of places, and their cost.
 #[derive(Debug, Drop)]
 pub struct Plan {
-    // The stops of all routes, one route after the other.
-    stops: Vec<u16>,
+    // The stops of all routes, one route after the other, each followed by 0.
+    word: Vec<u16>,
     routes: Vec<Span>,
     cost: u64,
 }
 
 impl Model for Plan {
     ghost use Rattle.vrp_model.specs.Route.{PricedPlan};
-    ghost use Rattle.vrp_model.specs.Stops.{routes_in, AreWithin};
+    ghost use Rattle.vrp_model.specs.Stops.{routes_in, IsKept};
 
     ghost Value = { PricedPlan };
 
-    ghost view = { λ p. record { routes = routes_in p.stops.items p.routes.items; cost = p.cost } };
+    ghost view = { λ p. record { routes = routes_in p.word.items p.routes.items; cost = p.cost } };
 
-    ghost invariant = { λ p. AreWithin p.stops.items p.routes.items };
+    ghost invariant = { λ p. IsKept p.word.items p.routes.items };
 }
 
 impl Plan {
@@ -47,7 +49,23 @@ impl Plan {
         for index in 0..customers {
             let customer = index + 1;
             let cost = instance.weight(0, customer) + instance.weight(customer, 0);
-            plan.push_route(&[customer], cost)?;
+            plan = plan.with_route(&[customer], cost)?;
+        }
+        Ok(plan)
+    }
+
+    /// The plan of a lawful word of the instance.
+    pub fn of_word(alloc: Global, instance: &Instance, word: &[u16]) -> Result<Plan, NoMemory>
+        requires { IsLawfulWord instance.now word.now }
+        ensures word { IfOk result (λ plan. word_of plan.routes ≡ word.now) }
+        ensures lawful { IfOk result (IsPlanOf instance.now) }
+    {
+        let mut plan = Plan::with_room(alloc, usize::from(instance.customers()))?;
+        let mut rest = word;
+        while !rest.is_empty() {
+            let (route, behind) = split_route(rest);
+            plan = plan.with_route(route, route_cost(instance, route))?;
+            rest = behind;
         }
         Ok(plan)
     }
@@ -56,41 +74,58 @@ impl Plan {
     pub fn copy(&self, alloc: Global) -> Result<Plan, NoMemory>
         ensures { IfOk result (λ plan. plan ≡ self.now) }
     {
-        let stops = Vec::from_slice(alloc, &self.stops)?;
+        let word = Vec::from_slice(alloc, &self.word)?;
         let routes = Vec::from_slice(alloc, &self.routes)?;
         Ok(Plan {
-            stops,
+            word,
             routes,
             cost: self.cost,
         })
     }
 
-    // No routes yet, and room for so many stops and routes.
+    // No routes yet, and room for so many routes of one stop.
     fn with_room(alloc: Global, most: usize) -> Result<Plan, NoMemory>
+        requires { most ≤ 65535 }
         ensures routes { IfOk result (λ plan. plan.routes ≡ []) }
         ensures cost { IfOk result (λ plan. plan.cost ≡ 0) }
     {
-        let stops = Vec::with_capacity(alloc, most)?;
+        let word = Vec::with_capacity(alloc, 2 * most)?;
         let routes = Vec::with_capacity(alloc, most)?;
         Ok(Plan {
-            stops,
+            word,
             routes,
             cost: 0,
         })
     }
 
-    // Appends a route of this cost. After an `Err` the plan is to be given up.
-    fn push_route(&mut self, stops: &[u16], cost: u64) -> Result<(), NoMemory>
-        requires { self.old.cost + cost < 2 ^ 64 }
-        ensures routes { OnOk result (self.new.routes ≡ self.old.routes ++ stops.now ∷ []) }
-        ensures cost { OnOk result (self.new.cost ≡ self.old.cost + cost) }
+    // The plan with one more route, of this cost.
+    fn with_route(self, stops: &[u16], cost: u64) -> Result<Plan, NoMemory>
+        requires { self.cost + cost < 2 ^ 64 }
+        ensures routes { IfOk result (λ plan. plan.routes ≡ self.routes ++ stops.now ∷ []) }
+        ensures cost { IfOk result (λ plan. plan.cost ≡ self.cost + cost) }
     {
-        let start = self.stops.len();
-        self.stops.extend_from_slice(stops)?;
-        let end = self.stops.len();
-        self.routes.push(Span { start, end })?;
-        self.cost += cost;
-        Ok(())
+        let Plan {
+            mut word,
+            mut routes,
+            cost: so_far,
+        } = self;
+        let start = word.len();
+        word.extend_from_slice(stops)?;
+        let end = word.len();
+        word.push(0)?;
+        routes.push(Span { start, end })?;
+        Ok(Plan {
+            word,
+            routes,
+            cost: so_far + cost,
+        })
+    }
+
+    /// The plan as one list: the stops of all routes, one route after the other, each followed by 0.
+    pub fn word(&self) -> &[u16]
+        ensures { result.now ≡ word_of self.now.routes }
+    {
+        self.word.as_slice()
     }
 
     /// What the routes cost.
@@ -113,8 +148,53 @@ impl Plan {
         ensures { slice_get self.now.routes index ≡ Some result.now }
     {
         let span = self.routes[index];
-        &self.stops[span.start..span.end]
+        &self.word[span.start..span.end]
     }
+}
+
+// How many stops stand before the first 0.
+fn stops_len(word: &[u16]) -> usize
+    requires some { 0 < length word.now }
+    requires end { IsWordEnd word.now }
+    ensures value { result ≡ position_or_len (λ k. k == 0) word.now }
+    ensures within { result < length word.now }
+{
+    for place in 0..word.len() {
+        if word[place] == 0 {
+            return place;
+        }
+    }
+    word.len()
+}
+
+// The stops of the first route, and what stands behind its 0.
+fn split_route(word: &[u16]) -> (&[u16], &[u16])
+    requires some { 0 < length word.now }
+    requires end { IsWordEnd word.now }
+    ensures whole { word.now ≡ result.0.now ++ 0 ∷ result.1.now }
+    ensures stops { All (λ k. (k == 0) ≡ false) result.0.now }
+    ensures some { 0 < length result.0.now }
+    ensures end { IsWordEnd result.1.now }
+{
+    let end = stops_len(word);
+    (&word[..end], &word[end + 1..])
+}
+
+// What a route costs, from the depot through its stops and back.
+fn route_cost(instance: &Instance, stops: &[u16]) -> u64
+    requires some { 0 < place_count instance.now }
+    requires places { All (λ stop. stop < place_count instance.now) stops.now }
+    requires few { length stops.now ≤ 2400 }
+    ensures value { result ≡ route_cost instance.now stops.now }
+    ensures small { result ≤ 1000000000 * (length stops.now + 1) }
+{
+    let mut cost = 0;
+    let mut at = 0;
+    for stop in stops {
+        cost += instance.weight(at, *stop);
+        at = *stop;
+    }
+    cost + instance.weight(at, 0)
 }
 
 #[cfg(test)]
@@ -141,6 +221,34 @@ mod tests {
             assert_eq!(rt; plan.route(1), [2].as_slice());
             assert_eq!(rt; plan.cost(), 30);
         }
+        Ok(())
+    }
+
+    #[test]
+    fn words(rt: HostRuntime) -> Result<(), Fail> {
+        let case = Case {
+            demands: [0, 1, 1],
+            depots: &[1],
+            chosen: None,
+        };
+        let instance = three_nodes(&rt, rt.alloc(), case)?;
+        let table: [(&[u16], usize, u64); 3] = [
+            (&[1, 0, 2, 0], 2, 30),
+            (&[1, 2, 0], 1, 20),
+            (&[2, 1, 0], 1, 20),
+        ];
+        for (word, routes, cost) in table {
+            let plan = Plan::of_word(rt.alloc(), &instance, word)?;
+            for plan in [&plan, &plan.copy(rt.alloc())?] {
+                assert_eq!(rt; plan.word(), word);
+                assert_eq!(rt; plan.routes(), routes);
+                assert_eq!(rt; plan.cost(), cost);
+            }
+        }
+        assert_eq!(rt;
+            Plan::singles(rt.alloc(), &instance)?.word(),
+            [1, 0, 2, 0].as_slice()
+        );
         Ok(())
     }
 

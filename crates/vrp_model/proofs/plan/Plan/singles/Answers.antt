@@ -6,9 +6,9 @@ use Rattle.vrp_model.proofs.plan.Plan.singles.Goals as goal
 pub loop-index-preserved : goal.loop-index-preserved
 loop-index-preserved c =
     let so_far = c.loop-index.invariant in (
-      rw c.in_ok-push_route.ensures.routes (singles_push _ _ so_far.0),
-      rw (c.in_ok-push_route.ensures.routes, plan_cost_push c.args.instance.now) (omega (arith, c.in_ok-push_route.ensures.cost)),
-      omega (arith, c.in_ok-push_route.ensures.cost),
+      rw c.in_ok-plan-2.ensures.routes (singles_push _ _ so_far.0),
+      rw (c.in_ok-plan-2.ensures.routes, plan_cost_push c.args.instance.now) (omega (arith, c.in_ok-plan-2.ensures.cost)),
+      omega (arith, c.in_ok-plan-2.ensures.cost),
     )
 
 pub returns-clause-lawful : goal.returns-clause-lawful
