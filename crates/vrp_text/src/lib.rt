@@ -14,6 +14,8 @@ mod numeral;
 mod reading;
 mod section;
 mod statements;
+#[cfg(test)]
+mod tests;
 mod tokens;
 mod value;
 
