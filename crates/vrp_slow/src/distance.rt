@@ -1,34 +1,100 @@
-//! The rounded distance, by counting.
+//! The distances of points, each by the inequality that names it.
 
-/// The whole number that is nearest to the distance of two points: the first k, from 0 on, with 4 s < (2 k + 1)²,
-/// where s is the square of the distance.
-pub(crate) fn nearest(from: (i64, i64), to: (i64, i64)) -> u64 {
-    let east = u128::from(from.0.abs_diff(to.0));
-    let north = u128::from(from.1.abs_diff(to.1));
-    let square = east
-        .saturating_mul(east)
-        .saturating_add(north.saturating_mul(north));
-    for k in 0..u32::MAX {
-        let odd = u128::from(k).saturating_mul(2).saturating_add(1);
-        if square.saturating_mul(4) < odd.saturating_mul(odd) {
-            return u64::from(k);
+/// What the weight between two points is.
+#[derive(Clone, Copy, Debug)]
+pub(crate) enum Metric {
+    Nearest,
+    RoundedUp,
+    Sum,
+    Greater,
+    PseudoEuclidean,
+}
+
+type Point = (i64, i64);
+
+// The steps in which a distance is looked for. No distance is as great as ten times the first.
+const STEPS: [u128; 9] = [
+    100_000_000,
+    10_000_000,
+    1_000_000,
+    100_000,
+    10_000,
+    1_000,
+    100,
+    10,
+    1,
+];
+
+impl Metric {
+    /// The metric that a word names.
+    pub(crate) fn named(word: &str) -> Option<Metric> {
+        match word {
+            "EUC_2D" => Some(Metric::Nearest),
+            "CEIL_2D" => Some(Metric::RoundedUp),
+            "MAN_2D" => Some(Metric::Sum),
+            "MAX_2D" => Some(Metric::Greater),
+            "ATT" => Some(Metric::PseudoEuclidean),
+            _ => None,
         }
     }
-    u64::MAX
+
+    /// The weight between two points: the least number that is not too small.
+    pub(crate) fn distance(self, from: Point, to: Point) -> u64 {
+        let east = u128::from(from.0.abs_diff(to.0));
+        let north = u128::from(from.1.abs_diff(to.1));
+        let mut k = 0u128;
+        for step in STEPS {
+            for _ in 0..10u8 {
+                // Where the step's last number is too small, all of them are.
+                let next = k.saturating_add(step);
+                if self.is_too_small(next.saturating_sub(1), east, north) {
+                    k = next;
+                }
+            }
+        }
+        u64::try_from(k).unwrap_or(u64::MAX)
+    }
+
+    // Whether the weight is greater than k, by the differences of the coordinates. With s for the sum of their squares:
+    // the nearest number to the distance is the least k with 4 s < (2 k + 1)², the one rounded up the least with s <= k²,
+    // and the pseudo-Euclidean weight the least with s <= 10 k².
+    fn is_too_small(self, k: u128, east: u128, north: u128) -> bool {
+        let square = east
+            .saturating_mul(east)
+            .saturating_add(north.saturating_mul(north));
+        match self {
+            Metric::Nearest => {
+                let odd = k.saturating_mul(2).saturating_add(1);
+                odd.saturating_mul(odd) <= square.saturating_mul(4)
+            }
+            Metric::RoundedUp => k.saturating_mul(k) < square,
+            Metric::Sum => k < east.saturating_add(north),
+            Metric::Greater => k < east || k < north,
+            Metric::PseudoEuclidean => k.saturating_mul(k).saturating_mul(10) < square,
+        }
+    }
 }
 
 #[cfg(test)]
 mod tests {
     use super::*;
-    use vrp_model::Metric;
 
-    // The evaluator and the metric are two programs: each point of a small square is asked of both.
+    // The evaluator and the metrics are two programs: each point of a small square is asked of both.
     #[test]
-    fn metric_agrees_on_a_square(rt: HostRuntime) {
-        for east in 0..60u8 {
-            for north in 0..60u8 {
-                let to = (i64::from(east), i64::from(north));
-                assert_eq!(rt; Metric::Euc2d.distance((0, 0), to), nearest((0, 0), to));
+    fn metrics_agree_on_a_square(rt: HostRuntime) {
+        let pairs = [
+            (Metric::Nearest, vrp_model::Metric::Euc2d),
+            (Metric::RoundedUp, vrp_model::Metric::Ceil2d),
+            (Metric::Sum, vrp_model::Metric::Man2d),
+            (Metric::Greater, vrp_model::Metric::Max2d),
+            (Metric::PseudoEuclidean, vrp_model::Metric::Att),
+        ];
+        for (slow, proved) in pairs {
+            for east in 0..60u8 {
+                for north in 0..60u8 {
+                    let to = (i64::from(east), i64::from(north));
+                    assert_eq!(rt; proved.distance((0, 0), to), slow.distance((0, 0), to));
+                }
             }
         }
     }

@@ -1,58 +1,103 @@
-//! The lines of a file, one after the other.
+//! The lines of a file, each with the keyword that it stands under.
 
-use crate::file::Refusal;
+use std::alloc::{AllocError, Global};
 
-/// The lines of a file, and how many of them are read. The last stands behind the last line feed.
-#[derive(Drop)]
-pub(crate) struct Lines<'a> {
-    pub all: Vec<&'a str>,
-    pub read: usize,
+const BLANKS: [char; 3] = [' ', '\t', '\r'];
+
+/// A line that has more than blanks.
+#[derive(Clone, Copy, Debug)]
+pub(crate) struct Line<'a> {
+    /// Which line of the file it is, from 1.
+    pub number: u64,
+    /// Its own keyword, or the last one before a line of data. Before the first keyword there is none: it is empty.
+    pub keyword: &'a str,
+    /// Whether the line has no keyword of its own.
+    pub is_data: bool,
+    /// What stands behind its own keyword, or else the whole line.
+    pub text: &'a str,
 }
 
-impl<'a> Lines<'a> {
-    /// The next line.
-    pub(crate) fn next(&mut self) -> Result<&'a str, Refusal> {
-        let line = self.all.get(self.read).copied().ok_or(Refusal::NotPlain)?;
-        self.read = self.read.saturating_add(1);
-        Ok(line)
-    }
-
-    /// Whether the next line is a remark, which is read over.
-    pub(crate) fn skip_remark(&mut self) -> bool {
-        let Some(line) = self.all.get(self.read) else {
-            return false;
-        };
-        let is_remark = line.starts_with("NAME :") || line.starts_with("COMMENT :");
-        if is_remark {
-            self.read = self.read.saturating_add(1);
-        }
-        is_remark
-    }
-
-    /// Reads a line that is just this text.
-    pub(crate) fn expect(&mut self, text: &str) -> Result<(), Refusal> {
-        if self.next()? == text {
-            Ok(())
-        } else {
-            Err(Refusal::NotPlain)
-        }
-    }
-
-    /// Reads a line that is a keyword and one number from low to high.
-    pub(crate) fn value(&mut self, keyword: &str, low: i64, high: i64) -> Result<i64, Refusal> {
-        let text = self.next()?.strip_prefix(keyword).ok_or(Refusal::NotPlain)?;
-        number(text, low, high)
+impl<'a> Line<'a> {
+    /// The first token behind the keyword, or an empty text.
+    pub(crate) fn value(&self) -> &'a str {
+        self.text.split(BLANKS).next().unwrap_or("")
     }
 }
 
-/// A number from low to high: one to ten digits, behind a minus sign or alone.
-pub(crate) fn number(text: &str, low: i64, high: i64) -> Result<i64, Refusal> {
-    let digits = text.strip_prefix('-').unwrap_or(text);
-    if digits.is_empty() || digits.len() > 10 || !digits.bytes().all(|byte| byte.is_ascii_digit()) {
-        return Err(Refusal::NotPlain);
+/// The lines before the one with the keyword EOF.
+pub(crate) fn before_the_end<'a>(
+    alloc: Global,
+    text: &'a str,
+) -> Result<Vec<Line<'a>>, AllocError> {
+    let mut lines = Vec::new(alloc);
+    let mut number = 0u64;
+    for line in text.split('\n') {
+        number = number.saturating_add(1);
+        let line = line.trim_matches(BLANKS);
+        let own = keyword_of(line);
+        if own == "EOF" {
+            break;
+        }
+        let is_data = own.is_empty();
+        let keyword = if is_data { last_keyword(&lines) } else { own };
+        let text = if is_data { line } else { behind_keyword(line) };
+        if !line.is_empty() {
+            lines.push(Line {
+                number,
+                keyword,
+                is_data,
+                text,
+            })?;
+        }
     }
-    match text.parse::<i64>() {
-        Ok(value) if low <= value && value <= high => Ok(value),
-        _ => Err(Refusal::NotPlain),
+    Ok(lines)
+}
+
+// The keyword under which a line of data stands that follows these lines.
+fn last_keyword<'a>(lines: &[Line<'a>]) -> &'a str {
+    lines.last().map_or("", |line| line.keyword)
+}
+
+// The letters, digits and low lines at the front of a line that begins with a letter, and else an empty text.
+fn keyword_of(line: &str) -> &str {
+    if line.starts_with(|first: char| first.is_ascii_alphabetic()) {
+        line.strip_suffix(behind_word(line)).unwrap_or(line)
+    } else {
+        ""
     }
+}
+
+// What stands behind the letters, digits and low lines at the front.
+fn behind_word(line: &str) -> &str {
+    line.trim_start_matches(|next: char| next.is_ascii_alphanumeric() || next == '_')
+}
+
+// What stands behind the keyword and the one colon that may follow it.
+fn behind_keyword(line: &str) -> &str {
+    let behind = behind_word(line).trim_start_matches(BLANKS);
+    behind
+        .strip_prefix(':')
+        .unwrap_or(behind)
+        .trim_start_matches(BLANKS)
+}
+
+/// The tokens of a text.
+pub(crate) fn tokens<'a>(alloc: Global, text: &'a str) -> Result<Vec<&'a str>, AllocError> {
+    let mut tokens = Vec::new(alloc);
+    for token in text.split(BLANKS) {
+        if !token.is_empty() {
+            tokens.push(token)?;
+        }
+    }
+    Ok(tokens)
+}
+
+/// The first line with a keyword.
+pub(crate) fn first_with<'a>(lines: &[Line<'a>], keyword: &str) -> Option<Line<'a>> {
+    for line in lines {
+        if line.keyword == keyword {
+            return Some(*line);
+        }
+    }
+    None
 }

@@ -1,13 +1,13 @@
 //! Plans as lists of routes, each a list of node numbers, and what they have to be.
 
-use crate::file::File;
+use crate::problem::Problem;
 use std::alloc::{AllocError, Global};
 
 /// A route of its own for each customer, by rising number.
-pub(crate) fn singles(alloc: Global, file: &File) -> Result<Vec<Vec<i64>>, AllocError> {
+pub(crate) fn singles(alloc: Global, problem: &Problem) -> Result<Vec<Vec<i64>>, AllocError> {
     let mut routes = Vec::new(alloc);
-    for node in 1..=file.nodes() {
-        if node != file.depot {
+    for node in 1..=problem.nodes {
+        if !problem.is_depot(node) {
             routes.push(Vec::from_slice(alloc, &[node])?)?;
         }
     }
@@ -15,15 +15,15 @@ pub(crate) fn singles(alloc: Global, file: &File) -> Result<Vec<Vec<i64>>, Alloc
 }
 
 /// Whether each customer is served once and nothing else is, no route is empty, and no truck is overloaded.
-pub(crate) fn is_lawful(file: &File, routes: &[Vec<i64>]) -> bool {
-    for node in 1..=file.nodes() {
-        let wanted = if node == file.depot { 0u64 } else { 1u64 };
+pub(crate) fn is_lawful(problem: &Problem, routes: &[Vec<i64>]) -> bool {
+    for node in 1..=problem.nodes {
+        let wanted = if problem.is_depot(node) { 0u64 } else { 1u64 };
         let served = times_served(routes, node);
         if served != wanted {
             return false;
         }
     }
-    routes.iter().all(|route| !route.is_empty() && load(file, route) <= file.capacity)
+    routes.iter().all(|route| !route.is_empty() && load(problem, route) <= problem.capacity)
 }
 
 // How often a node stands in the routes.
@@ -40,29 +40,29 @@ fn times_served(routes: &[Vec<i64>], node: i64) -> u64 {
 }
 
 /// What the routes cost.
-pub(crate) fn cost(file: &File, routes: &[Vec<i64>]) -> u64 {
+pub(crate) fn cost(problem: &Problem, routes: &[Vec<i64>]) -> u64 {
     let mut cost = 0u64;
     for route in routes {
-        cost = cost.saturating_add(route_cost(file, route));
+        cost = cost.saturating_add(route_cost(problem, route));
     }
     cost
 }
 
 // From the depot through the stops, and back.
-fn route_cost(file: &File, route: &[i64]) -> u64 {
+fn route_cost(problem: &Problem, route: &[i64]) -> u64 {
     let mut cost = 0u64;
-    let mut at = file.depot;
+    let mut at = problem.depot();
     for stop in route {
-        cost = cost.saturating_add(file.weight(at, *stop));
+        cost = cost.saturating_add(problem.weights.weight(at, *stop));
         at = *stop;
     }
-    cost.saturating_add(file.weight(at, file.depot))
+    cost.saturating_add(problem.weights.weight(at, problem.depot()))
 }
 
-fn load(file: &File, route: &[i64]) -> i64 {
+fn load(problem: &Problem, route: &[i64]) -> i64 {
     let mut load = 0i64;
     for stop in route {
-        load = load.saturating_add(file.demand(*stop));
+        load = load.saturating_add(problem.demand(*stop));
     }
     load
 }

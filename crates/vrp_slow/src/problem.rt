@@ -1,0 +1,47 @@
+//! The problem that a file states.
+
+use crate::fault::Fault;
+use crate::weights::{Weights, find};
+
+/// What a file states. The first of the depots is the one that is used.
+#[derive(Debug, Drop)]
+pub(crate) struct Problem {
+    pub nodes: i64,
+    pub capacity: i64,
+    /// Each node, and its demand.
+    pub demands: Vec<(i64, i64)>,
+    pub depots: Vec<i64>,
+    pub weights: Weights,
+}
+
+impl Problem {
+    /// The demand of a node.
+    pub(crate) fn demand(&self, node: i64) -> i64 {
+        find(&self.demands, node).unwrap_or(0)
+    }
+
+    /// Whether a node is one of the depots.
+    pub(crate) fn is_depot(&self, node: i64) -> bool {
+        self.depots.iter().any(|depot| *depot == node)
+    }
+
+    /// The depot from which the trucks start.
+    pub(crate) fn depot(&self) -> i64 {
+        self.depots.first().copied().unwrap_or(0)
+    }
+
+    /// The lowest depot that has a demand, or else the lowest customer whose demand no truck carries.
+    pub(crate) fn fault(&self) -> Option<Fault> {
+        for node in 1..=self.nodes {
+            if self.is_depot(node) && self.demand(node) != 0 {
+                return Some(Fault::DepotDemand(node));
+            }
+        }
+        for node in 1..=self.nodes {
+            if !self.is_depot(node) && self.demand(node) > self.capacity {
+                return Some(Fault::DemandOverCapacity(node));
+            }
+        }
+        None
+    }
+}
