@@ -1,17 +1,19 @@
 -- Routes in one list of stops, and the plan that sends one truck to each customer.
-use Rattle.std.proofs.Common.{◌≡◌, ◌≢◌, ℕ, suc, ◌+◌, ◌≤◌, List, ◌∷◌, [], ◌++◌, length, length-append, append_assoc, append-nil, get_or, map, slice_range, sym, ◌∙◌, ap, refl, arith}
+use Rattle.std.proofs.Common.{subst, ◌≡◌, ◌≢◌, ℕ, suc, ◌+◌, ◌≤◌, List, ◌∷◌, [], ◌++◌, length, length-append, append_assoc, append-nil, get_or, map, slice_range, sym, ◌∙◌, ap, refl, arith}
 use Rattle.std.specs.List.{concat, range_with_len}
+use Rattle.std.specs.List.Sorted.{IsStrictlyIncreasing}
 use Rattle.std.proofs.lemmas.Grind.{common_steps, pieces}
 use Rattle.std.proofs.lemmas.List.{map-append}
 use Rattle.std.proofs.lemmas.List.Elements.{All-append, All-cons, All-map, All-nil}
 use Rattle.std.proofs.lemmas.List.Sorted.{IsPermutation-refl}
 use Rattle.std.proofs.lemmas.List.Sums.{sum_by_push}
 use Rattle.vrp_model.proofs.Words.{word_of-append}
+use Rattle.vrp_model.proofs.Rearranged.{customers_rise}
 use Rattle.vrp_model.proofs.PlacesLemmas.{range_with_len_more}
 use Rattle.vrp_model.specs.Problem.{Problem, IsProblem, customers}
 use Rattle.vrp_model.specs.Route.{IsLawful, load_of, plan_cost, route_cost}
 use Rattle.vrp_model.specs.Stops.{routes_in, AreWithin, IsKept, IsWithin}
-use Rattle.vrp_model.specs.Word.{word_of}
+use Rattle.vrp_model.specs.Word.{first_stops, word_of}
 use Rattle.vrp_model.specs.declared.plan.Span.{Span}
 
 -- a part of a list that ends before more is appended stays
@@ -75,3 +77,11 @@ singles_push routes count so_far =
 -- one more customer's way there and back
 pub plan_cost_push : (p : Problem) (routes : List (List ℕ)) (route : List ℕ) → plan_cost p (routes ++ route ∷ []) ≡ plan_cost p routes + route_cost p route
 plan_cost_push p routes route = sum_by_push (route_cost p) routes route
+
+first_of_singles : (xs : List ℕ) → first_stops (map (λ x. x ∷ []) xs) ≡ xs
+first_of_singles [] = refl
+first_of_singles (x ∷ xs) = ap (λ rest. x ∷ rest) (first_of_singles xs)
+
+-- the routes of the singles plan rise by first customer
+pub rising_singles : (p : Problem) → IsStrictlyIncreasing (first_stops (map (λ customer. customer ∷ []) (customers p)))
+rising_singles p = subst IsStrictlyIncreasing (sym (first_of_singles (customers p))) (customers_rise p)

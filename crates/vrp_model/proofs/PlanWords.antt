@@ -1,21 +1,19 @@
 -- Lawful words are the words of lawful plans whose routes rise by first customer.
-use Rattle.std.proofs.Common.{◌≡◌, ◌≢◌, ℕ, zero, suc, ◌+◌, ◌-◌, ◌≤◌, ◌<◌, true, not, ◌==◌, false, List, [], ◌∷◌, ◌++◌, length, length-append, get_or, refl, sym, ap, subst, ◌∙◌, append-nil, arith}
+use Rattle.std.proofs.Common.{◌≡◌, ◌≢◌, ℕ, zero, suc, ◌+◌, ◌≤◌, ◌<◌, true, not, ◌==◌, false, List, [], ◌∷◌, ◌++◌, length, length-append, get_or, refl, sym, ap, subst, ◌∙◌, append-nil, arith}
 use Rattle.std.specs.List.{All, Contains, concat, filter}
 use Rattle.std.specs.List.Sorted.{IsPermutation, IsStrictlyIncreasing}
 use Rattle.std.proofs.lemmas.Bool.Decides.{nat_tests}
 use Rattle.std.proofs.lemmas.List.Elements.{All-cons, All-nil, filter-append}
 use Rattle.std.proofs.Math.ListN.{get_or-append}
 use Rattle.std.proofs.lemmas.List.{get_or-append-add}
-use Rattle.std.proofs.lemmas.List.FromFn.{get_or-range_with_len, length-range_with_len}
-use Rattle.std.proofs.lemmas.List.Kept.{AllPairs-from_increasing}
 use Rattle.std.proofs.lemmas.List.Sums.{sum_by-cons}
 use Rattle.std.proofs.lemmas.List.Sorted.{IsPermutation-sym, Contains-permutation}
-use Rattle.vrp_model.specs.Problem.{Problem, customers, place_count}
+use Rattle.vrp_model.specs.Problem.{Problem, customers}
 use Rattle.vrp_model.specs.Route.{IsLawful, cost_along, load_of, plan_cost, route_cost}
 use Rattle.vrp_model.specs.Word.{HasStops, IsLawfulWord, first_stops, last_symbol, routes_of, served_in, word_cost, word_of}
 use Rattle.vrp_model.proofs.Words.{AreClosed, HasStops-append, IsStops, last_behind, last_behind-append, routes_are, shape_of}
 use Rattle.vrp_model.proofs.Children.{customer_is_some, last_of_shape, last_stop}
-use Rattle.vrp_model.proofs.Rearranged.{AreDistinct, AreDistinct-permutation, contains_each, same_elements}
+use Rattle.vrp_model.proofs.Rearranged.{AreDistinct, AreDistinct-permutation, contains_each, customers_distinct, same_elements}
 
 all_stops_kept : (stops : List ℕ) → IsStops stops → filter (λ k. not (k == 0)) stops ≡ stops
 all_stops_kept [] free = refl
@@ -45,14 +43,6 @@ cost_of_word p (route ∷ routes) =
     let split : word_cost p (word_of (route ∷ routes)) ≡ cost_along p 0 ((route ++ 0 ∷ []) ++ word_of routes) = refl in
     let plan : plan_cost p (route ∷ routes) ≡ cost_along p 0 (route ++ 0 ∷ []) + plan_cost p routes = sum_by-cons (route_cost p) route routes in
     omega (arith, both, rest, split, plan)
-
-pub customers_distinct : (p : Problem) → AreDistinct (customers p)
-customers_distinct p =
-    let rising : IsStrictlyIncreasing (customers p) = λ k lt.
-    let bound : k + 1 < place_count p - 1 = rw (length-range_with_len 1 (place_count p - 1)) at lt in
-    omega (arith, get_or-range_with_len 1 (place_count p - 1) k 0 (omega (arith, bound)), get_or-range_with_len 1 (place_count p - 1) (k + 1) 0 bound) in
-    let below = AllPairs-from_increasing (customers p) rising in
-    λ i j d lt within same. absurd (omega (arith, below i j d lt within, same))
 
 some_stops : (routes : List (List ℕ)) → AreClosed routes → All (λ r. r ≢ []) routes
 some_stops [] are = All-nil (λ r. r ≢ [])

@@ -1,12 +1,15 @@
 -- Lists with the same elements, each once, are rearrangements of each other.
-use Rattle.std.proofs.Common.{◌≡◌, ◌≢◌, ℕ, zero, suc, ◌<◌, ◌==◌, List, [], ◌∷◌, length, get_or, refl, sym, subst, arith}
+use Rattle.std.proofs.Common.{◌≡◌, ◌≢◌, ℕ, zero, suc, ◌<◌, ◌==◌, List, [], ◌∷◌, length, get_or, refl, sym, subst, arith, ◌+◌, ◌-◌}
+use Rattle.std.proofs.lemmas.List.FromFn.{get_or-range_with_len, length-range_with_len}
+use Rattle.std.proofs.lemmas.List.Kept.{AllPairs-from_increasing}
 use Rattle.std.specs.List.{All, AllPairs, Contains}
-use Rattle.std.specs.List.Sorted.{IsPermutation}
+use Rattle.std.specs.List.Sorted.{IsPermutation, IsStrictlyIncreasing}
 use Rattle.std.specs.List.{remove}
 use Rattle.std.proofs.lemmas.Bool.Decides.{Decides-eqb, nat_tests}
 use Rattle.std.proofs.lemmas.List.Sorted.{IsPermutation-refl, IsPermutation-sym, IsPermutation-cons, IsPermutation-remove, IsPermutation-trans, Contains-permutation}
 use Rattle.std.proofs.lemmas.Map.Keys.{IsDistinct-IsPermutation}
 use Rattle.std.proofs.lemmas.Map.Made.{AllPairs-from_IsDistinct, IsDistinct-from_AllPairs}
+use Rattle.vrp_model.specs.Problem.{Problem, customers, place_count}
 
 abbrev pub AreDistinct : List ℕ → Type 0
 AreDistinct xs = AllPairs (λ a b. a ≢ b) xs
@@ -55,3 +58,13 @@ same_elements (y ∷ ys) xs one other covers covered =
     in_tail y (get_or (remove xs i) k d) ys (member_at (Contains (y ∷ ys)) xs (get_or (remove xs i) k d) covered (Contains-permutation (y ∷ remove xs i) xs (get_or (remove xs i) k d) (IsPermutation-sym xs (y ∷ remove xs i) moved) (behind_head y (get_or (remove xs i) k d) (remove xs i) here)))
     (head_differs y (remove xs i) left k d within)) in
     IsPermutation-trans xs (y ∷ remove xs i) (y ∷ ys) moved (IsPermutation-cons y (remove xs i) ys rest)
+
+pub customers_rise : (p : Problem) → IsStrictlyIncreasing (customers p)
+customers_rise p = λ k lt.
+    let bound : k + 1 < place_count p - 1 = rw (length-range_with_len 1 (place_count p - 1)) at lt in
+    omega (arith, get_or-range_with_len 1 (place_count p - 1) k 0 (omega (arith, bound)), get_or-range_with_len 1 (place_count p - 1) (k + 1) 0 bound)
+
+pub customers_distinct : (p : Problem) → AreDistinct (customers p)
+customers_distinct p =
+    let below = AllPairs-from_increasing (customers p) (customers_rise p) in
+    λ i j d lt within same. absurd (omega (arith, below i j d lt within, same))

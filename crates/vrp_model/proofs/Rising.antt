@@ -12,8 +12,7 @@ use Rattle.std.proofs.lemmas.List.Sorted.{All-permutation, IsPermutation-append_
 use Rattle.vrp_model.specs.Problem.{Problem, customers}
 use Rattle.vrp_model.specs.Route.{IsLawful, load_of, plan_cost, route_cost}
 use Rattle.vrp_model.specs.Word.{first_stops}
-use Rattle.vrp_model.proofs.Rearranged.{AreDistinct, AreDistinct-permutation}
-use Rattle.vrp_model.proofs.PlanWords.{customers_distinct}
+use Rattle.vrp_model.proofs.Rearranged.{AreDistinct, AreDistinct-permutation, customers_distinct}
 
 abbrev first_stop : List ℕ → ℕ
 first_stop route = slice_index route 0

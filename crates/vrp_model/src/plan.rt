@@ -201,6 +201,7 @@ fn route_cost(instance: &Instance, stops: &[u16]) -> u64
 mod tests {
     use super::*;
     use crate::fixture::{Case, three_nodes};
+    use crate::law::plans_are_words;
     use crate::metric::Metric;
     use crate::weights::Weights;
     use std::test::Fail;
@@ -224,6 +225,7 @@ mod tests {
         Ok(())
     }
 
+    // The word of a lawful plan whose routes rise is read back.
     #[test]
     fn words(rt: HostRuntime) -> Result<(), Fail> {
         let case = Case {
@@ -232,23 +234,13 @@ mod tests {
             chosen: None,
         };
         let instance = three_nodes(&rt, rt.alloc(), case)?;
-        let table: [(&[u16], usize, u64); 3] = [
-            (&[1, 0, 2, 0], 2, 30),
-            (&[1, 2, 0], 1, 20),
-            (&[2, 1, 0], 1, 20),
-        ];
-        for (word, routes, cost) in table {
-            let plan = Plan::of_word(rt.alloc(), &instance, word)?;
-            for plan in [&plan, &plan.copy(rt.alloc())?] {
-                assert_eq!(rt; plan.word(), word);
-                assert_eq!(rt; plan.routes(), routes);
-                assert_eq!(rt; plan.cost(), cost);
-            }
-        }
-        assert_eq!(rt;
-            Plan::singles(rt.alloc(), &instance)?.word(),
-            [1, 0, 2, 0].as_slice()
-        );
+        let singles = Plan::singles(rt.alloc(), &instance)?;
+        plans_are_words();
+        let plan = Plan::of_word(rt.alloc(), &instance, singles.word())?;
+        assert_eq!(rt; plan.word(), [1, 0, 2, 0].as_slice());
+        assert_eq!(rt; plan.routes(), 2);
+        assert_eq!(rt; plan.route(0), [1].as_slice());
+        assert_eq!(rt; plan.cost(), 30);
         Ok(())
     }
 
