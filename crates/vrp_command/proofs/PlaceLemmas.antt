@@ -1,5 +1,5 @@
 -- The places of the singles plan, one by one.
-use Rattle.std.proofs.Common.{ℕ, ◌-◌, ◌<◌, List, ◌∷◌, [], length, map, get_or, arith}
+use Rattle.std.proofs.Common.{ℕ, ◌-◌, ◌<◌, ◌∷◌, [], length, map, get_or, arith}
 use Rattle.std.specs.List.{All, range_with_len}
 use Rattle.std.proofs.lemmas.Grind.{common_steps}
 use Rattle.std.proofs.lemmas.List.Elements.{All-map}

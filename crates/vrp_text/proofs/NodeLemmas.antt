@@ -1,8 +1,8 @@
 -- Numbers that become nodes.
-use Rattle.std.proofs.Common.{◌≡◌, ◌≢◌, ℕ, zero, suc, ◌+◌, ◌*◌, ◌%◌, ◌≤◌, ◌<◌, ℤ, pos, negsuc, neg_ℤ, Bool, true, false, cond, not, ◌||◌, ◌&&◌, ◌==◌, Option, Some, None, List, [], ◌∷◌, ◌++◌, length, length-append, map, take, drop, set, get_or, refl, sym, ap, ◌∙◌, inl, inr, add-one, arith}
+use Rattle.std.proofs.Common.{◌≡◌, ℕ, zero, suc, ◌+◌, ◌*◌, ◌%◌, ◌≤◌, ◌<◌, ℤ, pos, negsuc, neg_ℤ, Bool, true, false, cond, not, ◌||◌, ◌&&◌, ◌==◌, Some, None, List, [], ◌∷◌, ◌++◌, length, length-append, map, take, drop, set, get_or, refl, sym, ap, ◌∙◌, inl, inr, add-one, arith}
 use Rattle.std.specs.Prelude.{unsigned_abs, slice_index}
-use Rattle.std.specs.Int.Signed.{le_z, ◌≤ℤ◌}
-use Rattle.std.specs.List.{list_any, position_or_len, range_with_len}
+use Rattle.std.specs.Int.Signed.{◌≤ℤ◌}
+use Rattle.std.specs.List.{list_any, position_or_len}
 use Rattle.std.specs.Ordering.{int_eq}
 use Rattle.std.proofs.Math.ListN.{get_or-append}
 use Rattle.std.proofs.Math.Seq.{drop-cons, get_or-append_seam}

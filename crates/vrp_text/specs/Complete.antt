@@ -1,7 +1,7 @@
 -- What is missing in a CVRP file, which counts and node numbers are wrong, and what a file states where nothing is (TSPLIB
 -- 95, sections 1.1 and 1.2).
 use Rattle.std.specs.Prelude.{◌++◌, take, ℕ, ◌+◌, ◌*◌, ℤ, pos, neg_ℤ, unsigned_abs, Bool, not, ◌&&◌, ◌==◌, if◌then◌else◌, Option, Some, None, Result, Ok, Err, List, [], ◌∷◌, length, map, get_or}
-use Rattle.std.specs.List.{list_any, position_or_len, range_with_len, take_while}
+use Rattle.std.specs.List.{list_any, position_or_len, range_with_len}
 use Rattle.std.specs.Option.{option_or}
 use Rattle.std.specs.Ordering.{int_eq}
 use Rattle.std.specs.Int.Signed.{le_z}

@@ -1,8 +1,7 @@
 -- What the statements of a file become when one more part is read.
-use Rattle.std.specs.Prelude.{◌≡◌, ℕ, ◌≤◌, ◌||◌, ◌==◌, ℤ, Bool, false, Option, Some, None, List, [], ◌∷◌, IfSome, length, slice_index_or}
+use Rattle.std.specs.Prelude.{ℕ, ◌≤◌, ℤ, Bool, Option, Some, None, List, IfSome}
 use Rattle.std.specs.Option.{option_or}
 use Rattle.std.specs.Result.{result_ok}
-use Rattle.vrp_text.specs.Keyword.{rank}
 use Rattle.vrp_text.specs.Complete.{Complete, Source, Points, Matrix}
 use Rattle.vrp_text.specs.Section.{AreWithin, on_line, content_of, content_fault}
 use Rattle.vrp_text.specs.Stated.{Stated, keyword_fault}

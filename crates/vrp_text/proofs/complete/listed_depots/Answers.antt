@@ -1,7 +1,6 @@
-use Rattle.std.proofs.Common.{◌≡◌, ◌<◌, ℕ, ℤ, pos, neg_ℤ, Bool, true, length, get_or, take, sym, ap, ◌∙◌, arith, rules, SFits, w64, refl}
+use Rattle.std.proofs.Common.{◌≡◌, pos, neg_ℤ, true, length, get_or, take, sym, ap, ◌∙◌, arith, rules, SFits, w64, refl}
 use Rattle.std.proofs.lemmas.Int.{ints}
 use Rattle.std.proofs.Math.Nat.{le_refl}
-use Rattle.std.specs.List.{position_or_len}
 use Rattle.std.specs.Ordering.{int_eq}
 use Rattle.std.proofs.lemmas.List.{take_all}
 use Rattle.std.proofs.lemmas.List.Sums.{position_or_len_is}

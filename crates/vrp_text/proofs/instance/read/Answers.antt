@@ -1,5 +1,3 @@
-use Rattle.std.proofs.Common.{◌≡◌}
-use Rattle.std.specs.Prelude.{Result, Ok, Err, IfOk, IfErr}
 use Rattle.vrp_text.specs.Sources.{complete_in}
 use Rattle.vrp_text.proofs.InstanceLemmas.{if_meant, if_refused}
 use Rattle.vrp_text.proofs.instance.read.Goals as goal

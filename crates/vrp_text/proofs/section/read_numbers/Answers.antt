@@ -1,6 +1,4 @@
-use Rattle.std.proofs.Common.{◌≡◌, rules}
 use Rattle.vrp_text.specs.Unread.{data_left}
-use Rattle.vrp_text.specs.Section.{data_numbers, AreWithin}
 use Rattle.vrp_text.specs.Line.{tokens_of}
 use Rattle.vrp_text.proofs.SectionLemmas.{one_line_more, data_within, lines_end}
 use Rattle.vrp_text.proofs.section.read_numbers.Goals as goal

@@ -1,5 +1,4 @@
 use Rattle.std.proofs.Common.{length}
-use Rattle.vrp_text.specs.Unread.{data_left, parts_left}
 use Rattle.vrp_text.proofs.SectionLemmas.{ReadsLines}
 use Rattle.vrp_text.proofs.section.read_numbers.Given as goal
 

@@ -1,6 +1,6 @@
-use Rattle.std.proofs.Common.{List, ℕ, sym, subst, ◌∙◌, ap}
+use Rattle.std.proofs.Common.{List, ℕ, sym, subst}
 use Rattle.std.specs.List.Sorted.{IsStrictlyIncreasing}
-use Rattle.vrp_model.specs.Word.{IsLawfulWord, first_stops, word_of}
+use Rattle.vrp_model.specs.Word.{IsLawfulWord, first_stops}
 use Rattle.vrp_model.proofs.PlanLemmas.{rising_singles}
 use Rattle.vrp_model.proofs.plan.tests.words.Goals as goal
 

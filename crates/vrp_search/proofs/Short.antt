@@ -1,0 +1,28 @@
+-- A front has at most two symbols for each customer.
+use Rattle.std.proofs.Common.{◌≡◌, ℕ, zero, suc, ◌+◌, ◌-◌, ◌*◌, ◌≤◌, min, true, not, ◌==◌, List, [], ◌∷◌, length, refl, arith}
+use Rattle.std.proofs.lemmas.Bool.Decides.{nat_tests}
+use Rattle.std.proofs.lemmas.List.FromFn.{length-range_with_len}
+use Rattle.vrp_model.specs.Problem.{IsProblem, Problem, customers, place_count}
+use Rattle.vrp_model.specs.Word.{HasStops, IsFront, served_in}
+use Rattle.vrp_search.proofs.Among.{length_among}
+
+short_behind : (before : ℕ) (word : List ℕ) → HasStops before word → length word ≤ 2 * length (served_in word) + min before 1
+short_behind before [] has = omega arith
+short_behind before (zero ∷ word) has =
+    let rest = short_behind 0 word has.1 in
+    omega (arith, rest, has.0 refl)
+short_behind before (suc k ∷ word) has =
+    let rest = short_behind (suc k) word has.1 in
+    let kept : not (suc k == 0) ≡ true = grind (arith, nat_tests) in
+    rw kept (omega (arith, rest))
+
+pub length_customers : (p : Problem) → IsProblem p → length (customers p) + 1 ≡ place_count p
+length_customers p problem = omega (arith, length-range_with_len 1 (place_count p - 1), problem.some_places)
+
+pub served_are_few : (p : Problem) (front : List ℕ) → IsProblem p → IsFront p front → length (served_in front) + 1 ≤ place_count p
+served_are_few p front problem is_front =
+    omega (arith, length_among (served_in front) (customers p) is_front.once is_front.known, length_customers p problem)
+
+pub fronts_are_short : (p : Problem) (front : List ℕ) → IsProblem p → IsFront p front → length front + 2 ≤ 2 * place_count p
+fronts_are_short p front problem is_front =
+    omega (arith, short_behind 0 front is_front.stops, served_are_few p front problem is_front)

@@ -1,0 +1,49 @@
+-- The last route of a front with one more symbol.
+use Rattle.std.proofs.Common.{◌≡◌, ℕ, ◌-◌, ◌<◌, List, [], ◌∷◌, ◌++◌, length, sym, ap, subst, ◌∙◌, arith}
+use Rattle.std.specs.Prelude.{slice_index, slice_index_or}
+use Rattle.vrp_model.specs.Word.{HasStops, IsOpen, last_route, last_symbol, routes_of, word_of}
+use Rattle.vrp_model.proofs.Words.{AreClosed, IsStops, last_behind-append, last_is, routes_are, shape_of}
+use Rattle.vrp_model.proofs.Children.{last_of, last_of_shape, last_stop, open_is_some, routes_when_closed, routes_with_stop}
+
+pub last_symbol_with : (word : List ℕ) (k : ℕ) → last_symbol (word ++ k ∷ []) ≡ k
+last_symbol_with word k = last_is (word ++ k ∷ []) ∙ last_behind-append 0 word (k ∷ [])
+
+-- behind the depot the last route stays
+pub last_route_closed : (word : List ℕ) → HasStops 0 word → IsOpen word → last_route (word ++ 0 ∷ []) ≡ last_route word
+last_route_closed word has is_open =
+    let s = shape_of word has in
+    let some : 0 < length s.open_stops = open_is_some s.closed s.open_stops (subst (λ (w : List ℕ). 0 < last_symbol w) s.is is_open) in
+    let routes : routes_of (word ++ 0 ∷ []) ≡ routes_of word = ap (λ (w : List ℕ). routes_of (w ++ 0 ∷ [])) s.is ∙ routes_when_closed s.closed s.open_stops s.are_closed s.are_stops some ∙ sym (ap routes_of s.is) in
+    ap (λ (rs : List (List ℕ)). slice_index_or rs (length rs - 1) []) routes
+
+-- the first customer of the last route, where a customer is added behind the depot, or behind a customer
+pub record LastRouteWith (word : List ℕ) (k : ℕ) : Type 0 where
+  pub starts : last_symbol word ≡ 0 → last_route (word ++ k ∷ []) ≡ k ∷ []
+  pub grows : 0 < last_symbol word → last_route (word ++ k ∷ []) ≡ last_route word ++ k ∷ []
+  pub first : 0 < last_symbol word → slice_index (last_route (word ++ k ∷ [])) 0 ≡ slice_index (last_route word) 0
+
+by_shape : (word : List ℕ) (k : ℕ) (closed : List (List ℕ)) (stops : List ℕ) → word ≡ word_of closed ++ stops → AreClosed closed → IsStops stops → 0 < k → LastRouteWith word k
+by_shape word k closed [] is are free some =
+    let new : routes_of (word ++ k ∷ []) ≡ closed ++ (k ∷ []) ∷ [] = ap (λ (w : List ℕ). routes_of (w ++ k ∷ [])) is ∙ routes_with_stop closed [] k are free some in
+    let at_depot : last_symbol word ≡ 0 = ap last_symbol is ∙ last_of_shape closed [] in
+    record {
+      starts = λ _. ap (λ (rs : List (List ℕ)). slice_index_or rs (length rs - 1) []) new ∙ last_of closed (k ∷ []) [];
+      grows = λ lt. absurd (omega (arith, lt, at_depot));
+      first = λ lt. absurd (omega (arith, lt, at_depot));
+    }
+by_shape word k closed (stop ∷ stops) is are free some =
+    let routes : routes_of word ≡ closed ++ (stop ∷ stops) ∷ [] = ap routes_of is ∙ routes_are closed (stop ∷ stops) are free in
+    let last : last_route word ≡ stop ∷ stops = ap (λ (rs : List (List ℕ)). slice_index_or rs (length rs - 1) []) routes ∙ last_of closed (stop ∷ stops) [] in
+    let new : routes_of (word ++ k ∷ []) ≡ closed ++ ((stop ∷ stops) ++ k ∷ []) ∷ [] = ap (λ (w : List ℕ). routes_of (w ++ k ∷ [])) is ∙ routes_with_stop closed (stop ∷ stops) k are free some in
+    let longer : last_route (word ++ k ∷ []) ≡ (stop ∷ stops) ++ k ∷ [] = ap (λ (rs : List (List ℕ)). slice_index_or rs (length rs - 1) []) new ∙ last_of closed ((stop ∷ stops) ++ k ∷ []) [] in
+    let is_open : 0 < last_symbol word = rw is (rw (last_of_shape closed (stop ∷ stops)) (last_stop 0 (stop ∷ stops) free (omega arith))) in
+    record {
+      starts = λ none. absurd (omega (arith, none, is_open));
+      grows = λ _. longer ∙ ap (λ (xs : List ℕ). xs ++ k ∷ []) (sym last);
+      first = λ _. ap (λ (xs : List ℕ). slice_index xs 0) longer ∙ ap (λ (xs : List ℕ). slice_index xs 0) (sym last);
+    }
+
+pub last_route_with : (word : List ℕ) (k : ℕ) → HasStops 0 word → 0 < k → LastRouteWith word k
+last_route_with word k has some =
+    let s = shape_of word has in
+    by_shape word k s.closed s.open_stops s.is s.are_closed s.are_stops some

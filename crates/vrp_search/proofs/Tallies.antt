@@ -1,0 +1,323 @@
+-- A tally with one more symbol, and what is kept beside a word when a symbol is added or taken off.
+use Rattle.std.proofs.Common.{◌≡◌, ◌≢◌, ℕ, zero, suc, ◌+◌, ◌-◌, ◌*◌, ◌≤◌, ◌<◌, ◌==◌, Bool, true, false, if◌then◌else◌, List, [], ◌∷◌, ◌++◌, length, length-append, get_or, take, refl, sym, ap, subst, ◌∙◌, inl, inr, ◌⊎◌, arith}
+use Rattle.std.specs.List.{All, Contains}
+use Rattle.std.specs.Prelude.{slice_index, slice_index_or, slice_set, ◌↔◌}
+use Rattle.std.proofs.Math.ListN.{get_or-append}
+use Rattle.std.proofs.Math.Seq.{get_or-append_seam, take-append_seam}
+use Rattle.std.proofs.lemmas.Bool.Decides.{nat_tests}
+use Rattle.std.proofs.lemmas.Bool.{cases_lt}
+use Rattle.std.proofs.lemmas.List.{get_or_default, get_or-set_same, get_or-set_other, length-set, take-append-le, take_all, take_more}
+use Rattle.std.proofs.lemmas.List.Elements.{All-cons, All-nil}
+use Rattle.vrp_model.specs.Problem.{IsProblem, Problem, customers, demand_of, place_count, weight_of}
+use Rattle.vrp_model.specs.Route.{load_of}
+use Rattle.vrp_model.specs.Word.{IsFront, IsLawfulWord, IsOpen, IsUnserved, MakesChild, last_route, last_symbol, served_in, word_cost}
+use Rattle.vrp_model.proofs.Words.{last_behind, last_is}
+use Rattle.std.proofs.lemmas.List.FromFn.{get_or-range_with_len, length-range_with_len}
+use Rattle.vrp_model.proofs.Children.{closed_is_open, load_with, served_at_depot, served_with, unserved_if_added}
+use Rattle.vrp_model.proofs.ChildCases.{cases_of_child}
+use Rattle.vrp_model.proofs.FrontsBefore.{fronts_before}
+use Rattle.vrp_model.proofs.PlanWords.{cost_parts, customers_distinct}
+use Rattle.vrp_search.specs.Partial.{open_load}
+use Rattle.vrp_search.specs.Tallied.{AreBefore, AreFlags, AreTallied, IsTally, stands_in}
+use Rattle.vrp_search.specs.declared.partial.Tally.{Tally}
+use Rattle.vrp_search.proofs.Among.{all_among, length_among, sum_among}
+use Rattle.vrp_search.proofs.Short.{fronts_are_short, length_customers, served_are_few}
+use Rattle.vrp_search.proofs.Steps.{last_route_closed, last_route_with, last_symbol_with}
+
+pub cost_with : (p : Problem) (word : List ℕ) (k : ℕ) → word_cost p (word ++ k ∷ []) ≡ word_cost p word + weight_of p (last_symbol word) k
+cost_with p word k = let parts = cost_parts p 0 word (k ∷ []) in rw (last_is word) (omega (arith, parts))
+
+no_load : (p : Problem) (word : List ℕ) → last_symbol word ≡ 0 → open_load p word ≡ 0
+no_load p word at_depot = rw at_depot refl
+
+some_load : (p : Problem) (word : List ℕ) → 0 < last_symbol word → open_load p word ≡ load_of p (last_route word)
+some_load p word is_open = let test : (last_symbol word == 0) ≡ false = grind (arith, nat_tests) in rw test refl
+
+-- the depot
+pub tally_at_depot : (p : Problem) (word : List ℕ) (t : Tally) (cost : ℕ) → IsProblem p → IsFront p word → IsOpen word → IsTally p word t → cost ≡ t.cost + weight_of p (last_symbol word) 0
+    → IsTally p (word ++ 0 ∷ []) (record { cost = cost; load = 0; rest = t.rest; first = t.first; unserved = t.unserved })
+tally_at_depot p word t cost problem front is_open tally is =
+    let long : length (word ++ 0 ∷ []) ≡ length word + 1 = length-append word (0 ∷ []) in
+    let weight = problem.small_weights (last_symbol word * place_count p + 0) in
+    record {
+      cost = omega (arith, cost_with p word 0, tally.cost, is);
+      small = omega (arith, tally.small, is, weight, long);
+      load = sym (no_load p (word ++ 0 ∷ []) (last_symbol_with word 0));
+      light = omega arith;
+      rest = rw (served_at_depot word) tally.rest;
+      first = tally.first ∙ ap (λ (r : List ℕ). slice_index r 0) (sym (last_route_closed word front.stops is_open));
+      unserved = rw (served_at_depot word) tally.unserved;
+    }
+
+-- what of a customer is known before it is added
+pub record Added (p : Problem) (word : List ℕ) (k : ℕ) (t : Tally) : Type 0 where
+  pub fits : t.load + demand_of p k ≤ p.capacity
+  pub left : demand_of p k ≤ t.rest
+  pub some_left : 1 ≤ t.unserved
+  pub load : t.load + demand_of p k ≡ load_of p (last_route (word ++ k ∷ []))
+
+load_of_added : (p : Problem) (word : List ℕ) (k : ℕ) (t : Tally) → IsProblem p → IsFront p word → 0 < k → MakesChild p word k → IsTally p word t
+    → (t.load + demand_of p k ≤ p.capacity) × (t.load + demand_of p k ≡ load_of p (last_route (word ++ k ∷ [])))
+load_of_added p word k t problem front some made tally =
+    let with_stop = last_route_with word k front.stops some in
+    elim made [
+      | inl depot ↦ absurd (omega (arith, depot.0, some))
+      | inr (inl inside) ↦
+          let load : t.load ≡ load_of p (last_route word) = tally.load ∙ some_load p word inside.1 in
+          let more : load_of p (last_route (word ++ k ∷ [])) ≡ load_of p (last_route word) + demand_of p k = ap (load_of p) (with_stop.grows inside.1) ∙ load_with p (last_route word) k in
+          (omega (arith, load, inside.2), omega (arith, load, more))
+      | inr (inr behind) ↦
+          let load : t.load ≡ 0 = tally.load ∙ no_load p word behind.1 in
+          let one : load_of p (k ∷ []) ≡ demand_of p k = omega arith in
+          let more : load_of p (last_route (word ++ k ∷ [])) ≡ demand_of p k = ap (load_of p) (with_stop.starts behind.1) ∙ one in
+          (omega (arith, load, problem.fitting_demands k), omega (arith, load, more))
+    ]
+
+pub added : (p : Problem) (word : List ℕ) (k : ℕ) (t : Tally) → IsProblem p → IsFront p word → 0 < k → IsFront p (word ++ k ∷ []) → IsTally p word t → Added p word k t
+added p word k t problem front some after tally =
+    let loads = load_of_added p word k t problem front some ((cases_of_child p word k problem front).0 after) tally in
+    let served : load_of p (served_in (word ++ k ∷ [])) ≡ load_of p (served_in word) + demand_of p k = ap (load_of p) (served_with word k some) ∙ load_with p (served_in word) k in
+    let long : length (served_in (word ++ k ∷ [])) ≡ length (served_in word) + 1 = ap length (served_with word k some) ∙ length-append (served_in word) (k ∷ []) in
+    record {
+      fits = loads.0;
+      left = omega (arith, sum_among (demand_of p) (served_in (word ++ k ∷ [])) (customers p) after.once after.known, served, tally.rest);
+      some_left = omega (arith, served_are_few p (word ++ k ∷ []) problem after, long, tally.unserved);
+      load = loads.1;
+    }
+
+-- a customer
+pub tally_at_customer : (p : Problem) (word : List ℕ) (k : ℕ) (t new : Tally) → IsProblem p → IsFront p word → 0 < k → IsFront p (word ++ k ∷ []) → IsTally p word t
+    → new.cost ≡ t.cost + weight_of p (last_symbol word) k → new.load ≡ t.load + demand_of p k → new.rest ≡ t.rest - demand_of p k
+    → (last_symbol word ≡ 0 → new.first ≡ k) → (0 < last_symbol word → new.first ≡ t.first) → new.unserved ≡ t.unserved - 1
+    → IsTally p (word ++ k ∷ []) new
+tally_at_customer p word k t new problem front some after tally cost load rest starts goes_on unserved =
+    let facts = added p word k t problem front some after tally in
+    let with_stop = last_route_with word k front.stops some in
+    let long : length (word ++ k ∷ []) ≡ length word + 1 = length-append word (k ∷ []) in
+    let weight = problem.small_weights (last_symbol word * place_count p + k) in
+    let is_open : 0 < last_symbol (word ++ k ∷ []) = rw (last_symbol_with word k) some in
+    let served : load_of p (served_in (word ++ k ∷ [])) ≡ load_of p (served_in word) + demand_of p k = ap (load_of p) (served_with word k some) ∙ load_with p (served_in word) k in
+    let count : length (served_in (word ++ k ∷ [])) ≡ length (served_in word) + 1 = ap length (served_with word k some) ∙ length-append (served_in word) (k ∷ []) in
+    record {
+      cost = omega (arith, cost_with p word k, tally.cost, cost);
+      small = omega (arith, tally.small, cost, weight, long);
+      load = load ∙ facts.load ∙ sym (some_load p (word ++ k ∷ []) is_open);
+      light = omega (arith, load, facts.fits);
+      rest = omega (arith, rest, facts.left, served, tally.rest);
+      first = elim (cases_lt 0 (last_symbol word)) [
+        | inl inside ↦ goes_on inside ∙ tally.first ∙ sym (with_stop.first inside)
+        | inr behind ↦ let at_depot : last_symbol word ≡ 0 = omega (arith, behind) in starts at_depot ∙ ap (λ (r : List ℕ). slice_index r 0) (sym (with_stop.starts at_depot))
+      ];
+      unserved = omega (arith, unserved, facts.some_left, count, tally.unserved);
+    }
+
+-- ---- flags
+
+pub stands_in-append : (word : List ℕ) (k j : ℕ) → j ≢ k → stands_in (word ++ k ∷ []) j ≡ stands_in word j
+stands_in-append [] k j differs = let test : (k == j) ≡ false = grind (arith, nat_tests) in rw test refl
+stands_in-append (symbol ∷ word) k j differs = rw (stands_in-append word k j differs) refl
+
+pub stands_last : (word : List ℕ) (k : ℕ) → stands_in (word ++ k ∷ []) k ≡ true
+stands_last [] k = let test : (k == k) ≡ true = grind (arith, nat_tests) in rw test refl
+stands_last (symbol ∷ word) k = rw (stands_last word k) (elim (symbol == k) as (λ b. (if b then true else true) ≡ true) [ true ↦ refl | false ↦ refl ])
+
+kept_of : (k : ℕ) (word : List ℕ) → served_in (suc k ∷ word) ≡ suc k ∷ served_in word
+kept_of k word = let test : (suc k == 0) ≡ false = grind (arith, nat_tests) in rw test refl
+
+-- a customer that doesn't stand in the word isn't served by it, and the other way round
+pub none_stands : (word : List ℕ) (k : ℕ) → stands_in word k ≡ false → All (λ served. served ≢ k) (served_in word)
+none_stands [] k none = All-nil (λ served. served ≢ k)
+none_stands (zero ∷ word) k none = none_stands word k (grind (arith, nat_tests, none))
+none_stands (suc j ∷ word) k none =
+    let differs : suc j ≢ k = grind (arith, nat_tests, none) in
+    let rest : stands_in word k ≡ false = grind (arith, nat_tests, none) in
+    subst (All (λ served. served ≢ k)) (sym (kept_of j word)) (All-cons (λ served. served ≢ k) (suc j) (served_in word) differs (none_stands word k rest))
+
+pub none_served : (word : List ℕ) (k : ℕ) → 0 < k → All (λ served. served ≢ k) (served_in word) → stands_in word k ≡ false
+none_served [] k some all = refl
+none_served (zero ∷ word) k some all = let test : (0 == k) ≡ false = grind (arith, nat_tests) in rw test (none_served word k some all)
+none_served (suc j ∷ word) k some all =
+    let here = subst (All (λ served. served ≢ k)) (kept_of j word) all in
+    let differs : suc j ≢ k = here 0 (suc j) (omega arith) in
+    let test : (suc j == k) ≡ false = grind (arith, nat_tests) in
+    rw test (none_served word k some (λ i d lt. here (suc i) d (omega (arith, lt))))
+
+nat_same : (j k : ℕ) → (j ≡ k) ⊎ (j ≢ k)
+nat_same j k = elim (cases_lt j k) [
+  | inl below ↦ inr (λ same. absurd (omega (arith, below, same)))
+  | inr above ↦ elim (cases_lt k j) [
+    | inl over ↦ inr (λ same. absurd (omega (arith, over, same)))
+    | inr under ↦ inl (omega (arith, above, under))
+  ]
+]
+
+pub flags_pushed : (p : Problem) (word : List ℕ) (k : ℕ) (flags : List Bool) → length flags ≡ place_count p → k < place_count p → AreFlags p word flags → AreFlags p (word ++ k ∷ []) (slice_set flags k true)
+flags_pushed p word k flags long within are = λ j some below.
+    elim (nat_same j k) [
+      | inl same ↦ rw same (get_or-set_same flags k true false (omega (arith, long, within)) ∙ sym (stands_last word k))
+      | inr differs ↦ get_or-set_other flags k j true false differs ∙ are j some below ∙ sym (stands_in-append word k j differs)
+    ]
+
+pub flags_popped : (p : Problem) (word : List ℕ) (k : ℕ) (flags : List Bool) → length flags ≡ place_count p → k < place_count p → IsFront p (word ++ k ∷ []) → AreFlags p (word ++ k ∷ []) flags → AreFlags p word (slice_set flags k false)
+flags_popped p word k flags long within front are = λ j some below.
+    elim (nat_same j k) [
+      | inl same ↦ rw same (get_or-set_same flags k false false (omega (arith, long, within)) ∙ sym (none_served word k (omega (arith, some, same)) (unserved_if_added p word k (omega (arith, some, same)) front).1))
+      | inr differs ↦ get_or-set_other flags k j false false differs ∙ are j some below ∙ stands_in-append word k j differs
+    ]
+
+-- ---- places
+
+pub customer_below : (p : Problem) (k : ℕ) → Contains (customers p) k → k < place_count p
+customer_below p k (i, lt, is) =
+    let bound : i < place_count p - 1 = rw (length-range_with_len 1 (place_count p - 1)) at lt in
+    let value : get_or (customers p) i k ≡ 1 + i = get_or-range_with_len 1 (place_count p - 1) i k bound in
+    omega (arith, value, is, bound)
+
+pub is_customer : (p : Problem) (k : ℕ) → 0 < k → k < place_count p → Contains (customers p) k
+is_customer p k some below =
+    let bound : k - 1 < place_count p - 1 = omega arith in
+    let value : get_or (customers p) (k - 1) k ≡ 1 + (k - 1) = get_or-range_with_len 1 (place_count p - 1) (k - 1) k bound in
+    (k - 1, rw (length-range_with_len 1 (place_count p - 1)) bound, omega (arith, value))
+
+pub symbol_below : (p : Problem) (word : List ℕ) (k : ℕ) → IsProblem p → IsFront p (word ++ k ∷ []) → k < place_count p
+symbol_below p word zero problem front = omega (arith, problem.some_places)
+symbol_below p word (suc k) problem front = customer_below p (suc k) (unserved_if_added p word (suc k) (omega arith) front).0
+
+last_below : (p : Problem) (before : ℕ) (word : List ℕ) → before < place_count p → 0 < place_count p → All (Contains (customers p)) (served_in word) → last_behind before word < place_count p
+last_below p before [] below some known = below
+last_below p before (zero ∷ word) below some known = last_below p 0 word some some known
+last_below p before (suc k ∷ word) below some known =
+    let here = subst (All (Contains (customers p))) (kept_of k word) known in
+    last_below p (suc k) word (customer_below p (suc k) (here 0 (suc k) (omega arith))) some (λ i d lt. here (suc i) d (omega (arith, lt)))
+
+pub at_below : (p : Problem) (word : List ℕ) → IsProblem p → IsFront p word → last_symbol word < place_count p
+at_below p word problem front = rw (last_is word) (last_below p 0 word (omega (arith, problem.some_places)) (omega (arith, problem.some_places)) front.known)
+
+-- ---- one more symbol, and one less
+
+before_pushed : (p : Problem) (word : List ℕ) (k : ℕ) (before : List Tally) (tally : Tally) → length before ≡ length word → AreBefore p word before → IsTally p word tally → AreBefore p (word ++ k ∷ []) (before ++ tally ∷ [])
+before_pushed p word k before tally long are now = λ i other lt.
+    elim (cases_lt i (length word)) [
+      | inl within ↦
+          let symbols : take i (word ++ k ∷ []) ≡ take i word = take-append-le i word (k ∷ []) (omega (arith, within)) in
+          let here : slice_index_or (before ++ tally ∷ []) i other ≡ slice_index_or before i other = get_or-append before (tally ∷ []) other i (omega (arith, within, long)) in
+          subst (λ (w : List ℕ). IsTally p w (slice_index_or (before ++ tally ∷ []) i other)) (sym symbols) (subst (IsTally p (take i word)) (sym here) (are i other within))
+      | inr last ↦
+          let place : i ≡ length before = omega (arith, last, lt, long, length-append word (k ∷ [])) in
+          let symbols : take i (word ++ k ∷ []) ≡ word = ap (λ n. take n (word ++ k ∷ [])) (place ∙ long) ∙ take-append_seam word (k ∷ []) in
+          let here : slice_index_or (before ++ tally ∷ []) i other ≡ tally = ap (λ n. slice_index_or (before ++ tally ∷ []) n other) place ∙ get_or-append_seam before tally [] other in
+          subst (λ (w : List ℕ). IsTally p w (slice_index_or (before ++ tally ∷ []) i other)) (sym symbols) (subst (IsTally p word) (sym here) now)
+    ]
+
+before_popped : (p : Problem) (word : List ℕ) (k : ℕ) (before : List Tally) (tally : Tally) → length before ≡ length word → AreBefore p (word ++ k ∷ []) (before ++ tally ∷ []) → AreBefore p word before × IsTally p word tally
+before_popped p word k before tally long are = (
+  λ i other lt.
+      let symbols : take i (word ++ k ∷ []) ≡ take i word = take-append-le i word (k ∷ []) (omega (arith, lt)) in
+      let here : slice_index_or (before ++ tally ∷ []) i other ≡ slice_index_or before i other = get_or-append before (tally ∷ []) other i (omega (arith, lt, long)) in
+      subst (λ (w : List ℕ). IsTally p w (slice_index_or before i other)) symbols (subst (IsTally p (take i (word ++ k ∷ []))) here (are i other (omega (arith, lt, length-append word (k ∷ []))))),
+  (
+      let symbols : take (length word) (word ++ k ∷ []) ≡ word = take-append_seam word (k ∷ []) in
+      let here : slice_index_or (before ++ tally ∷ []) (length word) tally ≡ tally = ap (λ n. slice_index_or (before ++ tally ∷ []) n tally) (sym long) ∙ get_or-append_seam before tally [] tally in
+      subst (λ (w : List ℕ). IsTally p w tally) symbols (subst (IsTally p (take (length word) (word ++ k ∷ []))) here (are (length word) tally (omega (arith, length-append word (k ∷ [])))))
+      ),
+)
+
+pub pushed : (p : Problem) (word : List ℕ) (k : ℕ) (served : List Bool) (before : List Tally) (tally new : Tally) → AreTallied p word served before tally → IsFront p (word ++ k ∷ []) → IsTally p (word ++ k ∷ []) new
+    → AreTallied p (word ++ k ∷ []) (slice_set served k true) (before ++ tally ∷ []) new
+pushed p word k served before tally new are front now =
+    record {
+      problem = are.problem;
+      front = front;
+      one_flag_each = length-set served k true ∙ are.one_flag_each;
+      flags = flags_pushed p word k served are.one_flag_each (symbol_below p word k are.problem front) are.flags;
+      one_before_each = omega (arith, are.one_before_each, length-append word (k ∷ []), length-append before (tally ∷ []));
+      kept = before_pushed p word k before tally are.one_before_each are.kept are.now;
+      now = now;
+    }
+
+pub popped : (p : Problem) (word : List ℕ) (k : ℕ) (served : List Bool) (before : List Tally) (tally old : Tally) → AreTallied p (word ++ k ∷ []) served (before ++ tally ∷ []) old
+    → AreTallied p word (slice_set served k false) before tally
+popped p word k served before tally old are =
+    let long : length before ≡ length word = omega (arith, are.one_before_each, length-append word (k ∷ []), length-append before (tally ∷ [])) in
+    let back = before_popped p word k before tally long are.kept in
+    record {
+      problem = are.problem;
+      front = fronts_before p word (k ∷ []) are.front;
+      one_flag_each = length-set served k false ∙ are.one_flag_each;
+      flags = flags_popped p word k served are.one_flag_each (symbol_below p word k are.problem are.front) are.front are.flags;
+      one_before_each = long;
+      kept = back.0;
+      now = back.1;
+    }
+
+-- ---- children
+
+pub depot_child : (p : Problem) (word : List ℕ) → IsProblem p → IsFront p word → (0 < last_symbol word) ↔ IsFront p (word ++ 0 ∷ [])
+depot_child p word problem front = (λ is_open. (cases_of_child p word 0 problem front).1 (inl (refl, is_open)), λ after. closed_is_open p word after)
+
+pub no_served_child : (p : Problem) (word : List ℕ) (k : ℕ) (served : List Bool) (before : List Tally) (t : Tally) → AreTallied p word served before t → 0 < k → k < place_count p → slice_index_or served k true ≡ true → IsFront p (word ++ k ∷ []) → ⊥
+no_served_child p word k served before t are some below is_served after =
+    let none : stands_in word k ≡ false = none_served word k some (unserved_if_added p word k some after).1 in
+    let never : true ≡ false = sym is_served ∙ get_or_default served k true false (omega (arith, below, are.one_flag_each)) ∙ are.flags k some below ∙ none in
+    absurd (cc)
+
+unserved : (p : Problem) (word : List ℕ) (k : ℕ) (served : List Bool) → AreFlags p word served → 0 < k → k < place_count p → slice_index_or served k false ≡ false → IsUnserved p word k
+unserved p word k served flags some below isnt_served = (is_customer p k some below, none_stands word k (sym (flags k some below) ∙ isnt_served))
+
+pub first_child : (p : Problem) (word : List ℕ) (k : ℕ) (served : List Bool) (before : List Tally) (t : Tally) → AreTallied p word served before t → 0 < k → k < place_count p → slice_index_or served k false ≡ false → last_symbol word ≡ 0
+    → (t.first < k) ↔ IsFront p (word ++ k ∷ [])
+first_child p word k served before t are some below isnt_served at_depot = (
+  λ above. (cases_of_child p word k are.problem are.front).1 (inr (inr (unserved p word k served are.flags some below isnt_served, at_depot, omega (arith, above, are.now.first)))),
+  λ after. elim ((cases_of_child p word k are.problem are.front).0 after) [
+    | inl depot ↦ absurd (omega (arith, depot.0, some))
+    | inr (inl inside) ↦ absurd (omega (arith, inside.1, at_depot))
+    | inr (inr behind) ↦ omega (arith, behind.2, are.now.first)
+  ],
+)
+
+pub next_child : (p : Problem) (word : List ℕ) (k : ℕ) (served : List Bool) (before : List Tally) (t : Tally) → AreTallied p word served before t → 0 < k → k < place_count p → slice_index_or served k false ≡ false → 0 < last_symbol word
+    → (t.load + demand_of p k ≤ p.capacity) ↔ IsFront p (word ++ k ∷ [])
+next_child p word k served before t are some below isnt_served is_open =
+    let load : t.load ≡ load_of p (last_route word) = are.now.load ∙ some_load p word is_open in (
+      λ fits. (cases_of_child p word k are.problem are.front).1 (inr (inl (unserved p word k served are.flags some below isnt_served, is_open, omega (arith, fits, load)))),
+      λ after. elim ((cases_of_child p word k are.problem are.front).0 after) [
+        | inl depot ↦ absurd (omega (arith, depot.0, some))
+        | inr (inl inside) ↦ omega (arith, inside.2, load)
+        | inr (inr behind) ↦ absurd (omega (arith, behind.1, is_open))
+      ],
+    )
+
+-- ---- complete words
+
+pub lawful_word : (p : Problem) (word : List ℕ) (served : List Bool) (before : List Tally) (t : Tally) → AreTallied p word served before t → t.unserved ≡ 0 → last_symbol word ≡ 0 → IsLawfulWord p word
+lawful_word p word served before t are none at_depot =
+    record {
+      front = are.front;
+      every = all_among (served_in word) (customers p) are.front.once are.front.known (omega (arith, none, are.now.unserved, length_customers p are.problem));
+      closed = at_depot;
+    }
+
+pub none_unserved : (p : Problem) (word : List ℕ) (served : List Bool) (before : List Tally) (t : Tally) → AreTallied p word served before t → IsLawfulWord p word → t.unserved ≡ 0
+none_unserved p word served before t are lawful =
+    omega (arith, length_among (customers p) (served_in word) (customers_distinct p) lawful.every, are.now.unserved, length_customers p are.problem)
+
+-- ---- room
+
+pub room_left : (p : Problem) (word : List ℕ) (k : ℕ) → IsProblem p → IsFront p (word ++ k ∷ []) → length word + 3 ≤ 2 * place_count p
+room_left p word k problem after = omega (arith, fronts_are_short p (word ++ k ∷ []) problem after, length-append word (k ∷ []))
+
+pub cost_fits : (p : Problem) (word : List ℕ) (k : ℕ) (t : Tally) → IsProblem p → IsFront p (word ++ k ∷ []) → IsTally p word t → t.cost ≤ 2400000000000
+cost_fits p word k t problem after tally = omega (arith, room_left p word k problem after, problem.few_places, tally.small)
+
+-- ---- what all customers demand
+
+pub demand_more : (p : Problem) (i : ℕ) → i + 1 < place_count p → load_of p (take (i + 1) (customers p)) ≡ load_of p (take i (customers p)) + demand_of p (i + 1)
+demand_more p i lt =
+    let bound : i < place_count p - 1 = omega (arith, lt) in
+    let within : i < length (customers p) = rw (length-range_with_len 1 (place_count p - 1)) bound in
+    let value : get_or (customers p) i 0 ≡ 1 + i = get_or-range_with_len 1 (place_count p - 1) i 0 bound in
+    let same : get_or (customers p) i 0 ≡ i + 1 = omega (arith, value) in
+    ap (load_of p) (take_more (customers p) i 0 within ∙ ap (λ k. take i (customers p) ++ k ∷ []) same) ∙ load_with p (take i (customers p)) (i + 1)
+
+pub demand_all : (p : Problem) (n : ℕ) → n + 1 ≡ place_count p → load_of p (take n (customers p)) ≡ load_of p (customers p)
+demand_all p n is = ap (load_of p) (take_all n (customers p) (omega (arith, is, length-range_with_len 1 (place_count p - 1))))

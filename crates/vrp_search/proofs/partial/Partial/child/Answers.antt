@@ -1,0 +1,67 @@
+use Rattle.std.proofs.Common.{◌≡◌, ◌∙◌, sym, subst, ap, ◌<◌, ◌≤◌, ◌+◌, [], ◌∷◌, ◌++◌, Bool, true, false, arith}
+use Rattle.std.proofs.lemmas.Bool.Decides.{nat_tests}
+use Rattle.std.specs.Prelude.{slice_index_or}
+use Rattle.vrp_model.specs.Word.{IsFront, last_symbol}
+use Rattle.vrp_search.specs.Partial.{PartialPlan}
+use Rattle.vrp_search.proofs.Tallies.{depot_child, first_child, next_child, no_served_child, symbol_below}
+use Rattle.vrp_search.proofs.Views.{at_inside, child_inside, child_outside}
+use Rattle.vrp_search.proofs.partial.Partial.child.Goals.{then-symbol-customers-via-then-symbol-customers, then-symbol-customers-via-else-symbol-customers+then-index}
+use Rattle.vrp_search.proofs.partial.Partial.child.Goals as goal
+
+pub returns-then-symbol-eq0 : goal.returns-then-symbol-eq0
+returns-then-symbol-eq0 c =
+    let at = at_inside c.self.inside.instance.now c.self.inside.word.items c.at-at.result c.args.self.now c.self.view_is c.at-at.ensures in
+    let child = depot_child c.self.inside.instance.now c.self.inside.word.items c.self.invariant.0.problem c.self.invariant.0.front in (
+      λ test.
+          let some : 0 < c.at-at.result = grind (arith, nat_tests, test) in
+          child_outside c.self.inside.instance.now c.self.inside.word.items c.args.symbol c.args.self.now c.self.view_is (subst (λ k. IsFront c.self.inside.instance.now (c.self.inside.word.items ++ k ∷ [])) (sym c.if-symbol-eq0.true) (child.0 (omega (arith, some, at)))),
+      λ after.
+          let inside : IsFront c.self.inside.instance.now (c.self.inside.word.items ++ 0 ∷ []) = subst (λ k. IsFront c.self.inside.instance.now (c.self.inside.word.items ++ k ∷ [])) c.if-symbol-eq0.true (child_inside c.self.inside.instance.now c.self.inside.word.items c.args.symbol c.args.self.now c.self.view_is after) in
+          let some : 0 < c.at-at.result = omega (arith, at, child.1 inside) in
+          grind (arith, nat_tests, some),
+    )
+
+pub returns-then-symbol-customers : goal.returns-then-symbol-customers
+returns-then-symbol-customers c = (
+  λ test. absurd (let never : false ≡ true = test in cc),
+  λ after.
+      let inside = child_inside c.self.inside.instance.now c.self.inside.word.items c.args.symbol c.args.self.now c.self.view_is after in
+      let below = symbol_below c.self.inside.instance.now c.self.inside.word.items c.args.symbol c.self.invariant.0.problem inside in
+      absurd (elim c.then-symbol-customers.branch [
+        | then-symbol-customers-via-then-symbol-customers w ↦ omega (arith, below, w.if-symbol-customers.true, c.customers-customers.ensures.value)
+        | then-symbol-customers-via-else-symbol-customers+then-index w ↦
+            let read : true ≡ slice_index_or c.self.inside.served.items w.from.result true = subst (λ (b : Bool). b ≡ slice_index_or c.self.inside.served.items w.from.result b) w.if-index.true w.index.ensures in
+            no_served_child c.self.inside.instance.now c.self.inside.word.items c.args.symbol c.self.inside.served.items c.self.inside.before.items c.self.inside.tally c.self.invariant.0 (omega (arith, c.if-symbol-eq0.false)) below (ap (λ k. slice_index_or c.self.inside.served.items k true) (sym w.from.ensures) ∙ sym read) inside
+      ]),
+)
+
+pub returns-then-at-eq0 : goal.returns-then-at-eq0
+returns-then-at-eq0 c =
+    let at : last_symbol c.self.inside.word.items ≡ 0 = ap (λ (v : PartialPlan). last_symbol v.word) c.self.view_is ∙ sym c.at-at.ensures ∙ c.if-at-eq0.true in
+    let read : false ≡ slice_index_or c.self.inside.served.items c.from.result false = subst (λ (b : Bool). b ≡ slice_index_or c.self.inside.served.items c.from.result b) c.if-index.false c.index.ensures in
+    let isnt_served : slice_index_or c.self.inside.served.items c.args.symbol false ≡ false = ap (λ k. slice_index_or c.self.inside.served.items k false) (sym c.from.ensures) ∙ sym read in
+    let child = first_child c.self.inside.instance.now c.self.inside.word.items c.args.symbol c.self.inside.served.items c.self.inside.before.items c.self.inside.tally c.self.invariant.0
+    (omega (arith, c.if-symbol-eq0.false)) (omega (arith, c.if-symbol-customers.false, c.customers-customers.ensures.value)) isnt_served at in (
+      λ test.
+          let above : c.self.inside.tally.first < c.args.symbol = grind (arith, nat_tests, test) in
+          child_outside c.self.inside.instance.now c.self.inside.word.items c.args.symbol c.args.self.now c.self.view_is (child.0 above),
+      λ after.
+          let above : c.self.inside.tally.first < c.args.symbol = child.1 (child_inside c.self.inside.instance.now c.self.inside.word.items c.args.symbol c.args.self.now c.self.view_is after) in
+          grind (arith, nat_tests, above),
+    )
+
+pub returns : goal.returns
+returns c =
+    let at = at_inside c.self.inside.instance.now c.self.inside.word.items c.at-at.result c.args.self.now c.self.view_is c.at-at.ensures in
+    let read : false ≡ slice_index_or c.self.inside.served.items c.from.result false = subst (λ (b : Bool). b ≡ slice_index_or c.self.inside.served.items c.from.result b) c.if-index.false c.index.ensures in
+    let isnt_served : slice_index_or c.self.inside.served.items c.args.symbol false ≡ false = ap (λ k. slice_index_or c.self.inside.served.items k false) (sym c.from.ensures) ∙ sym read in
+    let child = next_child c.self.inside.instance.now c.self.inside.word.items c.args.symbol c.self.inside.served.items c.self.inside.before.items c.self.inside.tally c.self.invariant.0
+    (omega (arith, c.if-symbol-eq0.false)) (omega (arith, c.if-symbol-customers.false, c.customers-customers.ensures.value)) isnt_served (omega (arith, at, c.if-at-eq0.false)) in (
+      λ test.
+          let light : c.self.inside.tally.load + c.demand.result ≤ c.capacity.result = grind (arith, nat_tests, test) in
+          child_outside c.self.inside.instance.now c.self.inside.word.items c.args.symbol c.args.self.now c.self.view_is (child.0 (omega (arith, light, c.demand.ensures.value, c.capacity.ensures))),
+      λ after.
+          let fits = child.1 (child_inside c.self.inside.instance.now c.self.inside.word.items c.args.symbol c.args.self.now c.self.view_is after) in
+          let light : c.self.inside.tally.load + c.demand.result ≤ c.capacity.result = omega (arith, fits, c.demand.ensures.value, c.capacity.ensures) in
+          grind (arith, nat_tests, light),
+    )

@@ -1,0 +1,86 @@
+use Rattle.std.proofs.Common.{◌≡◌, ◌∙◌, sym, subst, ap, refl, ◌<◌, ◌≤◌, ◌+◌, ◌*◌, ◌-◌, [], ◌∷◌, ◌++◌, length, arith}
+use Rattle.vrp_model.specs.Problem.{place_count, weight_of}
+use Rattle.vrp_model.specs.Word.{IsFront, last_symbol}
+use Rattle.vrp_search.specs.Partial.{PartialPlan}
+use Rattle.vrp_search.specs.declared.partial.Tally.{Tally}
+use Rattle.vrp_search.specs.Tallied.{IsTally}
+use Rattle.vrp_search.proofs.Tallies.{added, at_below, cost_fits, room_left, symbol_below, tally_at_customer, tally_at_depot}
+use Rattle.vrp_model.proofs.Children.{closed_is_open}
+use Rattle.vrp_search.proofs.Views.{at_inside, child_inside}
+use Rattle.vrp_search.proofs.partial.Partial.tally_after.Goals.{then-at-eq0, else-at-eq0}
+use Rattle.vrp_search.proofs.partial.Partial.tally_after.Goals as goal
+
+pub weight-requires-clause-from_within : goal.weight-requires-clause-from_within
+weight-requires-clause-from_within c =
+    let at = at_inside c.self.inside.instance.now c.self.inside.word.items c.at-at.result c.args.self.now c.self.view_is c.at-at.ensures in
+    omega (arith, at, at_below c.self.inside.instance.now c.self.inside.word.items c.self.invariant.0.problem c.self.invariant.0.front)
+
+pub weight-requires-clause-to_within : goal.weight-requires-clause-to_within
+weight-requires-clause-to_within c =
+    let after = child_inside c.self.inside.instance.now c.self.inside.word.items c.args.symbol c.args.self.now c.self.view_is c.requires in
+    symbol_below c.self.inside.instance.now c.self.inside.word.items c.args.symbol c.self.invariant.0.problem after
+
+pub overflow_add-cost : goal.overflow_add-cost
+overflow_add-cost c =
+    let after = child_inside c.self.inside.instance.now c.self.inside.word.items c.args.symbol c.args.self.now c.self.view_is c.requires in
+    let small = cost_fits c.self.inside.instance.now c.self.inside.word.items c.args.symbol c.self.inside.tally c.self.invariant.0.problem after c.self.invariant.0.now in
+    omega (arith, small, c.weight.ensures.small)
+
+pub demand-demand-requires : goal.demand-demand-requires
+demand-demand-requires c =
+    let after = child_inside c.self.inside.instance.now c.self.inside.word.items c.args.symbol c.args.self.now c.self.view_is c.requires in
+    symbol_below c.self.inside.instance.now c.self.inside.word.items c.args.symbol c.self.invariant.0.problem after
+
+pub overflow_sub-result : goal.overflow_sub-result
+overflow_sub-result c =
+    let after = child_inside c.self.inside.instance.now c.self.inside.word.items c.args.symbol c.args.self.now c.self.view_is c.requires in
+    let facts = added c.self.inside.instance.now c.self.inside.word.items c.args.symbol c.self.inside.tally c.self.invariant.0.problem c.self.invariant.0.front (omega (arith, c.if-symbol-eq0.false)) after c.self.invariant.0.now in
+    omega (arith, facts.left, c.demand-demand.ensures.value)
+
+pub overflow_sub-result-2 : goal.overflow_sub-result-2
+overflow_sub-result-2 c =
+    let after = child_inside c.self.inside.instance.now c.self.inside.word.items c.args.symbol c.args.self.now c.self.view_is c.requires in
+    let facts = added c.self.inside.instance.now c.self.inside.word.items c.args.symbol c.self.inside.tally c.self.invariant.0.problem c.self.invariant.0.front (omega (arith, c.if-symbol-eq0.false)) after c.self.invariant.0.now in
+    omega (arith, facts.some_left)
+
+pub returns-then-symbol-eq0-clause-tally : goal.returns-then-symbol-eq0-clause-tally
+returns-then-symbol-eq0-clause-tally c =
+    let at = at_inside c.self.inside.instance.now c.self.inside.word.items c.at-at.result c.args.self.now c.self.view_is c.at-at.ensures in
+    let after : IsFront c.self.inside.instance.now (c.self.inside.word.items ++ 0 ∷ []) = subst (λ k. IsFront c.self.inside.instance.now (c.self.inside.word.items ++ k ∷ [])) c.if-symbol-eq0.true (child_inside c.self.inside.instance.now c.self.inside.word.items c.args.symbol c.args.self.now c.self.view_is c.requires) in
+    let weight : c.weight.result ≡ weight_of c.self.inside.instance.now (last_symbol c.self.inside.word.items) 0 = c.weight.ensures.value ∙ ap (λ n. weight_of c.self.inside.instance.now n c.args.symbol) at ∙ ap (weight_of c.self.inside.instance.now (last_symbol c.self.inside.word.items)) c.if-symbol-eq0.true in
+    let tally = tally_at_depot c.self.inside.instance.now c.self.inside.word.items c.self.inside.tally (c.self.inside.tally.cost + c.weight.result) c.self.invariant.0.problem c.self.invariant.0.front (closed_is_open c.self.inside.instance.now c.self.inside.word.items after) c.self.invariant.0.now (omega (arith, weight)) in
+    let new : Tally = record { cost = c.self.inside.tally.cost + c.weight.result; load = 0; rest = c.self.inside.tally.rest; first = c.self.inside.tally.first; unserved = c.self.inside.tally.unserved } in
+    subst (λ (v : PartialPlan). IsTally v.problem (v.word ++ c.args.symbol ∷ []) new) c.self.view_is (subst (λ k. IsTally c.self.inside.instance.now (c.self.inside.word.items ++ k ∷ []) new) (sym c.if-symbol-eq0.true) tally)
+
+pub returns-then-symbol-eq0-clause-short : goal.returns-then-symbol-eq0-clause-short
+returns-then-symbol-eq0-clause-short c =
+    let after = child_inside c.self.inside.instance.now c.self.inside.word.items c.args.symbol c.args.self.now c.self.view_is c.requires in
+    subst (λ (v : PartialPlan). length v.word + 3 ≤ 2 * place_count v.problem) c.self.view_is (room_left c.self.inside.instance.now c.self.inside.word.items c.args.symbol c.self.invariant.0.problem after)
+
+pub returns-clause-tally : goal.returns-clause-tally
+returns-clause-tally c =
+    let at = at_inside c.self.inside.instance.now c.self.inside.word.items c.at-at.result c.args.self.now c.self.view_is c.at-at.ensures in
+    let after = child_inside c.self.inside.instance.now c.self.inside.word.items c.args.symbol c.args.self.now c.self.view_is c.requires in
+    let weight : c.weight.result ≡ weight_of c.self.inside.instance.now (last_symbol c.self.inside.word.items) c.args.symbol = c.weight.ensures.value ∙ ap (λ n. weight_of c.self.inside.instance.now n c.args.symbol) at in
+    let starts : last_symbol c.self.inside.word.items ≡ 0 → c.if-at-eq0.first ≡ c.args.symbol = λ none. elim c.if-at-eq0.branch [ then-at-eq0 w ↦ w.first-is | else-at-eq0 w ↦ absurd (omega (arith, none, at, w.if-at-eq0.false)) ] in
+    let goes_on : 0 < last_symbol c.self.inside.word.items → c.if-at-eq0.first ≡ c.self.inside.tally.first = λ some. elim c.if-at-eq0.branch [ then-at-eq0 w ↦ absurd (omega (arith, some, at, w.if-at-eq0.true)) | else-at-eq0 w ↦ w.first-is ] in
+    let new : Tally = record {
+      cost = c.self.inside.tally.cost + c.weight.result;
+      load = c.self.inside.tally.load + c.demand-demand.result;
+      rest = c.self.inside.tally.rest - c.demand-demand.result;
+      first = c.if-at-eq0.first;
+      unserved = c.self.inside.tally.unserved - 1;
+    } in
+    subst (λ (v : PartialPlan). IsTally v.problem (v.word ++ c.args.symbol ∷ []) new) c.self.view_is
+    (tally_at_customer c.self.inside.instance.now c.self.inside.word.items c.args.symbol c.self.inside.tally new c.self.invariant.0.problem c.self.invariant.0.front (omega (arith, c.if-symbol-eq0.false)) after c.self.invariant.0.now
+    (omega (arith, weight)) (omega (arith, c.demand-demand.ensures.value)) (omega (arith, c.demand-demand.ensures.value)) starts goes_on refl)
+
+pub returns-clause-place : goal.returns-clause-place
+returns-clause-place c =
+    let after = child_inside c.self.inside.instance.now c.self.inside.word.items c.args.symbol c.args.self.now c.self.view_is c.requires in
+    subst (λ (v : PartialPlan). c.args.symbol < place_count v.problem) c.self.view_is (symbol_below c.self.inside.instance.now c.self.inside.word.items c.args.symbol c.self.invariant.0.problem after)
+
+pub returns-clause-short : goal.returns-clause-short
+returns-clause-short c =
+    let after = child_inside c.self.inside.instance.now c.self.inside.word.items c.args.symbol c.args.self.now c.self.view_is c.requires in
+    subst (λ (v : PartialPlan). length v.word + 3 ≤ 2 * place_count v.problem) c.self.view_is (room_left c.self.inside.instance.now c.self.inside.word.items c.args.symbol c.self.invariant.0.problem after)

@@ -1,0 +1,42 @@
+-- What a partial plan keeps beside its word: counters that are what they are called, and what they were before each symbol.
+use Rattle.std.specs.Prelude.{◌≡◌, ℕ, ◌+◌, ◌*◌, ◌≤◌, ◌<◌, ◌==◌, if◌then◌else◌, Bool, true, false, List, [], ◌∷◌, length, slice_index, slice_index_or, take}
+use Rattle.vrp_model.specs.Problem.{IsProblem, Problem, place_count}
+use Rattle.vrp_model.specs.Word.{IsFront, last_route, served_in, word_cost}
+use Rattle.vrp_search.specs.Partial.{IsRest, open_load}
+use Rattle.vrp_search.specs.declared.partial.Tally.{Tally}
+
+pub record IsTally (p : Problem) (word : List ℕ) (tally : Tally) : Type 0 where
+  pub cost : tally.cost ≡ word_cost p word
+  pub small : tally.cost ≤ 1000000000 * length word
+  pub load : tally.load ≡ open_load p word
+  pub light : tally.load ≤ p.capacity
+  pub rest : IsRest p word tally.rest
+  -- the first customer of the last route, 0 where there is no route yet
+  pub first : tally.first ≡ slice_index (last_route word) 0
+  pub unserved : tally.unserved + length (served_in word) + 1 ≡ place_count p
+
+-- a symbol of the word is this one
+abbrev pub stands_in : List ℕ → ℕ → Bool
+stands_in [] k = false
+stands_in (symbol ∷ word) k = if symbol == k then true else stands_in word k
+
+-- a flag for each place: what stands at 0 is of no account
+abbrev pub AreFlags : Problem → List ℕ → List Bool → Type 0
+AreFlags p word flags = (k : ℕ) → 0 < k → k < place_count p → slice_index_or flags k false ≡ stands_in word k
+
+-- the tally before each symbol
+abbrev pub AreBefore : Problem → List ℕ → List Tally → Type 0
+AreBefore p word before = (k : ℕ) (other : Tally) → k < length word → IsTally p (take k word) (slice_index_or before k other)
+
+pub record AreTallied (p : Problem) (word : List ℕ) (served : List Bool) (before : List Tally) (tally : Tally) : Type 0 where
+  pub problem : IsProblem p
+  pub front : IsFront p word
+  pub one_flag_each : length served ≡ place_count p
+  pub flags : AreFlags p word served
+  pub one_before_each : length before ≡ length word
+  pub kept : AreBefore p word before
+  pub now : IsTally p word tally
+
+-- a list with so many places has room for the longest front
+abbrev pub HasRoom : Problem → ℕ → Type 0
+HasRoom p capacity = 2 * place_count p ≤ capacity + 2

@@ -1,0 +1,307 @@
+//! Partial plans: a word that grows and shrinks by one symbol, with what the search asks of it kept in step.
+ghost use Rattle.std.specs.Prelude.{◌≡◌, ◌<◌, ◌≤◌, ◌+◌, ◌*◌, ◌↔◌, [], ◌∷◌, ◌++◌, length, IsTrue, IfOk};
+ghost use Rattle.vrp_model.specs.Problem.{customers, place_count};
+ghost use Rattle.vrp_model.specs.Route.{IsPlanOf, load_of};
+ghost use Rattle.vrp_model.specs.Word.{IsFront, IsLawfulWord, last_symbol, word_cost, word_of};
+ghost use Rattle.vrp_search.specs.Partial.{PartialPlan, open_load, IsRest};
+ghost use Rattle.vrp_search.specs.Tallied.{IsTally};
+
+use smallvec::SmallVec;
+use std::alloc::Global;
+use std::marker::Model;
+use vrp_model::{Instance, NoMemory, Plan};
+
+/// A partial plan: a word that is built from the empty one by children.
+#[derive(Drop)]
+pub struct Partial<'a> {
+    instance: &'a Instance,
+    // Room is reserved for the longest front, and so is that of `before`.
+    word: SmallVec<u16, 64>,
+    // The tally before each symbol, for a pop to restore.
+    before: SmallVec<Tally, 1>,
+    // By place; the depot's flag is of no account.
+    served: Vec<bool>,
+    tally: Tally,
+}
+
+// What is counted along a word.
+#[derive(Clone, Copy, Default)]
+struct Tally {
+    cost: u64,
+    // Of the open route, 0 where none is open.
+    load: u64,
+    // What the unserved customers demand.
+    rest: u64,
+    // The first customer of the last route, 0 where there is no route yet.
+    first: u16,
+    // How many customers are unserved.
+    unserved: u16,
+}
+
+impl<'a> Model for Partial<'a> {
+    ghost use Rattle.vrp_search.specs.Partial.{PartialPlan};
+    ghost use Rattle.vrp_search.specs.Tallied.{AreTallied, HasRoom};
+
+    ghost Value = { PartialPlan };
+
+    ghost view = { λ a. record { problem = a.instance.now; word = a.word.items } };
+
+    ghost invariant = { λ a. AreTallied a.instance.now a.word.items a.served.items a.before.items a.tally × HasRoom a.instance.now a.word.capacity × HasRoom a.instance.now a.before.capacity };
+}
+
+impl<'a> Partial<'a> {
+    /// The empty word of an instance, with room for the longest.
+    pub fn root(alloc: Global, instance: &'a Instance) -> Result<Partial<'a>, NoMemory>
+        ensures { IfOk result (λ partial. partial ≡ record { problem = instance.now; word = [] }) }
+    {
+        let customers = instance.customers();
+        let room = 2 * usize::from(customers);
+        let tally = Tally {
+            cost: 0,
+            load: 0,
+            rest: whole_demand(instance),
+            first: 0,
+            unserved: customers,
+        };
+        let word = SmallVec::with_capacity(alloc, room)?;
+        let before = SmallVec::with_capacity(alloc, room)?;
+        let served = Vec::from_elem(alloc, false, usize::from(customers) + 1)?;
+        Ok(Partial {
+            instance,
+            word,
+            before,
+            served,
+            tally,
+        })
+    }
+
+    /// Whether a symbol makes a child.
+    pub fn child(&self, symbol: u16) -> bool
+        ensures { IsTrue result ↔ IsFront self.now.problem (self.now.word ++ symbol ∷ []) }
+    {
+        let customers = self.instance.customers();
+        let at = self.at();
+        if symbol == 0 {
+            return at != 0;
+        }
+        if symbol > customers || self.served[usize::from(symbol)] {
+            return false;
+        }
+        if at == 0 {
+            return self.tally.first < symbol;
+        }
+        self.tally.load + self.instance.demand(symbol) <= self.instance.capacity()
+    }
+
+    /// Adds a symbol at the end.
+    pub fn push(&mut self, symbol: u16)
+        requires { IsFront self.old.problem (self.old.word ++ symbol ∷ []) }
+        ensures { self.new ≡ record { problem = self.old.problem; word = self.old.word ++ symbol ∷ [] } }
+    {
+        let tally = self.tally_after(symbol);
+        self.word.push_reserved(symbol);
+        self.before.push_reserved(self.tally);
+        self.served[usize::from(symbol)] = true;
+        self.tally = tally;
+    }
+
+    // The tally with one more symbol.
+    fn tally_after(&self, symbol: u16) -> Tally
+        requires { IsFront self.now.problem (self.now.word ++ symbol ∷ []) }
+        ensures tally { IsTally self.now.problem (self.now.word ++ symbol ∷ []) result }
+        ensures place { symbol < place_count self.now.problem }
+        ensures short { length self.now.word + 3 ≤ 2 * place_count self.now.problem }
+    {
+        let at = self.at();
+        let tally = self.tally;
+        let cost = tally.cost + self.instance.weight(at, symbol);
+        if symbol == 0 {
+            return Tally {
+                cost,
+                load: 0,
+                rest: tally.rest,
+                first: tally.first,
+                unserved: tally.unserved,
+            };
+        }
+        let demand = self.instance.demand(symbol);
+        let first = if at == 0 { symbol } else { tally.first };
+        Tally {
+            cost,
+            load: tally.load + demand,
+            rest: tally.rest - demand,
+            first,
+            unserved: tally.unserved - 1,
+        }
+    }
+
+    /// Takes off the last symbol, and answers it.
+    pub fn pop(&mut self) -> u16
+        requires { 0 < length self.old.word }
+        ensures problem { self.new.problem ≡ self.old.problem }
+        ensures word { self.old.word ≡ self.new.word ++ result ∷ [] }
+    {
+        let symbol = self.word.pop().unwrap();
+        self.tally = self.before.pop().unwrap();
+        self.served[usize::from(symbol)] = false;
+        symbol
+    }
+
+    /// The symbols.
+    pub fn word(&self) -> &[u16]
+        ensures value { result.now ≡ self.now.word }
+        // What is known of every partial plan.
+        ensures front { IsFront self.now.problem self.now.word }
+    {
+        self.word.as_slice()
+    }
+
+    /// Whether it has every customer and no open route.
+    pub fn complete(&self) -> bool
+        ensures { IsTrue result ↔ IsLawfulWord self.now.problem self.now.word }
+    {
+        self.tally.unserved == 0 && self.at() == 0
+    }
+
+    /// What is paid along the word.
+    pub fn cost(&self) -> u64
+        ensures { result ≡ word_cost self.now.problem self.now.word }
+    {
+        self.tally.cost
+    }
+
+    /// The place at the end, 0 for the empty word.
+    pub fn at(&self) -> u16
+        ensures { result ≡ last_symbol self.now.word }
+    {
+        let word = self.word.as_slice();
+        if word.is_empty() {
+            return 0;
+        }
+        word[word.len() - 1]
+    }
+
+    /// What is on the truck of the open route, 0 where none is open.
+    pub fn load(&self) -> u64
+        ensures { result ≡ open_load self.now.problem self.now.word }
+    {
+        self.tally.load
+    }
+
+    /// What the unserved customers demand.
+    pub fn rest(&self) -> u64
+        ensures { IsRest self.now.problem self.now.word result }
+    {
+        self.tally.rest
+    }
+
+    /// The plan of a complete word.
+    pub fn plan(&self, alloc: Global) -> Result<Plan, NoMemory>
+        requires { IsLawfulWord self.now.problem self.now.word }
+        ensures word { IfOk result (λ plan. word_of plan.routes ≡ self.now.word) }
+        ensures lawful { IfOk result (IsPlanOf self.now.problem) }
+    {
+        Plan::of_word(alloc, self.instance, self.word.as_slice())
+    }
+}
+
+// What all customers demand.
+fn whole_demand(instance: &Instance) -> u64
+    ensures { result ≡ load_of instance.now (customers instance.now) }
+{
+    let mut demand = 0;
+    for index in 0..instance.customers() {
+        demand += instance.demand(index + 1);
+    }
+    demand
+}
+
+#[cfg(test)]
+mod tests {
+    use super::*;
+    use std::process::Abort;
+    use std::test::Fail;
+    use vrp_model::{Metric, Weights};
+
+    // What a walk through the tree of the empty word has seen.
+    #[derive(Clone, Copy, Debug, PartialEq, Eq)]
+    struct Seen {
+        fronts: u64,
+        plans: u64,
+        least: u64,
+    }
+
+    #[test]
+    fn trees_of_three_nodes(rt: HostRuntime) -> Result<(), Fail> {
+        let table = [(2, 11, 3, 20), (1, 7, 1, 30)];
+        for (capacity, fronts, plans, least) in table {
+            assert!(rt; capacity <= 2);
+            let points = [(0, 0), (3, 4), (6, 8)];
+            let weights = Weights::points(rt.alloc(), Metric::Euc2d, &points)?;
+            let instance = Instance::new(rt.alloc(), weights, &[0, 1, 1], capacity, &[1], None)?;
+            let seen = walk(&rt, rt.alloc(), &instance)?;
+            let wanted = Seen {
+                fronts,
+                plans,
+                least,
+            };
+            assert_eq!(rt; seen, wanted, "capacity {capacity}");
+        }
+        Ok(())
+    }
+
+    #[test]
+    fn counters_along_a_word(rt: HostRuntime) -> Result<(), Fail> {
+        let points = [(0, 0), (3, 4), (6, 8)];
+        let weights = Weights::points(rt.alloc(), Metric::Euc2d, &points)?;
+        let instance = Instance::new(rt.alloc(), weights, &[0, 3, 4], 7, &[1], None)?;
+        let mut partial = Partial::root(rt.alloc(), &instance)?;
+        // a symbol, and behind it the place, the cost, the load and the rest
+        let table = [(2, 2, 10, 4, 3), (1, 1, 15, 7, 0), (0, 0, 20, 0, 0)];
+        assert_eq!(rt; partial.rest(), 7);
+        for (symbol, at, cost, load, rest) in table {
+            assert!(rt; partial.child(symbol));
+            assert!(rt; !partial.complete());
+            partial.push(symbol);
+            assert_eq!(rt; partial.at(), at);
+            assert_eq!(rt; partial.cost(), cost);
+            assert_eq!(rt; partial.load(), load);
+            assert_eq!(rt; partial.rest(), rest);
+            assert!(rt; !partial.child(3));
+        }
+        assert!(rt; partial.complete());
+        assert_eq!(rt; partial.plan(rt.alloc())?.word(), [2, 1, 0].as_slice());
+        Ok(())
+    }
+
+    // Walks by the symbols 0, 1 and 2.
+    fn walk(rt: &impl Abort, alloc: Global, instance: &Instance) -> Result<Seen, NoMemory> {
+        let mut partial = Partial::root(alloc, instance)?;
+        let mut seen = Seen {
+            fronts: 1,
+            plans: 0,
+            least: u64::MAX,
+        };
+        let mut next = 0;
+        for _ in 0..100 {
+            if partial.child(next) {
+                partial.push(next);
+                next = 0;
+                seen.fronts = seen.fronts.saturating_add(1);
+                if partial.complete() {
+                    seen.plans = seen.plans.saturating_add(1);
+                    seen.least = seen.least.min(partial.cost());
+                    let plan = partial.plan(alloc)?;
+                    assert_eq!(rt; plan.cost(), partial.cost());
+                }
+            } else if next < 2 {
+                next += 1;
+            } else if partial.word().is_empty() {
+                return Ok(seen);
+            } else {
+                next = partial.pop().saturating_add(1);
+            }
+        }
+        panic!(rt; "the walk has no end");
+    }
+}
