@@ -16,7 +16,8 @@ use Rattle.std.proofs.lemmas.List.FromFn.{get_or-range_with_len, length-range_wi
 use Rattle.vrp_model.proofs.Children.{closed_is_open, load_with, served_at_depot, served_with, unserved_if_added}
 use Rattle.vrp_model.proofs.ChildCases.{cases_of_child}
 use Rattle.vrp_model.proofs.FrontsBefore.{fronts_before}
-use Rattle.vrp_model.proofs.PlanWords.{cost_parts, customers_distinct}
+use Rattle.vrp_model.proofs.PlanWords.{cost_parts}
+use Rattle.vrp_model.proofs.Rearranged.{customers_distinct}
 use Rattle.vrp_search.specs.Partial.{open_load}
 use Rattle.vrp_search.specs.Tallied.{AreBefore, AreFlags, AreTallied, IsTally, stands_in}
 use Rattle.vrp_search.specs.declared.partial.Tally.{Tally}
