@@ -11,6 +11,7 @@ use Rattle.vrp_text.specs.Section.{content_of, content_fault, content_numbers, o
 use Rattle.vrp_text.specs.Stated.{Stated, bears, is_borne, is_same_key, part_of, keyword_fault, part_fault, parts_fault, stated_by, value_fault}
 use Rattle.vrp_text.specs.Step.{fault_of_part, nothing_stated, with_part}
 use Rattle.vrp_text.specs.Value.{value_of, problem_type, dimension, capacity, weight_kind, weight_format}
+use Rattle.vrp_text.proofs.SectionLemmas.{both_none, on_line_none}
 use Rattle.vrp_text.specs.declared.error.Key.{Key}
 use Rattle.vrp_text.specs.declared.error.Key.TheVariants as key
 use Rattle.vrp_text.specs.declared.error.TextError.{TextError}
@@ -156,14 +157,6 @@ same_fault explicit f g (Some keyword.Unsupported) tokens same = refl
 same_fault explicit f g (Some keyword.End) tokens same = refl
 same_fault explicit f g (Some (keyword.Key key)) tokens same = rw (same key) refl
 
-both_none : {X : Type 0} (a b : Option X) → option_or a b ≡ None → (a ≡ None) × (b ≡ None)
-both_none None b e = (refl, e)
-both_none (Some x) b e = absurd cc
-
-no_fault : (line : ℕ) (fault : Option LineFault) → on_line line fault ≡ None → fault ≡ None
-no_fault line None e = refl
-no_fault line (Some fault) e = absurd cc
-
 -- the fault of a part, whether its keys are marked or the parts before it are known
 pub part_fault_is : (explicit : Bool) (all : List Part) (marks : List Bool) (stated : Stated) (left : List Part) (line : ℕ) (word : Option Keyword) (behind : List (List ℕ)) (data_lines : List (List (List ℕ)))
     → (so_far : HasRead explicit all marks stated left)
@@ -180,7 +173,7 @@ pub one_part_more : (explicit : Bool) (all : List Part) (marks : List Bool) (sta
 one_part_more explicit all marks stated left line word behind data_lines rest new_marks new_stated so_far is good marked read =
     let part : Part = record { line = line; keyword = word; behind = behind; data_lines = data_lines } in
     let fine : part_fault explicit so_far.done part ≡ None = sym (part_fault_is explicit all marks stated left line word behind data_lines so_far) ∙ good in
-    let keyword_fine : keyword_fault explicit (is_borne so_far.done) word behind ≡ None = no_fault line (keyword_fault explicit (is_borne so_far.done) word behind) (both_none (on_line line (keyword_fault explicit (is_borne so_far.done) word behind)) (content_fault (content_of explicit word) (line + 1) data_lines) fine).0 in
+    let keyword_fine : keyword_fault explicit (is_borne so_far.done) word behind ≡ None = on_line_none line (keyword_fault explicit (is_borne so_far.done) word behind) (both_none (on_line line (keyword_fault explicit (is_borne so_far.done) word behind)) (content_fault (content_of explicit word) (line + 1) data_lines) fine).0 in
     record {
       done = so_far.done ++ part ∷ [];
       fault = so_far.fault ∙ (rw is (rw fine refl));

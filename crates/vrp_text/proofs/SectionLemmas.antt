@@ -134,11 +134,11 @@ within_append section place (x ∷ xs) ys left right =
     (λ k lt. let e : (place + 1) + k ≡ place + suc k = omega arith in rw e (left (suc k) (omega arith)))
     (let e : (place + 1) + length xs ≡ place + suc (length xs) = omega arith in rw e right))
 
-both_none : {X : Type 0} (a b : Option X) → option_or a b ≡ None → (a ≡ None) × (b ≡ None)
+pub both_none : {X : Type 0} (a b : Option X) → option_or a b ≡ None → (a ≡ None) × (b ≡ None)
 both_none None b e = (refl, e)
 both_none (Some x) b e = absurd cc
 
-on_line_none : (line : ℕ) (fault : Option LineFault) → on_line line fault ≡ None → fault ≡ None
+pub on_line_none : (line : ℕ) (fault : Option LineFault) → on_line line fault ≡ None → fault ≡ None
 on_line_none line None e = refl
 on_line_none line (Some fault) e = absurd cc
 
