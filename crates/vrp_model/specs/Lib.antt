@@ -1,3 +1,4 @@
+pub mod Cheapest
 pub mod Distance
 pub mod Grid
 pub mod Layout

@@ -1,4 +1,12 @@
+pub mod Added
 pub mod Among
+pub mod Begins
+pub mod Cut
+pub mod Exactly
+pub mod Order
+pub mod Passes
+pub mod Progress
+pub mod Refined
 pub mod Short
 pub mod Steps
 pub mod Tallies

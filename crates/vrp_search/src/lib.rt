@@ -1,6 +1,18 @@
 //! Partial plans, cuttings of the tree of plans, and the search of a piece.
 #![tactic(auto)]
 
+mod board;
+mod cutting;
+mod depth_first;
+mod law;
+mod local;
 mod partial;
+mod piece;
 
+pub use board::Board;
+pub use cutting::Cutting;
+pub use depth_first::{Ended, search};
+pub use law::one_piece;
+pub use local::Local;
 pub use partial::Partial;
+pub use piece::Piece;

@@ -1,9 +1,10 @@
 //! Partial plans: a word that grows and shrinks by one symbol, with what the search asks of it kept in step.
-ghost use Rattle.std.specs.Prelude.{◌≡◌, ◌<◌, ◌≤◌, ◌+◌, ◌*◌, ◌↔◌, [], ◌∷◌, ◌++◌, length, IsTrue, IfOk};
+ghost use Rattle.std.specs.Prelude.{◌≡◌, ◌<◌, ◌≤◌, ◌+◌, ◌*◌, ◌↔◌, [], ◌∷◌, ◌++◌, length, IsTrue, IfOk, IfSome, MatchOption};
 ghost use Rattle.vrp_model.specs.Problem.{customers, place_count};
 ghost use Rattle.vrp_model.specs.Route.{IsPlanOf, load_of};
 ghost use Rattle.vrp_model.specs.Word.{IsFront, IsLawfulWord, last_symbol, word_cost, word_of};
 ghost use Rattle.vrp_search.specs.Partial.{PartialPlan, open_load, IsRest};
+ghost use Rattle.vrp_search.specs.Child.{IsNextChild, NoChildFrom};
 ghost use Rattle.vrp_search.specs.Tallied.{IsTally};
 
 use smallvec::SmallVec;
@@ -75,6 +76,22 @@ impl<'a> Partial<'a> {
         })
     }
 
+    /// A front of the instance: the empty word, grown symbol by symbol.
+    pub(crate) fn at_front(
+        alloc: Global,
+        instance: &'a Instance,
+        front: &[u16],
+    ) -> Result<Partial<'a>, NoMemory>
+        requires { IsFront instance.now front.now }
+        ensures { IfOk result (λ partial. partial ≡ record { problem = instance.now; word = front.now }) }
+    {
+        let mut partial = Partial::root(alloc, instance)?;
+        for symbol in front {
+            partial.push(*symbol);
+        }
+        Ok(partial)
+    }
+
     /// Whether a symbol makes a child.
     pub fn child(&self, symbol: u16) -> bool
         ensures { IsTrue result ↔ IsFront self.now.problem (self.now.word ++ symbol ∷ []) }
@@ -91,6 +108,27 @@ impl<'a> Partial<'a> {
             return self.tally.first < symbol;
         }
         self.tally.load + self.instance.demand(symbol) <= self.instance.capacity()
+    }
+
+    /// The first symbol from this one on that makes a child.
+    pub(crate) fn next_child(&self, from: u16) -> Option<u16>
+        ensures next { MatchOption result (NoChildFrom self.now.problem self.now.word from) (IsNextChild self.now.problem self.now.word from) }
+        ensures small { IfSome result (λ symbol. symbol < 1200) }
+    {
+        for symbol in from..self.instance.customers() + 1 {
+            if self.child(symbol) {
+                return Some(symbol);
+            }
+        }
+        None
+    }
+
+    /// What is paid along a child's word.
+    pub(crate) fn child_cost(&self, symbol: u16) -> u64
+        requires { IsFront self.now.problem (self.now.word ++ symbol ∷ []) }
+        ensures { result ≡ word_cost self.now.problem (self.now.word ++ symbol ∷ []) }
+    {
+        self.tally.cost + self.instance.weight(self.at(), symbol)
     }
 
     /// Adds a symbol at the end.
@@ -140,6 +178,7 @@ impl<'a> Partial<'a> {
         requires { 0 < length self.old.word }
         ensures problem { self.new.problem ≡ self.old.problem }
         ensures word { self.old.word ≡ self.new.word ++ result ∷ [] }
+        ensures small { result < 1200 }
     {
         let symbol = self.word.pop().unwrap();
         self.tally = self.before.pop().unwrap();

@@ -22,3 +22,10 @@ invariant_of-self c =
       omega (arith, c.pop.ensures.capacity, c.self.invariant.1),
       omega (arith, c.pop-2.ensures.capacity, c.self.invariant.2),
     )
+
+pub returns-clause-small : goal.returns-clause-small
+returns-clause-small c =
+    let word : c.self.inside.word.items ≡ c.pop.new.self.items ++ c.unwrap-symbol.result ∷ [] = c.pop.ensures.items ∙ ap (λ o. c.pop.new.self.items ++ option_to_list o) c.unwrap-symbol.ensures in
+    let front = subst (IsFront c.self.inside.instance.now) word c.self.invariant.0.front in
+    let below = symbol_below c.self.inside.instance.now c.pop.new.self.items c.unwrap-symbol.result c.self.invariant.0.problem front in
+    omega (arith, below, c.self.invariant.0.problem.few_places)

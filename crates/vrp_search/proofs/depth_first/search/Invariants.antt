@@ -1,0 +1,16 @@
+use Rattle.std.proofs.Common.{◌≡◌, ◌≤◌, ◌+◌, ◌*◌, ◌-◌, length}
+use Rattle.vrp_search.proofs.Progress.{Progress}
+use Rattle.vrp_search.proofs.depth_first.search.Given as goal
+
+abbrev pub invariant-loop-partial : goal.invariant-loop-partial
+invariant-loop-partial g l = record {
+  problem : l.partial.problem ≡ l.instance;
+  progress : Progress l.instance l.piece.word l.partial.word l.next l.spent (g.B.Board.floor l.board);
+  serves : g.B.Board.serves l.board l.instance;
+  falls : g.B.Board.floor l.board ≤ g.B.Board.floor l.fn.board;
+  some : 1 ≤ l.spent;
+  within : l.spent ≤ l.budget;
+}
+
+abbrev pub decreases-loop-partial : goal.decreases-loop-partial
+decreases-loop-partial g l = 2 * (l.budget - l.spent) + length l.partial.word

@@ -1,0 +1,28 @@
+//! What a search asks of the keeper of the best plan.
+ghost use Rattle.std.specs.Prelude.{ℕ, ◌≤◌, OnOk};
+ghost use Rattle.vrp_model.specs.Problem.{Problem};
+ghost use Rattle.vrp_model.specs.Route.{IsPlanOf};
+
+use std::alloc::Global;
+use vrp_model::{NoMemory, Plan};
+
+/// Is offered plans of one problem, and answers what a plan must cost less than to be of use. Of a board is known which
+/// problems it serves, and a number, its floor: no plan is looked for that costs as much, or more.
+pub trait Board {
+    ghost serves: { Self → Problem → Type 0 };
+
+    ghost floor: { Self → ℕ };
+
+    /// A cost that is not below the floor.
+    fn least(&mut self) -> u64
+        ensures serves { (p : Problem) → serves self.old p → serves self.new p }
+        ensures falls { floor self.new ≤ floor self.old }
+        ensures answered { floor self.new ≤ result };
+
+    /// Takes note of a lawful plan. Where memory is refused the floor has not risen.
+    fn offer(&mut self, alloc: Global, plan: &Plan) -> Result<(), NoMemory>
+        requires { (p : Problem) × serves self.old p × IsPlanOf p plan.now }
+        ensures serves { (p : Problem) → serves self.old p → IsPlanOf p plan.now → serves self.new p }
+        ensures falls { floor self.new ≤ floor self.old }
+        ensures taken { OnOk result (floor self.new ≤ plan.now.cost) };
+}

@@ -1,0 +1,276 @@
+//! Cuttings: the lawful words of an instance, shared out among pieces that are searched one by one.
+ghost use Rattle.std.specs.Prelude.{◌≡◌, ◌⊎◌, ℕ, ◌+◌, ◌≤◌, ◌<◌, IfOk, OnOk, OnErr, [], ◌∷◌, ◌++◌, length, map, max, IsTrue, ◌↔◌};
+ghost use Rattle.std.specs.List.{All};
+ghost use Rattle.vrp_model.specs.Word.{IsFront};
+ghost use Rattle.vrp_search.specs.Cutting.{AreNumbered, HasNoChild, IsCutting, IsRefined};
+ghost use Rattle.vrp_search.specs.Pass.{AreAdded, IsPass, IsStep};
+
+use crate::partial::Partial;
+use crate::piece::Piece;
+use std::alloc::Global;
+use std::marker::Model;
+use vrp_model::{Instance, NoMemory};
+
+/// A cutting of an instance's words: fronts such that each lawful word begins with exactly one of them. It starts as the
+/// empty word alone, and grows as fronts are replaced by their children.
+#[derive(Debug, Drop)]
+pub struct Cutting {
+    // By rising number, from 0 on.
+    pieces: Vec<Piece>,
+}
+
+impl Model for Cutting {
+    ghost use Rattle.std.specs.Prelude.{List, ℕ, map};
+    ghost use Rattle.vrp_search.specs.Cutting.{AreNumbered};
+
+    ghost Value = { List (List ℕ) };
+
+    ghost view = { λ a. map (λ piece. piece.word) a.pieces.items };
+
+    ghost invariant = { λ a. AreNumbered a.pieces.items };
+}
+
+impl Cutting {
+    /// The empty word alone.
+    pub fn whole(alloc: Global, instance: &Instance) -> Result<Cutting, NoMemory>
+        ensures words { IfOk result (λ cutting. cutting ≡ [] ∷ []) }
+        ensures cutting { IfOk result (IsCutting instance.now) }
+    {
+        let mut cutting = Cutting::none(alloc);
+        cutting.push(Vec::new(alloc))?;
+        Ok(cutting)
+    }
+
+    /// The pieces, by rising number.
+    pub fn pieces(&self) -> &[Piece]
+        ensures words { map (λ piece. piece.word) result.now ≡ self.now }
+        ensures numbers { AreNumbered result.now }
+    {
+        self.pieces.as_slice()
+    }
+
+    /// Puts a piece's children in its stead, by rising symbol, and tells whether it has any. A refused call changes nothing.
+    pub fn refine(
+        &mut self,
+        alloc: Global,
+        instance: &Instance,
+        piece: u32,
+    ) -> Result<bool, NoMemory>
+        requires cutting { IsCutting instance.now self.old }
+        requires piece { piece < length self.old }
+        requires few { length self.old ≤ 1000000 }
+        ensures refined { IfOk result (λ refined. IsRefined instance.now piece self.old refined self.new) }
+        ensures cutting { IsCutting instance.now self.new }
+        ensures err { OnErr result (self.new ≡ self.old) }
+    {
+        let at = piece as usize;
+        let pieces = self.pieces();
+        let mut next = Cutting::none(alloc);
+        next.push_copies(alloc, &pieces[..at])?;
+        if !next.push_children(alloc, instance, pieces[at].word())? {
+            return Ok(false);
+        }
+        next.push_copies(alloc, &pieces[at + 1..])?;
+        *self = next;
+        Ok(true)
+    }
+
+    /// Refines until there are so many pieces, or none has a child. A refused call leaves a cutting.
+    pub fn at_least(
+        &mut self,
+        alloc: Global,
+        instance: &Instance,
+        pieces: u32,
+    ) -> Result<(), NoMemory>
+        requires cutting { IsCutting instance.now self.old }
+        requires pieces { pieces ≤ 65536 }
+        ensures cutting { IsCutting instance.now self.new }
+        ensures enough { OnOk result ((pieces ≤ length self.new) ⊎ All (HasNoChild instance.now) self.new) }
+        ensures few { length self.new ≤ max (pieces + 1199) (length self.old) }
+    {
+        let wanted = pieces as usize;
+        // A front has at most two symbols for each customer, and a pass adds one to each that has a child.
+        for _depth in 0..2 * instance.customers() + 1 {
+            if wanted <= self.len() {
+                return Ok(());
+            }
+            let (next, refined) = self.pass(alloc, instance, wanted)?;
+            *self = next;
+            if !refined {
+                return Ok(());
+            }
+        }
+        Ok(())
+    }
+
+    // From the first piece on, children stand for a piece that has any, until there are enough pieces. Tells whether that
+    // was so for any.
+    fn pass(
+        &self,
+        alloc: Global,
+        instance: &Instance,
+        wanted: usize,
+    ) -> Result<(Cutting, bool), NoMemory>
+        requires cutting { IsCutting instance.now self.now }
+        requires fewer { length self.now < wanted }
+        requires wanted { wanted ≤ 65536 }
+        ensures { IfOk result (λ next. IsPass instance.now wanted self.now next.0 [] next.1) }
+    {
+        let pieces = self.pieces();
+        let mut next = Cutting::none(alloc);
+        let mut refined = false;
+        for (index, piece) in pieces.iter().enumerate() {
+            let too_few = next.len() + (pieces.len() - index) < wanted;
+            refined |= next.push_step(alloc, instance, piece.word(), too_few)?;
+        }
+        Ok((next, refined))
+    }
+
+    // No piece at all.
+    fn none(alloc: Global) -> Cutting
+        ensures { result ≡ [] }
+    {
+        Cutting {
+            pieces: Vec::new(alloc),
+        }
+    }
+
+    fn len(&self) -> usize
+        ensures { result ≡ length self.now }
+    {
+        self.pieces.len()
+    }
+
+    // Adds a piece with the next number.
+    fn push(&mut self, word: Vec<u16>) -> Result<(), NoMemory>
+        requires { length self.old ≤ 2000000 }
+        ensures { OnOk result (self.new ≡ self.old ++ word.items ∷ []) }
+    {
+        let number = self.pieces.len() as u32;
+        self.pieces.push(Piece::new(number, word))?;
+        Ok(())
+    }
+
+    // Adds pieces of the same words.
+    fn push_copies(&mut self, alloc: Global, pieces: &[Piece]) -> Result<(), NoMemory>
+        requires { length self.old + length pieces.now ≤ 2000000 }
+        ensures { OnOk result (self.new ≡ self.old ++ map (λ piece. piece.word) pieces.now) }
+    {
+        for piece in pieces {
+            self.push(Vec::from_slice(alloc, piece.word())?)?;
+        }
+        Ok(())
+    }
+
+    // Adds a front's children, by rising symbol, and tells whether there are any.
+    fn push_children(
+        &mut self,
+        alloc: Global,
+        instance: &Instance,
+        front: &[u16],
+    ) -> Result<bool, NoMemory>
+        requires front { IsFront instance.now front.now }
+        requires room { length self.old ≤ 1000000 }
+        ensures children { OnOk result (AreAdded instance.now front.now self.old self.new) }
+        ensures some { IfOk result (λ some. IsTrue some ↔ length self.old < length self.new) }
+    {
+        let before = self.len();
+        let partial = Partial::at_front(alloc, instance, front)?;
+        for symbol in 0..instance.customers() + 1 {
+            if partial.child(symbol) {
+                self.push(child_word(alloc, front, symbol)?)?;
+            }
+        }
+        Ok(before < self.len())
+    }
+
+    // Adds what stands for a front: its children where it has any and is to be refined, and else itself. Tells which.
+    fn push_step(
+        &mut self,
+        alloc: Global,
+        instance: &Instance,
+        front: &[u16],
+        refine: bool,
+    ) -> Result<bool, NoMemory>
+        requires front { IsFront instance.now front.now }
+        requires room { length self.old ≤ 1000000 }
+        ensures { IfOk result (λ refined. IsStep instance.now front.now refine self.old refined self.new) }
+    {
+        if refine && self.push_children(alloc, instance, front)? {
+            return Ok(true);
+        }
+        self.push(Vec::from_slice(alloc, front)?)?;
+        Ok(false)
+    }
+}
+
+// The front with one more symbol.
+fn child_word(alloc: Global, front: &[u16], symbol: u16) -> Result<Vec<u16>, NoMemory>
+    ensures { IfOk result (λ word. word.items ≡ front.now ++ symbol ∷ []) }
+{
+    let mut word = Vec::from_slice(alloc, front)?;
+    word.push(symbol)?;
+    Ok(word)
+}
+
+#[cfg(test)]
+mod tests {
+    use super::*;
+    use std::process::Abort;
+    use std::test::Fail;
+    use vrp_model::{Metric, Weights};
+
+    #[test]
+    fn cut_into_so_many(rt: HostRuntime) -> Result<(), Fail> {
+        let plans: [&[u16]; 4] = [&[1, 0, 2, 0], &[1, 2, 0], &[2, 0], &[2, 1, 0]];
+        // The second has every customer but one, and no child.
+        let singles: [&[u16]; 2] = [&[1, 0, 2, 0], &[2, 0]];
+        let starts: [&[u16]; 2] = [&[1], &[2]];
+        let thirds: [&[u16]; 3] = [&[1, 0], &[1, 2], &[2]];
+        let table = [
+            (2, 65_536, plans.as_slice()),
+            (1, 65_536, singles.as_slice()),
+            (2, 2, starts.as_slice()),
+            (2, 3, thirds.as_slice()),
+        ];
+        for (capacity, count, words) in table {
+            assert!(rt; capacity <= 2);
+            assert!(rt; count <= 65_536);
+            let points = [(0, 0), (3, 4), (6, 8)];
+            let weights = Weights::points(rt.alloc(), Metric::Euc2d, &points)?;
+            let instance = Instance::new(rt.alloc(), weights, &[0, 1, 1], capacity, &[1], None)?;
+            let mut cutting = Cutting::whole(rt.alloc(), &instance)?;
+            cutting.at_least(rt.alloc(), &instance, count)?;
+            assert_words(&rt, &cutting, words);
+        }
+        Ok(())
+    }
+
+    #[test]
+    fn refined_one_by_one(rt: HostRuntime) -> Result<(), Fail> {
+        let points = [(0, 0), (3, 4), (6, 8)];
+        let weights = Weights::points(rt.alloc(), Metric::Euc2d, &points)?;
+        let instance = Instance::new(rt.alloc(), weights, &[0, 1, 1], 2, &[1], None)?;
+        let mut cutting = Cutting::whole(rt.alloc(), &instance)?;
+        assert_words(&rt, &cutting, &[&[]]);
+        assert!(rt; cutting.refine(rt.alloc(), &instance, 0)?);
+        assert_words(&rt, &cutting, &[&[1], &[2]]);
+        assert_eq!(rt; cutting.pieces().len(), 2);
+        assert!(rt; cutting.refine(rt.alloc(), &instance, 1)?);
+        assert_words(&rt, &cutting, &[&[1], &[2, 0], &[2, 1]]);
+        assert_eq!(rt; cutting.pieces().len(), 3);
+        assert!(rt; !cutting.refine(rt.alloc(), &instance, 1)?);
+        assert_words(&rt, &cutting, &[&[1], &[2, 0], &[2, 1]]);
+        Ok(())
+    }
+
+    // Whether these are the words, by number.
+    fn assert_words(rt: &impl Abort, cutting: &Cutting, words: &[&[u16]]) {
+        let pieces = cutting.pieces();
+        assert_eq!(rt; pieces.len(), words.len());
+        for (number, piece) in pieces.iter().enumerate() {
+            assert_eq!(rt; piece.number() as usize, number);
+            assert_eq!(rt; piece.word(), words[number]);
+        }
+    }
+}

@@ -1,0 +1,83 @@
+//! The search of a piece, depth first: it goes below a partial plan only where that may lead to a cheaper plan.
+ghost use Rattle.std.specs.Prelude.{◌≤◌, IfOk, OnOk};
+ghost use Rattle.vrp_model.specs.Word.{IsFront, IsLawfulWord, word_cost};
+ghost use Rattle.vrp_search.specs.Search.{EndsSearch};
+
+use crate::board::Board;
+use crate::partial::Partial;
+use crate::piece::Piece;
+use std::alloc::Global;
+use vrp_model::{Instance, NoMemory};
+
+/// How the search of a piece ended.
+#[derive(Clone, Copy, Debug, PartialEq, Eq)]
+pub enum Ended {
+    /// No plan under the piece costs less than the board's floor. So many partial plans were looked at.
+    Finished { spent: u64 },
+    /// The budget was spent before the whole tree was looked at. No plan under the piece costs less than `low`, which is what
+    /// is paid along the piece's word.
+    Unfinished { spent: u64, low: u64 },
+}
+
+/// Searches the plans under a piece, and offers those to the board that may be cheaper than all that it knows. It looks at
+/// no more partial plans than the budget says, at each at most once, and at the piece's own word first. Where memory is
+/// refused the board has the offers that were made before.
+pub fn search<B: Board>(
+    alloc: Global,
+    instance: &Instance,
+    piece: &Piece,
+    budget: u64,
+    board: &mut B,
+) -> Result<Ended, NoMemory>
+    requires piece { IsFront instance.now piece.now.word }
+    requires board { B.serves board.old instance.now }
+    requires budget { 1 ≤ budget }
+    ensures serves { B.serves board.new instance.now }
+    ensures falls { B.floor board.new ≤ B.floor board.old }
+    ensures ended { IfOk result (EndsSearch instance.now piece.now.word budget (B.floor board.new)) }
+{
+    let front = piece.word();
+    let mut partial = Partial::at_front(alloc, instance, front)?;
+    let low = partial.cost();
+    let mut spent = 1;
+    if board.least() <= low {
+        return Ok(Ended::Finished { spent });
+    }
+    offer_complete(alloc, &partial, board)?;
+    let mut next = 0;
+    loop {
+        match partial.next_child(next) {
+            Some(_) if spent == budget => return Ok(Ended::Unfinished { spent, low }),
+            Some(symbol) => {
+                spent += 1;
+                if partial.child_cost(symbol) < board.least() {
+                    partial.push(symbol);
+                    offer_complete(alloc, &partial, board)?;
+                    next = 0;
+                } else {
+                    next = symbol + 1;
+                }
+            }
+            None if partial.word().len() == front.len() => return Ok(Ended::Finished { spent }),
+            None => next = partial.pop() + 1,
+        }
+    }
+}
+
+// Offers the plan of a complete word.
+fn offer_complete<B: Board>(
+    alloc: Global,
+    partial: &Partial<'_>,
+    board: &mut B,
+) -> Result<(), NoMemory>
+    requires { B.serves board.old partial.now.problem }
+    ensures serves { B.serves board.new partial.now.problem }
+    ensures falls { B.floor board.new ≤ B.floor board.old }
+    ensures offered { OnOk result (IsLawfulWord partial.now.problem partial.now.word → B.floor board.new ≤ word_cost partial.now.problem partial.now.word) }
+{
+    if partial.complete() {
+        let plan = partial.plan(alloc)?;
+        board.offer(alloc, &plan)?;
+    }
+    Ok(())
+}
