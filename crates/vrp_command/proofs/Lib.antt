@@ -1,3 +1,4 @@
+pub mod Pieces
 pub mod PlaceLemmas
 pub mod RefusalLemmas
 pub mod ReportLemmas

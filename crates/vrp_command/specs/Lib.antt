@@ -1,6 +1,8 @@
+pub mod Answer
 pub mod Fault
 pub mod Input
 pub mod Options
 pub mod Refusal
 pub mod Report
 pub mod Run
+pub mod Searched

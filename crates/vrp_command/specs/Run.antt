@@ -1,34 +1,44 @@
 -- What a run reads, and what it writes.
-use Rattle.std.specs.Prelude.{◌≡◌, ◌≢◌, ℕ, Option, List, [], ◌∷◌, map, ⊤}
+use Rattle.std.specs.Prelude.{◌≡◌, ◌≢◌, ℕ, ◌≤◌, Option, List, ⊤}
 use Rattle.std.specs.Io.KnownBytes.{Appends}
-use Rattle.vrp_model.specs.Problem.{Problem, customers}
-use Rattle.vrp_model.specs.Route.{PricedPlan, plan_cost}
+use Rattle.vrp_model.specs.Problem.{Problem}
+use Rattle.vrp_model.specs.Route.{PricedPlan}
 use Rattle.vrp_text.specs.Meaning.{MeansProblem, MeansRefusal}
 use Rattle.vrp_text.specs.declared.error.TextError.{TextError}
 use Rattle.vrp_text.specs.declared.error.TextError.TheVariants as text
+use Rattle.vrp_command.specs.Answer.{IsAnswer}
 use Rattle.vrp_command.specs.Input.{IsInput}
 use Rattle.vrp_command.specs.Report.{report_of}
 use Rattle.vrp_command.specs.declared.fault.RunError.{RunError}
 use Rattle.vrp_command.specs.declared.fault.RunError.TheVariants as fault
-use Rattle.vrp_command.specs.declared.verdict.Verdict.TheVariants.{Open}
+use Rattle.vrp_command.specs.declared.options.Options.{Options}
+use Rattle.vrp_command.specs.declared.options.Status.{Status}
+use Rattle.vrp_command.specs.declared.options.Status.TheVariants as status
+use Rattle.vrp_command.specs.declared.verdict.Verdict.{Verdict}
+use Rattle.vrp_command.specs.declared.verdict.Verdict.TheVariants as verdict
 
--- one truck to each customer, by rising place
-abbrev pub singles_of : Problem → PricedPlan
-singles_of p = let routes = map (λ customer. customer ∷ []) (customers p) in record { routes = routes; cost = plan_cost p routes }
+-- the status of a run that prints this verdict
+abbrev pub status_of : Verdict → Status
+status_of verdict.Proven = status.Proven
+status_of (verdict.Open lower) = status.Open
 
--- the report of the singles plan of the problem that the bytes mean, with this node chosen as the depot
-pub record ReportsSingles (chosen : Option ℕ) (bytes report : List ℕ) : Type 0 where
+-- the report of a plan of the problem that the bytes mean, with the verdict that is known of it
+pub record ReportsAnswer (options : Options) (bytes report : List ℕ) (ended : Status) : Type 0 where
   pub problem : Problem
-  pub meant : MeansProblem bytes chosen problem
-  pub text : report ≡ report_of problem (singles_of problem) (Open 0)
+  pub meant : MeansProblem bytes options.depot problem
+  pub plan : PricedPlan
+  pub judged : Verdict
+  pub answer : IsAnswer problem options.pieces options.budget plan judged
+  pub text : report ≡ report_of problem plan judged
+  pub status : ended ≡ status_of judged
 
--- What was read means a problem, and what was written is the report of its singles plan, and nothing else. What is known of
--- a reader's bytes, and of a writer's, comes before the call and after it.
-pub record PrintsSingles (chosen : Option ℕ) (unread_old unread_new written_old written_new : Option (List ℕ)) : Type 0 where
+-- What was read means a problem, and what was written is the report of such an answer, and nothing else. What is known of a
+-- reader's bytes, and of a writer's, comes before the call and after it.
+pub record PrintsAnswer (options : Options) (unread_old unread_new written_old written_new : Option (List ℕ)) (ended : Status) : Type 0 where
   pub bytes : List ℕ
   pub input : IsInput unread_old unread_new bytes
   pub report : List ℕ
-  pub singles : ReportsSingles chosen bytes report
+  pub reported : ReportsAnswer options bytes report ended
   pub output : Appends written_old written_new report
 
 -- what was read is refused for this

@@ -2,10 +2,11 @@
 ghost use Rattle.std.specs.Prelude.{◌≡◌, ◌≢◌, IfOk, IfErr, OnOk, string_bytes};
 ghost use Rattle.std.specs.Io.KnownBytes.{Appends, Keeps};
 ghost use Rattle.vrp_text.specs.Meaning.{MeansRefusal};
-ghost use Rattle.vrp_command.specs.Run.{ReportsSingles, PrintsSingles, RefusesInput, AcceptsInput, OnRefusedFile};
+ghost use Rattle.vrp_command.specs.Options.{AreInRange};
+ghost use Rattle.vrp_command.specs.Run.{ReportsAnswer, PrintsAnswer, RefusesInput, AcceptsInput, OnRefusedFile, status_of};
 ghost use Rattle.vrp_command.specs.Input.{TakesSome};
 
-use crate::book::Book;
+use crate::answer::solve;
 use crate::fault::RunError;
 use crate::input::read_input;
 use crate::options::{Options, Status};
@@ -13,39 +14,59 @@ use crate::report::report;
 use crate::verdict::Verdict;
 use std::alloc::Global;
 use std::io::{Read, Write};
-use vrp_model::Plan;
 
-/// Reads a CVRP file and writes the report of a lawful plan of the problem that it means with the chosen node as its depot.
-/// Reading ends at the end of the input or after 16,777,217 bytes. On a fault other than `Write` nothing is written.
+/// Reads a CVRP file, and writes the report of a lawful plan of the problem that it means with the chosen node as its depot:
+/// a cheapest one, where the status is `Proven`. Reading ends at the end of the input or after 16,777,217 bytes. On a fault
+/// other than `Write` nothing is written.
 pub fn run<R: Read, W: Write>(
     alloc: Global,
     options: Options,
     input: &mut R,
     output: &mut W,
 ) -> Result<Status, RunError>
-    ensures open { IfOk result (λ status. status ≡ Status.Open) }
-    ensures printed { OnOk result (PrintsSingles options.depot (R.remaining input.old) (R.remaining input.new) (W.contents output.old) (W.contents output.new)) }
+    requires { AreInRange options }
+    ensures printed { IfOk result (PrintsAnswer options (R.remaining input.old) (R.remaining input.new) (W.contents output.old) (W.contents output.new)) }
     ensures refused { IfErr result (λ fault. OnRefusedFile fault (RefusesInput options.depot (R.remaining input.old) (R.remaining input.new))) }
     ensures unwritten { IfErr result (λ fault. fault ≡ RunError.Write → AcceptsInput options.depot (R.remaining input.old) (R.remaining input.new)) }
     ensures taken { TakesSome (R.remaining input.old) (R.remaining input.new) }
     ensures silent { IfErr result (λ fault. fault ≢ RunError.Write → Keeps (W.contents output.old) (W.contents output.new)) }
 {
     let bytes = read_input(alloc, input)?;
-    let report = singles_report(alloc, &bytes, options.depot)?;
-    write_report(output, report.as_bytes())?;
-    Ok(Status::Open)
+    let outcome = answer_to(alloc, &bytes, options)?;
+    write_report(output, outcome.report.as_bytes())?;
+    Ok(outcome.status)
 }
 
-// The report of the singles plan of the problem that the bytes mean.
-fn singles_report(alloc: Global, bytes: &[u8], chosen: Option<u16>) -> Result<String, RunError>
-    ensures reported { IfOk result (λ text. ReportsSingles chosen bytes.now (string_bytes text)) }
-    ensures refused { IfErr result (λ fault. OnRefusedFile fault (MeansRefusal bytes.now chosen)) }
+// What is to be printed, and how the run ends once it is.
+#[derive(Drop)]
+struct Outcome {
+    report: String,
+    status: Status,
+}
+
+// The report of an answer to the problem that the bytes mean.
+fn answer_to(alloc: Global, bytes: &[u8], options: Options) -> Result<Outcome, RunError>
+    requires { AreInRange options }
+    ensures reported { IfOk result (λ outcome. ReportsAnswer options bytes.now (string_bytes outcome.report) outcome.status) }
+    ensures refused { IfErr result (λ fault. OnRefusedFile fault (MeansRefusal bytes.now options.depot)) }
     ensures no_read { IfErr result (λ fault. fault ≢ RunError.Read) }
     ensures no_write { IfErr result (λ fault. fault ≢ RunError.Write) }
 {
-    let instance = vrp_text::read(alloc, bytes, chosen)?;
-    let book = Book::open(Plan::singles(alloc, &instance)?);
-    Ok(report(alloc, &instance, book.plan(), Verdict::Open(0))?)
+    let instance = vrp_text::read(alloc, bytes, options.depot)?;
+    let answer = solve(alloc, &instance, options.pieces, options.budget)?;
+    let report = report(alloc, &instance, &answer.plan, answer.verdict)?;
+    let status = status(answer.verdict);
+    Ok(Outcome { report, status })
+}
+
+// How a run ends that prints this verdict.
+fn status(verdict: Verdict) -> Status
+    ensures { result ≡ status_of verdict }
+{
+    match verdict {
+        Verdict::Proven => Status::Proven,
+        Verdict::Open(_) => Status::Open,
+    }
 }
 
 // Writes the report and flushes it.

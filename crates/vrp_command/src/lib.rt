@@ -1,7 +1,7 @@
 //! The command `cvrp` as a library: from the bytes of a file to the bytes of a report.
 #![tactic(auto)]
 
-mod book;
+mod answer;
 mod command;
 mod fault;
 mod input;

@@ -56,7 +56,7 @@ or_false : (a b : Bool) → (a || b) ≡ false → (a ≡ false) × (b ≡ false
 or_false true b never = absurd (cc never)
 or_false false b is = (refl, is)
 
--- how many pieces there are at least, where a front isn't asked to be refined, and at most where it is
+-- a front is asked to be refined where there are too few pieces, those ahead among them
 pub record IsAsked (pieces done ahead : ℕ) (asked : Bool) : Type 0 where
   pub few : asked ≡ true → done + ahead < pieces
   pub enough : asked ≡ false → pieces ≤ done + ahead

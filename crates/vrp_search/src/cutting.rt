@@ -1,5 +1,5 @@
 //! Cuttings: the lawful words of an instance, shared out among pieces that are searched one by one.
-ghost use Rattle.std.specs.Prelude.{◌≡◌, ◌⊎◌, ℕ, ◌+◌, ◌≤◌, ◌<◌, IfOk, OnOk, OnErr, [], ◌∷◌, ◌++◌, length, map, max, IsTrue, ◌↔◌};
+ghost use Rattle.std.specs.Prelude.{◌≡◌, ◌⊎◌, ◌+◌, ◌≤◌, ◌<◌, IfOk, OnOk, OnErr, [], ◌∷◌, ◌++◌, length, map, max, IsTrue, ◌↔◌};
 ghost use Rattle.std.specs.List.{All};
 ghost use Rattle.vrp_model.specs.Word.{IsFront};
 ghost use Rattle.vrp_search.specs.Cutting.{AreNumbered, HasNoChild, IsCutting, IsRefined};

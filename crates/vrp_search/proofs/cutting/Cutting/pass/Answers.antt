@@ -1,7 +1,4 @@
-use Rattle.std.proofs.Common.{◌≡◌, ◌∙◌, ◌<◌, ◌-◌, ◌+◌, subst, sym, drop, length, arith}
-use Rattle.std.specs.Prelude.{nat_lt, ◌||◌}
-use Rattle.vrp_model.specs.Word.{IsFront}
-use Rattle.vrp_search.specs.Pass.{IsPass, IsStep}
+use Rattle.std.proofs.Common.{arith}
 use Rattle.vrp_search.proofs.Passes.{pass_all, pass_count, pass_none, pass_piece, piece_is_front}
 use Rattle.vrp_search.proofs.cutting.Cutting.pass.Goals as goal
 

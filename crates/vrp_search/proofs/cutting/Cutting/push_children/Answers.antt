@@ -1,5 +1,4 @@
 use Rattle.std.proofs.Common.{◌≡◌, ◌+◌, ◌∷◌, [], ◌++◌, subst, sym, arith}
-use Rattle.vrp_model.specs.Word.{IsFront}
 use Rattle.vrp_search.proofs.Added.{AddedBelow, added_all, added_below_few, added_child, added_not}
 use Rattle.vrp_search.proofs.Views.{child_inside, child_outside}
 use Rattle.vrp_search.proofs.cutting.Cutting.push_children.Goals as goal

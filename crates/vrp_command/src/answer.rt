@@ -1,0 +1,69 @@
+//! The answer to an instance: all pieces are searched, one after the other.
+ghost use Rattle.std.specs.Prelude.{◌≤◌, IfOk};
+ghost use Rattle.vrp_model.specs.Route.{IsPlanOf};
+ghost use Rattle.vrp_search.specs.Cutting.{IsCutting};
+ghost use Rattle.vrp_command.specs.Answer.{IsAnswer};
+ghost use Rattle.vrp_command.specs.Searched.{AreSearched};
+
+use crate::verdict::Verdict;
+use std::alloc::Global;
+use vrp_model::{Instance, NoMemory, Plan, plans_are_words, plans_can_rise};
+use vrp_search::{Cutting, Ended, Local, one_piece, search};
+
+/// A lawful plan, and the verdict on it.
+#[derive(Debug, Drop)]
+pub(crate) struct Answer {
+    pub(crate) plan: Plan,
+    pub(crate) verdict: Verdict,
+}
+
+/// Cuts the tree of an instance into so many pieces, and searches each with this budget. The first plan is that of one truck
+/// for each customer.
+pub(crate) fn solve(
+    alloc: Global,
+    instance: &Instance,
+    pieces: u32,
+    budget: u64,
+) -> Result<Answer, NoMemory>
+    requires pieces { pieces ≤ 65536 }
+    requires budget { 1 ≤ budget }
+    ensures { IfOk result (λ answer. IsAnswer instance.now pieces budget answer.plan answer.verdict) }
+{
+    let mut cutting = Cutting::whole(alloc, instance)?;
+    cutting.at_least(alloc, instance, pieces)?;
+    let mut board = Local::open(Plan::singles(alloc, instance)?);
+    let lower = search_all(alloc, instance, &cutting, budget, &mut board)?;
+    // What is known of words holds of plans.
+    one_piece();
+    plans_can_rise();
+    plans_are_words();
+    let plan = board.plan().copy(alloc)?;
+    let verdict = match lower {
+        None => Verdict::Proven,
+        Some(lower) => Verdict::Open(lower.min(plan.cost())),
+    };
+    Ok(Answer { plan, verdict })
+}
+
+// Searches all pieces, and answers the least that is known of the plans under those that it leaves unfinished, if any.
+fn search_all(
+    alloc: Global,
+    instance: &Instance,
+    cutting: &Cutting,
+    budget: u64,
+    board: &mut Local,
+) -> Result<Option<u64>, NoMemory>
+    requires cutting { IsCutting instance.now cutting.now }
+    requires board { IsPlanOf instance.now board.old }
+    requires budget { 1 ≤ budget }
+    ensures plan { IsPlanOf instance.now board.new }
+    ensures searched { IfOk result (AreSearched instance.now cutting.now budget board.new.cost cutting.now) }
+{
+    let mut lower: Option<u64> = None;
+    for piece in cutting.pieces() {
+        if let Ended::Unfinished { low, .. } = search(alloc, instance, piece, budget, board)? {
+            lower = Some(lower.unwrap_or(low).min(low));
+        }
+    }
+    Ok(lower)
+}
