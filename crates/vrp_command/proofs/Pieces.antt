@@ -46,7 +46,7 @@ piece_finished p cutting budget cost falls_to searched front lower so_far falls 
   large = so_far.large;
   bounds = so_far.bounds;
   others = All-append (λ f. Contains so_far.unfinished f ⊎ NoneCheaperUnder p f falls_to) searched (front ∷ []) (others_lower p so_far.unfinished searched cost falls_to falls so_far.others)
-  (All-cons (λ f. Contains so_far.unfinished f ⊎ NoneCheaperUnder p f falls_to) front [] (inr none) (All-nil (λ f. Contains so_far.unfinished f ⊎ NoneCheaperUnder p f falls_to)));
+      (All-cons (λ f. Contains so_far.unfinished f ⊎ NoneCheaperUnder p f falls_to) front [] (inr none) (All-nil (λ f. Contains so_far.unfinished f ⊎ NoneCheaperUnder p f falls_to)));
   least = so_far.least;
 }
 
@@ -81,8 +81,8 @@ piece_left p cutting budget cost falls_to spent low searched front lower so_far 
       large = All-cons (λ f. TreeHasAtLeast p f (budget + 1)) front so_far.unfinished left.tree so_far.large;
       bounds = All-cons (λ f. NoneCheaperUnder p f (word_cost p f)) front so_far.unfinished (subst (NoneCheaperUnder p front) left.paid left.none_cheaper) so_far.bounds;
       others = All-append (λ f. Contains unfinished f ⊎ NoneCheaperUnder p f falls_to) searched (front ∷ [])
-      (others_more p front so_far.unfinished searched falls_to (others_lower p so_far.unfinished searched cost falls_to falls so_far.others))
-      (All-cons (λ f. Contains unfinished f ⊎ NoneCheaperUnder p f falls_to) front [] (inl here) (All-nil (λ f. Contains unfinished f ⊎ NoneCheaperUnder p f falls_to)));
+          (others_more p front so_far.unfinished searched falls_to (others_lower p so_far.unfinished searched cost falls_to falls so_far.others))
+          (All-cons (λ f. Contains unfinished f ⊎ NoneCheaperUnder p f falls_to) front [] (inl here) (All-nil (λ f. Contains unfinished f ⊎ NoneCheaperUnder p f falls_to)));
       least = subst (λ n. IsLeast (Some (with_one lower low)) (n ∷ map (word_cost p) so_far.unfinished)) left.paid least;
     }
 

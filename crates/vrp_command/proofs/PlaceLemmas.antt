@@ -30,4 +30,4 @@ customer_below p k (i, lt, is) = subst (λ n. n < place_count p) is (customer_wi
 pub stops_within : (p : Problem) (routes : List (List ℕ)) → IsLawful p routes → All (All (λ place. place < place_count p)) routes
 stops_within p routes lawful =
     route_by_route (λ place. place < place_count p) routes (λ k d lt.
-        customer_below p (get_or (concat routes) k d) (Contains-permutation (concat routes) (customers p) (get_or (concat routes) k d) lawful.served (Contains-get_or (concat routes) k d lt)))
+    customer_below p (get_or (concat routes) k d) (Contains-permutation (concat routes) (customers p) (get_or (concat routes) k d) lawful.served (Contains-get_or (concat routes) k d lt)))

@@ -103,7 +103,7 @@ fn little_at_a_time(rt: HostRuntime) {
         let mut input = small_in_parts(most, 0, ErrorKind::Other);
         let mut output = room_for(rt.alloc(), most, usize::MAX);
         let outcome = run(rt.alloc(), Options::default(), &mut input, &mut output);
-        assert_eq!(rt; outcome, Ok(Status::Open));
+        assert_eq!(rt; outcome, Ok(Status::Proven));
         assert_eq!(rt; output.taken.as_slice(), REPORT.as_bytes());
         assert_eq!(rt; output.flushes, 1);
     }

@@ -21,22 +21,26 @@ fn long_file(alloc: Global, length: usize) -> Result<Vec<u8>, Fail> {
 fn reports(rt: HostRuntime) -> Result<(), Fail> {
     for (old, new, report) in [
         ("EOF", "EOF", REPORT),
-        ("CAPACITY : 2", "CAPACITY : 1", REPORT),
-        (SMALL, MIDDLE, "Route #1: 1\nRoute #2: 3\nCost 20\nOpen 0\n"),
+        (
+            "CAPACITY : 2",
+            "CAPACITY : 1",
+            "Route #1: 2\nRoute #2: 3\nCost 30\nProven\n",
+        ),
+        (SMALL, MIDDLE, "Route #1: 1\nRoute #2: 3\nCost 20\nProven\n"),
         (
             SMALL,
             "TYPE : CVRP\nDIMENSION : 1\nEDGE_WEIGHT_TYPE : EUC_2D\nCAPACITY : 2\nNODE_COORD_SECTION\n1 0 0\nDEMAND_SECTION\n1 0\nDEPOT_SECTION\n1\n-1\nEOF\n",
-            "Cost 0\nOpen 0\n",
+            "Cost 0\nProven\n",
         ),
         (
             SMALL,
             "TYPE : CVRP\nDIMENSION : 2\nEDGE_WEIGHT_TYPE : EUC_2D\nCAPACITY : 2\nNODE_COORD_SECTION\n1 -100000000 -100000000\n2 100000000 100000000\nDEMAND_SECTION\n1 0\n2 1\nDEPOT_SECTION\n1\n-1\nEOF\n",
-            "Route #1: 2\nCost 565685424\nOpen 0\n",
+            "Route #1: 2\nCost 565685424\nProven\n",
         ),
     ] {
         let text = SMALL.replacen(rt.alloc(), old, new, 1)?;
         let (outcome, written) = run_on(rt.alloc(), text.as_bytes());
-        assert_eq!(rt; outcome, Ok(Status::Open), "at {new}");
+        assert_eq!(rt; outcome, Ok(Status::Proven), "at {new}");
         assert_eq!(rt; written.as_slice(), report.as_bytes(), "at {new}");
     }
     Ok(())
@@ -99,12 +103,12 @@ fn chosen_depots(rt: HostRuntime) -> Result<(), Fail> {
         .replacen(rt.alloc(), "\n2 1\n", "\n2 0\n", 1)?
         .replacen(rt.alloc(), "SECTION\n1\n-1", "SECTION\n1 2\n-1", 1)?;
     for (depot, report) in [
-        (None, "Route #1: 3\nCost 20\nOpen 0\n"),
-        (Some(1), "Route #1: 3\nCost 20\nOpen 0\n"),
-        (Some(2), "Route #1: 3\nCost 10\nOpen 0\n"),
+        (None, "Route #1: 3\nCost 20\nProven\n"),
+        (Some(1), "Route #1: 3\nCost 20\nProven\n"),
+        (Some(2), "Route #1: 3\nCost 10\nProven\n"),
     ] {
         let (outcome, written) = run_with(rt.alloc(), text.as_bytes(), depot);
-        assert_eq!(rt; outcome, Ok(Status::Open));
+        assert_eq!(rt; outcome, Ok(Status::Proven));
         assert_eq!(rt; written.as_slice(), report.as_bytes());
     }
     Ok(())
@@ -113,7 +117,7 @@ fn chosen_depots(rt: HostRuntime) -> Result<(), Fail> {
 #[test]
 fn longest_file(rt: HostRuntime) -> Result<(), Fail> {
     for (length, answer, report) in [
-        (16_777_216, Ok(Status::Open), REPORT),
+        (16_777_216, Ok(Status::Proven), REPORT),
         (16_777_217, Err(RunError::Text(TextError::TooLong)), ""),
     ] {
         let bytes = long_file(rt.alloc(), length)?;

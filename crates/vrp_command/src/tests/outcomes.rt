@@ -110,13 +110,13 @@ fn refusal_lines(rt: HostRuntime) -> Result<(), Fail> {
 // Says something where a growth is refused: run it by `rt try --test --fail-alloc N`, N from 1 on.
 #[test]
 fn refused_growth(rt: HostRuntime) {
-    let mut written = [0u8; 39];
+    let mut written = [0u8; 29];
     let mut input = SMALL.as_bytes();
     let mut output = written.as_mut_slice();
     match run(rt.alloc(), Options::default(), &mut input, &mut output) {
-        Err(RunError::OutOfMemory) => assert_eq!(rt; written, [0u8; 39]),
+        Err(RunError::OutOfMemory) => assert_eq!(rt; written, [0u8; 29]),
         outcome => {
-            assert_eq!(rt; outcome, Ok(Status::Open));
+            assert_eq!(rt; outcome, Ok(Status::Proven));
             assert_eq!(rt; written.as_slice(), REPORT.as_bytes());
         }
     }
