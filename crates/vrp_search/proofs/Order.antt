@@ -87,10 +87,10 @@ one_longer_between k j word front from until same between = record { under = one
 pub sibling_or_behind : (front : List ℕ) (from until : ℕ) (word : List ℕ) → IsFrom (front ++ from ∷ []) word → IsUnderBetween word front from until ⊎ IsFrom (front ++ until ∷ []) word
 sibling_or_behind [] from until [] is = absurd is
 sibling_or_behind [] from until (j ∷ word) is =
-    let within : from ≤ j = elim is [ | inl above ↦ omega (arith, above) | inr here ↦ omega (arith, here.0) ] in
+    let within : from ≤ j = elim is [ inl above ↦ omega (arith, above) | inr here ↦ omega (arith, here.0) ] in
     elim (cases_lt j until) [
       | inl before ↦ inl (first_between from until j word within before)
-      | inr behind ↦ elim (cases_lt until j) [ | inl above ↦ inr (inl above) | inr same ↦ inr (inr (omega (arith, same, behind), tt)) ]
+      | inr behind ↦ elim (cases_lt until j) [ inl above ↦ inr (inl above) | inr same ↦ inr (inr (omega (arith, same, behind), tt)) ]
     ]
 sibling_or_behind (k ∷ front) from until [] is = absurd is
 sibling_or_behind (k ∷ front) from until (j ∷ word) (inl above) = inr (inl above)
@@ -103,10 +103,10 @@ sibling_or_behind (k ∷ front) from until (j ∷ word) (inr here) = elim (sibli
 pub child_or_behind : (front : List ℕ) (last from : ℕ) (word : List ℕ) → IsFrom ((front ++ last ∷ []) ++ from ∷ []) word
     → IsUnderChild word (front ++ last ∷ []) from ⊎ IsFrom (front ++ (last + 1) ∷ []) word
 child_or_behind [] last from [] is = absurd is
-child_or_behind [] last from (j ∷ word) (inl above) = elim (cases_lt (last + 1) j) [ | inl more ↦ inr (inl more) | inr same ↦ inr (inr (omega (arith, same, above), tt)) ]
+child_or_behind [] last from (j ∷ word) (inl above) = elim (cases_lt (last + 1) j) [ inl more ↦ inr (inl more) | inr same ↦ inr (inr (omega (arith, same, above), tt)) ]
 child_or_behind [] last from (j ∷ []) (inr here) = absurd here.1
 child_or_behind [] last from (j ∷ i ∷ word) (inr here) =
-    let within : from ≤ i = elim here.1 [ | inl above ↦ omega (arith, above) | inr same ↦ omega (arith, same.0) ] in
+    let within : from ≤ i = elim here.1 [ inl above ↦ omega (arith, above) | inr same ↦ omega (arith, same.0) ] in
     inl (one_longer last j (i ∷ word) [] from here.0 (record { symbol = i; within = within; begins = (word, refl) }))
 child_or_behind (k ∷ front) last from [] is = absurd is
 child_or_behind (k ∷ front) last from (j ∷ word) (inl above) = inr (inl above)
@@ -119,7 +119,7 @@ child_or_behind (k ∷ front) last from (j ∷ word) (inr here) = elim (child_or
 pub child_of_front : (front rest : List ℕ) (from : ℕ) → IsFrom (front ++ from ∷ []) (front ++ rest) → IsUnderChild (front ++ rest) front from
 child_of_front [] [] from is = absurd is
 child_of_front [] (j ∷ rest) from is =
-    let within : from ≤ j = elim is [ | inl above ↦ omega (arith, above) | inr same ↦ omega (arith, same.0) ] in
+    let within : from ≤ j = elim is [ inl above ↦ omega (arith, above) | inr same ↦ omega (arith, same.0) ] in
     record { symbol = j; within = within; begins = (rest, refl) }
 child_of_front (k ∷ front) rest from (inl above) = absurd (omega (arith, above))
 child_of_front (k ∷ front) rest from (inr here) = one_longer k k (front ++ rest) front from refl (child_of_front front rest from here.1)

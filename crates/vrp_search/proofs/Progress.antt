@@ -43,9 +43,9 @@ seen_more p root candidate later count front begins behind moves seen =
     record {
       fronts = seen.fronts ++ candidate ∷ [];
       distinct = all_pairs_push (λ a b. a ≢ b) seen.fronts candidate seen.distinct
-      (λ k d lt same. (seen.each k d lt).2 (subst (IsFrom candidate) (sym same) (from_itself candidate)));
+          (λ k d lt same. (seen.each k d lt).2 (subst (IsFrom candidate) (sym same) (from_itself candidate)));
       each = All-append (λ w. IsFront p w × BeginsWith w root × (IsFrom later w → ⊥)) seen.fronts (candidate ∷ []) old.each
-      (All-cons (λ w. IsFront p w × BeginsWith w root × (IsFrom later w → ⊥)) candidate [] (front, begins, behind) (All-nil (λ w. IsFront p w × BeginsWith w root × (IsFrom later w → ⊥))));
+          (All-cons (λ w. IsFront p w × BeginsWith w root × (IsFrom later w → ⊥)) candidate [] (front, begins, behind) (All-nil (λ w. IsFront p w × BeginsWith w root × (IsFrom later w → ⊥))));
       many = omega (arith, seen.many, length-append seen.fronts (candidate ∷ []));
     }
 
@@ -100,12 +100,12 @@ pruned p root word next k spent floor lower progress child falls costly =
     record {
       under = progress.under;
       seen = seen_more p root (word ++ k ∷ []) (word ++ (k + 1) ∷ []) spent child.child (begins_more word root k progress.under)
-      (λ from. not_behind word k from)
-      (λ w from. from_sibling word k (k + 1) w (omega arith) from) at_child;
+          (λ from. not_behind word k from)
+          (λ w from. from_sibling word k (k + 1) w (omega arith) from) at_child;
       others = λ w lawful begins. elim (progress.others w lawful begins) [
         | inl from ↦ elim (sibling_or_behind word k (k + 1) w (from_child p word next k child w lawful from)) [
           | inl between ↦ inr (let same : between.under.symbol ≡ k = omega (arith, between.under.within, between.before) in
-          omega (arith, costly, cost_under p (word ++ k ∷ []) w (subst (λ j. BeginsWith w (word ++ j ∷ [])) same between.under.begins)))
+              omega (arith, costly, cost_under p (word ++ k ∷ []) w (subst (λ j. BeginsWith w (word ++ j ∷ [])) same between.under.begins)))
           | inr behind ↦ inl behind
         ]
         | inr done ↦ inr (omega (arith, done, falls))
@@ -128,8 +128,8 @@ descended p root word next k spent floor lower progress child falls kept =
     record {
       under = under;
       seen = seen_more p root (word ++ k ∷ []) ((word ++ k ∷ []) ++ 0 ∷ []) spent child.child under
-      (not_from_longer (word ++ k ∷ []) [] 0)
-      (λ w from. from_shorter (word ++ k ∷ []) (0 ∷ []) w from) at_child;
+          (not_from_longer (word ++ k ∷ []) [] 0)
+          (λ w from. from_shorter (word ++ k ∷ []) (0 ∷ []) w from) at_child;
       others = λ w lawful begins. elim (progress.others w lawful begins) [
         | inl from ↦ elim (front_or_behind (word ++ k ∷ []) w (from_child p word next k child w lawful from)) [
           | inl same ↦ inr (let cost : word_cost p w ≡ word_cost p (word ++ k ∷ []) = ap (word_cost p) same in omega (arith, kept (subst (IsLawfulWord p) same lawful), cost))

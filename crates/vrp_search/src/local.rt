@@ -68,3 +68,37 @@ impl Board for Local {
         Ok(())
     }
 }
+
+#[cfg(test)]
+mod tests {
+    use super::*;
+    use std::process::Abort;
+    use std::test::Fail;
+    use vrp_model::{Instance, Metric, Weights};
+
+    #[test]
+    fn keeps_its_plan(rt: HostRuntime) -> Result<(), Fail> {
+        let points = [(0, 0), (3, 4), (6, 8)];
+        let weights = Weights::points(rt.alloc(), Metric::Euc2d, &points)?;
+        let instance = Instance::new(rt.alloc(), weights, &[0, 1, 1], 2, &[1], None)?;
+        let singles = Plan::singles(rt.alloc(), &instance)?;
+        check_offer(&rt, rt.alloc(), &instance, &singles)
+    }
+
+    // Opened with the singles plan and offered it again.
+    fn check_offer(
+        rt: &impl Abort,
+        alloc: Global,
+        instance: &Instance,
+        singles: &Plan,
+    ) -> Result<(), Fail>
+        requires { IsPlanOf instance.now singles.now }
+    {
+        let mut board = Local::open(singles.copy(alloc)?);
+        assert_eq!(rt; board.least(), 30);
+        board.offer(alloc, singles)?;
+        assert_eq!(rt; board.least(), 30);
+        assert_eq!(rt; board.plan().routes(), 2);
+        Ok(())
+    }
+}

@@ -44,32 +44,30 @@ fn proven_costs(rt: HostRuntime) -> Result<(), Fail> {
     Ok(())
 }
 
-// A budget of one partial plan for each piece.
+// The whole tree of the small file has eleven partial plans.
 #[test]
 fn small_budgets(rt: HostRuntime) {
-    for (pieces, status, end) in [
-        (
-            1,
-            Status::Open,
-            "Route #1: 2\nRoute #2: 3\nCost 30\nOpen 0\n",
-        ),
+    for (pieces, budget, status, end) in [
+        (1, 1, Status::Open, "Cost 30\nOpen 0\n"),
+        (1, 2, Status::Open, "Cost 30\nOpen 0\n"),
+        (1, 11, Status::Proven, "Cost 20\nProven\n"),
         // the pieces are the first customers, 5 and 10 away
-        (
-            2,
-            Status::Open,
-            "Route #1: 2\nRoute #2: 3\nCost 30\nOpen 5\n",
-        ),
-        (65_536, Status::Proven, "Cost 20\nProven\n"),
+        (2, 1, Status::Open, "Cost 30\nOpen 5\n"),
+        (65_536, 1, Status::Proven, "Cost 20\nProven\n"),
     ] {
         assert!(rt; 1 <= pieces && pieces <= 65_536);
+        assert!(rt; 1 <= budget && budget <= 1_000_000_000_000);
         let options = Options {
             pieces,
-            budget: 1,
+            budget,
             ..Options::default()
         };
         let (outcome, written) = run_as(rt.alloc(), SMALL.as_bytes(), options);
-        assert_eq!(rt; outcome, Ok(status), "{pieces} pieces");
-        assert!(rt; written.ends_with(end.as_bytes()), "{pieces} pieces");
+        assert_eq!(rt; outcome, Ok(status), "{pieces} pieces, budget {budget}");
+        assert!(rt;
+            written.ends_with(end.as_bytes()),
+            "{pieces} pieces, budget {budget}"
+        );
     }
 }
 

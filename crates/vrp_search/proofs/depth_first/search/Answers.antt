@@ -26,7 +26,7 @@ loop-partial-init g c =
     let problem : c.in_ok-partial.partial.problem ≡ p = ap (λ (v : PartialPlan). v.problem) c.in_ok-partial.ensures in
     let word : c.in_ok-partial.partial.word ≡ root = ap (λ (v : PartialPlan). v.word) c.in_ok-partial.ensures ∙ c.word-front.ensures in
     let kept : IsLawfulWord p root → floor ≤ word_cost p root =
-      subst (λ (w : List ℕ). IsLawfulWord p w → floor ≤ word_cost p w) word
+    subst (λ (w : List ℕ). IsLawfulWord p w → floor ≤ word_cost p w) word
     (subst (λ (q : Problem). IsLawfulWord q c.in_ok-partial.partial.word → floor ≤ word_cost q c.in_ok-partial.partial.word) problem c.in_ok-offer_complete.ensures.offered) in
     record {
       problem = problem;
@@ -65,7 +65,7 @@ loop-partial-preserved-then-child_cost-least g c =
     let longer : c.push.new.self.word ≡ word ++ k ∷ [] = ap (λ (v : PartialPlan). v.word) c.push.ensures in
     let falls : floor ≤ old = omega (arith, c.offer_complete-then-child_cost-least.ensures.falls, c.least-in-Some-2.ensures.falls) in
     let kept : IsLawfulWord p (word ++ k ∷ []) → floor ≤ word_cost p (word ++ k ∷ []) =
-      subst (λ (w : List ℕ). IsLawfulWord p w → floor ≤ word_cost p w) longer
+    subst (λ (w : List ℕ). IsLawfulWord p w → floor ≤ word_cost p w) longer
     (subst (λ (q : Problem). IsLawfulWord q c.push.new.self.word → floor ≤ word_cost q c.push.new.self.word) problem c.in_ok-offer_complete-in-Some-2.ensures.offered) in
     record {
       problem = problem;
@@ -124,8 +124,8 @@ loop-partial-preserved g c =
     record {
       problem = c.pop-next.ensures.problem ∙ c.loop-partial.invariant.problem;
       progress = returned p root c.pop-next.new.self.word c.pop-next.result c.loop-partial.next c.loop-partial.spent floor
-      (subst (λ (w : List ℕ). Progress p root w c.loop-partial.next c.loop-partial.spent floor) word c.loop-partial.invariant.progress)
-      (subst (λ (w : List ℕ). NoChildFrom p w c.loop-partial.next) word none) longer;
+          (subst (λ (w : List ℕ). Progress p root w c.loop-partial.next c.loop-partial.spent floor) word c.loop-partial.invariant.progress)
+          (subst (λ (w : List ℕ). NoChildFrom p w c.loop-partial.next) word none) longer;
       serves = c.loop-partial.invariant.serves;
       falls = c.loop-partial.invariant.falls;
       some = c.loop-partial.invariant.some;
