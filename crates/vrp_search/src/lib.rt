@@ -8,6 +8,8 @@ mod law;
 mod local;
 mod partial;
 mod piece;
+#[cfg(test)]
+mod slow;
 
 pub use board::Board;
 pub use cutting::Cutting;

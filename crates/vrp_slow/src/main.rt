@@ -1,12 +1,13 @@
 //! A plain slow evaluator: what the definitions say, computed the long way round from the text of a file, beside what
-//! the command prints for it. It prints one line for each file that its command line names. It has no clauses: the
-//! definitions are compared with it, so it does not lean on them.
+//! the command prints for it: at a glance, and where there are few customers also given time. It prints one line for each
+//! file that its command line names. It has no clauses: the definitions are compared with it, so it does not lean on them.
 #![tactic(auto)]
 
 mod distance;
 mod fault;
 mod keyword;
 mod layout;
+mod least;
 mod lines;
 mod number;
 mod plan;
@@ -21,11 +22,18 @@ use fault::Fault;
 use problem::Problem;
 use std::alloc::Global;
 use std::rt::Files;
-use std::{env, fs};
+use std::{env, fs, str};
 use vrp_command::{Options, RunError, Status, exit_status, fault_line, run};
 
 // The exit status of a refused file.
 const REFUSED: u8 = 3;
+
+// What the command answers to a file.
+#[derive(Debug, Drop)]
+struct Answer {
+    outcome: Result<Status, RunError>,
+    printed: Vec<u8>,
+}
 
 fn main(rt: HostRuntime) -> Result<()> {
     for name in env::args(&rt)?.skip(1) {
@@ -39,45 +47,85 @@ fn main(rt: HostRuntime) -> Result<()> {
 fn compare<R: Files + AllocGlobal>(rt: &R, name: &str) -> Result<String> {
     let alloc = rt.alloc();
     let text = fs::read_to_string(rt, name)?;
-    let mut printed = Vec::new(alloc);
-    let mut input = text.as_bytes();
-    let outcome = run(alloc, Options::default(), &mut input, &mut printed);
     match reading::read(alloc, text.as_str()) {
-        Ok(problem) => evaluated(alloc, &problem, outcome, &printed),
-        Err(fault) => refused(alloc, fault, outcome, &printed),
+        Ok(problem) => evaluated(alloc, &problem, text.as_str()),
+        Err(fault) => refused(alloc, fault, text.as_str()),
     }
 }
 
 // What there is to say of a file that states a problem.
-fn evaluated(
-    alloc: Global,
-    problem: &Problem,
-    outcome: Result<Status, RunError>,
-    printed: &[u8],
-) -> Result<String> {
+fn evaluated(alloc: Global, problem: &Problem, text: &str) -> Result<String> {
     let routes = plan::singles(alloc, problem)?;
     let cost = plan::cost(problem, &routes);
-    let lawful = word(plan::is_lawful(problem, &routes), "lawful", "not lawful");
-    let wanted = report::text(alloc, &routes, cost)?;
-    let same = agreement(outcome == Ok(Status::Open) && printed == wanted.as_bytes());
     let count = routes.len();
-    Ok(format!(in alloc; "{count} routes, cost {cost}, {lawful}; {same}")?)
+    let lawful = word(plan::is_lawful(problem, &routes), "lawful", "not lawful");
+    // The one plan that is looked at in a glance is proven only where no plan can cost less.
+    let (verdict, status) = if cost == 0 {
+        ("Proven", Status::Proven)
+    } else {
+        ("Open 0", Status::Open)
+    };
+    let wanted = report::text(alloc, &routes, cost, verdict)?;
+    let is_same = glance(alloc, text).is(status, wanted.as_str());
+    let finding = format!(in alloc; "{count} routes, cost {cost}, {lawful}")?;
+    match least::least(alloc, problem)? {
+        None => {
+            let same = agreement(is_same);
+            Ok(format!(in alloc; "{finding}; {same}")?)
+        }
+        Some(least) => {
+            let same = agreement(is_same && is_solved(alloc, problem, text, least)?);
+            Ok(format!(in alloc; "{finding}; least {least}; {same}")?)
+        }
+    }
+}
+
+// Whether the command, given time, prints a lawful plan of the least cost, and says that it is proven.
+fn is_solved(alloc: Global, problem: &Problem, text: &str, least: u64) -> Result<bool> {
+    let mut printed = Vec::new(alloc);
+    let outcome = run(
+        alloc,
+        Options::default(),
+        &mut text.as_bytes(),
+        &mut printed,
+    );
+    let routes = report::routes(alloc, str::from_utf8(&printed)?)?;
+    let answer = Answer { outcome, printed };
+    let is_cheapest = plan::is_lawful(problem, &routes) && plan::cost(problem, &routes) == least;
+    let wanted = report::text(alloc, &routes, least, "Proven")?;
+    Ok(is_cheapest && answer.is(Status::Proven, wanted.as_str()))
 }
 
 // What there is to say of a file that is refused.
-fn refused(
-    alloc: Global,
-    fault: Fault,
-    outcome: Result<Status, RunError>,
-    printed: &[u8],
-) -> Result<String> {
+fn refused(alloc: Global, fault: Fault, text: &str) -> Result<String> {
     let wanted = fault.to_string(alloc)?;
-    let is_same = match &outcome {
+    let answer = glance(alloc, text);
+    let is_same = match &answer.outcome {
         Ok(_) => false,
         Err(refusal) => fault_line(alloc, refusal)?.as_str() == wanted.as_str(),
     };
-    let same = agreement(is_same && exit_status(&outcome) == REFUSED && printed.is_empty());
+    let is_refused = exit_status(&answer.outcome) == REFUSED && answer.printed.is_empty();
+    let same = agreement(is_same && is_refused);
     Ok(format!(in alloc; "{wanted}; {same}")?)
+}
+
+// The command's answer where it may look at the empty partial plan alone: it keeps the plan that it starts with.
+fn glance(alloc: Global, text: &str) -> Answer {
+    let options = Options {
+        pieces: 1,
+        budget: 1,
+        ..Options::default()
+    };
+    let mut printed = Vec::new(alloc);
+    let outcome = run(alloc, options, &mut text.as_bytes(), &mut printed);
+    Answer { outcome, printed }
+}
+
+impl Answer {
+    // Whether it is a report with this status and this text.
+    fn is(&self, status: Status, text: &str) -> bool {
+        self.outcome == Ok(status) && self.printed.as_slice() == text.as_bytes()
+    }
 }
 
 fn agreement(is_same: bool) -> &'static str {

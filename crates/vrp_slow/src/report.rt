@@ -1,9 +1,16 @@
-//! The report of a plan of which nothing is proven.
+//! Reports: their text, and the routes that one lists.
 
+use crate::lines::tokens;
+use crate::number::whole;
 use std::alloc::{AllocError, Global};
 
-/// A line for each route, the cost, and that the plan is open from 0 on.
-pub(crate) fn text(alloc: Global, routes: &[Vec<i64>], cost: u64) -> Result<String, AllocError> {
+/// A line for each route, the cost, and the verdict.
+pub(crate) fn text(
+    alloc: Global,
+    routes: &[Vec<i64>],
+    cost: u64,
+    verdict: &str,
+) -> Result<String, AllocError> {
     let mut text = String::new(alloc);
     for (index, route) in routes.iter().enumerate() {
         let number = index.saturating_add(1);
@@ -13,6 +20,28 @@ pub(crate) fn text(alloc: Global, routes: &[Vec<i64>], cost: u64) -> Result<Stri
         }
         writeln!(text)?;
     }
-    writeln!(text, "Cost {cost}\nOpen 0")?;
+    writeln!(text, "Cost {cost}\n{verdict}")?;
     Ok(text)
+}
+
+/// The stops of each route that a report lists.
+pub(crate) fn routes(alloc: Global, text: &str) -> Result<Vec<Vec<i64>>, AllocError> {
+    let mut routes = Vec::new(alloc);
+    for line in text.lines() {
+        if let Some((head, stops)) = line.split_once(':') {
+            if head.starts_with("Route #") {
+                routes.push(numbers(alloc, stops)?)?;
+            }
+        }
+    }
+    Ok(routes)
+}
+
+// The numbers in a text; a token that is none counts as 0, which is no node.
+fn numbers(alloc: Global, text: &str) -> Result<Vec<i64>, AllocError> {
+    let mut numbers = Vec::new(alloc);
+    for token in tokens(alloc, text)? {
+        numbers.push(whole(token, i64::MIN, i64::MAX).unwrap_or(0))?;
+    }
+    Ok(numbers)
 }

@@ -1,0 +1,44 @@
+#!/usr/bin/env bash
+# Times the proved search (crates/bench_search) beside a plain kernel in Rust (bench/kernel.rs), with the same budget.
+# Prints for each file how many million partial plans each looks at in a second, and the ratio. What is compared is the rate of
+# looking alone: the kernel also prunes by bounds, so the two look at different partial plans and may find different costs.
+# Needs the Rattle kit's command rt, rustc and awk.
+set -eu
+top=$(cd "$(dirname "$0")/.." && pwd)
+cases=$top/crates/cases/data
+program=$top/crates/bench_search/out/bench_search
+budget=${1:-20000000}
+room=$(mktemp -d)
+trap 'rm -rf "$room"' EXIT
+
+rustc -O -o "$room/kernel" "$top/bench/kernel.rs"
+
+# rt runs what it has built, here with no file, and ends with that run's status: the program's file tells whether it was built.
+rm -f "$program"
+(cd "$top/crates/bench_search" && rt run) < /dev/null > "$room/log" 2>&1 || true
+if [ ! -x "$program" ]; then
+    cat "$room/log" >&2
+    exit 1
+fi
+
+# The best of three runs, in millions a second.
+best() {
+    for _ in 1 2 3; do
+        "$@"
+    done | sort -g | tail -n 1
+}
+
+proved_rate() {
+    "$program" "$1" "$budget" 2>&1 > /dev/null | sed 's/.*, \([0-9.]*\) million each second/\1/'
+}
+
+kernel_rate() {
+    "$room/kernel" "$budget" < "$1" | sed 's/.* million\/s \([0-9.]*\) .*/\1/'
+}
+
+for name in P-n16-k8 E-n22-k4 20-euc12-tight; do
+    ours=$(best proved_rate "$cases/$name.vrp")
+    theirs=$(best kernel_rate "$cases/$name.vrp")
+    ratio=$(awk -v a="$ours" -v b="$theirs" 'BEGIN { printf "%.2f", a / b }')
+    echo "$name: proved $ours, kernel $theirs million each second; ratio $ratio"
+done

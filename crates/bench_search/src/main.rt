@@ -1,0 +1,45 @@
+//! How fast the search looks: it searches the tree of the instance in a CVRP file, as one piece, till its budget is spent.
+//! Both are named on the command line. What it found goes to standard output, and how long it took to standard error.
+#![tactic(auto)]
+
+use anyhow::{Context, Result, ensure};
+use std::time::{Duration, Instant};
+use std::{env, fs};
+use vrp_model::Plan;
+use vrp_search::{Cutting, Ended, Local, search};
+
+fn main(rt: HostRuntime) -> Result<()> {
+    let mut words = env::args(&rt)?.skip(1);
+    let name = words.next().context("no file is named")?;
+    let budget = words.next().context("no budget is named")?.parse::<u64>()?;
+    ensure!(budget >= 1, "the budget is 0");
+    let bytes = fs::read(&rt, name.as_str())?;
+    let instance = vrp_text::read(rt.alloc(), &bytes, None)?;
+    let cutting = Cutting::whole(rt.alloc(), &instance)?;
+    let mut board = Local::open(Plan::singles(rt.alloc(), &instance)?);
+    let piece = &cutting.pieces()[0];
+    let start = Instant::now(&rt)?;
+    let ended = search(rt.alloc(), &instance, piece, budget, &mut board)?;
+    let time = start.elapsed(&rt)?;
+    let looked = looked_at(ended);
+    let cost = board.plan().cost();
+    println!(&rt; "{name}: {looked} partial plans looked at, cost {cost}")?;
+    print_rate(&rt, looked, time)
+}
+
+fn looked_at(ended: Ended) -> u64 {
+    match ended {
+        Ended::Finished { spent } => spent,
+        Ended::Unfinished { spent, .. } => spent,
+    }
+}
+
+// Prints the time, and the rate in millions a second, to its first place behind the point.
+fn print_rate(rt: &impl Eprint, looked: u64, time: Duration) -> Result<()> {
+    let microseconds = u64::try_from(time.as_micros()).unwrap_or(u64::MAX).max(1);
+    let tenths = looked.saturating_mul(10) / microseconds;
+    let (seconds, thousandths) = (microseconds / 1_000_000, microseconds / 1_000 % 1_000);
+    let (millions, tenth) = (tenths / 10, tenths % 10);
+    eprintln!(rt; "{seconds}.{thousandths:03} seconds, {millions}.{tenth} million each second")?;
+    Ok(())
+}
