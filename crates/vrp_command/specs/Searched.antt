@@ -1,5 +1,5 @@
 -- What is known of the pieces that were searched.
-use Rattle.std.specs.Prelude.{◌≡◌, ◌⊎◌, ℕ, ◌+◌, ◌≤◌, ◌<◌, Option, Some, None, min, List, [], ◌∷◌, length, map}
+use Rattle.std.specs.Prelude.{◌≡◌, ◌⊎◌, ℕ, ◌+◌, ◌<◌, Option, Some, None, min, List, [], ◌∷◌, length, map}
 use Rattle.std.specs.List.{All, Contains}
 use Rattle.vrp_model.specs.Problem.{Problem}
 use Rattle.vrp_model.specs.Word.{NoneCheaperUnder, TreeHasAtLeast, word_cost}

@@ -1,5 +1,5 @@
 -- How far the search of a piece has come: the fronts that it has looked at, and the words that it still has to come by.
-use Rattle.std.proofs.Common.{◌≡◌, ◌≢◌, ℕ, ◌+◌, ◌≤◌, ◌<◌, ◌⊎◌, inl, inr, List, [], ◌∷◌, ◌++◌, length, length-append, get_or, refl, sym, ap, subst, ◌∙◌, append_assoc, append-nil, arith}
+use Rattle.std.proofs.Common.{◌≡◌, ◌≢◌, ℕ, ◌+◌, ◌≤◌, ◌⊎◌, inl, inr, List, [], ◌∷◌, ◌++◌, length, length-append, get_or, refl, sym, ap, subst, ◌∙◌, append_assoc, append-nil, arith}
 use Rattle.std.specs.List.{All, AllPairs}
 use Rattle.std.proofs.lemmas.List.Elements.{All-cons, All-nil, All-append}
 use Rattle.std.proofs.lemmas.List.Quantifiers.{all_pairs_push}
@@ -8,7 +8,7 @@ use Rattle.vrp_model.specs.Word.{BeginsWith, IsFront, IsLawfulWord, NoneCheaperU
 use Rattle.vrp_model.proofs.FrontsBefore.{fronts_before}
 use Rattle.vrp_model.proofs.PlanWords.{cost_parts}
 use Rattle.vrp_search.specs.Child.{IsNextChild, NoChildFrom}
-use Rattle.vrp_search.proofs.Order.{IsFrom, IsUnderChild, child_of_front, child_or_behind, from_itself, from_next, from_shorter, from_sibling, front_or_behind, not_from_longer, sibling_or_behind}
+use Rattle.vrp_search.proofs.Order.{IsFrom, child_of_front, child_or_behind, from_itself, from_next, from_shorter, from_sibling, front_or_behind, not_from_longer, sibling_or_behind}
 
 -- so many fronts under the root, all of which come before the candidate
 pub record Seen (p : Problem) (root candidate : List ℕ) (count : ℕ) : Type 0 where

@@ -1,4 +1,4 @@
-use Rattle.std.proofs.Common.{◌≡◌, ◌∙◌, ◌+◌, ℕ, Option, None, Some, min, ap, sym, subst}
+use Rattle.std.proofs.Common.{◌≡◌, ◌∙◌, min, ap, sym, subst}
 use Rattle.vrp_model.specs.Route.{IsPlanOf, PricedPlan}
 use Rattle.vrp_command.specs.Answer.{IsLeftOpen}
 use Rattle.vrp_command.specs.Searched.{AreSearched}

@@ -1,4 +1,3 @@
-use Rattle.std.proofs.Common.{◌≡◌}
 use Rattle.std.proofs.lemmas.Result.{err_from_is_err_and}
 use Rattle.vrp_text.specs.Meaning.{MeansRefusal}
 use Rattle.vrp_command.proofs.Pieces.{answer_lawful}

@@ -1,4 +1,4 @@
-use Rattle.std.proofs.Common.{◌≡◌, ◌∙◌, ap, subst, sym, ◌+◌, [], ◌∷◌, ◌++◌, arith}
+use Rattle.std.proofs.Common.{◌≡◌, ◌∙◌, ap, subst, ◌+◌, [], ◌∷◌, ◌++◌, arith}
 use Rattle.vrp_model.specs.Problem.{weight_of}
 use Rattle.vrp_model.specs.Word.{last_symbol, word_cost}
 use Rattle.vrp_search.specs.Partial.{PartialPlan}

@@ -1,4 +1,4 @@
-use Rattle.std.proofs.Common.{◌<◌, ◌≤◌, inl, inr, [], ◌∷◌, ◌++◌, arith}
+use Rattle.std.proofs.Common.{inl, inr, arith}
 use Rattle.std.proofs.lemmas.Bool.{cases_lt}
 use Rattle.vrp_search.proofs.Tallies.{symbol_below}
 use Rattle.vrp_search.proofs.Views.{child_inside}
