@@ -1,7 +1,11 @@
 pub mod Cheapest
 pub mod Distance
+pub mod Front
 pub mod Grid
+pub mod Kept
 pub mod Layout
+pub mod LeastWay
+pub mod LeastWays
 pub mod Listing
 pub mod Marks
 pub mod Places

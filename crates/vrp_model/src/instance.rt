@@ -2,10 +2,12 @@
 ghost use Rattle.std.specs.Prelude.{◌≡◌, ℕ, ◌+◌, ◌*◌, ◌-◌, ◌≤◌, ◌<◌, Option, unwrap_or, IfOk, IfErr, OnOk, Bool, not, filter, map, List, ◌∷◌, ◌++◌, length, slice_index, true, false};
 ghost use Rattle.std.specs.List.{range_with_len, flat_map};
 ghost use Rattle.vrp_model.specs.Grid.{entry_at};
+ghost use Rattle.vrp_model.specs.LeastWay.{IsLeastHome, IsLeastIn};
 ghost use Rattle.vrp_model.specs.Problem.{place_count, node_of, demand_of, weight_of, IsProblem};
 ghost use Rattle.vrp_model.specs.Request.{is_listed, node_demand, IsAcceptable, problem_of, NoDepotHasDemand, NoneIsTooHeavy};
 
 use crate::depots::Depots;
+use crate::least::least_ways;
 use crate::places::{demands_of, places, weights_between};
 use crate::weights::Weights;
 use std::alloc::{AllocError, Global};
@@ -36,16 +38,19 @@ pub struct Instance {
     demands: Vec<u64>,
     weights: Vec<u32>,
     capacity: u64,
+    // Into each place; into the depot it is 0 where there is no customer.
+    least_in: Vec<u32>,
 }
 
 impl Model for Instance {
-    ghost use Rattle.vrp_model.specs.Problem.{Problem, IsProblem};
+    ghost use Rattle.vrp_model.specs.Problem.{Problem};
+    ghost use Rattle.vrp_model.specs.Kept.{IsKeptProblem};
 
     ghost Value = { Problem };
 
     ghost view = { λ a. record { nodes = a.nodes.items; demands = a.demands.items; weights = a.weights.items; capacity = a.capacity } };
 
-    ghost invariant = { λ a. IsProblem (record { nodes = a.nodes.items; demands = a.demands.items; weights = a.weights.items; capacity = a.capacity }) };
+    ghost invariant = { λ a. IsKeptProblem (record { nodes = a.nodes.items; demands = a.demands.items; weights = a.weights.items; capacity = a.capacity }) a.least_in.items };
 }
 
 impl Instance {
@@ -109,11 +114,13 @@ impl Instance {
         let nodes = places(alloc, weights.nodes(), depots, depot)?;
         let weights = weights_between(alloc, weights, &nodes)?;
         let demands = demands_of(alloc, &nodes, demands)?;
+        let least_in = least_ways(alloc, &weights, nodes.len())?;
         Ok(Instance {
             nodes,
             demands,
             weights,
             capacity,
+            least_in,
         })
     }
 
@@ -160,6 +167,26 @@ impl Instance {
     {
         let row = usize::from(from) * self.nodes.len();
         u64::from(self.weights[row + usize::from(to)])
+    }
+
+    /// The least weight of a way into a customer from any other place.
+    pub fn least_in(&self, customer: u16) -> u64
+        requires some { 0 < customer }
+        requires within { customer < place_count self.now }
+        ensures least { IsLeastIn self.now customer result }
+        ensures small { result ≤ 1000000000 }
+    {
+        u64::from(self.least_in[usize::from(customer)])
+    }
+
+    /// The least weight of a way home from a customer; 0 where there is none.
+    pub fn least_home(&self) -> u64
+        ensures least { IsLeastHome self.now result }
+        ensures small { result ≤ 1000000000 }
+        // What is known of every instance.
+        ensures problem { IsProblem self.now }
+    {
+        u64::from(self.least_in[0])
     }
 }
 
@@ -208,6 +235,19 @@ mod tests {
         for (from, to, weight) in [(0, 1, 5), (0, 2, 10), (1, 2, 5), (2, 1, 5), (2, 2, 0)] {
             assert_eq!(rt; instance.weight(from, to), weight, "from {from} to {to}");
         }
+        Ok(())
+    }
+
+    #[test]
+    fn least_ways(rt: HostRuntime) -> Result<(), Fail> {
+        let instance = three_nodes(&rt, rt.alloc(), case([0, 1, 1], &[1], None))?;
+        assert_eq!(rt; instance.customers(), 2);
+        for customer in 1..3 {
+            assert_eq!(rt; instance.least_in(customer), 5);
+        }
+        assert_eq!(rt; instance.least_home(), 5);
+        let alone = three_nodes(&rt, rt.alloc(), case([0, 0, 0], &[3, 1, 2], None))?;
+        assert_eq!(rt; alone.least_home(), 0);
         Ok(())
     }
 

@@ -8,6 +8,7 @@ mod fixture;
 mod instance;
 mod law;
 mod layout;
+mod least;
 mod matrix;
 mod memory;
 mod metric;

@@ -8,6 +8,5 @@ pub mod Passes
 pub mod Progress
 pub mod Refined
 pub mod Short
-pub mod Steps
 pub mod Tallies
 pub mod Views

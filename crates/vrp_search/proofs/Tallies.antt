@@ -18,21 +18,15 @@ use Rattle.vrp_model.proofs.ChildCases.{cases_of_child}
 use Rattle.vrp_model.proofs.FrontsBefore.{fronts_before}
 use Rattle.vrp_model.proofs.PlanWords.{cost_parts}
 use Rattle.vrp_model.proofs.Rearranged.{customers_distinct}
-use Rattle.vrp_search.specs.Partial.{open_load}
+use Rattle.vrp_model.specs.Front.{open_load}
 use Rattle.vrp_search.specs.Tallied.{AreBefore, AreFlags, AreTallied, IsTally, stands_in}
 use Rattle.vrp_search.specs.declared.partial.Tally.{Tally}
 use Rattle.vrp_search.proofs.Among.{all_among, length_among, sum_among}
 use Rattle.vrp_search.proofs.Short.{fronts_are_short, length_customers, served_are_few}
-use Rattle.vrp_search.proofs.Steps.{last_route_closed, last_route_with, last_symbol_with}
+use Rattle.vrp_model.proofs.Steps.{last_route_closed, last_route_with, last_symbol_with, load_at_customer, load_at_depot}
 
 pub cost_with : (p : Problem) (word : List ℕ) (k : ℕ) → word_cost p (word ++ k ∷ []) ≡ word_cost p word + weight_of p (last_symbol word) k
 cost_with p word k = let parts = cost_parts p 0 word (k ∷ []) in rw (last_is word) (omega (arith, parts))
-
-no_load : (p : Problem) (word : List ℕ) → last_symbol word ≡ 0 → open_load p word ≡ 0
-no_load p word at_depot = rw at_depot refl
-
-some_load : (p : Problem) (word : List ℕ) → 0 < last_symbol word → open_load p word ≡ load_of p (last_route word)
-some_load p word is_open = let test : (last_symbol word == 0) ≡ false = grind (arith, nat_tests) in rw test refl
 
 -- the depot
 pub tally_at_depot : (p : Problem) (word : List ℕ) (t : Tally) (cost : ℕ) → IsProblem p → IsFront p word → IsOpen word → IsTally p word t → cost ≡ t.cost + weight_of p (last_symbol word) 0
@@ -43,7 +37,7 @@ tally_at_depot p word t cost problem front is_open tally is =
     record {
       cost = omega (arith, cost_with p word 0, tally.cost, is);
       small = omega (arith, tally.small, is, weight, long);
-      load = sym (no_load p (word ++ 0 ∷ []) (last_symbol_with word 0));
+      load = sym (load_at_depot p (word ++ 0 ∷ []) (last_symbol_with word 0));
       light = omega arith;
       rest = rw (served_at_depot word) tally.rest;
       first = tally.first ∙ ap (λ (r : List ℕ). slice_index r 0) (sym (last_route_closed word front.stops is_open));
@@ -64,11 +58,11 @@ load_of_added p word k t problem front some made tally =
     elim made [
       | inl depot ↦ absurd (omega (arith, depot.0, some))
       | inr (inl inside) ↦
-          let load : t.load ≡ load_of p (last_route word) = tally.load ∙ some_load p word inside.1 in
+          let load : t.load ≡ load_of p (last_route word) = tally.load ∙ load_at_customer p word inside.1 in
           let more : load_of p (last_route (word ++ k ∷ [])) ≡ load_of p (last_route word) + demand_of p k = ap (load_of p) (with_stop.grows inside.1) ∙ load_with p (last_route word) k in
           (omega (arith, load, inside.2), omega (arith, load, more))
       | inr (inr behind) ↦
-          let load : t.load ≡ 0 = tally.load ∙ no_load p word behind.1 in
+          let load : t.load ≡ 0 = tally.load ∙ load_at_depot p word behind.1 in
           let one : load_of p (k ∷ []) ≡ demand_of p k = omega arith in
           let more : load_of p (last_route (word ++ k ∷ [])) ≡ demand_of p k = ap (load_of p) (with_stop.starts behind.1) ∙ one in
           (omega (arith, load, problem.fitting_demands k), omega (arith, load, more))
@@ -102,7 +96,7 @@ tally_at_customer p word k t new problem front some after tally cost load rest s
     record {
       cost = omega (arith, cost_with p word k, tally.cost, cost);
       small = omega (arith, tally.small, cost, weight, long);
-      load = load ∙ facts.load ∙ sym (some_load p (word ++ k ∷ []) is_open);
+      load = load ∙ facts.load ∙ sym (load_at_customer p (word ++ k ∷ []) is_open);
       light = omega (arith, load, facts.fits);
       rest = omega (arith, rest, facts.left, served, tally.rest);
       first = elim (cases_lt 0 (last_symbol word)) [
@@ -279,7 +273,7 @@ first_child p word k served before t are some below isnt_served at_depot = (
 pub next_child : (p : Problem) (word : List ℕ) (k : ℕ) (served : List Bool) (before : List Tally) (t : Tally) → AreTallied p word served before t → 0 < k → k < place_count p → slice_index_or served k false ≡ false → 0 < last_symbol word
     → (t.load + demand_of p k ≤ p.capacity) ↔ IsFront p (word ++ k ∷ [])
 next_child p word k served before t are some below isnt_served is_open =
-    let load : t.load ≡ load_of p (last_route word) = are.now.load ∙ some_load p word is_open in (
+    let load : t.load ≡ load_of p (last_route word) = are.now.load ∙ load_at_customer p word is_open in (
       λ fits. (cases_of_child p word k are.problem are.front).1 (inr (inl (unserved p word k served are.flags some below isnt_served, is_open, omega (arith, fits, load)))),
       λ after. elim ((cases_of_child p word k are.problem are.front).0 after) [
         | inl depot ↦ absurd (omega (arith, depot.0, some))

@@ -2,7 +2,7 @@
 use Rattle.std.specs.Prelude.{◌≡◌, ℕ, ◌+◌, ◌*◌, ◌≤◌, ◌<◌, ◌==◌, if◌then◌else◌, Bool, true, false, List, [], ◌∷◌, length, slice_index, slice_index_or, take}
 use Rattle.vrp_model.specs.Problem.{IsProblem, Problem, place_count}
 use Rattle.vrp_model.specs.Word.{IsFront, last_route, served_in, word_cost}
-use Rattle.vrp_search.specs.Partial.{IsRest, open_load}
+use Rattle.vrp_model.specs.Front.{IsRest, open_load}
 use Rattle.vrp_search.specs.declared.partial.Tally.{Tally}
 
 pub record IsTally (p : Problem) (word : List ℕ) (tally : Tally) : Type 0 where

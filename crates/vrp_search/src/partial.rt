@@ -3,7 +3,8 @@ ghost use Rattle.std.specs.Prelude.{◌≡◌, ◌<◌, ◌≤◌, ◌+◌, ◌*
 ghost use Rattle.vrp_model.specs.Problem.{customers, place_count};
 ghost use Rattle.vrp_model.specs.Route.{IsPlanOf, load_of};
 ghost use Rattle.vrp_model.specs.Word.{IsFront, IsLawfulWord, last_symbol, word_cost, word_of};
-ghost use Rattle.vrp_search.specs.Partial.{PartialPlan, open_load, IsRest};
+ghost use Rattle.vrp_search.specs.Partial.{PartialPlan};
+ghost use Rattle.vrp_model.specs.Front.{open_load, IsRest};
 ghost use Rattle.vrp_search.specs.Child.{IsNextChild, NoChildFrom};
 ghost use Rattle.vrp_search.specs.Tallied.{IsTally};
 

@@ -1,9 +1,14 @@
 -- The last route of a front with one more symbol.
-use Rattle.std.proofs.Common.{◌≡◌, ℕ, ◌-◌, ◌<◌, List, [], ◌∷◌, ◌++◌, length, sym, ap, subst, ◌∙◌, arith}
+use Rattle.std.proofs.Common.{◌≡◌, ℕ, ◌+◌, ◌-◌, ◌<◌, ◌≤◌, ◌==◌, ◌⊎◌, inl, inr, false, List, [], ◌∷◌, ◌++◌, length, refl, sym, ap, subst, ◌∙◌, arith}
+use Rattle.std.proofs.lemmas.Bool.Decides.{nat_tests}
 use Rattle.std.specs.Prelude.{slice_index, slice_index_or}
-use Rattle.vrp_model.specs.Word.{HasStops, IsOpen, last_route, last_symbol, routes_of, word_of}
+use Rattle.vrp_model.specs.Front.{open_load}
+use Rattle.vrp_model.specs.Problem.{IsProblem, Problem, demand_of}
+use Rattle.vrp_model.specs.Route.{load_of}
+use Rattle.vrp_model.specs.Word.{HasStops, IsFront, IsOpen, MakesChild, last_route, last_symbol, routes_of, word_of}
+use Rattle.vrp_model.proofs.ChildCases.{cases_of_child}
 use Rattle.vrp_model.proofs.Words.{AreClosed, IsStops, last_behind-append, last_is, routes_are, shape_of}
-use Rattle.vrp_model.proofs.Children.{last_of, last_of_shape, last_stop, open_is_some, routes_when_closed, routes_with_stop}
+use Rattle.vrp_model.proofs.Children.{load_with, last_of, last_of_shape, last_stop, open_is_some, routes_when_closed, routes_with_stop}
 
 pub last_symbol_with : (word : List ℕ) (k : ℕ) → last_symbol (word ++ k ∷ []) ≡ k
 last_symbol_with word k = last_is (word ++ k ∷ []) ∙ last_behind-append 0 word (k ∷ [])
@@ -47,3 +52,38 @@ pub last_route_with : (word : List ℕ) (k : ℕ) → HasStops 0 word → 0 < k 
 last_route_with word k has some =
     let s = shape_of word has in
     by_shape word k s.closed s.open_stops s.is s.are_closed s.are_stops some
+
+-- ---- what is on the truck of the open route
+
+pub load_at_depot : (p : Problem) (word : List ℕ) → last_symbol word ≡ 0 → open_load p word ≡ 0
+load_at_depot p word at_depot = rw at_depot refl
+
+pub load_at_customer : (p : Problem) (word : List ℕ) → 0 < last_symbol word → open_load p word ≡ load_of p (last_route word)
+load_at_customer p word is_open = let test : (last_symbol word == 0) ≡ false = grind (arith, nat_tests) in rw test refl
+
+-- with a customer more
+pub record LoadWith (p : Problem) (word : List ℕ) (k : ℕ) : Type 0 where
+  pub starts : last_symbol word ≡ 0 → open_load p (word ++ k ∷ []) ≡ demand_of p k
+  pub grows : 0 < last_symbol word → open_load p (word ++ k ∷ []) ≡ open_load p word + demand_of p k
+  pub fits : open_load p (word ++ k ∷ []) ≤ p.capacity
+
+load_by_case : (p : Problem) (word : List ℕ) (k : ℕ) → IsProblem p → IsFront p word → 0 < k → MakesChild p word k → LoadWith p word k
+load_by_case p word k problem front some made =
+    let with_stop = last_route_with word k front.stops some in
+    let is_open : 0 < last_symbol (word ++ k ∷ []) = rw (last_symbol_with word k) some in
+    let now : open_load p (word ++ k ∷ []) ≡ load_of p (last_route (word ++ k ∷ [])) = load_at_customer p (word ++ k ∷ []) is_open in
+    let one : load_of p (k ∷ []) ≡ demand_of p k = omega arith in
+    let starts : last_symbol word ≡ 0 → open_load p (word ++ k ∷ []) ≡ demand_of p k = λ none. now ∙ ap (load_of p) (with_stop.starts none) ∙ one in
+    let grows : 0 < last_symbol word → open_load p (word ++ k ∷ []) ≡ load_of p (last_route word) + demand_of p k = λ open_now. now ∙ ap (load_of p) (with_stop.grows open_now) ∙ load_with p (last_route word) k in
+    record {
+      starts = starts;
+      grows = λ open_now. omega (arith, grows open_now, load_at_customer p word open_now);
+      fits = elim made [
+        | inl depot ↦ absurd (omega (arith, depot.0, some))
+        | inr (inl inside) ↦ omega (arith, grows inside.1, inside.2)
+        | inr (inr behind) ↦ omega (arith, starts behind.1, problem.fitting_demands k)
+      ];
+    }
+
+pub load_with_customer : (p : Problem) (word : List ℕ) (k : ℕ) → IsProblem p → IsFront p word → 0 < k → IsFront p (word ++ k ∷ []) → LoadWith p word k
+load_with_customer p word k problem front some after = load_by_case p word k problem front some ((cases_of_child p word k problem front).0 after)

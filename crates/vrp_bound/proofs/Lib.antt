@@ -1,0 +1,14 @@
+pub mod Answering
+pub mod BothBounds
+pub mod Completion
+pub mod Filling
+pub mod FirstStep
+pub mod FirstTour
+pub mod Least
+pub mod Listed
+pub mod Looking
+pub mod Returns
+pub mod Sizes
+pub mod Trucks
+pub mod Unserved
+pub mod WaysHome

@@ -1,0 +1,11 @@
+use Rattle.std.proofs.Common.{◌≤◌}
+use Rattle.vrp_bound.specs.Cells.{IsLeast, mark}
+use Rattle.vrp_bound.proofs.FirstTour.{IsWayHome}
+use Rattle.vrp_bound.proofs.Least.{IsCostBelow}
+use Rattle.vrp_bound.proofs.homes.least_way_home.Given as goal
+
+abbrev pub invariant-loop-home : goal.invariant-loop-home
+invariant-loop-home l = record {
+  least : IsLeast (IsCostBelow (IsWayHome l.scope.instance.now l.scope.customers.now l.at l.rest) l.home) l.least;
+  within : l.least ≤ mark;
+}

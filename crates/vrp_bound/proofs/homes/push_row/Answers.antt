@@ -1,0 +1,53 @@
+use Rattle.std.proofs.Common.{◌≡◌, ◌+◌, ◌-◌, ◌*◌, ◌<◌, ◌≤◌, length, ap, sym, subst, arith}
+use Rattle.vrp_model.specs.Problem.{place_count}
+use Rattle.vrp_model.specs.Route.{load_of}
+use Rattle.vrp_bound.specs.Cells.{AreHomesSoFar, HasWayHome, IsLeast, IsSmallLeast, mark, small_mark}
+use Rattle.vrp_bound.specs.Tables.{room_of}
+use Rattle.vrp_bound.proofs.FirstTour.{IsWayHome}
+use Rattle.vrp_bound.proofs.Looking.{least_home_cells}
+use Rattle.vrp_bound.proofs.WaysHome.{less_cell, more_homes, next_home}
+use Rattle.vrp_bound.proofs.homes.push_row.Goals.{then-room-eq0, else-room-eq0, then-room-rest, else-room-rest}
+use Rattle.vrp_bound.proofs.homes.push_row.Goals as goal
+
+pub loop-rest-preserved : goal.loop-rest-preserved
+loop-rest-preserved c =
+    let p = c.args.scope.instance.now in
+    let among = c.args.scope.customers.now in
+    let at = c.args.at in
+    let room = c.args.room in
+    let rest = c.loop-rest.rest in
+    let cells = c.loop-rest.cells.items in
+    let less = c.if-room-eq0.less in
+    let whole = c.if-room-rest.whole in
+    let rests = c.requires.tours.all in
+    let room_within : room < room_of p among + 1 = omega (arith, c.requires.room) in
+    let rest_within : rest < load_of p among + 1 = omega (arith, rests, c.loop-rest-test.true) in
+    let next : length cells ≡ (at * (room_of p among + 1) + room) * (load_of p among + 1) + rest = omega (arith, c.loop-rest.invariant.len, c.requires.next, ap (λ n. (at * (room_of p among + 1) + room) * n) rests) in
+    let none : room ≡ 0 → less ≡ small_mark = λ is. elim c.if-room-eq0.branch [
+      | then-room-eq0 w ↦ w.less-is
+      | else-room-eq0 w ↦ absurd (omega (arith, is, w.if-room-eq0.false))
+    ] in
+    let some : 0 < room → IsSmallLeast (HasWayHome p among at (room - 1) rest) less = λ more. elim c.if-room-eq0.branch [
+      | then-room-eq0 w ↦ absurd (omega (arith, more, w.if-room-eq0.true))
+      | else-room-eq0 w ↦
+          less_cell p among cells c.args.tours.now at room rest (w.len.result - length c.args.tours.now) less w.index.result.now c.loop-rest.invariant.so_far c.requires.tours next more room_within rest_within
+          (omega (arith, w.len.ensures)) w.less-is w.index.ensures
+    ] in
+    let index = room * c.args.scope.places + c.from.result in
+    let index_is : index ≡ room * place_count p + at = cc (c.args.scope.counted, c.from.ensures) in
+    let fits_whole : room ≤ rest → IsLeast (IsWayHome p among at rest room) whole = λ fits. elim c.if-room-rest.branch [
+      | then-room-rest w ↦
+          subst (IsLeast (IsWayHome p among at rest room)) (sym w.whole-is)
+          (least_home_cells p among c.args.walks.now c.args.tours.now at rest room index c.requires.walks c.requires.tours c.requires.place c.requires.room fits (omega (arith, rest_within)) index_is)
+      | else-room-rest w ↦ absurd (omega (arith, fits, w.if-room-rest.false))
+    ] in
+    let no_whole : rest < room → whole ≡ mark = λ more. elim c.if-room-rest.branch [
+      | then-room-rest w ↦ absurd (omega (arith, more, w.if-room-rest.true))
+      | else-room-rest w ↦ w.whole-is
+    ] in
+    let cell = next_home p among at room rest less whole c.in-Some.cell c.requires.scope (omega (arith, rest_within)) none some fits_whole no_whole c.in-Some.ensures.none c.in-Some.ensures.some in
+    record {
+      len = omega (arith, c.push_reserved.ensures.len, c.loop-rest.invariant.len);
+      capacity = omega (arith, c.push_reserved.ensures.capacity, c.loop-rest.invariant.capacity);
+      so_far = subst (AreHomesSoFar p among) (sym c.push_reserved.ensures.items) (more_homes p among cells c.in-Some.cell at room rest room_within rest_within next cell c.loop-rest.invariant.so_far);
+    }

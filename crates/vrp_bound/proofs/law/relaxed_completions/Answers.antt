@@ -1,0 +1,5 @@
+use Rattle.vrp_bound.proofs.Completion.{completion}
+use Rattle.vrp_bound.proofs.law.relaxed_completions.Goals as goal
+
+pub returns : goal.returns
+returns c = completion

@@ -1,0 +1,6 @@
+use Rattle.std.proofs.Common.{ℕ, ◌<◌, ◌≤◌, get_or}
+use Rattle.vrp_model.specs.Problem.{demand_of}
+use Rattle.vrp_bound.proofs.scope.all_demand.Given as goal
+
+abbrev pub invariant-loop-customer : goal.invariant-loop-customer
+invariant-loop-customer l = (k : ℕ) → k < l.customer-index → 1 ≤ demand_of l.scope.instance.now (get_or l.scope.customers.now k 0)

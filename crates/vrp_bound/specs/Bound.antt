@@ -1,0 +1,15 @@
+-- The greater of the two bounds.
+use Rattle.std.specs.Prelude.{◌≡◌, ℕ, max, List, Option}
+use Rattle.std.specs.Option.{option_map}
+use Rattle.vrp_model.specs.Problem.{Problem}
+use Rattle.vrp_bound.specs.Capacity.{IsCapacityBound}
+use Rattle.vrp_bound.specs.Tables.{IsBound}
+
+-- What is at least still to pay: the greater of the least relaxed completion over some customers and the capacity bound. None
+-- where there is no relaxed completion.
+pub record IsGreater (p : Problem) (among : List ℕ) (at load ins rest : ℕ) (answer : Option ℕ) : Type 0 where
+  pub relaxed : Option ℕ
+  pub is_bound : IsBound p among at load rest relaxed
+  pub capacity : ℕ
+  pub is_capacity : IsCapacityBound p at load ins rest capacity
+  pub greater : answer ≡ option_map (λ least. max least capacity) relaxed

@@ -1,0 +1,35 @@
+-- The capacity bound: each unserved customer is driven into, and enough trucks drive home.
+use Rattle.std.specs.Prelude.{◌≡◌, ℕ, ◌+◌, ◌-◌, ◌*◌, ◌≤◌, ◌<◌, ◌==◌, if◌then◌else◌, List}
+use Rattle.std.specs.List.{All, sum_by}
+use Rattle.vrp_model.specs.LeastWay.{IsLeastHome, IsLeastIn}
+use Rattle.vrp_model.specs.Problem.{Problem, customers}
+use Rattle.vrp_model.specs.Word.{served_in}
+
+-- what the least ways into the customers cost together that the word doesn't serve
+pub record IsInsOf (p : Problem) (word : List ℕ) (ins : ℕ) : Type 0 where
+  pub least_in : ℕ → ℕ
+  pub each : All (λ customer. IsLeastIn p customer (least_in customer)) (customers p)
+  pub whole : ins + sum_by least_in (served_in word) ≡ sum_by least_in (customers p)
+
+-- what the truck that is out can still take; none is out at the depot
+abbrev pub free_room : Problem → ℕ → ℕ → ℕ
+free_room p at load = if at == 0 then 0 else p.capacity - load
+
+-- the least number of trucks that carry so much: no fewer carry it, and so many do
+pub record IsTrucks (capacity amount trucks : ℕ) : Type 0 where
+  pub enough : amount ≤ trucks * capacity
+  pub least : (fewer : ℕ) → amount ≤ fewer * capacity → trucks ≤ fewer
+
+-- how many trucks drive home yet: the one that is out, and those that carry what it can't take
+pub record IsReturns (p : Problem) (at load rest returns : ℕ) : Type 0 where
+  pub trucks : ℕ
+  pub carry : IsTrucks p.capacity (rest - free_room p at load) trucks
+  pub all : returns ≡ trucks + (if at == 0 then 0 else 1)
+
+-- the ways into the unserved customers, and the ways home
+pub record IsCapacityBound (p : Problem) (at load ins rest bound : ℕ) : Type 0 where
+  pub returns : ℕ
+  pub count : IsReturns p at load rest returns
+  pub home : ℕ
+  pub least_home : IsLeastHome p home
+  pub is : bound ≡ ins + returns * home

@@ -1,0 +1,23 @@
+-- What the tables hold beside their customers.
+use Rattle.std.specs.Prelude.{◌≡◌, ℕ, Option, MatchOption, IfSome, List}
+use Rattle.std.specs.List.{All, Contains}
+use Rattle.std.specs.List.Sorted.{IsStrictlyIncreasing}
+use Rattle.vrp_model.specs.Problem.{Problem, customers}
+use Rattle.vrp_bound.specs.declared.tables.Cells.{Cells}
+use Rattle.vrp_bound.specs.Cells.{AreHomes, AreTours, AreWalks}
+use Rattle.vrp_bound.specs.Scope.{IsScope}
+use Rattle.vrp_bound.specs.Tables.{AreMade, room_of}
+
+pub record AreCells (p : Problem) (among : List ℕ) (cells : Cells) : Type 0 where
+  pub made : AreMade p among
+  pub scope : IsScope p among
+  pub walks : AreWalks p among cells.walks.items
+  pub tours : AreTours p among cells.tours.items
+  pub room : cells.room ≡ room_of p among
+  pub homes : IfSome cells.homes (λ homes. AreHomes p among homes.items)
+
+pub record AreFilled (p : Problem) (among : List ℕ) (cells : Option Cells) : Type 0 where
+  pub rising : IsStrictlyIncreasing among
+  pub known : All (Contains (customers p)) among
+  -- there are cells exactly where tables are made
+  pub filled : MatchOption cells (AreMade p among → ⊥) (AreCells p among)

@@ -1,0 +1,7 @@
+pub mod Bound
+pub mod Capacity
+pub mod Cells
+pub mod Filled
+pub mod Scope
+pub mod Tables
+pub mod Walk

@@ -1,0 +1,36 @@
+//! The bound that the search asks for: the greater of the two.
+ghost use Rattle.std.specs.Prelude.{◌≡◌, ◌≤◌, ◌<◌};
+ghost use Rattle.vrp_model.specs.Problem.{customers, place_count};
+ghost use Rattle.vrp_model.specs.Route.{load_of};
+ghost use Rattle.vrp_bound.specs.Bound.{IsGreater};
+
+use crate::capacity::cap_bound;
+use crate::tables::Tables;
+use vrp_model::Instance;
+
+/// What is at least still to pay from a place, with this load on the truck that is out there, by both bounds: `ins` is the sum
+/// of the least ways into the unserved customers, `rest` what they demand. `None` where nothing carries exactly the rest: then
+/// there is no lawful plan.
+pub fn bound(
+    tables: &Tables<'_>,
+    instance: &Instance,
+    at: u16,
+    load: u64,
+    ins: u64,
+    rest: u64,
+) -> Option<u64>
+    requires problem { tables.now.problem ≡ instance.now }
+    requires place { at < place_count instance.now }
+    requires load { load ≤ instance.now.capacity }
+    requires depot { at ≡ 0 → load ≡ 0 }
+    requires ins { ins ≤ 1200000000000 }
+    requires rest { rest ≤ load_of instance.now tables.now.among }
+    requires all { rest ≤ load_of instance.now (customers instance.now) }
+    ensures { IsGreater instance.now tables.now.among at load ins rest result }
+{
+    let capacity = cap_bound(instance, at, load, ins, rest);
+    match tables.q_bound(at, load, rest) {
+        None => None,
+        Some(relaxed) => Some(relaxed.max(capacity)),
+    }
+}

@@ -1,0 +1,296 @@
+//! The tables over some customers of an instance, and what they answer.
+ghost use Rattle.std.specs.Prelude.{◌≡◌, ◌≤◌, ◌<◌, All, Contains, IfOk, IfSome, length};
+ghost use Rattle.std.specs.List.Sorted.{IsStrictlyIncreasing};
+ghost use Rattle.vrp_model.specs.Problem.{customers, place_count};
+ghost use Rattle.vrp_model.specs.Route.{load_of};
+ghost use Rattle.vrp_bound.specs.Cells.{AreHomes, AreTours, AreWalks, HasRelaxed, IsLeast};
+ghost use Rattle.vrp_bound.specs.Tables.{IsBound, TablesOf, room_of};
+ghost use Rattle.vrp_bound.specs.Scope.{IsScope};
+
+use crate::homes::{homes, least_way_home, looked_up};
+use crate::scope::{Scope, are_made, demand_of_all};
+use crate::tours::tours;
+use crate::walks::{MARK, walks};
+use std::alloc::Global;
+use std::marker::Model;
+use vrp_model::{Instance, NoMemory};
+
+/// Tables over some customers of an instance, from which the cost of what is still to pay is bounded from below.
+#[derive(Debug, Drop)]
+pub struct Tables<'a> {
+    instance: &'a Instance,
+    unserved: Vec<u16>,
+    // None where the tables would be too large, or a customer has no demand.
+    cells: Option<Cells>,
+}
+
+// The cells of the tables: each is a least cost, or a mark where there is none.
+#[derive(Debug, Drop)]
+struct Cells {
+    // How much of the whole demand one truck can carry.
+    room: u64,
+    // By load, and of each load by place.
+    walks: Vec<u64>,
+    // By what is carried.
+    tours: Vec<u64>,
+    // By place, room and rest. None where that would be too many, or a cost is too large: then `walks` and `tours` are looked
+    // through.
+    homes: Option<Vec<u32>>,
+}
+
+impl<'a> Model for Tables<'a> {
+    ghost use Rattle.vrp_bound.specs.Tables.{TablesOf};
+    ghost use Rattle.vrp_bound.specs.Filled.{AreFilled};
+
+    ghost Value = { TablesOf };
+
+    ghost view = { λ a. record { problem = a.instance.now; among = a.unserved.items } };
+
+    ghost invariant = { λ a. AreFilled a.instance.now a.unserved.items a.cells };
+}
+
+impl<'a> Tables<'a> {
+    /// Tables over these customers, by rising place.
+    pub fn build(
+        alloc: Global,
+        instance: &'a Instance,
+        unserved: &[u16],
+    ) -> Result<Tables<'a>, NoMemory>
+        requires rising { IsStrictlyIncreasing unserved.now }
+        requires customers { All (Contains (customers instance.now)) unserved.now }
+        ensures { IfOk result (λ tables. tables ≡ record { problem = instance.now; among = unserved.now }) }
+    {
+        let scope = Scope::new(instance, unserved);
+        let cells = if are_made(scope) {
+            Some(Cells::fill(alloc, scope)?)
+        } else {
+            None
+        };
+        Ok(Tables {
+            instance,
+            unserved: Vec::from_slice(alloc, unserved)?,
+            cells,
+        })
+    }
+
+    /// The least cost of what carries the rest from a place: the walk home of the open truck with this load, where one is out
+    /// at a customer, and tours. A walk may come to a customer again, but goes from none to itself. `None`: nothing carries
+    /// exactly the rest. Where a customer has no demand, or the tables would be too large, the answer is 0.
+    pub fn q_bound(&self, at: u16, load: u64, rest: u64) -> Option<u64>
+        requires place { at < place_count self.now.problem }
+        requires load { load ≤ self.now.problem.capacity }
+        requires depot { at ≡ 0 → load ≡ 0 }
+        requires rest { rest ≤ load_of self.now.problem self.now.among }
+        ensures { IsBound self.now.problem self.now.among at load rest result }
+    {
+        let Some(cells) = &self.cells else {
+            return Some(0);
+        };
+        let scope = Scope::new(self.instance, self.unserved.as_slice());
+        let least = cells.least(scope, at, load, rest);
+        if least < MARK { Some(least) } else { None }
+    }
+}
+
+impl Cells {
+    ghost use Rattle.vrp_bound.specs.Filled.{AreCells};
+
+    // The cells over customers that all have a demand.
+    fn fill(alloc: Global, scope: Scope<'_>) -> Result<Cells, NoMemory>
+        requires { IsScope scope.instance.now scope.customers.now }
+        ensures walks { IfOk result (λ cells. AreWalks scope.entry.instance.now scope.entry.customers.now cells.walks.items) }
+        ensures tours { IfOk result (λ cells. AreTours scope.entry.instance.now scope.entry.customers.now cells.tours.items) }
+        ensures room { IfOk result (λ cells. cells.room ≡ room_of scope.entry.instance.now scope.entry.customers.now) }
+        ensures homes { IfOk result (λ cells. IfSome cells.homes (λ homes. AreHomes scope.entry.instance.now scope.entry.customers.now homes.items)) }
+    {
+        let demand = demand_of_all(scope);
+        let room = scope.instance.capacity().min(demand);
+        let walks = walks(alloc, scope, room)?;
+        let tours = tours(alloc, scope, &walks, room, demand)?;
+        let homes = homes(alloc, scope, &walks, &tours, room)?;
+        Ok(Cells {
+            room,
+            walks,
+            tours,
+            homes,
+        })
+    }
+
+    // The least cost of what carries the rest from a place, or the mark or more where nothing does.
+    fn least(&self, scope: Scope<'_>, at: u16, load: u64, rest: u64) -> u64
+        requires cells { AreCells scope.instance.now scope.customers.now self.now }
+        requires place { at < place_count scope.instance.now }
+        requires load { load ≤ scope.instance.now.capacity }
+        requires depot { at ≡ 0 → load ≡ 0 }
+        requires rest { rest ≤ load_of scope.instance.now scope.customers.now }
+        ensures { IsLeast (HasRelaxed scope.entry.instance.now scope.entry.customers.now at load rest) result }
+    {
+        if at == 0 {
+            return self.tours[rest as usize];
+        }
+        match &self.homes {
+            Some(homes) => looked_up(scope, homes, &self.tours, self.room, at, load, rest),
+            None => least_way_home(scope, &self.walks, &self.tours, at, load, rest),
+        }
+    }
+}
+
+#[cfg(test)]
+mod tests {
+    use super::*;
+    use crate::fixture::{are_customers, every_walk};
+    use std::process::Abort;
+    use std::test::Fail;
+    use vrp_model::{Metric, Weights};
+
+    // A place, a load, a rest, and what is answered.
+    type Asked = (u16, u64, u64, Option<u64>);
+
+    #[test]
+    fn bounds_over_two_customers(rt: HostRuntime) -> Result<(), Fail> {
+        let single: [Asked; 7] = [
+            (0, 0, 0, Some(0)),
+            (0, 0, 1, Some(10)),
+            (0, 0, 2, Some(20)),
+            (1, 1, 0, Some(5)),
+            (1, 1, 1, Some(15)),
+            (1, 2, 0, Some(5)),
+            (2, 1, 1, Some(10)),
+        ];
+        let double: [Asked; 4] = [
+            (0, 0, 1, None),
+            (0, 0, 4, Some(20)),
+            (1, 2, 2, Some(15)),
+            (2, 2, 2, Some(20)),
+        ];
+        let none: [Asked; 3] = [(0, 0, 0, Some(0)), (0, 0, 1, Some(0)), (2, 1, 1, Some(0))];
+        let table = [
+            ([0, 1, 1], single.as_slice()),
+            ([0, 2, 2], double.as_slice()),
+            // a customer of no demand
+            ([0, 0, 1], none.as_slice()),
+        ];
+        for (demands, asked) in table {
+            let points = [(0, 0), (3, 4), (6, 8)];
+            let weights = Weights::points(rt.alloc(), Metric::Euc2d, &points)?;
+            let instance = Instance::new(rt.alloc(), weights, &demands, 2, &[1], None)?;
+            let customers = [1, 2];
+            assert!(rt; are_customers(&instance, &customers));
+            let tables = Tables::build(rt.alloc(), &instance, &customers)?;
+            assert_answers(&rt, &tables, asked);
+        }
+        Ok(())
+    }
+
+    #[test]
+    fn a_place_outside_the_list(rt: HostRuntime) -> Result<(), Fail> {
+        let points = [(0, 0), (3, 4), (6, 8)];
+        let weights = Weights::points(rt.alloc(), Metric::Euc2d, &points)?;
+        let instance = Instance::new(rt.alloc(), weights, &[0, 1, 1], 2, &[1], None)?;
+        let customers = [1];
+        assert!(rt; are_customers(&instance, &customers));
+        let tables = Tables::build(rt.alloc(), &instance, &customers)?;
+        let asked = [
+            (1, 1, 1, Some(15)),
+            (2, 1, 1, Some(10)),
+            (2, 2, 1, Some(20)),
+            (2, 2, 0, Some(10)),
+        ];
+        assert_answers(&rt, &tables, &asked);
+        Ok(())
+    }
+
+    #[test]
+    fn the_largest_tables(rt: HostRuntime) -> Result<(), Fail> {
+        let made: [Asked; 2] = [(0, 0, 14_142, Some(10)), (0, 0, 1, None)];
+        let too_large: [Asked; 2] = [(0, 0, 14_143, Some(0)), (0, 0, 1, Some(0))];
+        let table = [(14_142, made.as_slice()), (14_143, too_large.as_slice())];
+        for (demand, asked) in table {
+            assert!(rt; demand <= 14_143);
+            let points = [(0, 0), (3, 4)];
+            let weights = Weights::points(rt.alloc(), Metric::Euc2d, &points)?;
+            let instance = Instance::new(rt.alloc(), weights, &[0, demand], demand, &[1], None)?;
+            let customers = [1];
+            assert!(rt; are_customers(&instance, &customers));
+            let tables = Tables::build(rt.alloc(), &instance, &customers)?;
+            assert_answers(&rt, &tables, asked);
+        }
+        Ok(())
+    }
+
+    #[test]
+    fn the_same_as_every_walk(rt: HostRuntime) -> Result<(), Fail> {
+        for (demands, capacity) in [([0, 1, 2, 1], 3), ([0, 2, 3, 2], 4), ([0, 2, 2, 2], 2)] {
+            let points = [(0, 0), (3, 4), (6, 8), (5, -12)];
+            let near = Weights::points(rt.alloc(), Metric::Euc2d, &points)?;
+            assert_lists(&rt, rt.alloc(), near, &demands, capacity, true)?;
+            // too far for the table of the ways home
+            let points = [
+                (-100_000_000, -100_000_000),
+                (100_000_000, 100_000_000),
+                (99_999_997, 99_999_996),
+                (99_999_988, 100_000_000),
+            ];
+            let far = Weights::points(rt.alloc(), Metric::Euc2d, &points)?;
+            assert_lists(&rt, rt.alloc(), far, &demands, capacity, false)?;
+        }
+        Ok(())
+    }
+
+    // Over some of three customers; over all of them with the table of the ways home or without.
+    fn assert_lists(
+        rt: &impl Abort,
+        alloc: Global,
+        weights: Weights,
+        demands: &[u64; 4],
+        capacity: u64,
+        near: bool,
+    ) -> Result<(), Fail> {
+        assert!(rt; weights.nodes() == 4);
+        assert!(rt; capacity <= 4);
+        let instance = Instance::new(alloc, weights, demands, capacity, &[1], None)?;
+        let lists: [&[u16]; 4] = [&[1, 2, 3], &[1, 3], &[2], &[]];
+        for customers in lists {
+            assert!(rt; are_customers(&instance, customers));
+            let tables = Tables::build(alloc, &instance, customers)?;
+            if let Some(cells) = &tables.cells {
+                assert!(rt; customers.len() < 3 || cells.homes.is_some() == near);
+            } else {
+                panic!(rt; "no tables");
+            }
+            assert_same(rt, &tables);
+        }
+        Ok(())
+    }
+
+    // At every place, load and rest.
+    fn assert_same(rt: &impl Abort, tables: &Tables<'_>) {
+        let instance = tables.instance;
+        let scope = Scope::new(instance, tables.unserved.as_slice());
+        for at in 0..instance.customers() + 1 {
+            for load in 0..instance.capacity() + 1 {
+                for rest in 0..demand_of_all(scope) + 1 {
+                    if at != 0 || load == 0 {
+                        let slow = every_walk(scope, at, load, rest, 20);
+                        assert_eq!(rt; tables.q_bound(at, load, rest), slow, "{at} {load} {rest}");
+                    }
+                }
+            }
+        }
+    }
+
+    fn assert_answers(rt: &impl Abort, tables: &Tables<'_>, asked: &[Asked]) {
+        let scope = Scope::new(tables.instance, tables.unserved.as_slice());
+        for (at, load, rest, answer) in asked {
+            assert!(rt; *at <= tables.instance.customers());
+            assert!(rt; *load <= tables.instance.capacity());
+            assert!(rt; *at != 0 || *load == 0);
+            assert!(rt; *rest <= demand_of_all(scope));
+            assert_eq!(rt;
+                tables.q_bound(*at, *load, *rest),
+                *answer,
+                "{at} {load} {rest}"
+            );
+        }
+    }
+}

@@ -1,0 +1,55 @@
+//! The table of the tours: the least cost of closed walks of one truck each, by what they carry together.
+ghost use Rattle.std.specs.Prelude.{◌≡◌, ◌≤◌, IfOk, length};
+ghost use Rattle.vrp_model.specs.Route.{load_of};
+ghost use Rattle.vrp_bound.specs.Cells.{AreTours, AreToursSoFar, AreWalks, HasTours, IsLeast, mark};
+ghost use Rattle.vrp_bound.specs.Scope.{IsScope};
+ghost use Rattle.vrp_bound.specs.Tables.{room_of};
+
+use crate::scope::Scope;
+use crate::walks::MARK;
+use std::alloc::Global;
+use vrp_model::NoMemory;
+
+/// The cells, by what is carried, up to the whole demand.
+pub(crate) fn tours(
+    alloc: Global,
+    scope: Scope<'_>,
+    walks: &[u64],
+    room: u64,
+    demand: u64,
+) -> Result<Vec<u64>, NoMemory>
+    requires scope { IsScope scope.instance.now scope.customers.now }
+    requires walks { AreWalks scope.instance.now scope.customers.now walks.now }
+    requires room { room ≡ room_of scope.instance.now scope.customers.now }
+    requires demand { demand ≡ load_of scope.instance.now scope.customers.now }
+    ensures { IfOk result (λ cells. AreTours scope.entry.instance.now scope.entry.customers.now cells.items) }
+{
+    let count = demand as usize + 1;
+    let mut cells = Vec::with_capacity(alloc, count)?;
+    for rest in 0..count {
+        let cell = least_tours(scope, walks, &cells, room as usize);
+        cells.push_reserved(cell);
+    }
+    Ok(cells)
+}
+
+// The least cost of tours that carry as much as there are cells: by the load of the first tour, and the tours behind it.
+fn least_tours(scope: Scope<'_>, walks: &[u64], cells: &[u64], room: usize) -> u64
+    requires scope { IsScope scope.instance.now scope.customers.now }
+    requires walks { AreWalks scope.instance.now scope.customers.now walks.now }
+    requires so_far { AreToursSoFar scope.instance.now scope.customers.now cells.now }
+    requires room { room ≡ room_of scope.instance.now scope.customers.now }
+    requires rest { length cells.now ≤ load_of scope.instance.now scope.customers.now }
+    ensures least { IsLeast (HasTours scope.entry.instance.now scope.entry.customers.now (length cells.now)) result }
+    ensures within { result ≤ mark }
+{
+    let rest = cells.len();
+    if rest == 0 {
+        return 0;
+    }
+    let mut least = MARK;
+    for load in 1..room.min(rest) + 1 {
+        least = least.min(walks[load * scope.places] + cells[rest - load]);
+    }
+    least
+}

@@ -1,0 +1,34 @@
+-- The least ways that an instance keeps are those of its problem.
+use Rattle.std.proofs.Common.{◌≡◌, ℕ, ◌+◌, ◌*◌, ◌<◌, ◌≤◌, inl, inr, List, length, subst, arith}
+use Rattle.std.proofs.lemmas.Bool.{cases_lt}
+use Rattle.std.specs.Prelude.{slice_index}
+use Rattle.vrp_model.specs.LeastWay.{IsLeastHome, IsLeastIn}
+use Rattle.vrp_model.specs.LeastWays.{AreLeastWays, IsLeastBefore, IsLeastWay}
+use Rattle.vrp_model.specs.Problem.{IsProblem, Problem, place_count}
+
+least_in_is : (p : Problem) (to weight : ℕ) → IsLeastBefore p.weights (place_count p) to (place_count p) weight → IsLeastIn p to weight
+least_in_is p to weight before = record { met = before.met; least = before.least }
+
+ways_by_count : (p : Problem) (least : List ℕ) → length least ≡ place_count p → 0 < place_count p → ((to : ℕ) → to < place_count p → IsLeastWay p.weights (place_count p) to (slice_index least to)) → AreLeastWays p least
+ways_by_count p least one_each some each = record {
+  one_each = one_each;
+  home = record {
+    some = λ more. least_in_is p 0 (slice_index least 0) ((each 0 some).some more);
+    none = λ alone. (each 0 some).none alone;
+  };
+  each = λ to above within. least_in_is p to (slice_index least to) ((each to within).some (omega (arith, above, within)));
+}
+
+pub least_ways_are : (p : Problem) (least : List ℕ) (places : ℕ) → places ≡ place_count p → length least ≡ places → 0 < places → ((to : ℕ) → to < places → IsLeastWay p.weights places to (slice_index least to)) → AreLeastWays p least
+least_ways_are p least places count one_each some each =
+    ways_by_count p least (subst (λ n. length least ≡ n) count one_each) (subst (λ n. 0 < n) count some)
+    (subst (λ n. (to : ℕ) → to < n → IsLeastWay p.weights n to (slice_index least to)) count each)
+
+pub least_in_small : (p : Problem) (to weight : ℕ) → IsProblem p → IsLeastIn p to weight → weight ≤ 1000000000
+least_in_small p to weight problem is = let (from, within, differs, same) = is.met in omega (arith, same, problem.small_weights (from * place_count p + to))
+
+pub least_home_small : (p : Problem) (weight : ℕ) → IsProblem p → IsLeastHome p weight → weight ≤ 1000000000
+least_home_small p weight problem is = elim (cases_lt 1 (place_count p)) [
+  | inl more ↦ least_in_small p 0 weight problem (is.some more)
+  | inr alone ↦ omega (arith, is.none (omega (arith, alone, problem.some_places)))
+]

@@ -1,0 +1,40 @@
+//! The least weight of a way into each place.
+ghost use Rattle.std.specs.Prelude.{◌≡◌, ◌*◌, ◌≤◌, ◌<◌, ◌+◌, ℕ, IfOk, length, slice_index, vec_len};
+ghost use Rattle.vrp_model.specs.LeastWays.{IsLeastWay};
+
+use std::alloc::{AllocError, Global};
+
+/// For each place the least weight of a way into it from another one, 0 where there is no other.
+pub(crate) fn least_ways(
+    alloc: Global,
+    weights: &[u32],
+    places: usize,
+) -> Result<Vec<u32>, AllocError>
+    requires square { length weights.now ≡ places * places }
+    requires few { places ≤ 1200 }
+    ensures all { IfOk result (λ least. vec_len least ≡ places) }
+    ensures each { IfOk result (λ least. (to : ℕ) → to < places → IsLeastWay weights.now places to (slice_index least.items to)) }
+{
+    let mut least = Vec::with_capacity(alloc, places)?;
+    for to in 0..places {
+        least.push(least_way(weights, places, to))?;
+    }
+    Ok(least)
+}
+
+// The least weight of a way into a place from another one, 0 where there is no other.
+fn least_way(weights: &[u32], places: usize, to: usize) -> u32
+    requires square { length weights.now ≡ places * places }
+    requires within { to < places }
+    requires few { places ≤ 1200 }
+    ensures { IsLeastWay weights.now places to result }
+{
+    let mut least = None;
+    for from in 0..places {
+        if from != to {
+            let weight = weights[from * places + to];
+            least = Some(weight.min(least.unwrap_or(weight)));
+        }
+    }
+    least.unwrap_or(0)
+}
