@@ -1,12 +1,21 @@
 #!/usr/bin/env bash
-# Times the program on files of 1,200 nodes beside a plain reference in Rust (bench/reference.rs), and on 16 MiB of anything.
-# Prints seconds, the ratio and the memory; needs rustc, python3 and GNU time, and the program built (./cvrp).
+# Times reading, by the program crates/bench_search with a budget of one partial plan: it reads the file, makes the instance,
+# and looks at the empty plan alone. Files of 1,200 nodes beside a plain reference in Rust (bench/reference.rs), and 16 MiB of
+# anything. Prints seconds, the ratio and the memory; needs the Rattle kit's command rt, rustc, python3 and GNU time.
 set -eu
 top=$(cd "$(dirname "$0")/.." && pwd)
+program=$top/crates/bench_search/out/bench_search
 room=$(mktemp -d)
 trap 'rm -rf "$room"' EXIT
 rustc -O -o "$room/reference" "$top/bench/reference.rs"
-python3 - "$top/crates/cvrp/out/cvrp" "$room" <<'PY'
+# rt runs what it has built, here with no file, and ends with that run's status: the program's file tells whether it was built.
+rm -f "$program"
+(cd "$top/crates/bench_search" && rt run) < /dev/null > "$room/log" 2>&1 || true
+if [ ! -x "$program" ]; then
+    cat "$room/log" >&2
+    exit 1
+fi
+python3 - "$program" "$room" <<'PY'
 import random, subprocess, sys, time
 
 program, room = sys.argv[1], sys.argv[2]
@@ -41,27 +50,25 @@ odd = {
     "one byte more than 16 MiB": b"\n" * (most + 1),
 }
 
-def measured(command, path):
+def measured(command):
     best = None
     for _ in range(10):
-        with open(path, "rb") as file:
-            start = time.perf_counter()
-            done = subprocess.run([command], stdin=file, stdout=subprocess.PIPE, stderr=subprocess.PIPE)
-            took = time.perf_counter() - start
+        start = time.perf_counter()
+        done = subprocess.run(command, stdout=subprocess.PIPE, stderr=subprocess.PIPE)
+        took = time.perf_counter() - start
         best = took if best is None else min(best, took)
-    with open(path, "rb") as file:
-        asked = subprocess.run(["time", "-f", "%M", command], stdin=file, stdout=subprocess.DEVNULL, stderr=subprocess.PIPE)
+    asked = subprocess.run(["time", "-f", "%M"] + command, stdout=subprocess.DEVNULL, stderr=subprocess.PIPE)
     return best, done, int(asked.stderr.split()[-1]) // 1024
 
 for name, data in (files | odd).items():
     path = f"{room}/input"
     with open(path, "wb") as file:
         file.write(data)
-    ours, done, memory = measured(program, path)
-    answer = done.stderr.decode().strip() or "a report"
+    ours, done, memory = measured([program, path, "1"])
+    answer = "an instance" if done.returncode == 0 else done.stderr.decode().strip()
     print(f"{name} ({len(data) / 2**20:.1f} MiB): {ours:.3f} s, {memory} MiB, {answer}")
     if name in files:
-        theirs, wanted, _ = measured(f"{room}/reference", path)
-        assert done.stdout == wanted.stdout, "the two reports differ"
+        theirs, wanted, _ = measured([f"{room}/reference", path])
+        assert done.stdout.endswith(wanted.stdout), "the two costs differ"
         print(f"    reference: {theirs:.3f} s, ratio {ours / theirs:.2f}")
 PY

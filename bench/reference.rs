@@ -1,6 +1,6 @@
-// A plain reference in Rust for bench/read.sh: reads a file of points (EUC_2D) or of a full matrix, keeps the weight of each
-// pair of nodes, and prints the same report. It trusts its input. Build: rustc -O bench/reference.rs
-use std::io::{Read, Write};
+// A plain reference in Rust for bench/read.sh: reads the named file, of points (EUC_2D) or of a full matrix, keeps the weight
+// of each pair of nodes, and prints the cost of one truck for each customer. It trusts its input.
+// Build: rustc -O bench/reference.rs
 
 fn weight(from: (i64, i64), to: (i64, i64)) -> u64 {
     let east = from.0.abs_diff(to.0);
@@ -39,19 +39,14 @@ fn weights(text: &str, n: usize) -> Vec<u32> {
 }
 
 fn main() {
-    let mut text = String::new();
-    std::io::stdin().read_to_string(&mut text).unwrap();
+    let name = std::env::args().nth(1).unwrap();
+    let text = std::fs::read_to_string(name).unwrap();
     let n = numbers(&text, "DEMAND_SECTION").len() / 2;
     let depot = numbers(&text, "DEPOT_SECTION")[0] as usize - 1;
     let weights = weights(&text, n);
-    let mut report = String::new();
     let mut cost = 0u64;
-    let mut number = 0;
     for node in (0..n).filter(|node| *node != depot) {
-        number += 1;
-        report += &format!("Route #{number}: {}\n", node + 1);
         cost += u64::from(weights[depot * n + node]) + u64::from(weights[node * n + depot]);
     }
-    report += &format!("Cost {cost}\nOpen 0\n");
-    std::io::stdout().write_all(report.as_bytes()).unwrap();
+    println!("cost {cost}");
 }

@@ -1,5 +1,5 @@
 #!/usr/bin/env python3
-"""Compares the program with the slow reader beside this script, on files made by a seed.
+"""Compares the program with the slow reader and the slow judge beside this script, on files made by a seed.
 
     python3 compare/compare.py [FILES [SEED [PROCESSES]]]
 """
@@ -14,17 +14,20 @@ import time
 from collections import Counter
 
 from files import damaged, fixed_files, spoilt_file, valid_file
+from slow_judge import MOST_CUSTOMERS, fault
 from slow_reader import outcome
 
 TOP = os.path.dirname(os.path.dirname(os.path.abspath(__file__)))
 PROGRAM = os.path.join(TOP, "crates", "cvrp", "out", "cvrp")
 NOT_BUILT = 70
+# How many seconds the program has: where the file is refused or has few customers, and where it has many.
+LONG, SHORT = 60, 1
 # How many differences are shown.
 SHOWN = 10
 
 
 def some_file(seed, index):
-    """File number `index`: its bytes, and its report where it was made as a valid file."""
+    """File number `index`: its bytes, and its problem where it was made as a valid file."""
     dice = random.Random(f"{seed} {index}")
     if index % 4 == 0:
         n = dice.randint(200, 1200) if index % 2000 == 0 else None
@@ -35,34 +38,53 @@ def some_file(seed, index):
     return damaged(dice, data), None
 
 
-def run(data):
-    """What the program does with a file."""
-    ended = subprocess.run([PROGRAM], input=data, capture_output=True, timeout=60)
+def run(data, seconds):
+    """What the program does with a file: exit status, standard output, standard error. It is killed after so many seconds,
+    and has no status then."""
+    try:
+        ended = subprocess.run([PROGRAM], input=data, capture_output=True, timeout=seconds)
+    except subprocess.TimeoutExpired as killed:
+        return None, killed.stdout or b"", killed.stderr or b""
     return ended.returncode, ended.stdout, ended.stderr
 
 
-def kind_of(wanted):
-    """An outcome without its numbers: what is counted."""
-    status, _, error = wanted
-    if status == 1:
-        return "a report"
-    text = error.decode().removeprefix("cvrp: ").rstrip("\n")
-    return re.sub(r"(?<![A-Z_])-?[0-9]+", "N", text)
+def same(one, other):
+    """Whether two problems are one, by all weights where there are at most 60 nodes, and else by those of 60 nodes."""
+    if one[:4] != other[:4]:
+        return False
+    places = [one.depot] + one.customers
+    pairs = [pair for i in places[:60] for j in places if i != j for pair in [(i, j), (j, i)]]
+    return all(one.weight(i, j) == other.weight(i, j) for i, j in pairs)
+
+
+def refused(data, refusal):
+    """A file to be refused: its kind, which is the refusal without its numbers, what is wrong, and what the program did."""
+    found = run(data, LONG)
+    kind = re.sub(r"(?<![A-Z_])-?[0-9]+", "N", refusal)
+    right = found == (3, b"", f"cvrp: {refusal}\n".encode())
+    return kind, None if right else f"it has to be refused: {refusal}", found
+
+
+def solved(data, problem):
+    """A file to be solved: the same."""
+    few = len(problem.customers) <= MOST_CUSTOMERS
+    found = run(data, LONG if few else SHORT)
+    if found == (None, b"", b"") and not few:
+        return "(not waited for)", None, found
+    return "(solved, few customers)" if few else "(solved, many customers)", fault(problem, *found), found
 
 
 def compare(job):
     """One file: what kind of outcome it has, and what differs."""
     seed, index, data = job
-    report = None
+    made = None
     if data is None:
-        data, report = some_file(seed, index)
-    wanted = outcome(data)
-    if report is not None and wanted != (1, report, b""):
-        return kind_of(wanted), (index, data, (1, report, b""), wanted, "the slow reader and the maker of the file differ")
-    found = run(data)
-    if found != wanted:
-        return kind_of(wanted), (index, data, wanted, found, "the program differs")
-    return kind_of(wanted), None
+        data, made = some_file(seed, index)
+    problem, refusal = outcome(data)
+    kind, wrong, found = refused(data, refusal) if problem is None else solved(data, problem)
+    if made is not None and (problem is None or not same(made, problem)):
+        wrong = "the slow reader and the maker of the file differ"
+    return kind, wrong and (index, data, wrong, found)
 
 
 def main():
@@ -82,8 +104,8 @@ def main():
             kinds[kind] += 1
             if difference:
                 differences.append(difference)
-    for index, data, wanted, found, text in sorted(differences, key=lambda difference: len(difference[1]))[:SHOWN]:
-        print(f"file {index}: {text}\n  bytes: {data[:3000]!r}\n  wanted: {wanted}\n  found: {found}")
+    for index, data, wrong, found in sorted(differences, key=lambda difference: len(difference[1]))[:SHOWN]:
+        print(f"file {index}: {wrong}\n  bytes: {data[:3000]!r}\n  found: {found}")
     for kind, times in kinds.most_common():
         print(f"{times:8} {kind}")
     print(f"{len(jobs)} files, seed {seed}, {round(time.monotonic() - begun)} seconds: {len(differences)} differences")

@@ -1,9 +1,9 @@
-"""Files by a seed: valid ones in every spelling, each with its report, and damaged ones."""
+"""Files by a seed: valid ones in every spelling, each with its problem, and damaged ones."""
 
 import re
 
 from slow_reader import LAYOUTS, METRICS, METRICS_LEFT_OUT, TYPES_LEFT_OUT, LEFT_OUT, KEYS
-from slow_reader import cells, distance, singles_report
+from slow_reader import cells, distance, problem_of
 
 ODD_TOKENS = [
     "3.5", "1e19", "-1.0", "0x1", "1000000000000000000", "999999999999999999", "1e18", "1e-1", "10e-1", "-10e-1", "-1",
@@ -177,11 +177,12 @@ class Style:
 
 
 def some_size(dice):
+    """How many nodes: few, since the program takes long where there are more than some ten."""
     kind = dice.randrange(100)
     if kind < 60:
         return dice.randint(1, 6)
     if kind < 97:
-        return dice.randint(1, 15)
+        return dice.randint(1, 9)
     return dice.randint(1, 60)
 
 
@@ -196,7 +197,7 @@ def some_number(dice, low, high):
 
 
 def valid_file(dice, n=None, spoils=False):
-    """The bytes of a file, and the report that belongs to it, where the file is not spoilt."""
+    """The bytes of a file, and the problem that it means, where the file is not spoilt."""
     style = Style(dice, spoils)
     n = n or some_size(dice)
     style.nodes = n
@@ -220,8 +221,8 @@ def valid_file(dice, n=None, spoils=False):
         dice.shuffle(blocks)
     if spoils and dice.randrange(6) == 0:
         del blocks[dice.randrange(len(blocks))]
-    report = singles_report(n, depots, lambda i, j: weights[i, j])
-    return ("".join(blocks) + the_end(dice, style)).encode("latin-1"), report.encode()
+    problem = problem_of(n, depots, dict(enumerate(demands, 1)), capacity, lambda i, j: weights[i, j])
+    return ("".join(blocks) + the_end(dice, style)).encode("latin-1"), problem
 
 
 def shuffled(dice, style, rows):

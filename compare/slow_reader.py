@@ -1,6 +1,7 @@
-"""What a CVRP file means, read slowly: the report of the plan of one truck a customer, or why the file is refused."""
+"""What a CVRP file means, read slowly: the problem, or why the file is refused."""
 
 import re
+from collections import namedtuple
 from fractions import Fraction
 
 MOST_BYTES = 16_777_216
@@ -31,6 +32,10 @@ LAYOUTS = {
     b"UPPER_DIAG_COL": (lambda i, j: i <= j, "columns"),
     b"LOWER_DIAG_COL": (lambda i, j: i >= j, "columns"),
 }
+
+
+# The depot; the other nodes that are no depots, by rising number; the demand of each node; and a function from two nodes.
+Problem = namedtuple("Problem", "depot customers demands capacity weight")
 
 
 class Refused(Exception):
@@ -269,17 +274,13 @@ def weight_function(reading):
     return lambda i, j: distance(values[b"EDGE_WEIGHT_TYPE"], points[i], points[j])
 
 
-def singles_report(n, depots, weight):
-    """The report of one truck for each customer, from the first depot."""
-    depot = depots[0]
-    customers = [node for node in range(1, n + 1) if node not in depots]
-    routes = [f"Route #{k}: {node}\n" for k, node in enumerate(customers, 1)]
-    cost = sum(weight(depot, node) + weight(node, depot) for node in customers)
-    return "".join(routes) + f"Cost {cost}\nOpen 0\n"
+def problem_of(n, depots, demands, capacity, weight):
+    """The problem with the first of the depots."""
+    return Problem(depots[0], [node for node in range(1, n + 1) if node not in depots], demands, capacity, weight)
 
 
-def report(data):
-    """The report of a file; or else the refusal."""
+def problem(data):
+    """The problem that a file means; or else the refusal."""
     if len(data) > MOST_BYTES:
         raise Refused("input too long")
     reading = values_of(data)
@@ -301,12 +302,12 @@ def report(data):
     for node in range(1, n + 1):
         if node not in depots and demands[node] > values[b"CAPACITY"]:
             raise Refused(f"node {node}: demand above capacity")
-    return singles_report(n, depots, weight_function(reading))
+    return problem_of(n, depots, demands, values[b"CAPACITY"], weight_function(reading))
 
 
 def outcome(data):
-    """What the program has to do with a file: exit status, standard output, standard error."""
+    """The problem that a file means and None, or None and the text of its refusal."""
     try:
-        return 1, report(data).encode(), b""
+        return problem(data), None
     except Refused as fault:
-        return 3, b"", f"cvrp: {fault}\n".encode()
+        return None, str(fault)
