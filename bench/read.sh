@@ -4,17 +4,10 @@
 # anything. Prints seconds, the ratio and the memory; needs the Rattle kit's command rt, rustc, python3 and GNU time.
 set -eu
 top=$(cd "$(dirname "$0")/.." && pwd)
-program=$top/crates/bench_search/out/bench_search
+program=$("$top/bench/build.sh")
 room=$(mktemp -d)
 trap 'rm -rf "$room"' EXIT
 rustc -O -o "$room/reference" "$top/bench/reference.rs"
-# rt runs what it has built, here with no file, and ends with that run's status: the program's file tells whether it was built.
-rm -f "$program"
-(cd "$top/crates/bench_search" && rt run) < /dev/null > "$room/log" 2>&1 || true
-if [ ! -x "$program" ]; then
-    cat "$room/log" >&2
-    exit 1
-fi
 python3 - "$program" "$room" <<'PY'
 import random, subprocess, sys, time
 

@@ -6,20 +6,12 @@
 set -eu
 top=$(cd "$(dirname "$0")/.." && pwd)
 cases=$top/crates/cases/data
-program=$top/crates/bench_search/out/bench_search
+program=$("$top/bench/build.sh")
 budget=${1:-20000000}
 room=$(mktemp -d)
 trap 'rm -rf "$room"' EXIT
 
 rustc -O -o "$room/kernel" "$top/bench/kernel.rs"
-
-# rt runs what it has built, here with no file, and ends with that run's status: the program's file tells whether it was built.
-rm -f "$program"
-(cd "$top/crates/bench_search" && rt run) < /dev/null > "$room/log" 2>&1 || true
-if [ ! -x "$program" ]; then
-    cat "$room/log" >&2
-    exit 1
-fi
 
 # The best of three runs, in millions a second.
 best() {
