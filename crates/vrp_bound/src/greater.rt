@@ -1,5 +1,5 @@
 //! The bound that the search asks for: the greater of the two.
-ghost use Rattle.std.specs.Prelude.{◌≡◌, ◌≤◌, ◌<◌};
+ghost use Rattle.std.specs.Prelude.{◌≡◌, ◌≤◌, ◌<◌, IfSome};
 ghost use Rattle.vrp_model.specs.Problem.{customers, place_count};
 ghost use Rattle.vrp_model.specs.Route.{load_of};
 ghost use Rattle.vrp_bound.specs.Bound.{IsGreater};
@@ -26,7 +26,8 @@ pub fn bound(
     requires ins { ins ≤ 1200000000000 }
     requires rest { rest ≤ load_of instance.now tables.now.among }
     requires all { rest ≤ load_of instance.now (customers instance.now) }
-    ensures { IsGreater instance.now tables.now.among at load ins rest result }
+    ensures greater { IsGreater instance.now tables.now.among at load ins rest result }
+    ensures small { IfSome result (λ least. least < 4000000000000000000) }
 {
     let capacity = cap_bound(instance, at, load, ins, rest);
     match tables.q_bound(at, load, rest) {

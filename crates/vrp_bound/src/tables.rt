@@ -81,7 +81,8 @@ impl<'a> Tables<'a> {
         requires load { load ≤ self.now.problem.capacity }
         requires depot { at ≡ 0 → load ≡ 0 }
         requires rest { rest ≤ load_of self.now.problem self.now.among }
-        ensures { IsBound self.now.problem self.now.among at load rest result }
+        ensures bound { IsBound self.now.problem self.now.among at load rest result }
+        ensures small { IfSome result (λ least. least < 4000000000000000000) }
     {
         let Some(cells) = &self.cells else {
             return Some(0);
