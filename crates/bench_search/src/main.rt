@@ -5,6 +5,7 @@
 use anyhow::{Context, Result, ensure};
 use std::time::{Duration, Instant};
 use std::{env, fs};
+use vrp_bound::Tables;
 use vrp_model::Plan;
 use vrp_search::{Cutting, Ended, Local, search};
 
@@ -18,13 +19,18 @@ fn main(rt: HostRuntime) -> Result<()> {
     let cutting = Cutting::whole(rt.alloc(), &instance)?;
     let mut board = Local::open(Plan::singles(rt.alloc(), &instance)?);
     let piece = &cutting.pieces()[0];
+    let tables_start = Instant::now(&rt)?;
+    let tables = Tables::over_all(rt.alloc(), &instance)?;
+    let tables_time = tables_start.elapsed(&rt)?;
     let start = Instant::now(&rt)?;
-    let ended = search(rt.alloc(), &instance, piece, budget, &mut board)?;
+    let ended = search(rt.alloc(), &instance, &tables, piece, budget, &mut board)?;
     let time = start.elapsed(&rt)?;
     let looked = looked_at(ended);
     let cost = board.plan().cost();
     println!(&rt; "{name}: {looked} partial plans looked at, cost {cost}")?;
-    print_rate(&rt, looked, time)
+    print_rate(&rt, looked, time)?;
+    eprintln!(&rt; "tables in {} milliseconds", tables_time.as_millis())?;
+    Ok(())
 }
 
 fn looked_at(ended: Ended) -> u64 {

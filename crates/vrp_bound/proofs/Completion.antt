@@ -14,7 +14,8 @@ use Rattle.vrp_model.proofs.Children.{closed_is_open}
 use Rattle.vrp_model.proofs.Rearranged.{AreDistinct}
 use Rattle.vrp_model.proofs.Steps.{last_symbol_with, load_at_depot, load_with_customer}
 use Rattle.vrp_bound.specs.Walk.{IsRelaxed, IsTour, IsWalk, NeighborsDiffer, home_cost, relaxed_cost, walk_cost}
-use Rattle.vrp_bound.proofs.Unserved.{cost_behind, differs_from_last, front_of, light_front, served_more, serves_customer, sum_of_all, with_symbol}
+use Rattle.vrp_model.proofs.FrontPlaces.{serves_customer}
+use Rattle.vrp_bound.proofs.Unserved.{cost_behind, differs_from_last, front_of, light_front, served_more, sum_of_all, with_symbol}
 
 -- what is added costs what a relaxed completion costs
 pub record Completes (p : Problem) (among : List ℕ) (at load : ℕ) (more : List ℕ) : Type 0 where

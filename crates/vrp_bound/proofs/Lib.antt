@@ -4,6 +4,7 @@ pub mod Completion
 pub mod Filling
 pub mod FirstStep
 pub mod FirstTour
+pub mod InUnits
 pub mod Least
 pub mod Listed
 pub mod Looking
@@ -12,3 +13,4 @@ pub mod Sizes
 pub mod Trucks
 pub mod Unserved
 pub mod WaysHome
+pub mod WholeUnits

@@ -4,8 +4,8 @@ use Rattle.std.specs.List.{All, Contains}
 use Rattle.std.specs.List.Sorted.{IsStrictlyIncreasing}
 use Rattle.std.proofs.lemmas.Bool.{cases_lt}
 use Rattle.std.proofs.lemmas.List.Elements.{All-from_get_or}
-use Rattle.std.proofs.lemmas.List.FromFn.{get_or-range_with_len, length-range_with_len}
 use Rattle.vrp_model.specs.Problem.{Problem, customers, place_count}
+use Rattle.vrp_model.proofs.AllCustomers.{is_customer}
 
 -- so far
 pub record AreListed (p : Problem) (places : List ℕ) (count before : ℕ) : Type 0 where
@@ -44,11 +44,6 @@ one_more_listed p places count before place listed is above inside = record {
 
 pub all_rising : (p : Problem) (places : List ℕ) (count before : ℕ) → AreListed p places count before → length places ≤ count → IsStrictlyIncreasing places
 all_rising p places count before listed all = λ k lt. listed.rising k (omega (arith, lt, all))
-
-is_customer : (p : Problem) (place : ℕ) → 1 ≤ place → place < place_count p → Contains (customers p) place
-is_customer p place some within =
-    let inside : place - 1 < place_count p - 1 = omega (arith, some, within) in
-    (place - 1, omega (arith, inside, length-range_with_len 1 (place_count p - 1)), omega (arith, get_or-range_with_len 1 (place_count p - 1) (place - 1) place inside, some))
 
 pub all_known : (p : Problem) (places : List ℕ) (count before : ℕ) → AreListed p places count before → length places ≤ count → All (Contains (customers p)) places
 all_known p places count before listed all =

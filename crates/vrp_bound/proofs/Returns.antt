@@ -14,7 +14,8 @@ use Rattle.vrp_model.proofs.Children.{closed_is_open, unserved_if_added}
 use Rattle.vrp_model.proofs.Steps.{last_symbol_with, load_at_depot, load_with_customer}
 use Rattle.vrp_bound.specs.Capacity.{IsCapacityBound, IsInsOf, free_room}
 use Rattle.vrp_bound.proofs.Completion.{place_cases}
-use Rattle.vrp_bound.proofs.Unserved.{cost_behind, customer_is_place, differs_from_last, front_of, last_is_place, serves_customer, sum_of_all, with_symbol}
+use Rattle.vrp_model.proofs.FrontPlaces.{last_is_place, serves_customer}
+use Rattle.vrp_bound.proofs.Unserved.{cost_behind, customer_is_place, differs_from_last, front_of, sum_of_all, with_symbol}
 
 -- the truck that is out drives home
 abbrev pub out : ℕ → ℕ

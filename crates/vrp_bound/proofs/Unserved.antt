@@ -6,7 +6,6 @@ use Rattle.std.specs.Prelude.{slice_index_or}
 use Rattle.std.proofs.Math.ListN.{get_or-append}
 use Rattle.std.proofs.lemmas.Bool.Decides.{nat_tests}
 use Rattle.std.proofs.lemmas.Bool.{cases_lt}
-use Rattle.std.proofs.lemmas.List.FromFn.{get_or-range_with_len, length-range_with_len}
 use Rattle.std.proofs.lemmas.List.Elements.{All-cons, All-nil, All-contains, Contains-get_or, filter-append}
 use Rattle.std.proofs.lemmas.List.Sorted.{sum_by-IsPermutation}
 use Rattle.std.proofs.lemmas.List.Sums.{sum_by-append}
@@ -14,7 +13,9 @@ use Rattle.vrp_model.specs.Problem.{IsProblem, Problem, customers, place_count}
 use Rattle.vrp_model.specs.Front.{open_load}
 use Rattle.vrp_model.specs.Route.{cost_along, load_of}
 use Rattle.vrp_model.specs.Word.{IsFront, IsLawfulWord, last_symbol, routes_of, served_in, word_cost}
+use Rattle.vrp_model.proofs.AllCustomers.{customer_below}
 use Rattle.vrp_model.proofs.Children.{unserved_if_added}
+use Rattle.vrp_model.proofs.FrontPlaces.{serves_customer}
 use Rattle.vrp_model.proofs.FrontsBefore.{fronts_before}
 use Rattle.vrp_model.proofs.PlanWords.{cost_parts}
 use Rattle.vrp_model.proofs.Rearranged.{AreDistinct, customers_distinct, same_elements}
@@ -23,9 +24,6 @@ use Rattle.vrp_model.proofs.Words.{last_behind, last_is}
 
 pub served_more : (front more : List ℕ) → served_in (front ++ more) ≡ served_in front ++ served_in more
 served_more front more = filter-append (λ k. not (k == 0)) front more
-
-pub serves_customer : (k : ℕ) (more : List ℕ) → served_in (suc k ∷ more) ≡ suc k ∷ served_in more
-serves_customer k more = let test : not (suc k == 0) ≡ true = grind (arith, nat_tests) in rw test refl
 
 -- what is summed over the customers is what the front serves and what is served behind it
 pub sum_of_all : (f : ℕ → ℕ) (p : Problem) (front more : List ℕ) → IsLawfulWord p (front ++ more) → sum_by f (served_in front) + sum_by f (served_in more) ≡ sum_by f (customers p)
@@ -66,22 +64,8 @@ differs_from_last p front k some after same =
     let served = last_served 0 front (some_length front above) above in
     All-contains (λ s. s ≢ k) (served_in front) (last_behind 0 front) unserved.1 served (sym (last_is front) ∙ same)
 
-customer_below : (p : Problem) (k : ℕ) → Contains (customers p) k → k < place_count p
-customer_below p k (i, lt, is) =
-    let bound : i < place_count p - 1 = rw (length-range_with_len 1 (place_count p - 1)) at lt in
-    omega (arith, bound, is, get_or-range_with_len 1 (place_count p - 1) i k bound)
-
 pub customer_is_place : (p : Problem) (front : List ℕ) (k : ℕ) → 0 < k → IsFront p (front ++ k ∷ []) → k < place_count p
 customer_is_place p front k some after = customer_below p k (unserved_if_added p front k some after).0
-
-pub last_is_place : (p : Problem) (front : List ℕ) → IsProblem p → IsFront p front → last_symbol front < place_count p
-last_is_place p front problem is_front = elim (cases_lt 0 (last_symbol front)) [
-  | inl above ↦
-      let at : 0 < last_behind 0 front = omega (arith, above, last_is front) in
-      let served = last_served 0 front (some_length front at) at in
-      omega (arith, last_is front, customer_below p (last_behind 0 front) (All-contains (Contains (customers p)) (served_in front) (last_behind 0 front) is_front.known served))
-  | inr none ↦ omega (arith, none, problem.some_places)
-]
 
 last_fits : (p : Problem) (routes : List (List ℕ)) → All (λ r. load_of p r ≤ p.capacity) routes → load_of p (slice_index_or routes (length routes - 1) []) ≤ p.capacity
 last_fits p [] all = omega arith

@@ -7,14 +7,17 @@ use Rattle.vrp_bound.specs.declared.tables.Cells.{Cells}
 use Rattle.vrp_bound.specs.Cells.{AreHomes, AreTours, AreWalks}
 use Rattle.vrp_bound.specs.Scope.{IsScope}
 use Rattle.vrp_bound.specs.Tables.{AreMade, room_of}
+use Rattle.vrp_bound.specs.Units.{IsUnit, in_units}
 
 pub record AreCells (p : Problem) (among : List ℕ) (cells : Cells) : Type 0 where
   pub made : AreMade p among
   pub scope : IsScope p among
-  pub walks : AreWalks p among cells.walks.items
-  pub tours : AreTours p among cells.tours.items
-  pub room : cells.room ≡ room_of p among
-  pub homes : IfSome cells.homes (λ homes. AreHomes p among homes.items)
+  pub unit : IsUnit p among cells.unit
+  -- in units
+  pub walks : AreWalks (in_units cells.unit p) among cells.walks.items
+  pub tours : AreTours (in_units cells.unit p) among cells.tours.items
+  pub room : cells.room ≡ room_of (in_units cells.unit p) among
+  pub homes : IfSome cells.homes (λ homes. AreHomes (in_units cells.unit p) among homes.items)
 
 pub record AreFilled (p : Problem) (among : List ℕ) (cells : Option Cells) : Type 0 where
   pub rising : IsStrictlyIncreasing among

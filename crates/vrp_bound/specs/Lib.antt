@@ -4,4 +4,5 @@ pub mod Cells
 pub mod Filled
 pub mod Scope
 pub mod Tables
+pub mod Units
 pub mod Walk

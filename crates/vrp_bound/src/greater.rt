@@ -35,3 +35,52 @@ pub fn bound(
         Some(relaxed) => Some(relaxed.max(capacity)),
     }
 }
+
+#[cfg(test)]
+mod tests {
+    use super::*;
+    use crate::fixture::are_customers;
+    use crate::scope::{Scope, demand_of_all};
+    use std::test::Fail;
+    use vrp_model::{Metric, Weights};
+
+    // A place, a load, the sum of the least ways in, a rest, and what is answered.
+    type Asked = (u16, u64, u64, u64, Option<u64>);
+
+    #[test]
+    fn bounds_of_two_customers(rt: HostRuntime) -> Result<(), Fail> {
+        let near = [(0, 0), (3, 4), (6, 8)];
+        let far = [(0, 0), (3, 4), (30, 40)];
+        let table = [
+            (near, [0, 1, 1], (0, 0, 10, 2, Some(20))),
+            (near, [0, 1, 1], (1, 1, 5, 1, Some(15))),
+            (near, [0, 2, 2], (0, 0, 10, 4, Some(20))),
+            (near, [0, 2, 2], (0, 0, 10, 1, None)),
+            (near, [0, 2, 2], (1, 2, 5, 2, Some(15))),
+            // the capacity bound is the greater: both tours go to the near customer
+            (far, [0, 1, 1], (0, 0, 50, 2, Some(55))),
+            // no tables
+            (near, [0, 0, 1], (0, 0, 10, 1, Some(15))),
+        ];
+        for (points, demands, asked) in table {
+            let (at, load, ins, rest, answer): Asked = asked;
+            let weights = Weights::points(rt.alloc(), Metric::Euc2d, &points)?;
+            let instance = Instance::new(rt.alloc(), weights, &demands, 2, &[1], None)?;
+            let customers = [1, 2];
+            assert!(rt; are_customers(&instance, &customers));
+            let tables = Tables::build(rt.alloc(), &instance, &customers)?;
+            assert!(rt; at <= instance.customers());
+            assert!(rt; load <= instance.capacity());
+            assert!(rt; at != 0 || load == 0);
+            assert!(rt; ins <= 50);
+            assert!(rt; rest <= demand_of_all(Scope::new(&instance, &customers)));
+            assert!(rt; rest <= instance.whole_demand());
+            assert_eq!(rt;
+                bound(&tables, &instance, at, load, ins, rest),
+                answer,
+                "{demands:?} {at} {load} {rest}"
+            );
+        }
+        Ok(())
+    }
+}

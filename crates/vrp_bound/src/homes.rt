@@ -3,10 +3,10 @@ ghost use Rattle.std.specs.Prelude.{◌≡◌, ◌≢◌, ◌+◌, ◌-◌, ◌*
 ghost use Rattle.vrp_model.specs.Problem.{place_count};
 ghost use Rattle.vrp_model.specs.Route.{load_of};
 ghost use Rattle.vrp_bound.specs.Cells.{AreHomes, AreHomesSoFar, AreTours, AreWalks, HasRelaxed, IsLeast, mark, small_mark};
-ghost use Rattle.vrp_bound.specs.Scope.{IsScope};
 ghost use Rattle.vrp_bound.specs.Tables.{room_of};
+ghost use Rattle.vrp_bound.specs.Units.{in_units};
 
-use crate::scope::Scope;
+use crate::units::UnitScope;
 use crate::walks::MARK;
 use std::alloc::Global;
 use vrp_model::NoMemory;
@@ -21,16 +21,15 @@ const MOST_CELLS: usize = 64_000_000;
 /// cost is too large for one.
 pub(crate) fn homes(
     alloc: Global,
-    scope: Scope<'_>,
+    scope: UnitScope<'_>,
     walks: &[u64],
     tours: &[u64],
     room: u64,
 ) -> Result<Option<Vec<u32>>, NoMemory>
-    requires scope { IsScope scope.instance.now scope.customers.now }
-    requires walks { AreWalks scope.instance.now scope.customers.now walks.now }
-    requires tours { AreTours scope.instance.now scope.customers.now tours.now }
-    requires room { room ≡ room_of scope.instance.now scope.customers.now }
-    ensures { IfOk result (λ cells. IfSome cells (λ homes. AreHomes scope.entry.instance.now scope.entry.customers.now homes.items)) }
+    requires walks { AreWalks (in_units scope.unit scope.instance.now) scope.customers.now walks.now }
+    requires tours { AreTours (in_units scope.unit scope.instance.now) scope.customers.now tours.now }
+    requires room { room ≡ room_of (in_units scope.unit scope.instance.now) scope.customers.now }
+    ensures { IfOk result (λ cells. IfSome cells (λ homes. AreHomes (in_units scope.entry.unit scope.entry.instance.now) scope.entry.customers.now homes.items)) }
 {
     let rooms = room as usize + 1;
     let rows = scope.places * rooms;
@@ -50,23 +49,22 @@ pub(crate) fn homes(
 // Adds the cells of a place and a room, after those of less room. False: a cost is too large for a cell.
 fn push_row(
     cells: &mut Vec<u32>,
-    scope: Scope<'_>,
+    scope: UnitScope<'_>,
     walks: &[u64],
     tours: &[u64],
     at: u16,
     room: usize,
 ) -> bool
-    requires scope { IsScope scope.instance.now scope.customers.now }
-    requires walks { AreWalks scope.instance.now scope.customers.now walks.now }
-    requires tours { AreTours scope.instance.now scope.customers.now tours.now }
+    requires walks { AreWalks (in_units scope.unit scope.instance.now) scope.customers.now walks.now }
+    requires tours { AreTours (in_units scope.unit scope.instance.now) scope.customers.now tours.now }
     requires place { at < place_count scope.instance.now }
-    requires room { room ≤ room_of scope.instance.now scope.customers.now }
-    requires so_far { AreHomesSoFar scope.instance.now scope.customers.now cells.old.items }
-    requires next { vec_len cells.old ≡ (at * (room_of scope.instance.now scope.customers.now + 1) + room) * length tours.now }
+    requires room { room ≤ room_of (in_units scope.unit scope.instance.now) scope.customers.now }
+    requires so_far { AreHomesSoFar (in_units scope.unit scope.instance.now) scope.customers.now cells.old.items }
+    requires next { vec_len cells.old ≡ (at * (room_of (in_units scope.unit scope.instance.now) scope.customers.now + 1) + room) * length tours.now }
     requires fits { vec_len cells.old + length tours.now ≤ vec_capacity cells.old }
     ensures len { IsTrue result → vec_len cells.new ≡ vec_len cells.old + length tours.now }
     ensures capacity { vec_capacity cells.new ≡ vec_capacity cells.old }
-    ensures so_far { IsTrue result → AreHomesSoFar scope.entry.instance.now scope.entry.customers.now cells.new.items }
+    ensures so_far { IsTrue result → AreHomesSoFar (in_units scope.entry.unit scope.entry.instance.now) scope.entry.customers.now cells.new.items }
 {
     let walk = walks[room * scope.places + usize::from(at)];
     for rest in 0..tours.len() {
@@ -105,24 +103,24 @@ fn lesser(less: u32, whole: u64) -> Option<u32>
 
 /// The same as `least_way_home`, by one look into the table.
 pub(crate) fn looked_up(
-    scope: Scope<'_>,
+    scope: UnitScope<'_>,
     cells: &[u32],
     tours: &[u64],
     room: u64,
     at: u16,
-    load: u64,
+    free: u64,
     rest: u64,
 ) -> u64
-    requires homes { AreHomes scope.instance.now scope.customers.now cells.now }
-    requires tours { AreTours scope.instance.now scope.customers.now tours.now }
-    requires room { room ≡ room_of scope.instance.now scope.customers.now }
+    requires homes { AreHomes (in_units scope.unit scope.instance.now) scope.customers.now cells.now }
+    requires tours { AreTours (in_units scope.unit scope.instance.now) scope.customers.now tours.now }
+    requires room { room ≡ room_of (in_units scope.unit scope.instance.now) scope.customers.now }
     requires customer { at ≢ 0 }
     requires place { at < place_count scope.instance.now }
-    requires load { load ≤ scope.instance.now.capacity }
-    requires rest { rest ≤ load_of scope.instance.now scope.customers.now }
-    ensures { IsLeast (HasRelaxed scope.entry.instance.now scope.entry.customers.now at load rest) result }
+    requires free { free ≤ (in_units scope.unit scope.instance.now).capacity }
+    requires rest { rest ≤ load_of (in_units scope.unit scope.instance.now) scope.customers.now }
+    ensures { let p = in_units scope.entry.unit scope.entry.instance.now in IsLeast (HasRelaxed p scope.entry.customers.now at (p.capacity - free) rest) result }
 {
-    let left = (scope.instance.capacity() - load).min(room) as usize;
+    let left = free.min(room) as usize;
     let row = usize::from(at) * (room as usize + 1) + left;
     let cell = cells[row * tours.len() + rest as usize];
     if cell < SMALL_MARK {
@@ -132,26 +130,26 @@ pub(crate) fn looked_up(
     }
 }
 
-/// The least cost of what carries the rest from a customer, where the open truck has this load: by what its walk home takes up.
+/// The least cost of what carries the rest from a customer, where the open truck can still take up as much as is free: by
+/// what its walk home takes up.
 pub(crate) fn least_way_home(
-    scope: Scope<'_>,
+    scope: UnitScope<'_>,
     walks: &[u64],
     tours: &[u64],
     at: u16,
-    load: u64,
+    free: u64,
     rest: u64,
 ) -> u64
-    requires scope { IsScope scope.instance.now scope.customers.now }
-    requires walks { AreWalks scope.instance.now scope.customers.now walks.now }
-    requires tours { AreTours scope.instance.now scope.customers.now tours.now }
+    requires walks { AreWalks (in_units scope.unit scope.instance.now) scope.customers.now walks.now }
+    requires tours { AreTours (in_units scope.unit scope.instance.now) scope.customers.now tours.now }
     requires customer { at ≢ 0 }
     requires place { at < place_count scope.instance.now }
-    requires load { load ≤ scope.instance.now.capacity }
-    requires rest { rest ≤ load_of scope.instance.now scope.customers.now }
-    ensures least { IsLeast (HasRelaxed scope.entry.instance.now scope.entry.customers.now at load rest) result }
+    requires free { free ≤ (in_units scope.unit scope.instance.now).capacity }
+    requires rest { rest ≤ load_of (in_units scope.unit scope.instance.now) scope.customers.now }
+    ensures least { let p = in_units scope.entry.unit scope.entry.instance.now in IsLeast (HasRelaxed p scope.entry.customers.now at (p.capacity - free) rest) result }
 {
     let rest = rest as usize;
-    let room = (scope.instance.capacity() - load) as usize;
+    let room = free as usize;
     let mut least = MARK;
     for home in 0..room.min(rest) + 1 {
         least = least.min(walks[home * scope.places + usize::from(at)] + tours[rest - home]);

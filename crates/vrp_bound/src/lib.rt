@@ -3,6 +3,7 @@
 #![tactic(auto)]
 
 mod capacity;
+mod divisor;
 #[cfg(test)]
 mod fixture;
 mod greater;
@@ -11,6 +12,7 @@ mod law;
 mod scope;
 mod tables;
 mod tours;
+mod units;
 mod walks;
 
 pub use capacity::cap_bound;

@@ -3,13 +3,14 @@ ghost use Rattle.std.specs.Prelude.{◌≡◌, ◌≤◌, ◌<◌, All, Contains
 ghost use Rattle.std.specs.List.Sorted.{IsStrictlyIncreasing};
 ghost use Rattle.vrp_model.specs.Problem.{customers, place_count};
 ghost use Rattle.vrp_model.specs.Route.{load_of};
-ghost use Rattle.vrp_bound.specs.Cells.{AreHomes, AreTours, AreWalks, HasRelaxed, IsLeast};
-ghost use Rattle.vrp_bound.specs.Tables.{IsBound, TablesOf, room_of};
+ghost use Rattle.vrp_bound.specs.Cells.{HasRelaxed, IsLeast};
+ghost use Rattle.vrp_bound.specs.Tables.{AreMade, IsBound, TablesOf};
 ghost use Rattle.vrp_bound.specs.Scope.{IsScope};
 
 use crate::homes::{homes, least_way_home, looked_up};
 use crate::scope::{Scope, are_made, demand_of_all};
 use crate::tours::tours;
+use crate::units::{UnitScope, demands_in_units, unit_of};
 use crate::walks::{MARK, walks};
 use std::alloc::Global;
 use std::marker::Model;
@@ -27,6 +28,8 @@ pub struct Tables<'a> {
 // The cells of the tables: each is a least cost, or a mark where there is none.
 #[derive(Debug, Drop)]
 struct Cells {
+    // Of which each customer demands a whole number. Loads, rests and the room are counted in units.
+    unit: u64,
     // How much of the whole demand one truck can carry.
     room: u64,
     // By load, and of each load by place.
@@ -73,6 +76,14 @@ impl<'a> Tables<'a> {
         })
     }
 
+    /// Tables over all customers.
+    pub fn over_all(alloc: Global, instance: &'a Instance) -> Result<Tables<'a>, NoMemory>
+        ensures { IfOk result (λ tables. tables ≡ record { problem = instance.now; among = customers instance.now }) }
+    {
+        let customers = all_customers(alloc, instance)?;
+        Tables::build(alloc, instance, &customers)
+    }
+
     /// The least cost of what carries the rest from a place: the walk home of the open truck with this load, where one is out
     /// at a customer, and tours. A walk may come to a customer again, but goes from none to itself. `None`: nothing carries
     /// exactly the rest. Where a customer has no demand, or the tables would be too large, the answer is 0.
@@ -96,20 +107,21 @@ impl<'a> Tables<'a> {
 impl Cells {
     ghost use Rattle.vrp_bound.specs.Filled.{AreCells};
 
-    // The cells over customers that all have a demand.
+    // The cells over customers for whom tables are made.
     fn fill(alloc: Global, scope: Scope<'_>) -> Result<Cells, NoMemory>
-        requires { IsScope scope.instance.now scope.customers.now }
-        ensures walks { IfOk result (λ cells. AreWalks scope.entry.instance.now scope.entry.customers.now cells.walks.items) }
-        ensures tours { IfOk result (λ cells. AreTours scope.entry.instance.now scope.entry.customers.now cells.tours.items) }
-        ensures room { IfOk result (λ cells. cells.room ≡ room_of scope.entry.instance.now scope.entry.customers.now) }
-        ensures homes { IfOk result (λ cells. IfSome cells.homes (λ homes. AreHomes scope.entry.instance.now scope.entry.customers.now homes.items)) }
+        requires made { AreMade scope.instance.now scope.customers.now }
+        requires scope { IsScope scope.instance.now scope.customers.now }
+        ensures { IfOk result (λ cells. AreCells scope.entry.instance.now scope.entry.customers.now cells) }
     {
-        let demand = demand_of_all(scope);
-        let room = scope.instance.capacity().min(demand);
-        let walks = walks(alloc, scope, room)?;
-        let tours = tours(alloc, scope, &walks, room, demand)?;
-        let homes = homes(alloc, scope, &walks, &tours, room)?;
+        let units = UnitScope::new(scope, unit_of(scope));
+        let demand = units.whole_units(demand_of_all(scope));
+        let room = units.whole_units(scope.instance.capacity()).min(demand);
+        let demands = demands_in_units(alloc, units)?;
+        let walks = walks(alloc, units, &demands, room)?;
+        let tours = tours(alloc, units, &walks, room, demand)?;
+        let homes = homes(alloc, units, &walks, &tours, room)?;
         Ok(Cells {
+            unit: units.unit,
             room,
             walks,
             tours,
@@ -117,7 +129,8 @@ impl Cells {
         })
     }
 
-    // The least cost of what carries the rest from a place, or the mark or more where nothing does.
+    // The least cost of what carries the rest from a place, or the mark or more where nothing does. Every walk takes up a whole
+    // number of units: so nothing carries a rest that is none, and what the open truck can still take is floored.
     fn least(&self, scope: Scope<'_>, at: u16, load: u64, rest: u64) -> u64
         requires cells { AreCells scope.instance.now scope.customers.now self.now }
         requires place { at < place_count scope.instance.now }
@@ -126,14 +139,28 @@ impl Cells {
         requires rest { rest ≤ load_of scope.instance.now scope.customers.now }
         ensures { IsLeast (HasRelaxed scope.entry.instance.now scope.entry.customers.now at load rest) result }
     {
-        if at == 0 {
-            return self.tours[rest as usize];
+        let units = UnitScope::new(scope, self.unit);
+        let carried = units.whole_units(rest);
+        let whole = carried * self.unit;
+        if whole != rest {
+            return MARK;
         }
+        if at == 0 {
+            return self.tours[carried as usize];
+        }
+        let free = units.whole_units(scope.instance.capacity() - load);
         match &self.homes {
-            Some(homes) => looked_up(scope, homes, &self.tours, self.room, at, load, rest),
-            None => least_way_home(scope, &self.walks, &self.tours, at, load, rest),
+            Some(homes) => looked_up(units, homes, &self.tours, self.room, at, free, carried),
+            None => least_way_home(units, &self.walks, &self.tours, at, free, carried),
         }
     }
+}
+
+// All customers, by rising place.
+fn all_customers(alloc: Global, instance: &Instance) -> Result<Vec<u16>, NoMemory>
+    ensures { IfOk result (λ all. all.items ≡ customers instance.now) }
+{
+    Ok((1..instance.customers() + 1).collect(alloc)?)
 }
 
 #[cfg(test)]
@@ -220,8 +247,47 @@ mod tests {
     }
 
     #[test]
+    fn demands_in_hundreds(rt: HostRuntime) -> Result<(), Fail> {
+        let points = [(0, 0), (3, 4), (6, 8), (9, 12), (12, 16)];
+        let weights = Weights::points(rt.alloc(), Metric::Euc2d, &points)?;
+        let demands = [0, 5_900, 5_600, 6_000, 5_000];
+        let instance = Instance::new(rt.alloc(), weights, &demands, 6_000, &[1], None)?;
+        let customers = [1, 2, 3, 4];
+        assert!(rt; are_customers(&instance, &customers));
+        let tables = Tables::build(rt.alloc(), &instance, &customers)?;
+        if let Some(cells) = &tables.cells {
+            assert_eq!(rt; cells.unit, 100);
+            assert!(rt; cells.homes.is_some());
+        } else {
+            panic!(rt; "no tables");
+        }
+        let asked = [
+            (0, 0, 22_500, Some(100)),
+            (0, 0, 22_450, None),
+            (0, 0, 5_000, Some(40)),
+            (0, 0, 5_050, None),
+            (1, 5_900, 16_600, Some(95)),
+            (1, 50, 5_900, Some(15)),
+            (1, 400, 5_600, Some(15)),
+            (1, 401, 5_600, Some(25)),
+            (3, 6_000, 0, Some(15)),
+            (3, 6_000, 50, None),
+        ];
+        assert_answers(&rt, &tables, &asked);
+        Ok(())
+    }
+
+    #[test]
     fn the_same_as_every_walk(rt: HostRuntime) -> Result<(), Fail> {
-        for (demands, capacity) in [([0, 1, 2, 1], 3), ([0, 2, 3, 2], 4), ([0, 2, 2, 2], 2)] {
+        let table = [
+            ([0, 1, 2, 1], 3),
+            ([0, 2, 3, 2], 4),
+            ([0, 2, 2, 2], 2),
+            // counted in units of 2, with loads and rests that are no whole number of them
+            ([0, 2, 4, 2], 7),
+            ([0, 4, 2, 4], 6),
+        ];
+        for (demands, capacity) in table {
             let points = [(0, 0), (3, 4), (6, 8), (5, -12)];
             let near = Weights::points(rt.alloc(), Metric::Euc2d, &points)?;
             assert_lists(&rt, rt.alloc(), near, &demands, capacity, true)?;
@@ -248,7 +314,7 @@ mod tests {
         near: bool,
     ) -> Result<(), Fail> {
         assert!(rt; weights.nodes() == 4);
-        assert!(rt; capacity <= 4);
+        assert!(rt; capacity <= 7);
         let instance = Instance::new(alloc, weights, demands, capacity, &[1], None)?;
         let lists: [&[u16]; 4] = [&[1, 2, 3], &[1, 3], &[2], &[]];
         for customers in lists {

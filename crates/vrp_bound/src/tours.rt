@@ -2,10 +2,10 @@
 ghost use Rattle.std.specs.Prelude.{◌≡◌, ◌≤◌, IfOk, length};
 ghost use Rattle.vrp_model.specs.Route.{load_of};
 ghost use Rattle.vrp_bound.specs.Cells.{AreTours, AreToursSoFar, AreWalks, HasTours, IsLeast, mark};
-ghost use Rattle.vrp_bound.specs.Scope.{IsScope};
 ghost use Rattle.vrp_bound.specs.Tables.{room_of};
+ghost use Rattle.vrp_bound.specs.Units.{in_units};
 
-use crate::scope::Scope;
+use crate::units::UnitScope;
 use crate::walks::MARK;
 use std::alloc::Global;
 use vrp_model::NoMemory;
@@ -13,16 +13,15 @@ use vrp_model::NoMemory;
 /// The cells, by what is carried, up to the whole demand.
 pub(crate) fn tours(
     alloc: Global,
-    scope: Scope<'_>,
+    scope: UnitScope<'_>,
     walks: &[u64],
     room: u64,
     demand: u64,
 ) -> Result<Vec<u64>, NoMemory>
-    requires scope { IsScope scope.instance.now scope.customers.now }
-    requires walks { AreWalks scope.instance.now scope.customers.now walks.now }
-    requires room { room ≡ room_of scope.instance.now scope.customers.now }
-    requires demand { demand ≡ load_of scope.instance.now scope.customers.now }
-    ensures { IfOk result (λ cells. AreTours scope.entry.instance.now scope.entry.customers.now cells.items) }
+    requires walks { AreWalks (in_units scope.unit scope.instance.now) scope.customers.now walks.now }
+    requires room { room ≡ room_of (in_units scope.unit scope.instance.now) scope.customers.now }
+    requires demand { demand ≡ load_of (in_units scope.unit scope.instance.now) scope.customers.now }
+    ensures { IfOk result (λ cells. AreTours (in_units scope.entry.unit scope.entry.instance.now) scope.entry.customers.now cells.items) }
 {
     let count = demand as usize + 1;
     let mut cells = Vec::with_capacity(alloc, count)?;
@@ -34,13 +33,12 @@ pub(crate) fn tours(
 }
 
 // The least cost of tours that carry as much as there are cells: by the load of the first tour, and the tours behind it.
-fn least_tours(scope: Scope<'_>, walks: &[u64], cells: &[u64], room: usize) -> u64
-    requires scope { IsScope scope.instance.now scope.customers.now }
-    requires walks { AreWalks scope.instance.now scope.customers.now walks.now }
-    requires so_far { AreToursSoFar scope.instance.now scope.customers.now cells.now }
-    requires room { room ≡ room_of scope.instance.now scope.customers.now }
-    requires rest { length cells.now ≤ load_of scope.instance.now scope.customers.now }
-    ensures least { IsLeast (HasTours scope.entry.instance.now scope.entry.customers.now (length cells.now)) result }
+fn least_tours(scope: UnitScope<'_>, walks: &[u64], cells: &[u64], room: usize) -> u64
+    requires walks { AreWalks (in_units scope.unit scope.instance.now) scope.customers.now walks.now }
+    requires so_far { AreToursSoFar (in_units scope.unit scope.instance.now) scope.customers.now cells.now }
+    requires room { room ≡ room_of (in_units scope.unit scope.instance.now) scope.customers.now }
+    requires rest { length cells.now ≤ load_of (in_units scope.unit scope.instance.now) scope.customers.now }
+    ensures least { IsLeast (HasTours (in_units scope.entry.unit scope.entry.instance.now) scope.entry.customers.now (length cells.now)) result }
     ensures within { result ≤ mark }
 {
     let rest = cells.len();

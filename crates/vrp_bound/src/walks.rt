@@ -1,44 +1,59 @@
 //! The table of the walks: the least cost of a walk from each place to the depot, by the load that it takes up.
-ghost use Rattle.std.specs.Prelude.{◌≡◌, ◌+◌, ◌*◌, ◌≤◌, ◌<◌, IfOk, length};
+ghost use Rattle.std.specs.Prelude.{◌≡◌, ◌+◌, ◌*◌, ◌≤◌, ◌<◌, IfOk, length, vec_len, vec_capacity};
 ghost use Rattle.vrp_model.specs.Problem.{place_count};
 ghost use Rattle.vrp_bound.specs.Cells.{AreWalks, AreWalksSoFar, HasWalk, IsLeast, mark};
-ghost use Rattle.vrp_bound.specs.Scope.{IsScope};
 ghost use Rattle.vrp_bound.specs.Tables.{room_of};
+ghost use Rattle.vrp_bound.specs.Units.{in_units};
 
-use crate::scope::Scope;
+use crate::units::UnitScope;
 use std::alloc::Global;
 use vrp_model::NoMemory;
 
 /// What stands where there is no walk or no tours: above every cost, and twice of it still fits.
 pub(crate) const MARK: u64 = 4_000_000_000_000_000_000;
 
-/// The cells, by load and of each load by place, for loads up to what one truck can carry.
-pub(crate) fn walks(alloc: Global, scope: Scope<'_>, room: u64) -> Result<Vec<u64>, NoMemory>
-    requires scope { IsScope scope.instance.now scope.customers.now }
-    requires room { room ≡ room_of scope.instance.now scope.customers.now }
-    ensures { IfOk result (λ cells. AreWalks scope.entry.instance.now scope.entry.customers.now cells.items) }
+/// The cells, by load and of each load by place, for loads up to what one truck can carry. `demands` is by place.
+pub(crate) fn walks(
+    alloc: Global,
+    scope: UnitScope<'_>,
+    demands: &[u64],
+    room: u64,
+) -> Result<Vec<u64>, NoMemory>
+    requires demands { demands.now ≡ (in_units scope.unit scope.instance.now).demands }
+    requires room { room ≡ room_of (in_units scope.unit scope.instance.now) scope.customers.now }
+    ensures { IfOk result (λ cells. AreWalks (in_units scope.entry.unit scope.entry.instance.now) scope.entry.customers.now cells.items) }
 {
-    let count = (room as usize + 1) * scope.places;
-    let mut cells = Vec::with_capacity(alloc, count)?;
-    for index in 0..count {
-        let cell = least_walk(
-            scope,
-            &cells,
-            index / scope.places,
-            (index % scope.places) as u16,
-        );
-        cells.push_reserved(cell);
+    let loads = room as usize + 1;
+    let mut cells = Vec::with_capacity(alloc, loads * scope.places)?;
+    for load in 0..loads {
+        push_row(&mut cells, scope, demands, load);
     }
     Ok(cells)
 }
 
+// Adds the cells of a load, after those of less.
+fn push_row(cells: &mut Vec<u64>, scope: UnitScope<'_>, demands: &[u64], load: usize)
+    requires demands { demands.now ≡ (in_units scope.unit scope.instance.now).demands }
+    requires so_far { AreWalksSoFar (in_units scope.unit scope.instance.now) scope.customers.now cells.old.items }
+    requires next { vec_len cells.old ≡ load * place_count scope.instance.now }
+    requires fits { vec_len cells.old + place_count scope.instance.now ≤ vec_capacity cells.old }
+    ensures len { vec_len cells.new ≡ vec_len cells.old + place_count scope.entry.instance.now }
+    ensures capacity { vec_capacity cells.new ≡ vec_capacity cells.old }
+    ensures so_far { AreWalksSoFar (in_units scope.entry.unit scope.entry.instance.now) scope.entry.customers.now cells.new.items }
+{
+    for at in 0..scope.places as u16 {
+        let cell = least_walk(scope, demands, cells, load, at);
+        cells.push_reserved(cell);
+    }
+}
+
 // The least cost of a walk from a place that takes up this load: by its first stop, and the walk from there.
-fn least_walk(scope: Scope<'_>, cells: &[u64], load: usize, at: u16) -> u64
-    requires scope { IsScope scope.instance.now scope.customers.now }
-    requires so_far { AreWalksSoFar scope.instance.now scope.customers.now cells.now }
+fn least_walk(scope: UnitScope<'_>, demands: &[u64], cells: &[u64], load: usize, at: u16) -> u64
+    requires demands { demands.now ≡ (in_units scope.unit scope.instance.now).demands }
+    requires so_far { AreWalksSoFar (in_units scope.unit scope.instance.now) scope.customers.now cells.now }
     requires place { at < place_count scope.instance.now }
     requires next { length cells.now ≡ load * place_count scope.instance.now + at }
-    ensures least { IsLeast (HasWalk scope.entry.instance.now scope.entry.customers.now at load) result }
+    ensures least { IsLeast (HasWalk (in_units scope.entry.unit scope.entry.instance.now) scope.entry.customers.now at load) result }
     ensures within { result ≤ mark }
 {
     if load == 0 {
@@ -46,9 +61,10 @@ fn least_walk(scope: Scope<'_>, cells: &[u64], load: usize, at: u16) -> u64
     }
     let mut least = MARK;
     for customer in scope.customers {
-        let demand = scope.instance.demand(*customer) as usize;
+        let stop = usize::from(*customer);
+        let demand = demands[stop] as usize;
         if *customer != at && demand <= load {
-            let behind = cells[(load - demand) * scope.places + usize::from(*customer)];
+            let behind = cells[(load - demand) * scope.places + stop];
             least = least.min(scope.instance.weight(at, *customer) + behind);
         }
     }

@@ -3,27 +3,32 @@ use Rattle.std.proofs.Common.{◌≡◌, ◌∙◌, ℕ, zero, suc, ◌+◌, ◌
 use Rattle.std.specs.Prelude.{map, slice_index_or, unwrap_or}
 use Rattle.std.specs.List.{All, Contains}
 use Rattle.std.specs.List.Sorted.{IsPermutation, IsStrictlyIncreasing}
-use Rattle.std.proofs.lemmas.List.Elements.{All-cons, All-nil, All-append}
+use Rattle.std.proofs.lemmas.List.Elements.{All-append, All-cons, All-nil, Contains-get_or}
 use Rattle.std.proofs.lemmas.List.{get_or-map, length-map, take_more}
 use Rattle.vrp_model.specs.Cheapest.{IsCheapest, NoneCheaper}
-use Rattle.vrp_model.specs.Problem.{Problem}
+use Rattle.vrp_model.specs.Problem.{Problem, customers}
 use Rattle.vrp_model.specs.Route.{IsLawful, IsPlanOf, PricedPlan, plan_cost}
-use Rattle.vrp_model.specs.Word.{BeginsWith, IsLawfulWord, NoneCheaperUnder, TreeHasAtLeast, first_stops, word_cost, word_of}
+use Rattle.vrp_model.specs.Word.{BeginsWith, IsLawfulWord, NoneCheaperUnder, first_stops, word_cost, word_of}
 use Rattle.vrp_search.specs.Cutting.{HasNoChild, IsCutting, NumberedWord}
-use Rattle.vrp_search.specs.Search.{IsUnfinished}
+use Rattle.vrp_search.specs.Search.{AreCovered, IsUnfinished}
 use Rattle.vrp_command.specs.Answer.{IsAnswer, IsLeftOpen}
 use Rattle.vrp_command.specs.declared.verdict.Verdict.{Verdict}
 use Rattle.vrp_command.specs.declared.verdict.Verdict.TheVariants.{Proven, Open}
-use Rattle.vrp_command.specs.Searched.{AreSearched, IsLeast, least_of}
+use Rattle.vrp_command.specs.Searched.{AreSearched, BoundedFront, IsLeast, IsLeft, fronts_of, least_of, lows_of}
+
+-- ---- all customers
+
+-- each customer is among them
+pub all_covered : (p : Problem) (front : List ℕ) → AreCovered p (customers p) front
+all_covered p front = λ k d lt. inr (Contains-get_or (customers p) k d lt)
 
 -- ---- piece by piece
 
 pub none_searched : (p : Problem) (cutting : List (List ℕ)) (budget cost : ℕ) → AreSearched p cutting budget cost [] None
 none_searched p cutting budget cost = record {
   unfinished = [];
-  among = All-nil (Contains cutting);
-  large = All-nil (λ front. TreeHasAtLeast p front (budget + 1));
-  bounds = All-nil (λ front. NoneCheaperUnder p front (word_cost p front));
+  left = All-nil (IsLeft p cutting budget);
+  bounds = All-nil (λ (piece : BoundedFront). NoneCheaperUnder p piece.front piece.low);
   others = All-nil (λ front. Contains {X = List ℕ} [] front ⊎ NoneCheaperUnder p front cost);
   least = refl;
 }
@@ -42,11 +47,12 @@ pub piece_finished : (p : Problem) (cutting : List (List ℕ)) (budget cost fall
     → AreSearched p cutting budget cost searched lower → falls_to ≤ cost → NoneCheaperUnder p front falls_to → AreSearched p cutting budget falls_to (searched ++ front ∷ []) lower
 piece_finished p cutting budget cost falls_to searched front lower so_far falls none = record {
   unfinished = so_far.unfinished;
-  among = so_far.among;
-  large = so_far.large;
+  left = so_far.left;
   bounds = so_far.bounds;
-  others = All-append (λ f. Contains so_far.unfinished f ⊎ NoneCheaperUnder p f falls_to) searched (front ∷ []) (others_lower p so_far.unfinished searched cost falls_to falls so_far.others)
-      (All-cons (λ f. Contains so_far.unfinished f ⊎ NoneCheaperUnder p f falls_to) front [] (inr none) (All-nil (λ f. Contains so_far.unfinished f ⊎ NoneCheaperUnder p f falls_to)));
+  others =
+      let fronts = fronts_of so_far.unfinished in
+      All-append (λ f. Contains fronts f ⊎ NoneCheaperUnder p f falls_to) searched (front ∷ []) (others_lower p fronts searched cost falls_to falls so_far.others)
+      (All-cons (λ f. Contains fronts f ⊎ NoneCheaperUnder p f falls_to) front [] (inr none) (All-nil (λ f. Contains fronts f ⊎ NoneCheaperUnder p f falls_to)));
   least = so_far.least;
 }
 
@@ -69,21 +75,22 @@ others_more p front unfinished searched cost others = λ k d lt. elim (others k 
 ]
 
 pub piece_left : (p : Problem) (cutting : List (List ℕ)) (budget cost falls_to spent low : ℕ) (searched : List (List ℕ)) (front : List ℕ) (lower : Option ℕ)
-    → AreSearched p cutting budget cost searched lower → falls_to ≤ cost → Contains cutting front → IsUnfinished p front budget spent low
+    → AreSearched p cutting budget cost searched lower → falls_to ≤ cost → Contains cutting front → IsUnfinished p (customers p) front budget spent low
     → AreSearched p cutting budget falls_to (searched ++ front ∷ []) (Some (with_one lower low))
 piece_left p cutting budget cost falls_to spent low searched front lower so_far falls within left =
-    let unfinished = front ∷ so_far.unfinished in
-    let here : Contains unfinished front = (0, omega arith, refl) in
-    let least = least_with lower low (map (word_cost p) so_far.unfinished) so_far.least in
+    let piece : BoundedFront = record { front = front; low = low } in
+    let is_left : IsLeft p cutting budget piece = record { among = within; large = left.tree; is_low = left.is_low } in
+    let before = fronts_of so_far.unfinished in
+    let fronts = front ∷ before in
+    let here : Contains fronts front = (0, omega arith, refl) in
     record {
-      unfinished = unfinished;
-      among = All-cons (Contains cutting) front so_far.unfinished within so_far.among;
-      large = All-cons (λ f. TreeHasAtLeast p f (budget + 1)) front so_far.unfinished left.tree so_far.large;
-      bounds = All-cons (λ f. NoneCheaperUnder p f (word_cost p f)) front so_far.unfinished (subst (NoneCheaperUnder p front) left.paid left.none_cheaper) so_far.bounds;
-      others = All-append (λ f. Contains unfinished f ⊎ NoneCheaperUnder p f falls_to) searched (front ∷ [])
-          (others_more p front so_far.unfinished searched falls_to (others_lower p so_far.unfinished searched cost falls_to falls so_far.others))
-          (All-cons (λ f. Contains unfinished f ⊎ NoneCheaperUnder p f falls_to) front [] (inl here) (All-nil (λ f. Contains unfinished f ⊎ NoneCheaperUnder p f falls_to)));
-      least = subst (λ n. IsLeast (Some (with_one lower low)) (n ∷ map (word_cost p) so_far.unfinished)) left.paid least;
+      unfinished = piece ∷ so_far.unfinished;
+      left = All-cons (IsLeft p cutting budget) piece so_far.unfinished is_left so_far.left;
+      bounds = All-cons (λ (other : BoundedFront). NoneCheaperUnder p other.front other.low) piece so_far.unfinished left.none_cheaper so_far.bounds;
+      others = All-append (λ f. Contains fronts f ⊎ NoneCheaperUnder p f falls_to) searched (front ∷ [])
+          (others_more p front before searched falls_to (others_lower p before searched cost falls_to falls so_far.others))
+          (All-cons (λ f. Contains fronts f ⊎ NoneCheaperUnder p f falls_to) front [] (inl here) (All-nil (λ f. Contains fronts f ⊎ NoneCheaperUnder p f falls_to)));
+      least = least_with lower low (lows_of so_far.unfinished) so_far.least;
     }
 
 -- ---- all pieces
@@ -92,10 +99,16 @@ least_is_low : (number : ℕ) (numbers : List ℕ) → least_of number numbers �
 least_is_low number [] = omega arith
 least_is_low number (other ∷ numbers) = omega (arith, least_is_low number numbers)
 
-least_is_least : (number : ℕ) (costs : List ℕ → ℕ) (fronts : List (List ℕ)) (front : List ℕ) → Contains fronts front → least_of number (map costs fronts) ≤ costs front
-least_is_least number costs [] front (k, lt, is) = absurd (omega (arith, lt))
-least_is_least number costs (other ∷ fronts) front (zero, lt, is) = let same : costs other ≡ costs front = ap costs is in omega (arith, same)
-least_is_least number costs (other ∷ fronts) front (suc k, lt, is) = omega (arith, least_is_least number costs fronts front (k, omega (arith, lt), is))
+-- a word under one of these fronts costs no less than the least of their lows
+least_is_bound : (p : Problem) (number : ℕ) (pieces : List BoundedFront) (front word : List ℕ) → All (λ piece. NoneCheaperUnder p piece.front piece.low) pieces → Contains (fronts_of pieces) front
+    → IsLawfulWord p word → BeginsWith word front → least_of number (lows_of pieces) ≤ word_cost p word
+least_is_bound p number [] front word bounds (k, lt, is) lawful begins = absurd (omega (arith, lt))
+least_is_bound p number (piece ∷ pieces) front word bounds (zero, lt, is) lawful begins =
+    let low : piece.low ≤ word_cost p word = bounds 0 piece (omega arith) word lawful (subst (BeginsWith word) (sym is) begins) in
+    omega (arith, low)
+least_is_bound p number (piece ∷ pieces) front word bounds (suc k, lt, is) lawful begins =
+    let rest : All (λ other. NoneCheaperUnder p other.front other.low) pieces = λ j d within. bounds (suc j) d (omega (arith, within)) in
+    omega (arith, least_is_bound p number pieces front word rest (k, omega (arith, lt), is) lawful begins)
 
 -- each lawful word is under one piece
 abbrev pub OnePiece : Type 0
@@ -117,18 +130,14 @@ words_to_plans rise words p cost none = λ routes lawful.
     let (word, price) = words p others also rising in
     omega (arith, none (word_of others) word, price, same)
 
-bounded_at : (p : Problem) (fronts : List (List ℕ)) (front : List ℕ) → All (λ f. NoneCheaperUnder p f (word_cost p f)) fronts → Contains fronts front → NoneCheaperUnder p front (word_cost p front)
-bounded_at p fronts front all (k, lt, is) = subst (λ (f : List ℕ). NoneCheaperUnder p f (word_cost p f)) is (all k front lt)
-
 -- no word costs less than the plan and all that is unfinished
 no_word_cheaper : OnePiece → (p : Problem) (cutting : List (List ℕ)) (budget cost : ℕ) (lower : Option ℕ) → IsCutting p cutting → (so_far : AreSearched p cutting budget cost cutting lower)
-    → (word : List ℕ) → IsLawfulWord p word → least_of cost (map (word_cost p) so_far.unfinished) ≤ word_cost p word
+    → (word : List ℕ) → IsLawfulWord p word → least_of cost (lows_of so_far.unfinished) ≤ word_cost p word
 no_word_cheaper piece p cutting budget cost lower is_cutting so_far word lawful =
     let (k, lt, begins, only) = piece p cutting word is_cutting lawful in
-    let front = get_or cutting k [] in
     elim (so_far.others k [] lt) [
-      | inl left ↦ omega (arith, least_is_least cost (word_cost p) so_far.unfinished front left, bounded_at p so_far.unfinished front so_far.bounds left word lawful begins)
-      | inr none ↦ omega (arith, least_is_low cost (map (word_cost p) so_far.unfinished), none word lawful begins)
+      | inl left ↦ least_is_bound p cost so_far.unfinished (get_or cutting k []) word so_far.bounds left lawful begins
+      | inr none ↦ omega (arith, least_is_low cost (lows_of so_far.unfinished), none word lawful begins)
     ]
 
 pub proven : OnePiece → PlansCanRise → PlansAreWords → (p : Problem) (cutting : List (List ℕ)) (budget : ℕ) (plan : PricedPlan) → IsCutting p cutting → IsPlanOf p plan
@@ -140,14 +149,10 @@ proven piece rise words p cutting budget plan is_cutting plan_of so_far = record
       subst (λ (costs : List ℕ). least_of plan.cost costs ≤ word_cost p word) so_far.least none);
 }
 
-length_of_map : (costs : List ℕ → ℕ) (fronts : List (List ℕ)) → length (map costs fronts) ≡ length fronts
-length_of_map costs [] = refl
-length_of_map costs (front ∷ fronts) = ap suc (length_of_map costs fronts)
-
 pub left_open : OnePiece → PlansCanRise → PlansAreWords → (p : Problem) (cutting : List (List ℕ)) (pieces budget : ℕ) (plan : PricedPlan) (lower : ℕ) → IsCutting p cutting
     → (pieces ≤ length cutting) ⊎ All (HasNoChild p) cutting → IsPlanOf p plan → AreSearched p cutting budget plan.cost cutting (Some lower) → IsLeftOpen p pieces budget plan (min lower plan.cost)
 left_open piece rise words p cutting pieces budget plan lower is_cutting enough plan_of so_far =
-    let least : min lower plan.cost ≡ least_of plan.cost (map (word_cost p) so_far.unfinished) = omega (arith, so_far.least.1 plan.cost) in
+    let least : min lower plan.cost ≡ least_of plan.cost (lows_of so_far.unfinished) = omega (arith, so_far.least.1 plan.cost) in
     record {
       plan_of = plan_of;
       none_cheaper = words_to_plans rise words p (min lower plan.cost) (λ word lawful. omega (arith, least, no_word_cheaper piece p cutting budget plan.cost (Some lower) is_cutting so_far word lawful));
@@ -156,9 +161,8 @@ left_open piece rise words p cutting pieces budget plan lower is_cutting enough 
         is_cutting = is_cutting;
         enough = enough;
         unfinished = so_far.unfinished;
-        some = omega (arith, so_far.least.0, length_of_map (word_cost p) so_far.unfinished);
-        among = so_far.among;
-        large = so_far.large;
+        some = omega (arith, so_far.least.0, length-map so_far.unfinished (λ (piece : BoundedFront). piece.low));
+        left = so_far.left;
         others = so_far.others;
         least = least;
       };

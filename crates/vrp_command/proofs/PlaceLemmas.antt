@@ -1,16 +1,11 @@
 -- The stops of a lawful plan are places of the problem.
-use Rattle.std.proofs.Common.{ℕ, suc, ◌-◌, ◌<◌, List, [], ◌∷◌, ◌++◌, length, get_or, subst, arith}
-use Rattle.std.specs.List.{All, Contains, concat, range_with_len}
+use Rattle.std.proofs.Common.{ℕ, suc, ◌<◌, List, [], ◌∷◌, ◌++◌, length, get_or, arith}
+use Rattle.std.specs.List.{All, concat}
 use Rattle.std.proofs.lemmas.List.Elements.{All-cons, All-nil, Contains-get_or}
-use Rattle.std.proofs.lemmas.List.FromFn.{get_or-range_with_len, length-range_with_len}
 use Rattle.std.proofs.lemmas.List.Sorted.{Contains-permutation}
 use Rattle.vrp_model.specs.Problem.{Problem, customers, place_count}
+use Rattle.vrp_model.proofs.AllCustomers.{customer_below}
 use Rattle.vrp_model.specs.Route.{IsLawful}
-
-customer_within : (count k d : ℕ) → k < length (range_with_len 1 (count - 1)) → get_or (range_with_len 1 (count - 1)) k d < count
-customer_within count k d inside =
-    let bound : k < count - 1 = rw length-range_with_len at inside in
-    rw (get_or-range_with_len 1 (count - 1) k d bound) (omega arith)
 
 parts : (P : ℕ → Type 0) (xs ys : List ℕ) → All P (xs ++ ys) → All P xs × All P ys
 parts P [] ys all = (All-nil P, all)
@@ -22,9 +17,6 @@ route_by_route : (P : ℕ → Type 0) (routes : List (List ℕ)) → All P (conc
 route_by_route P [] all = All-nil (All P)
 route_by_route P (route ∷ routes) all =
     let (here, rest) = parts P route (concat routes) all in All-cons (All P) route routes here (route_by_route P routes rest)
-
-customer_below : (p : Problem) (k : ℕ) → Contains (customers p) k → k < place_count p
-customer_below p k (i, lt, is) = subst (λ n. n < place_count p) is (customer_within (place_count p) i k lt)
 
 pub stops_within : (p : Problem) (routes : List (List ℕ)) → IsLawful p routes → All (All (λ place. place < place_count p)) routes
 stops_within p routes lawful =

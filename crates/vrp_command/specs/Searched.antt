@@ -1,8 +1,9 @@
 -- What is known of the pieces that were searched.
 use Rattle.std.specs.Prelude.{◌≡◌, ◌⊎◌, ℕ, ◌+◌, ◌<◌, Option, Some, None, min, List, [], ◌∷◌, length, map}
 use Rattle.std.specs.List.{All, Contains}
-use Rattle.vrp_model.specs.Problem.{Problem}
-use Rattle.vrp_model.specs.Word.{NoneCheaperUnder, TreeHasAtLeast, word_cost}
+use Rattle.vrp_model.specs.Problem.{Problem, customers}
+use Rattle.vrp_model.specs.Word.{NoneCheaperUnder, TreeHasAtLeast}
+use Rattle.vrp_search.specs.Search.{IsLow}
 
 -- the least of a number and those of a list
 abbrev pub least_of : ℕ → List ℕ → ℕ
@@ -14,12 +15,29 @@ abbrev pub IsLeast : Option ℕ → List ℕ → Type 0
 IsLeast None numbers = numbers ≡ []
 IsLeast (Some least) numbers = (0 < length numbers) × ((other : ℕ) → min other least ≡ least_of other numbers)
 
--- Of some pieces the trees are above the budget, and the lower number is the least of what their words cost. No word under
--- any other of the pieces searched costs less than this cost.
+-- a front, and what a word under it costs at least
+pub record BoundedFront : Type 0 where
+  pub front : List ℕ
+  pub low : ℕ
+
+abbrev pub fronts_of : List BoundedFront → List (List ℕ)
+fronts_of pieces = map (λ (piece : BoundedFront). piece.front) pieces
+
+abbrev pub lows_of : List BoundedFront → List ℕ
+lows_of pieces = map (λ (piece : BoundedFront). piece.low) pieces
+
+-- A piece that is left unfinished: its tree is above the budget, and the number is what is paid along its word and the bound
+-- there, with tables over all customers.
+pub record IsLeft (p : Problem) (cutting : List (List ℕ)) (budget : ℕ) (piece : BoundedFront) : Type 0 where
+  pub among : Contains cutting piece.front
+  pub large : TreeHasAtLeast p piece.front (budget + 1)
+  pub is_low : IsLow p (customers p) piece.front (Some piece.low)
+
+-- Some pieces are left unfinished, and the lower number is the least of theirs. No word under any other of the pieces searched
+-- costs less than this cost.
 pub record AreSearched (p : Problem) (cutting : List (List ℕ)) (budget cost : ℕ) (searched : List (List ℕ)) (lower : Option ℕ) : Type 0 where
-  pub unfinished : List (List ℕ)
-  pub among : All (Contains cutting) unfinished
-  pub large : All (λ front. TreeHasAtLeast p front (budget + 1)) unfinished
-  pub bounds : All (λ front. NoneCheaperUnder p front (word_cost p front)) unfinished
-  pub others : All (λ front. Contains unfinished front ⊎ NoneCheaperUnder p front cost) searched
-  pub least : IsLeast lower (map (word_cost p) unfinished)
+  pub unfinished : List BoundedFront
+  pub left : All (IsLeft p cutting budget) unfinished
+  pub bounds : All (λ piece. NoneCheaperUnder p piece.front piece.low) unfinished
+  pub others : All (λ front. Contains (fronts_of unfinished) front ⊎ NoneCheaperUnder p front cost) searched
+  pub least : IsLeast lower (lows_of unfinished)

@@ -1,5 +1,6 @@
 //! The answer to an instance: all pieces are searched, one after the other.
-ghost use Rattle.std.specs.Prelude.{◌≤◌, IfOk};
+ghost use Rattle.std.specs.Prelude.{◌≡◌, ◌≤◌, IfOk};
+ghost use Rattle.vrp_model.specs.Problem.{customers};
 ghost use Rattle.vrp_model.specs.Route.{IsPlanOf};
 ghost use Rattle.vrp_search.specs.Cutting.{IsCutting};
 ghost use Rattle.vrp_command.specs.Answer.{IsAnswer};
@@ -7,6 +8,7 @@ ghost use Rattle.vrp_command.specs.Searched.{AreSearched};
 
 use crate::verdict::Verdict;
 use std::alloc::Global;
+use vrp_bound::Tables;
 use vrp_model::{Instance, NoMemory, Plan, plans_are_words, plans_can_rise};
 use vrp_search::{Cutting, Ended, Local, one_piece, search};
 
@@ -17,8 +19,8 @@ pub(crate) struct Answer {
     pub(crate) verdict: Verdict,
 }
 
-/// Cuts the tree of an instance into so many pieces, and searches each with this budget. The first plan is that of one truck
-/// for each customer.
+/// Cuts the tree of an instance into so many pieces, and searches each with this budget, all with tables over all customers.
+/// The first plan is that of one truck for each customer.
 pub(crate) fn solve(
     alloc: Global,
     instance: &Instance,
@@ -31,8 +33,9 @@ pub(crate) fn solve(
 {
     let mut cutting = Cutting::whole(alloc, instance)?;
     cutting.at_least(alloc, instance, pieces)?;
+    let tables = Tables::over_all(alloc, instance)?;
     let mut board = Local::open(Plan::singles(alloc, instance)?);
-    let lower = search_all(alloc, instance, &cutting, budget, &mut board)?;
+    let lower = search_all(alloc, instance, &tables, &cutting, budget, &mut board)?;
     // What is known of words holds of plans.
     one_piece();
     plans_can_rise();
@@ -49,10 +52,12 @@ pub(crate) fn solve(
 fn search_all(
     alloc: Global,
     instance: &Instance,
+    tables: &Tables<'_>,
     cutting: &Cutting,
     budget: u64,
     board: &mut Local,
 ) -> Result<Option<u64>, NoMemory>
+    requires tables { tables.now ≡ record { problem = instance.now; among = customers instance.now } }
     requires cutting { IsCutting instance.now cutting.now }
     requires board { IsPlanOf instance.now board.old }
     requires budget { 1 ≤ budget }
@@ -61,7 +66,8 @@ fn search_all(
 {
     let mut lower: Option<u64> = None;
     for piece in cutting.pieces() {
-        if let Ended::Unfinished { low, .. } = search(alloc, instance, piece, budget, board)? {
+        let ended = search(alloc, instance, tables, piece, budget, board)?;
+        if let Ended::Unfinished { low, .. } = ended {
             lower = Some(lower.unwrap_or(low).min(low));
         }
     }

@@ -1,3 +1,4 @@
+pub mod AllCustomers
 pub mod Ceilings
 pub mod ChildCases
 pub mod Children
@@ -5,6 +6,7 @@ pub mod Counting
 pub mod Distances
 pub mod Euclid
 pub mod Filling
+pub mod FrontPlaces
 pub mod FrontsBefore
 pub mod InstanceLemmas
 pub mod LeastWayLemmas

@@ -3,7 +3,8 @@ ghost use Rattle.std.specs.Prelude.{◌≡◌, ℕ, ◌+◌, ◌*◌, ◌-◌, �
 ghost use Rattle.std.specs.List.{range_with_len, flat_map};
 ghost use Rattle.vrp_model.specs.Grid.{entry_at};
 ghost use Rattle.vrp_model.specs.LeastWay.{IsLeastHome, IsLeastIn};
-ghost use Rattle.vrp_model.specs.Problem.{place_count, node_of, demand_of, weight_of, IsProblem};
+ghost use Rattle.vrp_model.specs.Problem.{place_count, customers, node_of, demand_of, weight_of, IsProblem};
+ghost use Rattle.vrp_model.specs.Route.{load_of};
 ghost use Rattle.vrp_model.specs.Request.{is_listed, node_demand, IsAcceptable, problem_of, NoDepotHasDemand, NoneIsTooHeavy};
 
 use crate::depots::Depots;
@@ -151,6 +152,18 @@ impl Instance {
         self.demands[usize::from(place)]
     }
 
+    /// What all customers demand together.
+    pub fn whole_demand(&self) -> u64
+        ensures value { result ≡ load_of self.now (customers self.now) }
+        ensures small { result ≤ 1200000000000 }
+    {
+        let mut demand = 0;
+        for index in 0..self.customers() {
+            demand += self.demand(index + 1);
+        }
+        demand
+    }
+
     /// What one truck can carry.
     pub fn capacity(&self) -> u64
         ensures { result ≡ self.now.capacity }
@@ -197,20 +210,20 @@ mod tests {
     use crate::fixture::{Case, three_nodes};
     use std::test::Fail;
 
-    // A case, and the node and the demand of each place.
-    type Made<'a> = (Case<'a>, &'a [u16], &'a [u64]);
+    // A case, the node and the demand of each place, and what all demand.
+    type Made<'a> = (Case<'a>, &'a [u16], &'a [u64], u64);
 
     #[test]
     fn places_of_cases(rt: HostRuntime) -> Result<(), Fail> {
         let table: [Made<'_>; 6] = [
-            (case([0, 1, 1], &[1], None), &[1, 2, 3], &[0, 1, 1]),
-            (case([1, 0, 1], &[2], None), &[2, 1, 3], &[0, 1, 1]),
-            (case([0, 0, 1], &[1, 2], Some(2)), &[2, 3], &[0, 1]),
-            (case([0, 0, 1], &[1, 2], None), &[1, 3], &[0, 1]),
-            (case([0, 0, 1], &[1, 1, 2, 2, 1], None), &[1, 3], &[0, 1]),
-            (case([0, 0, 1], &[2, 1], None), &[2, 3], &[0, 1]),
+            (case([0, 1, 2], &[1], None), &[1, 2, 3], &[0, 1, 2], 3),
+            (case([1, 0, 1], &[2], None), &[2, 1, 3], &[0, 1, 1], 2),
+            (case([0, 0, 1], &[1, 2], Some(2)), &[2, 3], &[0, 1], 1),
+            (case([0, 0, 1], &[1, 2], None), &[1, 3], &[0, 1], 1),
+            (case([0, 0, 1], &[1, 1, 2, 2, 1], None), &[1, 3], &[0, 1], 1),
+            (case([0, 0, 1], &[2, 1], None), &[2, 3], &[0, 1], 1),
         ];
-        for (case, nodes, demands) in table {
+        for (case, nodes, demands, whole_demand) in table {
             let instance = three_nodes(&rt, rt.alloc(), case)?;
             let places = instance.customers() + 1;
             assert_eq!(rt; usize::from(places), nodes.len(), "{case:?}");
@@ -223,6 +236,7 @@ mod tests {
                     "{case:?}"
                 );
             }
+            assert_eq!(rt; instance.whole_demand(), whole_demand, "{case:?}");
             assert_eq!(rt; instance.capacity(), 2);
         }
         Ok(())

@@ -10,8 +10,8 @@ use Rattle.std.proofs.lemmas.List.Elements.{Contains-append_left, Contains-push,
 use Rattle.vrp_model.specs.Problem.{IsProblem, Problem, place_count}
 use Rattle.vrp_model.specs.Word.{IsFront}
 use Rattle.vrp_model.proofs.Rearranged.{contains_each}
+use Rattle.vrp_model.proofs.FrontPlaces.{symbol_is_place}
 use Rattle.vrp_search.specs.Pass.{AreAdded}
-use Rattle.vrp_search.proofs.Tallies.{symbol_below}
 
 -- the children by symbols below a bound stand behind a list
 pub record AddedBelow (p : Problem) (front : List ℕ) (bound : ℕ) (old new : List (List ℕ)) : Type 0 where
@@ -82,7 +82,7 @@ added_all p front k old new problem all so_far =
       are = record {
         symbols = so_far.symbols;
         rising = so_far.rising;
-        each = λ j. (λ contained. ((so_far.each j).0 contained).1, λ child. (so_far.each j).1 (let below = symbol_below p front j problem child in omega (arith, below, all), child));
+        each = λ j. (λ contained. ((so_far.each j).0 contained).1, λ child. (so_far.each j).1 (let below = symbol_is_place p front j problem child in omega (arith, below, all), child));
         are = refl;
       };
       few = omega (arith, length-map so_far.symbols (λ k. front ++ k ∷ []), so_far.few, all, problem.few_places);

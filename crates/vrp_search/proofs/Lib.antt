@@ -3,6 +3,7 @@ pub mod Among
 pub mod Begins
 pub mod Cut
 pub mod Exactly
+pub mod Lows
 pub mod Order
 pub mod Passes
 pub mod Progress
@@ -10,3 +11,4 @@ pub mod Refined
 pub mod Short
 pub mod Tallies
 pub mod Views
+pub mod WaysIn

@@ -6,7 +6,6 @@ use Rattle.std.proofs.lemmas.List.Quantifiers.{all_pairs_push}
 use Rattle.vrp_model.specs.Problem.{Problem}
 use Rattle.vrp_model.specs.Word.{BeginsWith, IsFront, IsLawfulWord, NoneCheaperUnder, TreeHasAtLeast, word_cost}
 use Rattle.vrp_model.proofs.FrontsBefore.{fronts_before}
-use Rattle.vrp_model.proofs.PlanWords.{cost_parts}
 use Rattle.vrp_search.specs.Child.{IsNextChild, NoChildFrom}
 use Rattle.vrp_search.proofs.Order.{IsFrom, child_of_front, child_or_behind, from_itself, from_next, from_shorter, from_sibling, front_or_behind, not_from_longer, sibling_or_behind}
 
@@ -52,11 +51,6 @@ seen_more p root candidate later count front begins behind moves seen =
 pub tree_of_seen : (p : Problem) (root candidate : List ℕ) (count : ℕ) → Seen p root candidate count → TreeHasAtLeast p root count
 tree_of_seen p root candidate count seen = (seen.fronts, seen.distinct, λ i d lt. (let one = seen.each i d lt in (one.0, one.1)), omega (arith, seen.many))
 
--- ---- costs
-
-pub cost_under : (p : Problem) (front word : List ℕ) → BeginsWith word front → word_cost p front ≤ word_cost p word
-cost_under p front word begins = rw begins.1 (omega (arith, cost_parts p 0 front begins.0))
-
 -- ---- progress
 
 -- The words under the root that come from the candidate on are still to come. No other costs less than the floor.
@@ -92,9 +86,9 @@ from_child p word next k child w lawful from = elim (sibling_or_behind word next
 ]
 
 -- a child that isn't gone below
-pub pruned : (p : Problem) (root word : List ℕ) (next k spent floor lower : ℕ) → Progress p root word next spent floor → IsNextChild p word next k → lower ≤ floor → lower ≤ word_cost p (word ++ k ∷ [])
+pub pruned : (p : Problem) (root word : List ℕ) (next k spent floor lower : ℕ) → Progress p root word next spent floor → IsNextChild p word next k → lower ≤ floor → NoneCheaperUnder p (word ++ k ∷ []) lower
     → Progress p root word (k + 1) (spent + 1) lower
-pruned p root word next k spent floor lower progress child falls costly =
+pruned p root word next k spent floor lower progress child falls none =
     let to_child : (w : List ℕ) → IsFrom (word ++ k ∷ []) w → IsFrom (word ++ next ∷ []) w = λ w from. from_sibling word next k w child.within from in
     let at_child = seen_later p root (word ++ next ∷ []) (word ++ k ∷ []) spent to_child progress.seen in
     record {
@@ -105,7 +99,7 @@ pruned p root word next k spent floor lower progress child falls costly =
       others = λ w lawful begins. elim (progress.others w lawful begins) [
         | inl from ↦ elim (sibling_or_behind word k (k + 1) w (from_child p word next k child w lawful from)) [
           | inl between ↦ inr (let same : between.under.symbol ≡ k = omega (arith, between.under.within, between.before) in
-              omega (arith, costly, cost_under p (word ++ k ∷ []) w (subst (λ j. BeginsWith w (word ++ j ∷ [])) same between.under.begins)))
+              none w lawful (subst (λ j. BeginsWith w (word ++ j ∷ [])) same between.under.begins))
           | inr behind ↦ inl behind
         ]
         | inr done ↦ inr (omega (arith, done, falls))
@@ -184,5 +178,5 @@ finished p root word next spent floor progress none as_long = λ w lawful begins
 -- a child is left
 pub unfinished : (p : Problem) (root word : List ℕ) (next k spent floor : ℕ) → Progress p root word next spent floor → IsNextChild p word next k → TreeHasAtLeast p root (spent + 1)
 unfinished p root word next k spent floor progress child =
-    let more = pruned p root word next k spent floor 0 progress child (omega arith) (omega arith) in
+    let more = pruned p root word next k spent floor 0 progress child (omega arith) (λ w lawful begins. omega arith) in
     tree_of_seen p root (word ++ (k + 1) ∷ []) (spent + 1) more.seen

@@ -6,21 +6,25 @@ use Rattle.std.proofs.Math.ListN.{get_or-append}
 use Rattle.std.proofs.Math.Seq.{get_or-append_seam, take-append_seam}
 use Rattle.std.proofs.lemmas.Bool.Decides.{nat_tests}
 use Rattle.std.proofs.lemmas.Bool.{cases_lt}
-use Rattle.std.proofs.lemmas.List.{get_or_default, get_or-set_same, get_or-set_other, length-set, take-append-le, take_all, take_more}
+use Rattle.std.proofs.lemmas.List.{get_or_default, get_or-set_same, get_or-set_other, length-set, take-append-le}
 use Rattle.std.proofs.lemmas.List.Elements.{All-cons, All-nil}
 use Rattle.vrp_model.specs.Problem.{IsProblem, Problem, customers, demand_of, place_count, weight_of}
 use Rattle.vrp_model.specs.Route.{load_of}
 use Rattle.vrp_model.specs.Word.{IsFront, IsLawfulWord, IsOpen, IsUnserved, MakesChild, last_route, last_symbol, served_in, word_cost}
 use Rattle.vrp_model.proofs.Words.{last_behind, last_is}
-use Rattle.std.proofs.lemmas.List.FromFn.{get_or-range_with_len, length-range_with_len}
+use Rattle.vrp_model.proofs.AllCustomers.{is_customer}
 use Rattle.vrp_model.proofs.Children.{closed_is_open, load_with, served_at_depot, served_with, unserved_if_added}
 use Rattle.vrp_model.proofs.ChildCases.{cases_of_child}
+use Rattle.vrp_model.proofs.FrontPlaces.{serves_customer, symbol_is_place}
 use Rattle.vrp_model.proofs.FrontsBefore.{fronts_before}
 use Rattle.vrp_model.proofs.PlanWords.{cost_parts}
 use Rattle.vrp_model.proofs.Rearranged.{customers_distinct}
 use Rattle.vrp_model.specs.Front.{open_load}
 use Rattle.vrp_search.specs.Tallied.{AreBefore, AreFlags, AreTallied, IsTally, stands_in}
-use Rattle.vrp_search.specs.declared.partial.Tally.{Tally}
+use Rattle.vrp_search.specs.declared.tally.Tally.{Tally}
+use Rattle.vrp_bound.specs.Capacity.{IsInsOf}
+use Rattle.vrp_model.specs.LeastWay.{IsLeastIn}
+use Rattle.vrp_search.proofs.WaysIn.{ins_at_depot, ins_with}
 use Rattle.vrp_search.proofs.Among.{all_among, length_among, sum_among}
 use Rattle.vrp_search.proofs.Short.{fronts_are_short, length_customers, served_are_few}
 use Rattle.vrp_model.proofs.Steps.{last_route_closed, last_route_with, last_symbol_with, load_at_customer, load_at_depot}
@@ -30,7 +34,7 @@ cost_with p word k = let parts = cost_parts p 0 word (k ∷ []) in rw (last_is w
 
 -- the depot
 pub tally_at_depot : (p : Problem) (word : List ℕ) (t : Tally) (cost : ℕ) → IsProblem p → IsFront p word → IsOpen word → IsTally p word t → cost ≡ t.cost + weight_of p (last_symbol word) 0
-    → IsTally p (word ++ 0 ∷ []) (record { cost = cost; load = 0; rest = t.rest; first = t.first; unserved = t.unserved })
+    → IsTally p (word ++ 0 ∷ []) (record { cost = cost; load = 0; rest = t.rest; ins = t.ins; first = t.first; unserved = t.unserved })
 tally_at_depot p word t cost problem front is_open tally is =
     let long : length (word ++ 0 ∷ []) ≡ length word + 1 = length-append word (0 ∷ []) in
     let weight = problem.small_weights (last_symbol word * place_count p + 0) in
@@ -40,6 +44,8 @@ tally_at_depot p word t cost problem front is_open tally is =
       load = sym (load_at_depot p (word ++ 0 ∷ []) (last_symbol_with word 0));
       light = omega arith;
       rest = rw (served_at_depot word) tally.rest;
+      ins = ins_at_depot p word t.ins tally.ins;
+      small_ins = tally.small_ins;
       first = tally.first ∙ ap (λ (r : List ℕ). slice_index r 0) (sym (last_route_closed word front.stops is_open));
       unserved = rw (served_at_depot word) tally.unserved;
     }
@@ -81,11 +87,12 @@ added p word k t problem front some after tally =
     }
 
 -- a customer
-pub tally_at_customer : (p : Problem) (word : List ℕ) (k : ℕ) (t new : Tally) → IsProblem p → IsFront p word → 0 < k → IsFront p (word ++ k ∷ []) → IsTally p word t
+pub tally_at_customer : (p : Problem) (word : List ℕ) (k least : ℕ) (t new : Tally) → IsLeastIn p k least → new.ins ≡ t.ins - least → IsProblem p → IsFront p word → 0 < k → IsFront p (word ++ k ∷ []) → IsTally p word t
     → new.cost ≡ t.cost + weight_of p (last_symbol word) k → new.load ≡ t.load + demand_of p k → new.rest ≡ t.rest - demand_of p k
     → (last_symbol word ≡ 0 → new.first ≡ k) → (0 < last_symbol word → new.first ≡ t.first) → new.unserved ≡ t.unserved - 1
     → IsTally p (word ++ k ∷ []) new
-tally_at_customer p word k t new problem front some after tally cost load rest starts goes_on unserved =
+tally_at_customer p word k least t new is_least ins problem front some after tally cost load rest starts goes_on unserved =
+    let ways = ins_with p word k t.ins least some after tally.ins is_least in
     let facts = added p word k t problem front some after tally in
     let with_stop = last_route_with word k front.stops some in
     let long : length (word ++ k ∷ []) ≡ length word + 1 = length-append word (k ∷ []) in
@@ -99,6 +106,8 @@ tally_at_customer p word k t new problem front some after tally cost load rest s
       load = load ∙ facts.load ∙ sym (load_at_customer p (word ++ k ∷ []) is_open);
       light = omega (arith, load, facts.fits);
       rest = omega (arith, rest, facts.left, served, tally.rest);
+      ins = subst (IsInsOf p (word ++ k ∷ [])) (sym ins) ways.is;
+      small_ins = omega (arith, ins, tally.small_ins);
       first = elim (cases_lt 0 (last_symbol word)) [
         | inl inside ↦ goes_on inside ∙ tally.first ∙ sym (with_stop.first inside)
         | inr behind ↦ let at_depot : last_symbol word ≡ 0 = omega (arith, behind) in starts at_depot ∙ ap (λ (r : List ℕ). slice_index r 0) (sym (with_stop.starts at_depot))
@@ -116,9 +125,6 @@ pub stands_last : (word : List ℕ) (k : ℕ) → stands_in (word ++ k ∷ []) k
 stands_last [] k = let test : (k == k) ≡ true = grind (arith, nat_tests) in rw test refl
 stands_last (symbol ∷ word) k = rw (stands_last word k) (elim (symbol == k) as (λ b. (if b then true else true) ≡ true) [ true ↦ refl | false ↦ refl ])
 
-kept_of : (k : ℕ) (word : List ℕ) → served_in (suc k ∷ word) ≡ suc k ∷ served_in word
-kept_of k word = let test : (suc k == 0) ≡ false = grind (arith, nat_tests) in rw test refl
-
 -- a customer that doesn't stand in the word isn't served by it, and the other way round
 pub none_stands : (word : List ℕ) (k : ℕ) → stands_in word k ≡ false → All (λ served. served ≢ k) (served_in word)
 none_stands [] k none = All-nil (λ served. served ≢ k)
@@ -126,13 +132,13 @@ none_stands (zero ∷ word) k none = none_stands word k (grind (arith, nat_tests
 none_stands (suc j ∷ word) k none =
     let differs : suc j ≢ k = grind (arith, nat_tests, none) in
     let rest : stands_in word k ≡ false = grind (arith, nat_tests, none) in
-    subst (All (λ served. served ≢ k)) (sym (kept_of j word)) (All-cons (λ served. served ≢ k) (suc j) (served_in word) differs (none_stands word k rest))
+    subst (All (λ served. served ≢ k)) (sym (serves_customer j word)) (All-cons (λ served. served ≢ k) (suc j) (served_in word) differs (none_stands word k rest))
 
 pub none_served : (word : List ℕ) (k : ℕ) → 0 < k → All (λ served. served ≢ k) (served_in word) → stands_in word k ≡ false
 none_served [] k some all = refl
 none_served (zero ∷ word) k some all = let test : (0 == k) ≡ false = grind (arith, nat_tests) in rw test (none_served word k some all)
 none_served (suc j ∷ word) k some all =
-    let here = subst (All (λ served. served ≢ k)) (kept_of j word) all in
+    let here = subst (All (λ served. served ≢ k)) (serves_customer j word) all in
     let differs : suc j ≢ k = here 0 (suc j) (omega arith) in
     let test : (suc j == k) ≡ false = grind (arith, nat_tests) in
     rw test (none_served word k some (λ i d lt. here (suc i) d (omega (arith, lt))))
@@ -159,34 +165,6 @@ flags_popped p word k flags long within front are = λ j some below.
       | inl same ↦ rw same (get_or-set_same flags k false false (omega (arith, long, within)) ∙ sym (none_served word k (omega (arith, some, same)) (unserved_if_added p word k (omega (arith, some, same)) front).1))
       | inr differs ↦ get_or-set_other flags k j false false differs ∙ are j some below ∙ stands_in-append word k j differs
     ]
-
--- ---- places
-
-pub customer_below : (p : Problem) (k : ℕ) → Contains (customers p) k → k < place_count p
-customer_below p k (i, lt, is) =
-    let bound : i < place_count p - 1 = rw (length-range_with_len 1 (place_count p - 1)) at lt in
-    let value : get_or (customers p) i k ≡ 1 + i = get_or-range_with_len 1 (place_count p - 1) i k bound in
-    omega (arith, value, is, bound)
-
-pub is_customer : (p : Problem) (k : ℕ) → 0 < k → k < place_count p → Contains (customers p) k
-is_customer p k some below =
-    let bound : k - 1 < place_count p - 1 = omega arith in
-    let value : get_or (customers p) (k - 1) k ≡ 1 + (k - 1) = get_or-range_with_len 1 (place_count p - 1) (k - 1) k bound in
-    (k - 1, rw (length-range_with_len 1 (place_count p - 1)) bound, omega (arith, value))
-
-pub symbol_below : (p : Problem) (word : List ℕ) (k : ℕ) → IsProblem p → IsFront p (word ++ k ∷ []) → k < place_count p
-symbol_below p word zero problem front = omega (arith, problem.some_places)
-symbol_below p word (suc k) problem front = customer_below p (suc k) (unserved_if_added p word (suc k) (omega arith) front).0
-
-last_below : (p : Problem) (before : ℕ) (word : List ℕ) → before < place_count p → 0 < place_count p → All (Contains (customers p)) (served_in word) → last_behind before word < place_count p
-last_below p before [] below some known = below
-last_below p before (zero ∷ word) below some known = last_below p 0 word some some known
-last_below p before (suc k ∷ word) below some known =
-    let here = subst (All (Contains (customers p))) (kept_of k word) known in
-    last_below p (suc k) word (customer_below p (suc k) (here 0 (suc k) (omega arith))) some (λ i d lt. here (suc i) d (omega (arith, lt)))
-
-pub at_below : (p : Problem) (word : List ℕ) → IsProblem p → IsFront p word → last_symbol word < place_count p
-at_below p word problem front = rw (last_is word) (last_below p 0 word (omega (arith, problem.some_places)) (omega (arith, problem.some_places)) front.known)
 
 -- ---- one more symbol, and one less
 
@@ -224,7 +202,7 @@ pushed p word k served before tally new are front now =
       problem = are.problem;
       front = front;
       one_flag_each = length-set served k true ∙ are.one_flag_each;
-      flags = flags_pushed p word k served are.one_flag_each (symbol_below p word k are.problem front) are.flags;
+      flags = flags_pushed p word k served are.one_flag_each (symbol_is_place p word k are.problem front) are.flags;
       one_before_each = omega (arith, are.one_before_each, length-append word (k ∷ []), length-append before (tally ∷ []));
       kept = before_pushed p word k before tally are.one_before_each are.kept are.now;
       now = now;
@@ -239,7 +217,7 @@ popped p word k served before tally old are =
       problem = are.problem;
       front = fronts_before p word (k ∷ []) are.front;
       one_flag_each = length-set served k false ∙ are.one_flag_each;
-      flags = flags_popped p word k served are.one_flag_each (symbol_below p word k are.problem are.front) are.front are.flags;
+      flags = flags_popped p word k served are.one_flag_each (symbol_is_place p word k are.problem are.front) are.front are.flags;
       one_before_each = long;
       kept = back.0;
       now = back.1;
@@ -303,16 +281,3 @@ room_left p word k problem after = omega (arith, fronts_are_short p (word ++ k �
 
 pub cost_fits : (p : Problem) (word : List ℕ) (k : ℕ) (t : Tally) → IsProblem p → IsFront p (word ++ k ∷ []) → IsTally p word t → t.cost ≤ 2400000000000
 cost_fits p word k t problem after tally = omega (arith, room_left p word k problem after, problem.few_places, tally.small)
-
--- ---- what all customers demand
-
-pub demand_more : (p : Problem) (i : ℕ) → i + 1 < place_count p → load_of p (take (i + 1) (customers p)) ≡ load_of p (take i (customers p)) + demand_of p (i + 1)
-demand_more p i lt =
-    let bound : i < place_count p - 1 = omega (arith, lt) in
-    let within : i < length (customers p) = rw (length-range_with_len 1 (place_count p - 1)) bound in
-    let value : get_or (customers p) i 0 ≡ 1 + i = get_or-range_with_len 1 (place_count p - 1) i 0 bound in
-    let same : get_or (customers p) i 0 ≡ i + 1 = omega (arith, value) in
-    ap (load_of p) (take_more (customers p) i 0 within ∙ ap (λ k. take i (customers p) ++ k ∷ []) same) ∙ load_with p (take i (customers p)) (i + 1)
-
-pub demand_all : (p : Problem) (n : ℕ) → n + 1 ≡ place_count p → load_of p (take n (customers p)) ≡ load_of p (customers p)
-demand_all p n is = ap (load_of p) (take_all n (customers p) (omega (arith, is, length-range_with_len 1 (place_count p - 1))))

@@ -1,9 +1,29 @@
--- How the search of a piece ends: what is known of the front that it began with.
-use Rattle.std.specs.Prelude.{◌≡◌, ℕ, ◌+◌, ◌≤◌, List}
-use Rattle.vrp_model.specs.Problem.{Problem}
-use Rattle.vrp_model.specs.Word.{NoneCheaperUnder, TreeHasAtLeast, word_cost}
+-- What is known of the words under a front, and how the search of a piece ends.
+use Rattle.std.specs.Prelude.{◌≡◌, ◌⊎◌, ℕ, ◌+◌, ◌≤◌, Option, Some, List}
+use Rattle.std.specs.List.{All, Contains}
+use Rattle.std.specs.Option.{option_map}
+use Rattle.vrp_bound.specs.Bound.{IsGreater}
+use Rattle.vrp_bound.specs.Capacity.{IsInsOf}
+use Rattle.vrp_model.specs.Front.{IsRest, open_load}
+use Rattle.vrp_model.specs.Problem.{Problem, customers}
+use Rattle.vrp_model.specs.Word.{NoneCheaperUnder, TreeHasAtLeast, last_symbol, served_in, word_cost}
 use Rattle.vrp_search.specs.declared.depth_first.Ended.{Ended}
 use Rattle.vrp_search.specs.declared.depth_first.Ended.TheVariants.{Finished, Unfinished}
+
+-- each customer is served by the front, or is among these
+abbrev pub AreCovered : Problem → List ℕ → List ℕ → Type 0
+AreCovered p among front = All (λ customer. Contains (served_in front) customer ⊎ Contains among customer) (customers p)
+
+-- What a word under the front costs at least, with tables over these customers: what is paid along the front, and the bound on
+-- what is still to pay. None: there is no word under it.
+pub record IsLow (p : Problem) (among front : List ℕ) (low : Option ℕ) : Type 0 where
+  pub rest : ℕ
+  pub is_rest : IsRest p front rest
+  pub ins : ℕ
+  pub is_ins : IsInsOf p front ins
+  pub bound : Option ℕ
+  pub is_bound : IsGreater p among (last_symbol front) (open_load p front) ins rest bound
+  pub whole : low ≡ option_map (λ more. word_cost p front + more) bound
 
 -- no word under the front costs less than the floor
 pub record IsFinished (p : Problem) (front : List ℕ) (budget floor spent : ℕ) : Type 0 where
@@ -13,12 +33,12 @@ pub record IsFinished (p : Problem) (front : List ℕ) (budget floor spent : ℕ
   pub none_cheaper : NoneCheaperUnder p front floor
 
 -- the budget is spent, and the front's tree is above it
-pub record IsUnfinished (p : Problem) (front : List ℕ) (budget spent low : ℕ) : Type 0 where
+pub record IsUnfinished (p : Problem) (among front : List ℕ) (budget spent low : ℕ) : Type 0 where
   pub all_spent : spent ≡ budget
   pub tree : TreeHasAtLeast p front (budget + 1)
-  pub paid : low ≡ word_cost p front
+  pub is_low : IsLow p among front (Some low)
   pub none_cheaper : NoneCheaperUnder p front low
 
-abbrev pub EndsSearch : Problem → List ℕ → ℕ → ℕ → Ended → Type 0
-EndsSearch p front budget floor (Finished spent) = IsFinished p front budget floor spent
-EndsSearch p front budget floor (Unfinished spent low) = IsUnfinished p front budget spent low
+abbrev pub EndsSearch : Problem → List ℕ → List ℕ → ℕ → ℕ → Ended → Type 0
+EndsSearch p among front budget floor (Finished spent) = IsFinished p front budget floor spent
+EndsSearch p among front budget floor (Unfinished spent low) = IsUnfinished p among front budget spent low

@@ -1,9 +1,12 @@
 -- What a partial plan keeps beside its word: counters that are what they are called, and what they were before each symbol.
-use Rattle.std.specs.Prelude.{◌≡◌, ℕ, ◌+◌, ◌*◌, ◌≤◌, ◌<◌, ◌==◌, if◌then◌else◌, Bool, true, false, List, [], ◌∷◌, length, slice_index, slice_index_or, take}
+use Rattle.std.specs.Prelude.{◌≡◌, ℕ, ◌+◌, ◌*◌, ◌≤◌, ◌<◌, ◌==◌, if◌then◌else◌, Bool, true, false, Option, List, [], ◌∷◌, length, slice_index, slice_index_or, take}
+use Rattle.std.specs.Option.{option_map}
+use Rattle.vrp_bound.specs.Bound.{IsGreater}
+use Rattle.vrp_bound.specs.Capacity.{IsInsOf}
 use Rattle.vrp_model.specs.Problem.{IsProblem, Problem, place_count}
 use Rattle.vrp_model.specs.Word.{IsFront, last_route, served_in, word_cost}
 use Rattle.vrp_model.specs.Front.{IsRest, open_load}
-use Rattle.vrp_search.specs.declared.partial.Tally.{Tally}
+use Rattle.vrp_search.specs.declared.tally.Tally.{Tally}
 
 pub record IsTally (p : Problem) (word : List ℕ) (tally : Tally) : Type 0 where
   pub cost : tally.cost ≡ word_cost p word
@@ -11,9 +14,17 @@ pub record IsTally (p : Problem) (word : List ℕ) (tally : Tally) : Type 0 wher
   pub load : tally.load ≡ open_load p word
   pub light : tally.load ≤ p.capacity
   pub rest : IsRest p word tally.rest
+  pub ins : IsInsOf p word tally.ins
+  pub small_ins : tally.ins ≤ 1200000000000
   -- the first customer of the last route, 0 where there is no route yet
   pub first : tally.first ≡ slice_index (last_route word) 0
   pub unserved : tally.unserved + length (served_in word) + 1 ≡ place_count p
+
+-- what is paid, and the bound on what is still to pay from this place, with tables over these customers
+pub record IsLowOf (p : Problem) (among : List ℕ) (at : ℕ) (tally : Tally) (low : Option ℕ) : Type 0 where
+  pub bound : Option ℕ
+  pub is_bound : IsGreater p among at tally.load tally.ins tally.rest bound
+  pub whole : low ≡ option_map (λ more. tally.cost + more) bound
 
 -- a symbol of the word is this one
 abbrev pub stands_in : List ℕ → ℕ → Bool

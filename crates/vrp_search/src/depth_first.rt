@@ -1,12 +1,13 @@
 //! The search of a piece, depth first: it goes below a partial plan only where that may lead to a cheaper plan.
-ghost use Rattle.std.specs.Prelude.{◌≤◌, IfOk, OnOk};
+ghost use Rattle.std.specs.Prelude.{◌≡◌, ◌≤◌, IfOk, OnOk};
 ghost use Rattle.vrp_model.specs.Word.{IsFront, IsLawfulWord, word_cost};
-ghost use Rattle.vrp_search.specs.Search.{EndsSearch};
+ghost use Rattle.vrp_search.specs.Search.{AreCovered, EndsSearch};
 
 use crate::board::Board;
 use crate::partial::Partial;
 use crate::piece::Piece;
 use std::alloc::Global;
+use vrp_bound::{Tables, bounds_hold};
 use vrp_model::{Instance, NoMemory};
 
 /// How the search of a piece ended.
@@ -15,31 +16,40 @@ pub enum Ended {
     /// No plan under the piece costs less than the board's floor. So many partial plans were looked at.
     Finished { spent: u64 },
     /// The budget was spent before the whole tree was looked at. No plan under the piece costs less than `low`, which is what
-    /// is paid along the piece's word.
+    /// is paid along the piece's word, and the bound on what is still to pay there.
     Unfinished { spent: u64, low: u64 },
 }
 
 /// Searches the plans under a piece, and offers those to the board that may be cheaper than all that it knows. It looks at
-/// no more partial plans than the budget says, at each at most once, and at the piece's own word first. Where memory is
-/// refused the board has the offers that were made before.
+/// no more partial plans than the budget says, at each at most once, and at the piece's own word first. It doesn't go below
+/// one whose cost and bound together are not under what the board answers, or whose bound says that no plan is under it. The
+/// tables are over all customers that the piece leaves unserved, and may be over more. Where memory is refused the board has the
+/// offers that were made before.
 pub fn search<B: Board>(
     alloc: Global,
     instance: &Instance,
+    tables: &Tables<'_>,
     piece: &Piece,
     budget: u64,
     board: &mut B,
 ) -> Result<Ended, NoMemory>
+    requires tables { tables.now.problem ≡ instance.now }
+    requires covered { AreCovered instance.now tables.now.among piece.now.word }
     requires piece { IsFront instance.now piece.now.word }
     requires board { B.serves board.old instance.now }
     requires budget { 1 ≤ budget }
     ensures serves { B.serves board.new instance.now }
     ensures falls { B.floor board.new ≤ B.floor board.old }
-    ensures ended { IfOk result (EndsSearch instance.now piece.now.word budget (B.floor board.new)) }
+    ensures ended { IfOk result (EndsSearch instance.now tables.now.among piece.now.word budget (B.floor board.new)) }
 {
     let front = piece.word();
     let mut partial = Partial::at_front(alloc, instance, front)?;
-    let low = partial.cost();
     let mut spent = 1;
+    // Below no front is anything cheaper than its cost and bound.
+    bounds_hold();
+    let Some(low) = partial.low(tables) else {
+        return Ok(Ended::Finished { spent });
+    };
     if board.least() <= low {
         return Ok(Ended::Finished { spent });
     }
@@ -50,7 +60,8 @@ pub fn search<B: Board>(
             Some(_) if spent == budget => return Ok(Ended::Unfinished { spent, low }),
             Some(symbol) => {
                 spent += 1;
-                if partial.child_cost(symbol) < board.least() {
+                let least = board.least();
+                if partial.child_low(tables, symbol).unwrap_or(least) < least {
                     partial.push(symbol);
                     offer_complete(alloc, &partial, board)?;
                     next = 0;
@@ -80,4 +91,50 @@ fn offer_complete<B: Board>(
         board.offer(alloc, &plan)?;
     }
     Ok(())
+}
+
+#[cfg(test)]
+mod tests {
+    use super::*;
+    use crate::cutting::Cutting;
+    use crate::local::Local;
+    use std::test::Fail;
+    use vrp_model::{Metric, Plan, Weights};
+
+    #[test]
+    fn three_nodes_on_a_line(rt: HostRuntime) -> Result<(), Fail> {
+        let open = |spent| Ended::Unfinished { spent, low: 20 };
+        // a capacity and a budget, how the search ends, and the cost of the plan
+        let table = [
+            (2, 1, open(1), 30),
+            (2, 5, open(5), 30),
+            (2, 6, open(6), 20),
+            (2, 7, Ended::Finished { spent: 7 }, 20),
+            (2, 1_000, Ended::Finished { spent: 7 }, 20),
+            (1, 4, open(4), 30),
+            (1, 5, Ended::Finished { spent: 5 }, 30),
+        ];
+        for (capacity, budget, ended, cost) in table {
+            assert!(rt; capacity <= 2);
+            assert!(rt; budget >= 1);
+            let points = [(0, 0), (3, 4), (6, 8)];
+            let weights = Weights::points(rt.alloc(), Metric::Euc2d, &points)?;
+            let instance = Instance::new(rt.alloc(), weights, &[0, 1, 1], capacity, &[1], None)?;
+            let found = searched(rt.alloc(), &instance, budget)?;
+            assert_eq!(rt; found, (ended, cost), "{capacity} {budget}");
+        }
+        Ok(())
+    }
+
+    // How the search of the whole tree ends, and the cost of its plan.
+    fn searched(alloc: Global, instance: &Instance, budget: u64) -> Result<(Ended, u64), NoMemory>
+        requires { 1 ≤ budget }
+    {
+        let cutting = Cutting::whole(alloc, instance)?;
+        let tables = Tables::over_all(alloc, instance)?;
+        let mut board = Local::open(Plan::singles(alloc, instance)?);
+        let piece = &cutting.pieces()[0];
+        let ended = search(alloc, instance, &tables, piece, budget, &mut board)?;
+        Ok((ended, board.plan().cost()))
+    }
 }

@@ -10,6 +10,7 @@ mod partial;
 mod piece;
 #[cfg(test)]
 mod slow;
+mod tally;
 
 pub use board::Board;
 pub use cutting::Cutting;

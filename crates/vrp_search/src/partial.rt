@@ -1,16 +1,19 @@
 //! Partial plans: a word that grows and shrinks by one symbol, with what the search asks of it kept in step.
 ghost use Rattle.std.specs.Prelude.{◌≡◌, ◌<◌, ◌≤◌, ◌+◌, ◌*◌, ◌↔◌, [], ◌∷◌, ◌++◌, length, IsTrue, IfOk, IfSome, MatchOption};
-ghost use Rattle.vrp_model.specs.Problem.{customers, place_count};
-ghost use Rattle.vrp_model.specs.Route.{IsPlanOf, load_of};
+ghost use Rattle.vrp_model.specs.Problem.{IsProblem, place_count};
+ghost use Rattle.vrp_model.specs.Route.{IsPlanOf};
 ghost use Rattle.vrp_model.specs.Word.{IsFront, IsLawfulWord, last_symbol, word_cost, word_of};
 ghost use Rattle.vrp_search.specs.Partial.{PartialPlan};
 ghost use Rattle.vrp_model.specs.Front.{open_load, IsRest};
 ghost use Rattle.vrp_search.specs.Child.{IsNextChild, NoChildFrom};
+ghost use Rattle.vrp_search.specs.Search.{AreCovered, IsLow};
 ghost use Rattle.vrp_search.specs.Tallied.{IsTally};
 
+use crate::tally::Tally;
 use smallvec::SmallVec;
 use std::alloc::Global;
 use std::marker::Model;
+use vrp_bound::Tables;
 use vrp_model::{Instance, NoMemory, Plan};
 
 /// A partial plan: a word that is built from the empty one by children.
@@ -24,20 +27,6 @@ pub struct Partial<'a> {
     // By place; the depot's flag is of no account.
     served: Vec<bool>,
     tally: Tally,
-}
-
-// What is counted along a word.
-#[derive(Clone, Copy, Default)]
-struct Tally {
-    cost: u64,
-    // Of the open route, 0 where none is open.
-    load: u64,
-    // What the unserved customers demand.
-    rest: u64,
-    // The first customer of the last route, 0 where there is no route yet.
-    first: u16,
-    // How many customers are unserved.
-    unserved: u16,
 }
 
 impl<'a> Model for Partial<'a> {
@@ -58,13 +47,7 @@ impl<'a> Partial<'a> {
     {
         let customers = instance.customers();
         let room = 2 * usize::from(customers);
-        let tally = Tally {
-            cost: 0,
-            load: 0,
-            rest: whole_demand(instance),
-            first: 0,
-            unserved: customers,
-        };
+        let tally = Tally::root(instance);
         let word = SmallVec::with_capacity(alloc, room)?;
         let before = SmallVec::with_capacity(alloc, room)?;
         let served = Vec::from_elem(alloc, false, usize::from(customers) + 1)?;
@@ -124,12 +107,26 @@ impl<'a> Partial<'a> {
         None
     }
 
-    /// What is paid along a child's word.
-    pub(crate) fn child_cost(&self, symbol: u16) -> u64
-        requires { IsFront self.now.problem (self.now.word ++ symbol ∷ []) }
-        ensures { result ≡ word_cost self.now.problem (self.now.word ++ symbol ∷ []) }
+    /// What a plan under the word costs at least: what is paid along the word, and the bound on what is still to pay. `None`
+    /// where the bound says that there is no plan.
+    pub(crate) fn low(&self, tables: &Tables<'_>) -> Option<u64>
+        requires tables { tables.now.problem ≡ self.now.problem }
+        requires covered { AreCovered self.now.problem tables.now.among self.now.word }
+        ensures low { IsLow self.now.problem tables.now.among self.now.word result }
+        // What is known of every instance.
+        ensures problem { IsProblem self.now.problem }
     {
-        self.tally.cost + self.instance.weight(self.at(), symbol)
+        self.tally.low(self.instance, tables, self.at())
+    }
+
+    /// The same for a child's word.
+    pub(crate) fn child_low(&self, tables: &Tables<'_>, symbol: u16) -> Option<u64>
+        requires tables { tables.now.problem ≡ self.now.problem }
+        requires covered { AreCovered self.now.problem tables.now.among self.now.word }
+        requires child { IsFront self.now.problem (self.now.word ++ symbol ∷ []) }
+        ensures { IsLow self.now.problem tables.now.among (self.now.word ++ symbol ∷ []) result }
+    {
+        self.tally_after(symbol).low(self.instance, tables, symbol)
     }
 
     /// Adds a symbol at the end.
@@ -159,6 +156,7 @@ impl<'a> Partial<'a> {
                 cost,
                 load: 0,
                 rest: tally.rest,
+                ins: tally.ins,
                 first: tally.first,
                 unserved: tally.unserved,
             };
@@ -169,6 +167,7 @@ impl<'a> Partial<'a> {
             cost,
             load: tally.load + demand,
             rest: tally.rest - demand,
+            ins: tally.ins - self.instance.least_in(symbol),
             first,
             unserved: tally.unserved - 1,
         }
@@ -243,17 +242,6 @@ impl<'a> Partial<'a> {
     {
         Plan::of_word(alloc, self.instance, self.word.as_slice())
     }
-}
-
-// What all customers demand.
-fn whole_demand(instance: &Instance) -> u64
-    ensures { result ≡ load_of instance.now (customers instance.now) }
-{
-    let mut demand = 0;
-    for index in 0..instance.customers() {
-        demand += instance.demand(index + 1);
-    }
-    demand
 }
 
 #[cfg(test)]

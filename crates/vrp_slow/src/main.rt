@@ -59,24 +59,32 @@ fn evaluated(alloc: Global, problem: &Problem, text: &str) -> Result<String> {
     let cost = plan::cost(problem, &routes);
     let count = routes.len();
     let lawful = word(plan::is_lawful(problem, &routes), "lawful", "not lawful");
-    // The one plan that is looked at in a glance is proven only where no plan can cost less.
-    let (verdict, status) = if cost == 0 {
-        ("Proven", Status::Proven)
-    } else {
-        ("Open 0", Status::Open)
-    };
+    let glance = glance(alloc, text);
+    let verdict = last_line(str::from_utf8(&glance.printed)?);
+    let lower = report::lower(verdict, cost);
+    let status = status(verdict);
     let wanted = report::text(alloc, &routes, cost, verdict)?;
-    let is_same = glance(alloc, text).is(status, wanted.as_str());
-    let finding = format!(in alloc; "{count} routes, cost {cost}, {lawful}")?;
+    let is_same = glance.is(status, wanted.as_str());
+    let finding = format!(in alloc; "{count} routes, cost {cost}, {lawful}, {verdict} at a glance")?;
     match least::least(alloc, problem)? {
         None => {
-            let same = agreement(is_same);
+            let same = agreement(is_same && lower <= cost);
             Ok(format!(in alloc; "{finding}; {same}")?)
         }
         Some(least) => {
-            let same = agreement(is_same && is_solved(alloc, problem, text, least)?);
+            let is_bound = is_same && lower <= least;
+            let same = agreement(is_bound && is_solved(alloc, problem, text, least)?);
             Ok(format!(in alloc; "{finding}; least {least}; {same}")?)
         }
+    }
+}
+
+// How a run ends that prints this verdict.
+fn status(verdict: &str) -> Status {
+    if verdict == report::PROVEN {
+        Status::Proven
+    } else {
+        Status::Open
     }
 }
 
@@ -92,7 +100,7 @@ fn is_solved(alloc: Global, problem: &Problem, text: &str, least: u64) -> Result
     let routes = report::routes(alloc, str::from_utf8(&printed)?)?;
     let answer = Answer { outcome, printed };
     let is_cheapest = plan::is_lawful(problem, &routes) && plan::cost(problem, &routes) == least;
-    let wanted = report::text(alloc, &routes, least, "Proven")?;
+    let wanted = report::text(alloc, &routes, least, report::PROVEN)?;
     Ok(is_cheapest && answer.is(Status::Proven, wanted.as_str()))
 }
 
@@ -109,7 +117,8 @@ fn refused(alloc: Global, fault: Fault, text: &str) -> Result<String> {
     Ok(format!(in alloc; "{wanted}; {same}")?)
 }
 
-// The command's answer where it may look at the empty partial plan alone: it keeps the plan that it starts with.
+// The command's answer where it may look at the empty partial plan alone: it keeps the plan that it starts with, and what it
+// says of other plans is what it knows before it has made any.
 fn glance(alloc: Global, text: &str) -> Answer {
     let options = Options {
         pieces: 1,
@@ -126,6 +135,10 @@ impl Answer {
     fn is(&self, status: Status, text: &str) -> bool {
         self.outcome == Ok(status) && self.printed.as_slice() == text.as_bytes()
     }
+}
+
+fn last_line(text: &str) -> &str {
+    text.lines().last().unwrap_or("")
 }
 
 fn agreement(is_same: bool) -> &'static str {

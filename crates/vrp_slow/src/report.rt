@@ -4,6 +4,21 @@ use crate::lines::tokens;
 use crate::number::whole;
 use std::alloc::{AllocError, Global};
 
+/// The verdict on a plan that is known to be a cheapest one.
+pub(crate) const PROVEN: &str = "Proven";
+
+/// What each plan is said to cost at least by the verdict on a plan of this cost. A verdict that says nothing is taken for too
+/// much.
+pub(crate) fn lower(verdict: &str, cost: u64) -> u64 {
+    if verdict == PROVEN {
+        return cost;
+    }
+    match verdict.strip_prefix("Open ") {
+        Some(lower) => lower.parse::<u64>().unwrap_or(u64::MAX),
+        None => u64::MAX,
+    }
+}
+
 /// A line for each route, the cost, and the verdict.
 pub(crate) fn text(
     alloc: Global,

@@ -1,4 +1,8 @@
-use Rattle.std.proofs.Common.{◌≡◌, ◌∙◌, ◌<◌, List, ℕ, get_or, length, ap, sym, subst, arith}
+use Rattle.std.proofs.Common.{◌≡◌, ◌∙◌, ◌<◌, List, ℕ, get_or, length, ap, inr, sym, subst, arith}
+use Rattle.std.specs.List.{Contains}
+use Rattle.std.proofs.lemmas.List.Elements.{All-contains_itself}
+use Rattle.vrp_bound.specs.Tables.{TablesOf}
+use Rattle.vrp_model.specs.Problem.{customers}
 use Rattle.std.proofs.lemmas.List.{get_or-map, length-map}
 use Rattle.vrp_model.specs.Word.{IsFront}
 use Rattle.vrp_search.specs.Cutting.{NumberedWord}
@@ -15,3 +19,10 @@ search-requires-clause-piece c =
     let within : 0 < length pieces = omega (arith, one, ap length c.pieces.ensures.words, length-map pieces word_of_piece) in
     let is : get_or cutting 0 piece.word ≡ piece.word = ap (λ (words : List (List ℕ)). get_or words 0 piece.word) (sym c.pieces.ensures.words) ∙ get_or-map word_of_piece pieces 0 piece piece.word within ∙ ap word_of_piece (sym c.index-pieces-0.is) in
     subst (IsFront c.in_ok-instance.instance) is (c.in_ok-cutting.ensures.cutting.each 0 piece.word (omega (arith, one)))
+
+-- all customers are among the tables'
+pub search-requires-clause-covered : goal.search-requires-clause-covered
+search-requires-clause-covered c =
+    let p = c.in_ok-instance.instance in
+    let among : c.in_ok-tables.tables.among ≡ customers p = ap (λ (tables : TablesOf). tables.among) c.in_ok-tables.ensures in
+    λ k d lt. inr (subst (λ (xs : List ℕ). Contains xs (get_or (customers p) k d)) (sym among) (All-contains_itself (customers p) k d lt))

@@ -7,6 +7,10 @@ use std::test::*;
 const ONE_WAY: &str =
     "TYPE : CVRP\nDIMENSION : 3\nEDGE_WEIGHT_TYPE : EXPLICIT\nEDGE_WEIGHT_FORMAT : FULL_MATRIX\nCAPACITY : 2\nEDGE_WEIGHT_SECTION\n0 1 9\n9 0 1\n1 9 0\nDEMAND_SECTION\n1 0\n2 1\n3 1\nDEPOT_SECTION\n1\n-1\nEOF\n";
 
+// Three nodes, where the cheap way serves the second customer first.
+const SECOND_FIRST: &str =
+    "TYPE : CVRP\nDIMENSION : 3\nEDGE_WEIGHT_TYPE : EXPLICIT\nEDGE_WEIGHT_FORMAT : FULL_MATRIX\nCAPACITY : 2\nEDGE_WEIGHT_SECTION\n0 9 1\n1 0 1\n20 1 0\nDEMAND_SECTION\n1 0\n2 1\n3 1\nDEPOT_SECTION\n1\n-1\nEOF\n";
+
 // The small file with a fourth node, which has no demand and lies a step from the depot.
 const FOUR: &str =
     "TYPE : CVRP\nDIMENSION : 4\nEDGE_WEIGHT_TYPE : EUC_2D\nCAPACITY : 2\nNODE_COORD_SECTION\n1 0 0\n2 3 4\n3 6 8\n4 0 1\nDEMAND_SECTION\n1 0\n2 1\n3 1\n4 0\nDEPOT_SECTION\n1\n-1\nEOF\n";
@@ -23,6 +27,7 @@ fn proven_costs(rt: HostRuntime) -> Result<(), Fail> {
         ("CAPACITY : 2", "CAPACITY : 1", "Cost 30\nProven\n"),
         ("\n2 1\n", "\n2 2\n", "Cost 30\nProven\n"),
         (SMALL, ONE_WAY, "Route #1: 2 3\nCost 3\nProven\n"),
+        (SMALL, SECOND_FIRST, "Route #1: 3 2\nCost 3\nProven\n"),
         (SMALL, FOUR, "Cost 20\nProven\n"),
         (SMALL, SAME_POINT, "Cost 0\nProven\n"),
     ] {
@@ -44,16 +49,51 @@ fn proven_costs(rt: HostRuntime) -> Result<(), Fail> {
     Ok(())
 }
 
-// The whole tree of the small file has eleven partial plans.
+// What is left open with a small budget. The whole tree of the small file has eleven partial plans: seven are looked at.
 #[test]
-fn small_budgets(rt: HostRuntime) {
-    for (pieces, budget, status, end) in [
-        (1, 1, Status::Open, "Cost 30\nOpen 0\n"),
-        (1, 2, Status::Open, "Cost 30\nOpen 0\n"),
-        (1, 11, Status::Proven, "Cost 20\nProven\n"),
-        // the pieces are the first customers, 5 and 10 away
-        (2, 1, Status::Open, "Cost 30\nOpen 5\n"),
-        (65_536, 1, Status::Proven, "Cost 20\nProven\n"),
+fn small_budgets(rt: HostRuntime) -> Result<(), Fail> {
+    for (old, new, pieces, budget, status, end) in [
+        // two trucks, each to a customer and back, cost 30; both customers by walks of one truck cost at least 20
+        (
+            "EOF",
+            "EOF",
+            1,
+            1,
+            Status::Open,
+            "Route #1: 2\nRoute #2: 3\nCost 30\nOpen 20\n",
+        ),
+        ("EOF", "EOF", 1, 2, Status::Open, "Cost 30\nOpen 20\n"),
+        ("EOF", "EOF", 1, 7, Status::Proven, "Cost 20\nProven\n"),
+        ("EOF", "EOF", 1, 11, Status::Proven, "Cost 20\nProven\n"),
+        // the pieces are the first customers: 5 paid and 15 to pay, 10 paid and 10 to pay
+        ("EOF", "EOF", 2, 1, Status::Open, "Cost 30\nOpen 20\n"),
+        ("EOF", "EOF", 65_536, 1, Status::Proven, "Cost 20\nProven\n"),
+        // twice to the nearer customer: a walk may come to it again
+        (
+            "CAPACITY : 2",
+            "CAPACITY : 1",
+            1,
+            1,
+            Status::Open,
+            "Cost 30\nOpen 20\n",
+        ),
+        // the bound is what the first plan costs
+        (
+            "\n2 1\n",
+            "\n2 2\n",
+            1,
+            1,
+            Status::Proven,
+            "Cost 30\nProven\n",
+        ),
+        // a customer of no demand: the ways into the customers, 4, 5 and 1, and one way home, 1
+        (SMALL, FOUR, 1, 1, Status::Open, "Cost 32\nOpen 11\n"),
+        // three pieces, left at 12, 16 and 11; then the last one is finished
+        (SMALL, FOUR, 3, 1, Status::Open, "Cost 32\nOpen 11\n"),
+        (SMALL, FOUR, 3, 10, Status::Open, "Cost 20\nOpen 12\n"),
+        // two pieces, left at 20 and 3; then the last one is finished, and its plan costs less than 20
+        (SMALL, SECOND_FIRST, 2, 1, Status::Open, "Cost 31\nOpen 3\n"),
+        (SMALL, SECOND_FIRST, 2, 4, Status::Open, "Cost 3\nOpen 3\n"),
     ] {
         assert!(rt; 1 <= pieces && pieces <= 65_536);
         assert!(rt; 1 <= budget && budget <= 1_000_000_000_000);
@@ -62,13 +102,19 @@ fn small_budgets(rt: HostRuntime) {
             budget,
             ..Options::default()
         };
-        let (outcome, written) = run_as(rt.alloc(), SMALL.as_bytes(), options);
-        assert_eq!(rt; outcome, Ok(status), "{pieces} pieces, budget {budget}");
+        let text = SMALL.replacen(rt.alloc(), old, new, 1)?;
+        let (outcome, written) = run_as(rt.alloc(), text.as_bytes(), options);
+        assert_eq!(rt;
+            outcome,
+            Ok(status),
+            "{pieces} pieces, budget {budget} of {new}"
+        );
         assert!(rt;
             written.ends_with(end.as_bytes()),
-            "{pieces} pieces, budget {budget}"
+            "{pieces} pieces, budget {budget} of {new}"
         );
     }
+    Ok(())
 }
 
 // Without customers there is one plan, which has no routes.

@@ -1,11 +1,12 @@
 use Rattle.std.proofs.Common.{◌≡◌, ◌≤◌, ◌*◌, length}
 use Rattle.std.specs.Vec.{vec_capacity}
 use Rattle.vrp_bound.specs.Cells.{AreHomesSoFar}
+use Rattle.vrp_bound.specs.Units.{in_units}
 use Rattle.vrp_bound.proofs.homes.homes.Given as goal
 
 abbrev pub invariant-loop-row : goal.invariant-loop-row
 invariant-loop-row l = record {
   len : length l.cells.items ≡ l.row * length l.tours;
   capacity : l.rows * length l.tours ≤ vec_capacity l.cells;
-  so_far : AreHomesSoFar l.scope.instance.now l.scope.customers.now l.cells.items;
+  so_far : AreHomesSoFar (in_units l.scope.unit l.scope.instance.now) l.scope.customers.now l.cells.items;
 }

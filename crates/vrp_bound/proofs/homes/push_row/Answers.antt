@@ -3,15 +3,23 @@ use Rattle.vrp_model.specs.Problem.{place_count}
 use Rattle.vrp_model.specs.Route.{load_of}
 use Rattle.vrp_bound.specs.Cells.{AreHomesSoFar, HasWayHome, IsLeast, IsSmallLeast, mark, small_mark}
 use Rattle.vrp_bound.specs.Tables.{room_of}
+use Rattle.vrp_bound.specs.Units.{in_units}
 use Rattle.vrp_bound.proofs.FirstTour.{IsWayHome}
-use Rattle.vrp_bound.proofs.Looking.{least_home_cells}
+use Rattle.vrp_bound.proofs.Looking.{least_home_cells, row_before}
 use Rattle.vrp_bound.proofs.WaysHome.{less_cell, more_homes, next_home}
 use Rattle.vrp_bound.proofs.homes.push_row.Goals.{then-room-eq0, else-room-eq0, then-room-rest, else-room-rest}
 use Rattle.vrp_bound.proofs.homes.push_row.Goals as goal
 
+pub bounds-walks-room : goal.bounds-walks-room
+bounds-walks-room c =
+    let p = in_units c.args.scope.unit c.args.scope.instance.now in
+    let among = c.args.scope.customers.now in
+    let row : c.args.room * c.args.scope.places ≡ c.args.room * place_count p = ap (λ n. c.args.room * n) c.args.scope.counted in
+    omega (arith, row, row_before c.args.room (room_of p among + 1) (place_count p) (omega (arith, c.requires.room)), c.requires.walks.all, c.requires.place, c.from.ensures)
+
 pub loop-rest-preserved : goal.loop-rest-preserved
 loop-rest-preserved c =
-    let p = c.args.scope.instance.now in
+    let p = in_units c.args.scope.unit c.args.scope.instance.now in
     let among = c.args.scope.customers.now in
     let at = c.args.at in
     let room = c.args.room in
@@ -45,7 +53,7 @@ loop-rest-preserved c =
       | then-room-rest w ↦ absurd (omega (arith, more, w.if-room-rest.true))
       | else-room-rest w ↦ w.whole-is
     ] in
-    let cell = next_home p among at room rest less whole c.in-Some.cell c.requires.scope (omega (arith, rest_within)) none some fits_whole no_whole c.in-Some.ensures.none c.in-Some.ensures.some in
+    let cell = next_home p among at room rest less whole c.in-Some.cell c.args.scope.scope (omega (arith, rest_within)) none some fits_whole no_whole c.in-Some.ensures.none c.in-Some.ensures.some in
     record {
       len = omega (arith, c.push_reserved.ensures.len, c.loop-rest.invariant.len);
       capacity = omega (arith, c.push_reserved.ensures.capacity, c.loop-rest.invariant.capacity);

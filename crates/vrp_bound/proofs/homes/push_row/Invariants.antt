@@ -1,11 +1,12 @@
 use Rattle.std.proofs.Common.{◌≡◌, ◌+◌, length}
 use Rattle.std.specs.Vec.{vec_capacity}
 use Rattle.vrp_bound.specs.Cells.{AreHomesSoFar}
+use Rattle.vrp_bound.specs.Units.{in_units}
 use Rattle.vrp_bound.proofs.homes.push_row.Given as goal
 
 abbrev pub invariant-loop-rest : goal.invariant-loop-rest
 invariant-loop-rest l = record {
   len : length l.cells.items ≡ length l.initial.cells.items + l.rest;
   capacity : vec_capacity l.cells ≡ vec_capacity l.initial.cells;
-  so_far : AreHomesSoFar l.scope.instance.now l.scope.customers.now l.cells.items;
+  so_far : AreHomesSoFar (in_units l.scope.unit l.scope.instance.now) l.scope.customers.now l.cells.items;
 }

@@ -1,11 +1,12 @@
 use Rattle.std.proofs.Common.{◌≡◌, ◌*◌, length, refl, ap, arith}
 use Rattle.vrp_model.specs.Problem.{place_count}
+use Rattle.vrp_bound.specs.Units.{in_units}
 use Rattle.vrp_bound.proofs.Looking.{tour_looked, tours_looked}
 use Rattle.vrp_bound.proofs.tours.least_tours.Goals as goal
 
 pub loop-load-preserved : goal.loop-load-preserved
 loop-load-preserved c =
-    let p = c.args.scope.instance.now in
+    let p = in_units c.args.scope.unit c.args.scope.instance.now in
     let among = c.args.scope.customers.now in
     let rest = length c.args.cells.now in
     let load = c.loop-load.load in
@@ -18,5 +19,5 @@ loop-load-preserved c =
 
 pub returns-clause-least : goal.returns-clause-least
 returns-clause-least c =
-    tours_looked c.args.scope.instance.now c.args.scope.customers.now (length c.args.cells.now) c.loop-load.load c.loop-load.least c.requires.scope (omega (arith, c.if-rest-eq0.false)) c.requires.rest
+    tours_looked (in_units c.args.scope.unit c.args.scope.instance.now) c.args.scope.customers.now (length c.args.cells.now) c.loop-load.load c.loop-load.least c.args.scope.scope (omega (arith, c.if-rest-eq0.false)) c.requires.rest
     (omega (arith, c.loop-load-test.false, c.loop-load.auto.load-end, c.min-load-end.ensures, c.requires.room)) c.loop-load.invariant.least

@@ -1,11 +1,12 @@
 use Rattle.std.proofs.Common.{length, subst, sym, ap, arith}
 use Rattle.vrp_bound.specs.Cells.{AreToursSoFar, HasTours, IsLeast}
+use Rattle.vrp_bound.specs.Units.{in_units}
 use Rattle.vrp_bound.proofs.Filling.{more_tours}
 use Rattle.vrp_bound.proofs.tours.tours.Goals as goal
 
 pub loop-rest-preserved : goal.loop-rest-preserved
 loop-rest-preserved c =
-    let p = c.args.scope.instance.now in
+    let p = in_units c.args.scope.unit c.args.scope.instance.now in
     let among = c.args.scope.customers.now in
     let cells = c.loop-rest.cells.items in
     let cell = c.least_tours-cell.result in

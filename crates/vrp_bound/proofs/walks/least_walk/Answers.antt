@@ -1,6 +1,7 @@
-use Rattle.std.proofs.Common.{◌≡◌, ◌+◌, ◌-◌, ◌*◌, get_or, subst, sym, arith}
+use Rattle.std.proofs.Common.{◌≡◌, ℕ, ◌+◌, ◌-◌, ◌*◌, List, get_or, subst, sym, ap, ◌∙◌, arith}
 use Rattle.vrp_model.specs.Problem.{demand_of, place_count}
 use Rattle.vrp_bound.specs.Cells.{HasWalk, IsLeast}
+use Rattle.vrp_bound.specs.Units.{in_units}
 use Rattle.vrp_bound.proofs.FirstStep.{IsStep, least_at_once}
 use Rattle.vrp_bound.proofs.Least.{IsCostBelow}
 use Rattle.vrp_bound.proofs.Looking.{step_looked, step_skipped, steps_looked}
@@ -9,24 +10,27 @@ use Rattle.vrp_bound.proofs.walks.least_walk.Goals as goal
 
 pub returns-then-load-eq0-clause-least : goal.returns-then-load-eq0-clause-least
 returns-then-load-eq0-clause-least c =
-    let p = c.args.scope.instance.now in
+    let p = in_units c.args.scope.unit c.args.scope.instance.now in
     let among = c.args.scope.customers.now in
     subst (λ load. IsLeast (HasWalk p among c.args.at load) c.weight.result) (sym c.if-load-eq0.true)
-    (subst (IsLeast (HasWalk p among c.args.at 0)) (sym c.weight.ensures.value) (least_at_once p among c.args.at c.requires.scope))
+    (subst (IsLeast (HasWalk p among c.args.at 0)) (sym c.weight.ensures.value) (least_at_once p among c.args.at c.args.scope.scope))
 
 pub loop-customer-preserved : goal.loop-customer-preserved
 loop-customer-preserved c =
-    let p = c.args.scope.instance.now in
+    let p = in_units c.args.scope.unit c.args.scope.instance.now in
     let among = c.args.scope.customers.now in
     let k = c.loop-customer.customer-index in
     let places : c.args.scope.places ≡ place_count p = c.args.scope.counted in
+    let stop = c.from-stop.result in
+    let demand = get_or c.args.demands.now stop 0 in
+    let demand_is : demand ≡ demand_of p (get_or among k 0) = ap (λ (ds : List ℕ). get_or ds stop 0) c.requires.demands ∙ ap (demand_of p) c.from-stop.ensures in
     elim c.if-customer-at.branch [
       | then-customer-at+then-demand-load w ↦
-          let index = (c.args.load - c.demand-demand.result) * c.args.scope.places + w.from.result in
-          let is : index ≡ (c.args.load - demand_of p (get_or among k 0)) * place_count p + get_or among k 0 = cc (places, w.from.ensures, c.demand-demand.ensures.value) in
+          let index = (c.args.load - demand) * c.args.scope.places + stop in
+          let is : index ≡ (c.args.load - demand_of p (get_or among k 0)) * place_count p + get_or among k 0 = cc (places, c.from-stop.ensures, demand_is) in
           record {
-            least = step_looked p among c.args.cells.now c.args.at c.args.load k index c.loop-customer.least c.if-customer-at.least c.requires.scope c.requires.so_far c.requires.next c.loop-customer-test.true
-                w.if-customer-at.true (omega (arith, w.if-demand-load.true, c.demand-demand.ensures.value)) is c.loop-customer.invariant.least
+            least = step_looked p among c.args.cells.now c.args.at c.args.load k index c.loop-customer.least c.if-customer-at.least c.args.scope.scope c.requires.so_far c.requires.next c.loop-customer-test.true
+                w.if-customer-at.true (omega (arith, w.if-demand-load.true, demand_is)) is c.loop-customer.invariant.least
                 (omega (arith, w.least-is, w.min-least.ensures, w.weight-then-demand-load.ensures.value));
             within = omega (arith, w.least-is, w.min-least.ensures, c.loop-customer.invariant.within);
           }
@@ -34,7 +38,7 @@ loop-customer-preserved c =
         least = subst (IsLeast (IsCostBelow (IsStep p among c.args.at c.args.load) (k + 1))) (sym w.least-is)
             (step_skipped p among c.args.at c.args.load k c.loop-customer.least
             (λ differs fits. elim w.else-customer-at.branch [
-              | else-customer-at-via-then-customer-at+else-demand-load w' ↦ absurd (omega (arith, fits, w'.if-demand-load.false, c.demand-demand.ensures.value))
+              | else-customer-at-via-then-customer-at+else-demand-load w' ↦ absurd (omega (arith, fits, w'.if-demand-load.false, demand_is))
               | else-customer-at-via-else-customer-at w' ↦ absurd (differs (omega (arith, w'.if-customer-at.false)))
             ])
             c.loop-customer.invariant.least);
@@ -44,5 +48,5 @@ loop-customer-preserved c =
 
 pub returns-clause-least : goal.returns-clause-least
 returns-clause-least c =
-    steps_looked c.args.scope.instance.now c.args.scope.customers.now c.args.at c.args.load c.loop-customer.customer-index c.loop-customer.least
+    steps_looked (in_units c.args.scope.unit c.args.scope.instance.now) c.args.scope.customers.now c.args.at c.args.load c.loop-customer.customer-index c.loop-customer.least
     (omega (arith, c.if-load-eq0.false)) (omega (arith, c.loop-customer-test.false, c.loop-customer.auto.customer-index-end)) c.loop-customer.invariant.least

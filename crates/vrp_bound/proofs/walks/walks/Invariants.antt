@@ -1,11 +1,12 @@
-use Rattle.std.proofs.Common.{◌≡◌, ◌≤◌, length}
+use Rattle.std.proofs.Common.{◌≡◌, ◌≤◌, ◌*◌, length}
 use Rattle.std.specs.Vec.{vec_capacity}
 use Rattle.vrp_bound.specs.Cells.{AreWalksSoFar}
+use Rattle.vrp_bound.specs.Units.{in_units}
 use Rattle.vrp_bound.proofs.walks.walks.Given as goal
 
-abbrev pub invariant-loop-index : goal.invariant-loop-index
-invariant-loop-index l = record {
-  next : length l.cells.items ≡ l.index;
-  capacity : l.count ≤ vec_capacity l.cells;
-  so_far : AreWalksSoFar l.scope.instance.now l.scope.customers.now l.cells.items;
+abbrev pub invariant-loop-load : goal.invariant-loop-load
+invariant-loop-load l = record {
+  len : length l.cells.items ≡ l.load * l.scope.places;
+  capacity : l.loads * l.scope.places ≤ vec_capacity l.cells;
+  so_far : AreWalksSoFar (in_units l.scope.unit l.scope.instance.now) l.scope.customers.now l.cells.items;
 }

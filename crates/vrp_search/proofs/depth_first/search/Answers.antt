@@ -1,21 +1,50 @@
-use Rattle.std.proofs.Common.{◌≡◌, ◌≢◌, ◌∙◌, ℕ, ◌+◌, ◌≤◌, List, [], ◌∷◌, ◌++◌, length, length-append, sym, subst, ap, arith}
-use Rattle.vrp_model.specs.Problem.{Problem}
-use Rattle.vrp_model.specs.Word.{IsLawfulWord, TreeHasAtLeast, word_cost}
+use Rattle.std.proofs.Common.{◌≡◌, ◌≢◌, ◌∙◌, ℕ, ◌+◌, ◌<◌, ◌≤◌, Option, Some, List, [], ◌∷◌, ◌++◌, length, length-append, sym, subst, ap, arith}
+use Rattle.vrp_model.specs.Problem.{IsProblem, Problem}
+use Rattle.vrp_model.specs.Word.{IsLawfulWord, NoneCheaperUnder, TreeHasAtLeast, word_cost}
 use Rattle.vrp_search.specs.Child.{IsNextChild, NoChildFrom}
 use Rattle.vrp_search.specs.Partial.{PartialPlan}
-use Rattle.vrp_search.proofs.Progress.{Progress, cost_under, descended, finished, opened, pruned, returned, tree_of_seen, unfinished}
+use Rattle.vrp_search.specs.Search.{AreCovered, IsLow}
+use Rattle.vrp_search.proofs.Lows.{NoneUnder, covered_more, covered_under, none_cheaper, none_left, none_under}
+use Rattle.vrp_search.proofs.Progress.{Progress, descended, finished, opened, pruned, returned, tree_of_seen, unfinished}
 use Rattle.vrp_search.proofs.depth_first.search.Goals as goal
+
+pub low-requires-clause-covered : goal.low-requires-clause-covered
+low-requires-clause-covered g c =
+    let word : c.args.piece.now.word ≡ c.in_ok-partial.partial.word = sym (ap (λ (v : PartialPlan). v.word) c.in_ok-partial.ensures ∙ c.word-front.ensures) in
+    let problem : c.args.instance.now ≡ c.in_ok-partial.partial.problem = sym (ap (λ (v : PartialPlan). v.problem) c.in_ok-partial.ensures) in
+    subst (λ (q : Problem). AreCovered q c.args.tables.now.among c.in_ok-partial.partial.word) problem (subst (AreCovered c.args.instance.now c.args.tables.now.among) word c.requires.covered)
+
+pub returns-in_default-clause-ended : goal.returns-in_default-clause-ended
+returns-in_default-clause-ended g c =
+    let p = c.args.instance.now in
+    let root = c.args.piece.now.word in
+    let among = c.args.tables.now.among in
+    let problem : c.in_ok-partial.partial.problem ≡ p = ap (λ (v : PartialPlan). v.problem) c.in_ok-partial.ensures in
+    let word : c.in_ok-partial.partial.word ≡ root = ap (λ (v : PartialPlan). v.word) c.in_ok-partial.ensures ∙ c.word-front.ensures in
+    let is_low = subst (λ (w : List ℕ). IsLow p among w c.low.result) word (subst (λ (q : Problem). IsLow q among c.in_ok-partial.partial.word c.low.result) problem c.low.ensures.low) in
+    let none = none_under c.bounds_hold.ensures p among root c.low.result (subst IsProblem problem c.low.ensures.problem) c.requires.covered is_low in
+    record {
+      some = omega arith;
+      within = c.requires.budget;
+      tree = tree_of_seen p root (root ++ 0 ∷ []) 1 (opened p root 0 c.requires.piece (λ _. omega arith)).seen;
+      none_cheaper = λ w lawful begins. absurd (none_left p root c.low.result none c.in_default.not-Some w lawful begins);
+    }
 
 pub returns-then-least-low-clause-ended : goal.returns-then-least-low-clause-ended
 returns-then-least-low-clause-ended g c =
     let p = c.args.instance.now in
     let root = c.args.piece.now.word in
-    let low : c.cost-low.result ≡ word_cost p root = c.cost-low.ensures ∙ ap (λ (v : PartialPlan). word_cost v.problem v.word) c.in_ok-partial.ensures ∙ ap (word_cost p) c.word-front.ensures in
+    let among = c.args.tables.now.among in
+    let problem : c.in_ok-partial.partial.problem ≡ p = ap (λ (v : PartialPlan). v.problem) c.in_ok-partial.ensures in
+    let word : c.in_ok-partial.partial.word ≡ root = ap (λ (v : PartialPlan). v.word) c.in_ok-partial.ensures ∙ c.word-front.ensures in
+    let is_low = subst (λ (w : List ℕ). IsLow p among w c.low.result) word (subst (λ (q : Problem). IsLow q among c.in_ok-partial.partial.word c.low.result) problem c.low.ensures.low) in
+    let none = none_under c.bounds_hold.ensures p among root c.low.result (subst IsProblem problem c.low.ensures.problem) c.requires.covered is_low in
+    let under = subst (NoneUnder p root) c.in-Some.is none in
     record {
       some = omega arith;
       within = c.requires.budget;
       tree = tree_of_seen p root (root ++ 0 ∷ []) 1 (opened p root 0 c.requires.piece (λ _. omega arith)).seen;
-      none_cheaper = λ w lawful begins. omega (arith, cost_under p root w begins, c.least.ensures.answered, c.if-least-low.true, low);
+      none_cheaper = λ w lawful begins. omega (arith, under w lawful begins, c.least.ensures.answered, c.if-least-low.true);
     }
 
 pub loop-partial-init : goal.loop-partial-init
@@ -37,62 +66,75 @@ loop-partial-init g c =
       within = c.requires.budget;
     }
 
-pub returns-in-Some-clause-ended : goal.returns-in-Some-clause-ended
-returns-in-Some-clause-ended g c =
+pub returns-in-Some-next_child-clause-ended : goal.returns-in-Some-next_child-clause-ended
+returns-in-Some-next_child-clause-ended g c =
     let p = c.args.instance.now in
     let root = c.args.piece.now.word in
-    let low : c.cost-low.result ≡ word_cost p root = c.cost-low.ensures ∙ ap (λ (v : PartialPlan). word_cost v.problem v.word) c.in_ok-partial.ensures ∙ ap (word_cost p) c.word-front.ensures in
-    let child = subst (λ (q : Problem). IsNextChild q c.loop-partial.partial.word c.loop-partial.next c.in-Some.field-0) c.loop-partial.invariant.problem c.in-Some.ensures.next in
-    let tree = unfinished p root c.loop-partial.partial.word c.loop-partial.next c.in-Some.field-0 c.loop-partial.spent (g.B.Board.floor c.loop-partial.board) c.loop-partial.invariant.progress child in
+    let among = c.args.tables.now.among in
+    let problem : c.in_ok-partial.partial.problem ≡ p = ap (λ (v : PartialPlan). v.problem) c.in_ok-partial.ensures in
+    let word : c.in_ok-partial.partial.word ≡ root = ap (λ (v : PartialPlan). v.word) c.in_ok-partial.ensures ∙ c.word-front.ensures in
+    let is_low = subst (λ (w : List ℕ). IsLow p among w c.low.result) word (subst (λ (q : Problem). IsLow q among c.in_ok-partial.partial.word c.low.result) problem c.low.ensures.low) in
+    let none = none_under c.bounds_hold.ensures p among root c.low.result (subst IsProblem problem c.low.ensures.problem) c.requires.covered is_low in
+    let child = subst (λ (q : Problem). IsNextChild q c.loop-partial.partial.word c.loop-partial.next c.in-Some-next_child.field-0) c.loop-partial.invariant.problem c.in-Some-next_child.ensures.next in
+    let tree = unfinished p root c.loop-partial.partial.word c.loop-partial.next c.in-Some-next_child.field-0 c.loop-partial.spent (g.B.Board.floor c.loop-partial.board) c.loop-partial.invariant.progress child in
     record {
       all_spent = c.if-spent-budget.true;
       tree = subst (λ n. TreeHasAtLeast p root (n + 1)) c.if-spent-budget.true tree;
-      paid = low;
-      none_cheaper = λ w lawful begins. omega (arith, cost_under p root w begins, low);
+      is_low = subst (IsLow p among root) c.in-Some.is is_low;
+      none_cheaper = subst (NoneUnder p root) c.in-Some.is none;
     }
 
-pub loop-partial-preserved-then-child_cost-least :
-    goal.loop-partial-preserved-then-child_cost-least
-loop-partial-preserved-then-child_cost-least g c =
+pub child_low-requires-clause-covered : goal.child_low-requires-clause-covered
+child_low-requires-clause-covered g c =
+    let covered = covered_under c.args.instance.now c.args.tables.now.among c.args.piece.now.word c.loop-partial.partial.word c.requires.covered c.loop-partial.invariant.progress.under in
+    subst (λ (q : Problem). AreCovered q c.args.tables.now.among c.loop-partial.partial.word) (sym c.loop-partial.invariant.problem) covered
+
+pub loop-partial-preserved-then-unwrap_or-least :
+    goal.loop-partial-preserved-then-unwrap_or-least
+loop-partial-preserved-then-unwrap_or-least g c =
     let p = c.args.instance.now in
     let root = c.args.piece.now.word in
     let word = c.loop-partial.partial.word in
-    let k = c.in-Some.field-0 in
+    let k = c.in-Some-next_child.field-0 in
     let old = g.B.Board.floor c.loop-partial.board in
-    let floor = g.B.Board.floor c.offer_complete-then-child_cost-least.new.board in
-    let child = subst (λ (q : Problem). IsNextChild q word c.loop-partial.next k) c.loop-partial.invariant.problem c.in-Some.ensures.next in
+    let floor = g.B.Board.floor c.offer_complete-then-unwrap_or-least.new.board in
+    let child = subst (λ (q : Problem). IsNextChild q word c.loop-partial.next k) c.loop-partial.invariant.problem c.in-Some-next_child.ensures.next in
     let problem : c.push.new.self.problem ≡ p = ap (λ (v : PartialPlan). v.problem) c.push.ensures ∙ c.loop-partial.invariant.problem in
     let longer : c.push.new.self.word ≡ word ++ k ∷ [] = ap (λ (v : PartialPlan). v.word) c.push.ensures in
-    let falls : floor ≤ old = omega (arith, c.offer_complete-then-child_cost-least.ensures.falls, c.least-in-Some-2.ensures.falls) in
+    let falls : floor ≤ old = omega (arith, c.offer_complete-then-unwrap_or-least.ensures.falls, c.least-least.ensures.falls) in
     let kept : IsLawfulWord p (word ++ k ∷ []) → floor ≤ word_cost p (word ++ k ∷ []) =
     subst (λ (w : List ℕ). IsLawfulWord p w → floor ≤ word_cost p w) longer
     (subst (λ (q : Problem). IsLawfulWord q c.push.new.self.word → floor ≤ word_cost q c.push.new.self.word) problem c.in_ok-offer_complete-in-Some-2.ensures.offered) in
     record {
       problem = problem;
       progress = subst (λ (w : List ℕ). Progress p root w 0 (c.loop-partial.spent + 1) floor) (sym longer) (descended p root word c.loop-partial.next k c.loop-partial.spent old floor c.loop-partial.invariant.progress child falls kept);
-      serves = subst (λ (q : Problem). g.B.Board.serves c.offer_complete-then-child_cost-least.new.board q) problem c.offer_complete-then-child_cost-least.ensures.serves;
+      serves = subst (λ (q : Problem). g.B.Board.serves c.offer_complete-then-unwrap_or-least.new.board q) problem c.offer_complete-then-unwrap_or-least.ensures.serves;
       falls = omega (arith, falls, c.loop-partial.invariant.falls);
       some = omega arith;
       within = omega (arith, c.if-spent-budget.false, c.loop-partial.invariant.within);
     }
 
-pub loop-partial-preserved-else-child_cost-least :
-    goal.loop-partial-preserved-else-child_cost-least
-loop-partial-preserved-else-child_cost-least g c =
+pub loop-partial-preserved-else-unwrap_or-least :
+    goal.loop-partial-preserved-else-unwrap_or-least
+loop-partial-preserved-else-unwrap_or-least g c =
     let p = c.args.instance.now in
     let root = c.args.piece.now.word in
+    let among = c.args.tables.now.among in
     let word = c.loop-partial.partial.word in
-    let k = c.in-Some.field-0 in
+    let k = c.in-Some-next_child.field-0 in
     let old = g.B.Board.floor c.loop-partial.board in
-    let floor = g.B.Board.floor c.least-in-Some-2.new.self in
-    let child = subst (λ (q : Problem). IsNextChild q word c.loop-partial.next k) c.loop-partial.invariant.problem c.in-Some.ensures.next in
-    let cost : c.child_cost.result ≡ word_cost p (word ++ k ∷ []) = subst (λ (q : Problem). c.child_cost.result ≡ word_cost q (word ++ k ∷ [])) c.loop-partial.invariant.problem c.child_cost.ensures in
-    let costly : floor ≤ word_cost p (word ++ k ∷ []) = omega (arith, cost, c.if-child_cost-least.false, c.least-in-Some-2.ensures.answered) in
+    let floor = g.B.Board.floor c.least-least.new.self in
+    let child = subst (λ (q : Problem). IsNextChild q word c.loop-partial.next k) c.loop-partial.invariant.problem c.in-Some-next_child.ensures.next in
+    let is_problem : IsProblem p = subst IsProblem (ap (λ (v : PartialPlan). v.problem) c.in_ok-partial.ensures) c.low.ensures.problem in
+    let covered = covered_more p among word (k ∷ []) (covered_under p among root word c.requires.covered c.loop-partial.invariant.progress.under) in
+    let is_low = subst (λ (q : Problem). IsLow q among (word ++ k ∷ []) c.child_low.result) c.loop-partial.invariant.problem c.child_low.ensures in
+    let under = none_under c.bounds_hold.ensures p among (word ++ k ∷ []) c.child_low.result is_problem covered is_low in
+    let none = none_cheaper p (word ++ k ∷ []) c.child_low.result c.least-least.result under (subst (λ n. c.least-least.result ≤ n) c.unwrap_or.ensures c.if-unwrap_or-least.false) in
     record {
       problem = c.loop-partial.invariant.problem;
-      progress = pruned p root word c.loop-partial.next k c.loop-partial.spent old floor c.loop-partial.invariant.progress child c.least-in-Some-2.ensures.falls costly;
-      serves = c.least-in-Some-2.ensures.serves p c.loop-partial.invariant.serves;
-      falls = omega (arith, c.least-in-Some-2.ensures.falls, c.loop-partial.invariant.falls);
+      progress = pruned p root word c.loop-partial.next k c.loop-partial.spent old floor c.loop-partial.invariant.progress child c.least-least.ensures.falls (λ w lawful begins. omega (arith, c.least-least.ensures.answered, none w lawful begins));
+      serves = c.least-least.ensures.serves p c.loop-partial.invariant.serves;
+      falls = omega (arith, c.least-least.ensures.falls, c.loop-partial.invariant.falls);
       some = omega arith;
       within = omega (arith, c.if-spent-budget.false, c.loop-partial.invariant.within);
     }

@@ -13,7 +13,8 @@ use Rattle.vrp_bound.proofs.tables.Tables.build.Goals as goal
 pub fill-requires : goal.fill-requires
 fill-requires c =
     let scope = c.new-scope.result in
-    light_where_made scope.instance.now scope.customers.now scope.problem scope.known (c.are_made.ensures.0 c.if-are_made.true)
+    let made = c.are_made.ensures.0 c.if-are_made.true in
+    record { made = made; scope = light_where_made scope.instance.now scope.customers.now scope.problem scope.known made }
 
 pub invariant_of-result : goal.invariant_of-result
 invariant_of-result c =
@@ -28,9 +29,7 @@ invariant_of-result c =
     filled_same p q c.in_ok-from_slice.field-0.items others c.if-are_made.cells same (listed ∙ sym c.in_ok-from_slice.ensures.items) rising known
     (elim c.if-are_made.branch [
       | then-are_made+in_ok-fill w ↦
-          let made = c.are_made.ensures.0 w.if-are_made.true in
-          subst (λ (o : Option Cells). MatchOption o (AreMade q others → ⊥) (AreCells q others)) (sym w.cells-is)
-          (record { made = made; scope = light_where_made q others scope.problem scope.known made; walks = w.in_ok-fill.ensures.walks; tours = w.in_ok-fill.ensures.tours; room = w.in_ok-fill.ensures.room; homes = w.in_ok-fill.ensures.homes })
+          subst (λ (o : Option Cells). MatchOption o (AreMade q others → ⊥) (AreCells q others)) (sym w.cells-is) w.in_ok-fill.ensures
       | else-are_made w ↦
           subst (λ (o : Option Cells). MatchOption o (AreMade q others → ⊥) (AreCells q others)) (sym w.cells-is)
           (λ made. absurd (let yes = c.are_made.ensures.1 made in cc (yes, w.if-are_made.false)))

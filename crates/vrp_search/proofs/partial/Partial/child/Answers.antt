@@ -2,8 +2,9 @@ use Rattle.std.proofs.Common.{◌≡◌, ◌∙◌, sym, subst, ap, ◌<◌, ◌
 use Rattle.std.proofs.lemmas.Bool.Decides.{nat_tests}
 use Rattle.std.specs.Prelude.{slice_index_or}
 use Rattle.vrp_model.specs.Word.{IsFront, last_symbol}
+use Rattle.vrp_model.proofs.FrontPlaces.{symbol_is_place}
 use Rattle.vrp_search.specs.Partial.{PartialPlan}
-use Rattle.vrp_search.proofs.Tallies.{depot_child, first_child, next_child, no_served_child, symbol_below}
+use Rattle.vrp_search.proofs.Tallies.{depot_child, first_child, next_child, no_served_child}
 use Rattle.vrp_search.proofs.Views.{at_inside, child_inside, child_outside}
 use Rattle.vrp_search.proofs.partial.Partial.child.Goals.{then-symbol-customers-via-then-symbol-customers, then-symbol-customers-via-else-symbol-customers+then-index}
 use Rattle.vrp_search.proofs.partial.Partial.child.Goals as goal
@@ -26,7 +27,7 @@ returns-then-symbol-customers c = (
   λ test. absurd (let never : false ≡ true = test in cc),
   λ after.
       let inside = child_inside c.self.inside.instance.now c.self.inside.word.items c.args.symbol c.args.self.now c.self.view_is after in
-      let below = symbol_below c.self.inside.instance.now c.self.inside.word.items c.args.symbol c.self.invariant.0.problem inside in
+      let below = symbol_is_place c.self.inside.instance.now c.self.inside.word.items c.args.symbol c.self.invariant.0.problem inside in
       absurd (elim c.then-symbol-customers.branch [
         | then-symbol-customers-via-then-symbol-customers w ↦ omega (arith, below, w.if-symbol-customers.true, c.customers-customers.ensures.value)
         | then-symbol-customers-via-else-symbol-customers+then-index w ↦

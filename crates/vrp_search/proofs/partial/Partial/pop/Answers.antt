@@ -1,15 +1,16 @@
 use Rattle.std.proofs.Common.{◌≡◌, ◌∙◌, subst, ap, [], ◌∷◌, ◌++◌, ℕ, List, arith}
 use Rattle.vrp_model.specs.Word.{IsFront}
+use Rattle.vrp_model.proofs.FrontPlaces.{symbol_is_place}
 use Rattle.vrp_search.specs.Tallied.{AreTallied}
 use Rattle.std.specs.Option.{option_to_list}
-use Rattle.vrp_search.proofs.Tallies.{popped, symbol_below}
+use Rattle.vrp_search.proofs.Tallies.{popped}
 use Rattle.vrp_search.proofs.partial.Partial.pop.Goals as goal
 
 pub index_mut-requires : goal.index_mut-requires
 index_mut-requires c =
     let word : c.self.inside.word.items ≡ c.pop.new.self.items ++ c.unwrap-symbol.result ∷ [] = c.pop.ensures.items ∙ ap (λ o. c.pop.new.self.items ++ option_to_list o) c.unwrap-symbol.ensures in
     let front = subst (IsFront c.self.inside.instance.now) word c.self.invariant.0.front in
-    let below = symbol_below c.self.inside.instance.now c.pop.new.self.items c.unwrap-symbol.result c.self.invariant.0.problem front in
+    let below = symbol_is_place c.self.inside.instance.now c.pop.new.self.items c.unwrap-symbol.result c.self.invariant.0.problem front in
     omega (arith, below, c.from.ensures, c.self.invariant.0.one_flag_each)
 
 pub invariant_of-self : goal.invariant_of-self
@@ -27,5 +28,5 @@ pub returns-clause-small : goal.returns-clause-small
 returns-clause-small c =
     let word : c.self.inside.word.items ≡ c.pop.new.self.items ++ c.unwrap-symbol.result ∷ [] = c.pop.ensures.items ∙ ap (λ o. c.pop.new.self.items ++ option_to_list o) c.unwrap-symbol.ensures in
     let front = subst (IsFront c.self.inside.instance.now) word c.self.invariant.0.front in
-    let below = symbol_below c.self.inside.instance.now c.pop.new.self.items c.unwrap-symbol.result c.self.invariant.0.problem front in
+    let below = symbol_is_place c.self.inside.instance.now c.pop.new.self.items c.unwrap-symbol.result c.self.invariant.0.problem front in
     omega (arith, below, c.self.invariant.0.problem.few_places)

@@ -1,11 +1,13 @@
 use Rattle.std.proofs.Common.{◌≡◌, ◌∙◌, sym, subst, ap, refl, ◌<◌, ◌≤◌, ◌+◌, ◌*◌, ◌-◌, [], ◌∷◌, ◌++◌, length, arith}
 use Rattle.vrp_model.specs.Problem.{place_count, weight_of}
 use Rattle.vrp_model.specs.Word.{IsFront, last_symbol}
+use Rattle.vrp_model.proofs.FrontPlaces.{last_is_place, symbol_is_place}
 use Rattle.vrp_search.specs.Partial.{PartialPlan}
-use Rattle.vrp_search.specs.declared.partial.Tally.{Tally}
+use Rattle.vrp_search.specs.declared.tally.Tally.{Tally}
 use Rattle.vrp_search.specs.Tallied.{IsTally}
-use Rattle.vrp_search.proofs.Tallies.{added, at_below, cost_fits, room_left, symbol_below, tally_at_customer, tally_at_depot}
+use Rattle.vrp_search.proofs.Tallies.{added, cost_fits, room_left, tally_at_customer, tally_at_depot}
 use Rattle.vrp_model.proofs.Children.{closed_is_open}
+use Rattle.vrp_search.proofs.WaysIn.{ins_with}
 use Rattle.vrp_search.proofs.Views.{at_inside, child_inside}
 use Rattle.vrp_search.proofs.partial.Partial.tally_after.Goals.{then-at-eq0, else-at-eq0}
 use Rattle.vrp_search.proofs.partial.Partial.tally_after.Goals as goal
@@ -13,12 +15,12 @@ use Rattle.vrp_search.proofs.partial.Partial.tally_after.Goals as goal
 pub weight-requires-clause-from_within : goal.weight-requires-clause-from_within
 weight-requires-clause-from_within c =
     let at = at_inside c.self.inside.instance.now c.self.inside.word.items c.at-at.result c.args.self.now c.self.view_is c.at-at.ensures in
-    omega (arith, at, at_below c.self.inside.instance.now c.self.inside.word.items c.self.invariant.0.problem c.self.invariant.0.front)
+    omega (arith, at, last_is_place c.self.inside.instance.now c.self.inside.word.items c.self.invariant.0.problem c.self.invariant.0.front)
 
 pub weight-requires-clause-to_within : goal.weight-requires-clause-to_within
 weight-requires-clause-to_within c =
     let after = child_inside c.self.inside.instance.now c.self.inside.word.items c.args.symbol c.args.self.now c.self.view_is c.requires in
-    symbol_below c.self.inside.instance.now c.self.inside.word.items c.args.symbol c.self.invariant.0.problem after
+    symbol_is_place c.self.inside.instance.now c.self.inside.word.items c.args.symbol c.self.invariant.0.problem after
 
 pub overflow_add-cost : goal.overflow_add-cost
 overflow_add-cost c =
@@ -29,7 +31,7 @@ overflow_add-cost c =
 pub demand-demand-requires : goal.demand-demand-requires
 demand-demand-requires c =
     let after = child_inside c.self.inside.instance.now c.self.inside.word.items c.args.symbol c.args.self.now c.self.view_is c.requires in
-    symbol_below c.self.inside.instance.now c.self.inside.word.items c.args.symbol c.self.invariant.0.problem after
+    symbol_is_place c.self.inside.instance.now c.self.inside.word.items c.args.symbol c.self.invariant.0.problem after
 
 pub overflow_sub-result : goal.overflow_sub-result
 overflow_sub-result c =
@@ -37,8 +39,19 @@ overflow_sub-result c =
     let facts = added c.self.inside.instance.now c.self.inside.word.items c.args.symbol c.self.inside.tally c.self.invariant.0.problem c.self.invariant.0.front (omega (arith, c.if-symbol-eq0.false)) after c.self.invariant.0.now in
     omega (arith, facts.left, c.demand-demand.ensures.value)
 
+pub least_in-requires-clause-within : goal.least_in-requires-clause-within
+least_in-requires-clause-within c =
+    let after = child_inside c.self.inside.instance.now c.self.inside.word.items c.args.symbol c.args.self.now c.self.view_is c.requires in
+    symbol_is_place c.self.inside.instance.now c.self.inside.word.items c.args.symbol c.self.invariant.0.problem after
+
 pub overflow_sub-result-2 : goal.overflow_sub-result-2
 overflow_sub-result-2 c =
+    let after = child_inside c.self.inside.instance.now c.self.inside.word.items c.args.symbol c.args.self.now c.self.view_is c.requires in
+    let ways = ins_with c.self.inside.instance.now c.self.inside.word.items c.args.symbol c.self.inside.tally.ins c.least_in.result (omega (arith, c.if-symbol-eq0.false)) after c.self.invariant.0.now.ins c.least_in.ensures.least in
+    ways.left
+
+pub overflow_sub-result-3 : goal.overflow_sub-result-3
+overflow_sub-result-3 c =
     let after = child_inside c.self.inside.instance.now c.self.inside.word.items c.args.symbol c.args.self.now c.self.view_is c.requires in
     let facts = added c.self.inside.instance.now c.self.inside.word.items c.args.symbol c.self.inside.tally c.self.invariant.0.problem c.self.invariant.0.front (omega (arith, c.if-symbol-eq0.false)) after c.self.invariant.0.now in
     omega (arith, facts.some_left)
@@ -49,7 +62,7 @@ returns-then-symbol-eq0-clause-tally c =
     let after : IsFront c.self.inside.instance.now (c.self.inside.word.items ++ 0 ∷ []) = subst (λ k. IsFront c.self.inside.instance.now (c.self.inside.word.items ++ k ∷ [])) c.if-symbol-eq0.true (child_inside c.self.inside.instance.now c.self.inside.word.items c.args.symbol c.args.self.now c.self.view_is c.requires) in
     let weight : c.weight.result ≡ weight_of c.self.inside.instance.now (last_symbol c.self.inside.word.items) 0 = c.weight.ensures.value ∙ ap (λ n. weight_of c.self.inside.instance.now n c.args.symbol) at ∙ ap (weight_of c.self.inside.instance.now (last_symbol c.self.inside.word.items)) c.if-symbol-eq0.true in
     let tally = tally_at_depot c.self.inside.instance.now c.self.inside.word.items c.self.inside.tally (c.self.inside.tally.cost + c.weight.result) c.self.invariant.0.problem c.self.invariant.0.front (closed_is_open c.self.inside.instance.now c.self.inside.word.items after) c.self.invariant.0.now (omega (arith, weight)) in
-    let new : Tally = record { cost = c.self.inside.tally.cost + c.weight.result; load = 0; rest = c.self.inside.tally.rest; first = c.self.inside.tally.first; unserved = c.self.inside.tally.unserved } in
+    let new : Tally = record { cost = c.self.inside.tally.cost + c.weight.result; load = 0; rest = c.self.inside.tally.rest; ins = c.self.inside.tally.ins; first = c.self.inside.tally.first; unserved = c.self.inside.tally.unserved } in
     subst (λ (v : PartialPlan). IsTally v.problem (v.word ++ c.args.symbol ∷ []) new) c.self.view_is (subst (λ k. IsTally c.self.inside.instance.now (c.self.inside.word.items ++ k ∷ []) new) (sym c.if-symbol-eq0.true) tally)
 
 pub returns-then-symbol-eq0-clause-short : goal.returns-then-symbol-eq0-clause-short
@@ -68,17 +81,18 @@ returns-clause-tally c =
       cost = c.self.inside.tally.cost + c.weight.result;
       load = c.self.inside.tally.load + c.demand-demand.result;
       rest = c.self.inside.tally.rest - c.demand-demand.result;
+      ins = c.self.inside.tally.ins - c.least_in.result;
       first = c.if-at-eq0.first;
       unserved = c.self.inside.tally.unserved - 1;
     } in
     subst (λ (v : PartialPlan). IsTally v.problem (v.word ++ c.args.symbol ∷ []) new) c.self.view_is
-    (tally_at_customer c.self.inside.instance.now c.self.inside.word.items c.args.symbol c.self.inside.tally new c.self.invariant.0.problem c.self.invariant.0.front (omega (arith, c.if-symbol-eq0.false)) after c.self.invariant.0.now
+    (tally_at_customer c.self.inside.instance.now c.self.inside.word.items c.args.symbol c.least_in.result c.self.inside.tally new c.least_in.ensures.least refl c.self.invariant.0.problem c.self.invariant.0.front (omega (arith, c.if-symbol-eq0.false)) after c.self.invariant.0.now
     (omega (arith, weight)) (omega (arith, c.demand-demand.ensures.value)) (omega (arith, c.demand-demand.ensures.value)) starts goes_on refl)
 
 pub returns-clause-place : goal.returns-clause-place
 returns-clause-place c =
     let after = child_inside c.self.inside.instance.now c.self.inside.word.items c.args.symbol c.args.self.now c.self.view_is c.requires in
-    subst (λ (v : PartialPlan). c.args.symbol < place_count v.problem) c.self.view_is (symbol_below c.self.inside.instance.now c.self.inside.word.items c.args.symbol c.self.invariant.0.problem after)
+    subst (λ (v : PartialPlan). c.args.symbol < place_count v.problem) c.self.view_is (symbol_is_place c.self.inside.instance.now c.self.inside.word.items c.args.symbol c.self.invariant.0.problem after)
 
 pub returns-clause-short : goal.returns-clause-short
 returns-clause-short c =

@@ -1,0 +1,13 @@
+use Rattle.std.proofs.Common.{◌≡◌, ◌∙◌, List, ℕ, sym, subst}
+use Rattle.std.specs.List.{All, Contains}
+use Rattle.std.specs.List.Sorted.{IsStrictlyIncreasing}
+use Rattle.std.proofs.lemmas.List.Elements.{All-contains_itself}
+use Rattle.vrp_model.specs.Problem.{customers}
+use Rattle.vrp_model.proofs.Rearranged.{customers_rise}
+use Rattle.vrp_bound.proofs.tables.Tables.over_all.Goals as goal
+
+pub build-requires-clause-rising : goal.build-requires-clause-rising
+build-requires-clause-rising c = subst IsStrictlyIncreasing (sym (c.deref.ensures.value ∙ c.in_ok-customers.ensures)) (customers_rise c.args.instance.now)
+
+pub build-requires-clause-customers : goal.build-requires-clause-customers
+build-requires-clause-customers c = subst (All (Contains (customers c.args.instance.now))) (sym (c.deref.ensures.value ∙ c.in_ok-customers.ensures)) (All-contains_itself (customers c.args.instance.now))

@@ -1,0 +1,41 @@
+//! Divisors of two numbers.
+ghost use Rattle.std.specs.Int.{IsGcd};
+
+/// The greatest common divisor; of two zeros it is 0.
+pub(crate) fn gcd(one: u64, other: u64) -> u64
+    ensures { IsGcd one other result }
+{
+    let mut divisor = one;
+    let mut rest = other;
+    while rest != 0 {
+        let less = divisor % rest;
+        divisor = rest;
+        rest = less;
+    }
+    divisor
+}
+
+#[cfg(test)]
+mod tests {
+    use super::*;
+
+    #[test]
+    fn common_divisors(rt: HostRuntime) {
+        let table = [
+            (0, 0, 0),
+            (0, 5, 5),
+            (5, 0, 5),
+            (1, 7, 1),
+            (6, 6, 6),
+            (12, 18, 6),
+            (18, 12, 6),
+            (200, 650, 50),
+            (8, 9, 1),
+            (1_000_000_000, 999_999_999, 1),
+            (600_000_000, 1_000_000_000, 200_000_000),
+        ];
+        for (one, other, divisor) in table {
+            assert_eq!(rt; gcd(one, other), divisor, "{one} {other}");
+        }
+    }
+}

@@ -1,0 +1,102 @@
+//! Demands counted in a unit: the greater it is, the smaller the tables are.
+ghost use Rattle.std.specs.Prelude.{◌≡◌, ◌≤◌, ◌/◌, IfOk};
+ghost use Rattle.vrp_model.specs.Problem.{place_count};
+ghost use Rattle.vrp_bound.specs.Scope.{IsScope};
+ghost use Rattle.vrp_bound.specs.Units.{IsUnit, in_units};
+
+use crate::divisor::gcd;
+use crate::scope::Scope;
+use std::alloc::Global;
+use vrp_model::{Instance, NoMemory};
+
+/// Some customers of an instance, and a unit of which each demands a whole number.
+#[derive(Clone, Copy)]
+pub(crate) struct UnitScope<'a> {
+    pub(crate) instance: &'a Instance,
+    pub(crate) customers: &'a [u16],
+    pub(crate) places: usize,
+    pub(crate) unit: u64,
+    ghost some: { 1 ≤ unit },
+    ghost counted: { places ≡ place_count instance.now },
+    ghost scope: { IsScope (in_units unit instance.now) customers.now },
+}
+
+impl<'a> UnitScope<'a> {
+    /// These customers, with their demands counted in this unit.
+    pub(crate) fn new(scope: Scope<'a>, unit: u64) -> UnitScope<'a>
+        requires scope { IsScope scope.instance.now scope.customers.now }
+        requires unit { IsUnit scope.instance.now scope.customers.now unit }
+        ensures instance { result.instance.now ≡ scope.entry.instance.now }
+        ensures customers { result.customers.now ≡ scope.entry.customers.now }
+        ensures unit { result.unit ≡ unit }
+    {
+        UnitScope {
+            instance: scope.instance,
+            customers: scope.customers,
+            places: scope.places,
+            unit,
+        }
+    }
+
+    /// How many whole units an amount has.
+    pub(crate) fn whole_units(self, amount: u64) -> u64
+        ensures { result ≡ amount / self.entry.unit }
+    {
+        if self.unit == 1 {
+            return amount;
+        }
+        amount / self.unit
+    }
+}
+
+/// The greatest unit of which each of these customers demands a whole number.
+pub(crate) fn unit_of(scope: Scope<'_>) -> u64
+    ensures { IsUnit scope.entry.instance.now scope.entry.customers.now result }
+{
+    let mut unit = 0;
+    for customer in scope.customers {
+        unit = gcd(unit, scope.instance.demand(*customer));
+    }
+    unit.max(1)
+}
+
+/// The demands in units, by place.
+pub(crate) fn demands_in_units(alloc: Global, scope: UnitScope<'_>) -> Result<Vec<u64>, NoMemory>
+    ensures { IfOk result (λ demands. demands.items ≡ (in_units scope.entry.unit scope.entry.instance.now).demands) }
+{
+    let mut demands = Vec::with_capacity(alloc, scope.places)?;
+    for place in 0..scope.places as u16 {
+        let demand = scope.instance.demand(place);
+        demands.push_reserved(scope.whole_units(demand));
+    }
+    Ok(demands)
+}
+
+#[cfg(test)]
+mod tests {
+    use super::*;
+    use crate::fixture::are_customers;
+    use std::test::Fail;
+    use vrp_model::{Metric, Weights};
+
+    #[test]
+    fn greatest_units(rt: HostRuntime) -> Result<(), Fail> {
+        let table: [([u64; 4], &[u16], u64); 6] = [
+            ([0, 200, 650, 300], &[1, 2, 3], 50),
+            ([0, 200, 650, 300], &[1, 3], 100),
+            ([0, 200, 650, 300], &[2], 650),
+            ([0, 200, 650, 300], &[], 1),
+            ([0, 6, 10, 15], &[1, 2, 3], 1),
+            ([0, 0, 10, 15], &[1, 2], 10),
+        ];
+        for (demands, customers, unit) in table {
+            let points = [(0, 0), (3, 4), (6, 8), (5, -12)];
+            let weights = Weights::points(rt.alloc(), Metric::Euc2d, &points)?;
+            let instance = Instance::new(rt.alloc(), weights, &demands, 1_000, &[1], None)?;
+            assert!(rt; are_customers(&instance, customers));
+            let scope = Scope::new(&instance, customers);
+            assert_eq!(rt; unit_of(scope), unit, "{demands:?} {customers:?}");
+        }
+        Ok(())
+    }
+}

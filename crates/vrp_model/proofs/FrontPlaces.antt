@@ -1,0 +1,26 @@
+-- The symbols of a front are places of the problem.
+use Rattle.std.proofs.Common.{◌≡◌, ℕ, zero, suc, ◌<◌, ◌==◌, not, true, List, [], ◌∷◌, ◌++◌, refl, subst, arith}
+use Rattle.std.specs.List.{All, Contains}
+use Rattle.std.proofs.lemmas.Bool.Decides.{nat_tests}
+use Rattle.vrp_model.specs.Problem.{IsProblem, Problem, customers, place_count}
+use Rattle.vrp_model.specs.Word.{IsFront, last_symbol, served_in}
+use Rattle.vrp_model.proofs.AllCustomers.{customer_below}
+use Rattle.vrp_model.proofs.Children.{unserved_if_added}
+use Rattle.vrp_model.proofs.Words.{last_behind, last_is}
+
+pub symbol_is_place : (p : Problem) (word : List ℕ) (k : ℕ) → IsProblem p → IsFront p (word ++ k ∷ []) → k < place_count p
+symbol_is_place p word zero problem front = omega (arith, problem.some_places)
+symbol_is_place p word (suc k) problem front = customer_below p (suc k) (unserved_if_added p word (suc k) (omega arith) front).0
+
+pub serves_customer : (k : ℕ) (word : List ℕ) → served_in (suc k ∷ word) ≡ suc k ∷ served_in word
+serves_customer k word = let test : not (suc k == 0) ≡ true = grind (arith, nat_tests) in rw test refl
+
+last_below : (p : Problem) (before : ℕ) (word : List ℕ) → before < place_count p → 0 < place_count p → All (Contains (customers p)) (served_in word) → last_behind before word < place_count p
+last_below p before [] below some known = below
+last_below p before (zero ∷ word) below some known = last_below p 0 word some some known
+last_below p before (suc k ∷ word) below some known =
+    let here = subst (All (Contains (customers p))) (serves_customer k word) known in
+    last_below p (suc k) word (customer_below p (suc k) (here 0 (suc k) (omega arith))) some (λ i d lt. here (suc i) d (omega (arith, lt)))
+
+pub last_is_place : (p : Problem) (word : List ℕ) → IsProblem p → IsFront p word → last_symbol word < place_count p
+last_is_place p word problem front = rw (last_is word) (last_below p 0 word (omega (arith, problem.some_places)) (omega (arith, problem.some_places)) front.known)

@@ -1,0 +1,103 @@
+-- What the least ways into customers cost together.
+use Rattle.std.proofs.Common.{◌≡◌, ◌≢◌, ℕ, zero, suc, inl, inr, ◌+◌, ◌-◌, ◌*◌, ◌≤◌, ◌<◌, ◌==◌, if◌then◌else◌, true, false, List, [], ◌∷◌, ◌++◌, length, get_or, take, refl, sym, ap, subst, ◌∙◌, arith}
+use Rattle.std.specs.List.{All, Contains, sum_by}
+use Rattle.std.proofs.lemmas.Bool.{cases_lt}
+use Rattle.std.proofs.lemmas.Bool.Decides.{nat_tests}
+use Rattle.std.proofs.lemmas.List.Elements.{All-append, All-cons, All-nil}
+use Rattle.std.proofs.lemmas.List.FromFn.{get_or-range_with_len, length-range_with_len}
+use Rattle.std.proofs.lemmas.List.Sums.{sum_by-cons, sum_by_push}
+use Rattle.vrp_bound.specs.Capacity.{IsInsOf}
+use Rattle.vrp_model.specs.LeastWay.{IsLeastIn}
+use Rattle.vrp_model.specs.Problem.{Problem, customers, place_count}
+use Rattle.vrp_model.specs.Word.{IsFront, served_in}
+use Rattle.vrp_model.proofs.AllCustomers.{all_taken, up_to}
+use Rattle.vrp_model.proofs.Children.{served_at_depot, served_with, unserved_if_added}
+use Rattle.vrp_search.proofs.Among.{sum_among}
+
+least_is_one : (p : Problem) (to one other : ℕ) → IsLeastIn p to one → IsLeastIn p to other → one ≡ other
+least_is_one p to one other a b =
+    let (from, below, differs, is) = a.met in
+    let (start, within, else_where, costs) = b.met in
+    omega (arith, a.least start within else_where, b.least from below differs, is, costs)
+
+-- ---- one more symbol
+
+pub ins_at_depot : (p : Problem) (word : List ℕ) (ins : ℕ) → IsInsOf p word ins → IsInsOf p (word ++ 0 ∷ []) ins
+ins_at_depot p word ins is = record { least_in = is.least_in; each = is.each; whole = rw (served_at_depot word) is.whole }
+
+-- a customer is no longer unserved
+pub record InsWith (p : Problem) (word : List ℕ) (k ins least : ℕ) : Type 0 where
+  pub left : least ≤ ins
+  pub is : IsInsOf p (word ++ k ∷ []) (ins - least)
+
+pub ins_with : (p : Problem) (word : List ℕ) (k ins least : ℕ) → 0 < k → IsFront p (word ++ k ∷ []) → IsInsOf p word ins → IsLeastIn p k least → InsWith p word k ins least
+ins_with p word k ins least some after is is_least =
+    let f = is.least_in in
+    let (i, lt, at) = (unserved_if_added p word k some after).0 in
+    let same : f k ≡ least = least_is_one p k (f k) least (subst (λ c. IsLeastIn p c (f c)) at (is.each i k lt)) is_least in
+    let served : sum_by f (served_in (word ++ k ∷ [])) ≡ sum_by f (served_in word) + f k = ap (sum_by f) (served_with word k some) ∙ sum_by_push f (served_in word) k in
+    let within = sum_among f (served_in (word ++ k ∷ [])) (customers p) after.once after.known in
+    let left : least ≤ ins = omega (arith, within, served, same, is.whole) in
+    record { left = left; is = record { least_in = f; each = is.each; whole = omega (arith, left, served, same, is.whole) } }
+
+-- ---- all customers
+
+-- the ways into so many customers
+pub record InsSoFar (p : Problem) (count ins : ℕ) : Type 0 where
+  pub least_in : ℕ → ℕ
+  pub each : (k : ℕ) → 0 < k → k ≤ count → IsLeastIn p k (least_in k)
+  pub whole : ins ≡ sum_by least_in (take count (customers p))
+  pub small : ins ≤ 1000000000 * count
+
+pub none_so_far : (p : Problem) → InsSoFar p 0 0
+none_so_far p = record { least_in = λ k. k; each = λ k some within. absurd (omega (arith, some, within)); whole = refl; small = omega arith }
+
+with_way : (ℕ → ℕ) → ℕ → ℕ → ℕ → ℕ
+with_way f at least k = if k == at then least else f k
+
+way_here : (f : ℕ → ℕ) (at least : ℕ) → with_way f at least at ≡ least
+unfolding with_way
+way_here f at least = let test : (at == at) ≡ true = grind (arith, nat_tests) in ap (λ b. if b then least else f at) test
+
+way_elsewhere : (f : ℕ → ℕ) (at least k : ℕ) → k ≢ at → with_way f at least k ≡ f k
+unfolding with_way
+way_elsewhere f at least k differs = let test : (k == at) ≡ false = grind (arith, nat_tests, differs) in ap (λ b. if b then least else f k) test
+
+sum_same : (f g : ℕ → ℕ) (xs : List ℕ) → All (λ k. f k ≡ g k) xs → sum_by f xs ≡ sum_by g xs
+sum_same f g [] same = refl
+sum_same f g (x ∷ xs) same = omega (arith, sum_by-cons f x xs, sum_by-cons g x xs, same 0 x (omega arith), sum_same f g xs (λ k d lt. same (suc k) d (omega (arith, lt))))
+
+each_up_to : (p : Problem) (i : ℕ) → i < place_count p → All (λ k. k ≤ i) (take i (customers p))
+each_up_to p zero lt = λ k d within. absurd (omega (arith, within))
+each_up_to p (suc i) lt =
+    let next : i + 1 ≡ suc i = omega arith in
+    let more : take (suc i) (customers p) ≡ take i (customers p) ++ suc i ∷ [] = subst (λ n. take n (customers p) ≡ take i (customers p) ++ n ∷ []) next (up_to p i (omega (arith, lt))) in
+    subst (All (λ k. k ≤ suc i)) (sym more) (All-append (λ k. k ≤ suc i) (take i (customers p)) (suc i ∷ [])
+    (λ k d within. omega (arith, each_up_to p i (omega (arith, lt)) k d within)) (All-cons (λ k. k ≤ suc i) (suc i) [] (omega arith) (All-nil (λ k. k ≤ suc i))))
+
+pub one_more_way : (p : Problem) (i ins least : ℕ) → i + 1 < place_count p → InsSoFar p i ins → IsLeastIn p (i + 1) least → least ≤ 1000000000 → InsSoFar p (i + 1) (ins + least)
+one_more_way p i ins least lt so_far is few =
+    let f = so_far.least_in in
+    let g = with_way f (i + 1) least in
+    let same : sum_by g (take i (customers p)) ≡ sum_by f (take i (customers p)) =
+    sum_same g f (take i (customers p)) (λ k d within. way_elsewhere f (i + 1) least (get_or (take i (customers p)) k d) (λ e. absurd (omega (arith, e, each_up_to p i (omega (arith, lt)) k d within)))) in
+    let more : sum_by g (take (i + 1) (customers p)) ≡ sum_by g (take i (customers p)) + g (i + 1) = ap (sum_by g) (up_to p i lt) ∙ sum_by_push g (take i (customers p)) (i + 1) in
+    record {
+      least_in = g;
+      each = λ k some within. elim (cases_lt k (i + 1)) [
+        | inl below ↦ subst (IsLeastIn p k) (sym (way_elsewhere f (i + 1) least k (λ e. absurd (omega (arith, e, below))))) (so_far.each k some (omega (arith, below)))
+        | inr last ↦ let at : i + 1 ≡ k = omega (arith, last, within) in subst (λ c. IsLeastIn p c (g c)) at (subst (IsLeastIn p (i + 1)) (sym (way_here f (i + 1) least)) is)
+      ];
+      whole = omega (arith, more, same, way_here f (i + 1) least, so_far.whole);
+      small = omega (arith, so_far.small, few);
+    }
+
+pub all_ways : (p : Problem) (count ins : ℕ) → count + 1 ≡ place_count p → InsSoFar p count ins → IsInsOf p [] ins
+all_ways p count ins all so_far = record {
+  least_in = so_far.least_in;
+  each = λ i d lt.
+      let bound : i < place_count p - 1 = rw (length-range_with_len 1 (place_count p - 1)) at lt in
+      let value : get_or (customers p) i d ≡ 1 + i = get_or-range_with_len 1 (place_count p - 1) i d bound in
+      so_far.each (get_or (customers p) i d) (omega (arith, value)) (omega (arith, value, bound, all));
+  whole = omega (arith, so_far.whole, ap (sum_by so_far.least_in) (all_taken p count all));
+}

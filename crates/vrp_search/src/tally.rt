@@ -1,0 +1,70 @@
+//! What is counted along a word, and what a plan under it costs at least.
+ghost use Rattle.std.specs.Prelude.{◌≡◌, ◌≤◌, ◌<◌, []};
+ghost use Rattle.vrp_bound.specs.Capacity.{IsInsOf};
+ghost use Rattle.vrp_model.specs.Problem.{customers, place_count};
+ghost use Rattle.vrp_model.specs.Route.{load_of};
+ghost use Rattle.vrp_search.specs.Tallied.{IsLowOf, IsTally};
+
+use vrp_bound::{Tables, bound};
+use vrp_model::Instance;
+
+/// What is counted along a word.
+#[derive(Clone, Copy, Default)]
+pub(crate) struct Tally {
+    pub(crate) cost: u64,
+    /// Of the open route, 0 where none is open.
+    pub(crate) load: u64,
+    /// What the unserved customers demand.
+    pub(crate) rest: u64,
+    /// What the least ways into the unserved customers cost together.
+    pub(crate) ins: u64,
+    /// The first customer of the last route, 0 where there is no route yet.
+    pub(crate) first: u16,
+    /// How many customers are unserved.
+    pub(crate) unserved: u16,
+}
+
+impl Tally {
+    /// That of the empty word.
+    pub(crate) fn root(instance: &Instance) -> Tally
+        ensures { IsTally instance.now [] result }
+    {
+        Tally {
+            cost: 0,
+            load: 0,
+            rest: instance.whole_demand(),
+            ins: whole_ins(instance),
+            first: 0,
+            unserved: instance.customers(),
+        }
+    }
+
+    /// What is paid along the word, and the bound on what is still to pay from its end. `None` where the bound says that there
+    /// is no plan.
+    pub(crate) fn low(self, instance: &Instance, tables: &Tables<'_>, at: u16) -> Option<u64>
+        requires tables { tables.now.problem ≡ instance.now }
+        requires place { at < place_count instance.now }
+        requires load { self.load ≤ instance.now.capacity }
+        requires depot { at ≡ 0 → self.load ≡ 0 }
+        requires ins { self.ins ≤ 1200000000000 }
+        requires cost { self.cost ≤ 2400000000000 }
+        requires rest { self.rest ≤ load_of instance.now tables.now.among }
+        requires all { self.rest ≤ load_of instance.now (customers instance.now) }
+        ensures { IsLowOf instance.now tables.now.among at self result }
+    {
+        let more = bound(tables, instance, at, self.load, self.ins, self.rest)?;
+        Some(self.cost + more)
+    }
+}
+
+// What the least ways into all customers cost together.
+fn whole_ins(instance: &Instance) -> u64
+    ensures ins { IsInsOf instance.now [] result }
+    ensures small { result ≤ 1200000000000 }
+{
+    let mut ins = 0;
+    for index in 0..instance.customers() {
+        ins += instance.least_in(index + 1);
+    }
+    ins
+}
