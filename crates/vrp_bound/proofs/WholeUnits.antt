@@ -1,7 +1,9 @@
 -- Amounts, demands and loads in units, and what is known of a problem in units.
-use Rattle.std.proofs.Common.{◌≡◌, ℕ, ◌+◌, ◌*◌, ◌/◌, ◌%◌, ◌<◌, ◌≤◌, max, min, map, List, [], ◌∷◌, ◌++◌, length, get_or, take, inl, inr, ap, ◌∙◌, sym, subst, below_more, arith}
+use Rattle.std.proofs.Common.{◌≡◌, ℕ, ◌+◌, ◌*◌, ◌/◌, ◌%◌, ◌<◌, ◌≤◌, max, min, map, List, [], ◌∷◌, ◌++◌, length, get_or, take, inl, inr, ap, ◌∙◌, sym, subst, below_more, slice_index, arith}
 use Rattle.std.specs.Int.{IsGcd, ◌∣◌}
 use Rattle.std.specs.List.{All, Contains, sum_by}
+use Rattle.std.proofs.Math.ListN.{get_or-append}
+use Rattle.std.proofs.Math.Seq.{get_or-append_seam}
 use Rattle.std.proofs.lemmas.Bool.{cases_lt}
 use Rattle.std.proofs.lemmas.List.{get_or-map, get_or_default, get_or_past, length-map, take_more}
 use Rattle.std.proofs.lemmas.List.Elements.{All-contains, All-contains_itself, All-tail}
@@ -164,3 +166,12 @@ room_units p q among others unit other demand room same_problem same_list same_u
     let all = demand_units p q among others unit other demand same_problem same_list same_unit is demand_is in
     let capacity : p.capacity / other ≡ (in_units other q).capacity = ap (λ (b : Problem). b.capacity / other) (sym same_problem) in
     omega (arith, room_is, all, capacity)
+
+-- one more amount is kept in whole units
+pub quotient_more : (unit amount : ℕ) (kept : List ℕ) → length kept ≡ amount → ((k : ℕ) → k < amount → slice_index kept k ≡ k / unit) → (k : ℕ) → k < amount + 1 → slice_index (kept ++ (amount / unit) ∷ []) k ≡ k / unit
+quotient_more unit amount kept long each k lt = elim (cases_lt k amount) [
+  | inl before ↦ get_or-append kept ((amount / unit) ∷ []) 0 k (omega (arith, before, long)) ∙ each k before
+  | inr last ↦
+      let here : k ≡ length kept = omega (arith, last, lt, long) in
+      ap (λ n. slice_index (kept ++ (amount / unit) ∷ []) n) here ∙ get_or-append_seam kept (amount / unit) [] 0 ∙ ap (λ n. n / unit) (sym (here ∙ long))
+]

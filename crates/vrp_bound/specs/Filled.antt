@@ -13,6 +13,7 @@ pub record AreCells (p : Problem) (among : List ℕ) (cells : Cells) : Type 0 wh
   pub made : AreMade p among
   pub scope : IsScope p among
   pub unit : IsUnit p among cells.unit
+  pub counted : cells.quotients.unit ≡ cells.unit
   -- in units
   pub walks : AreWalks (in_units cells.unit p) among cells.walks.items
   pub tours : AreTours (in_units cells.unit p) among cells.tours.items

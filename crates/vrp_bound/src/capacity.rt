@@ -33,6 +33,10 @@ fn trucks(capacity: u64, amount: u64) -> u64
     if amount == 0 {
         return 0;
     }
+    // Nearly always, and a division takes longer.
+    if amount <= capacity {
+        return 1;
+    }
     (amount - 1) / capacity + 1
 }
 

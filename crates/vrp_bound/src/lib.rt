@@ -9,6 +9,7 @@ mod fixture;
 mod greater;
 mod homes;
 mod law;
+mod quotients;
 mod scope;
 mod tables;
 mod tours;

@@ -8,6 +8,7 @@ ghost use Rattle.vrp_bound.specs.Tables.{AreMade, IsBound, TablesOf};
 ghost use Rattle.vrp_bound.specs.Scope.{IsScope};
 
 use crate::homes::{homes, least_way_home, looked_up};
+use crate::quotients::Quotients;
 use crate::scope::{Scope, are_made, demand_of_all};
 use crate::tours::tours;
 use crate::units::{UnitScope, demands_in_units, unit_of};
@@ -30,6 +31,7 @@ pub struct Tables<'a> {
 struct Cells {
     // Of which each customer demands a whole number. Loads, rests and the room are counted in units.
     unit: u64,
+    quotients: Quotients,
     // How much of the whole demand one truck can carry.
     room: u64,
     // By load, and of each load by place.
@@ -120,8 +122,10 @@ impl Cells {
         let walks = walks(alloc, units, &demands, room)?;
         let tours = tours(alloc, units, &walks, room, demand)?;
         let homes = homes(alloc, units, &walks, &tours, room)?;
+        let quotients = Quotients::up_to(alloc, units.unit, demand_of_all(scope))?;
         Ok(Cells {
             unit: units.unit,
+            quotients,
             room,
             walks,
             tours,
@@ -140,7 +144,7 @@ impl Cells {
         ensures { IsLeast (HasRelaxed scope.entry.instance.now scope.entry.customers.now at load rest) result }
     {
         let units = UnitScope::new(scope, self.unit);
-        let carried = units.whole_units(rest);
+        let carried = self.quotients.whole_units(rest);
         let whole = carried * self.unit;
         if whole != rest {
             return MARK;
@@ -148,7 +152,7 @@ impl Cells {
         if at == 0 {
             return self.tours[carried as usize];
         }
-        let free = units.whole_units(scope.instance.capacity() - load);
+        let free = self.quotients.whole_units(scope.instance.capacity() - load);
         match &self.homes {
             Some(homes) => looked_up(units, homes, &self.tours, self.room, at, free, carried),
             None => least_way_home(units, &self.walks, &self.tours, at, free, carried),
@@ -215,16 +219,24 @@ mod tests {
         let points = [(0, 0), (3, 4), (6, 8)];
         let weights = Weights::points(rt.alloc(), Metric::Euc2d, &points)?;
         let instance = Instance::new(rt.alloc(), weights, &[0, 1, 1], 2, &[1], None)?;
-        let customers = [1];
-        assert!(rt; are_customers(&instance, &customers));
-        let tables = Tables::build(rt.alloc(), &instance, &customers)?;
-        let asked = [
+        let near = [
             (1, 1, 1, Some(15)),
             (2, 1, 1, Some(10)),
             (2, 2, 1, Some(20)),
             (2, 2, 0, Some(10)),
         ];
-        assert_answers(&rt, &tables, &asked);
+        let far = [
+            (1, 1, 1, Some(15)),
+            (1, 2, 1, Some(25)),
+            (2, 1, 1, Some(30)),
+            (0, 0, 1, Some(20)),
+        ];
+        for (customer, asked) in [(1, near), (2, far)] {
+            let customers = [customer];
+            assert!(rt; are_customers(&instance, &customers));
+            let tables = Tables::build(rt.alloc(), &instance, &customers)?;
+            assert_answers(&rt, &tables, &asked);
+        }
         Ok(())
     }
 

@@ -65,7 +65,9 @@ fn evaluated(alloc: Global, problem: &Problem, text: &str) -> Result<String> {
     let status = status(verdict);
     let wanted = report::text(alloc, &routes, cost, verdict)?;
     let is_same = glance.is(status, wanted.as_str());
-    let finding = format!(in alloc; "{count} routes, cost {cost}, {lawful}, {verdict} at a glance")?;
+    let finding = format!(in alloc;
+        "{count} routes, cost {cost}, {lawful}, {verdict} at a glance"
+    )?;
     match least::least(alloc, problem)? {
         None => {
             let same = agreement(is_same && lower <= cost);

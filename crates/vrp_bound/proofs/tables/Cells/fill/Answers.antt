@@ -41,6 +41,7 @@ returns c =
       made = c.requires.made;
       scope = c.requires.scope;
       unit = subst (IsUnit p among) (sym c.new-units.ensures.unit) c.unit_of.ensures;
+      counted = c.in_ok-quotients.ensures;
       walks = same_scope (λ b a. AreWalks (in_units unit b) a c.in_ok-walks.walks.items) p q among others instance customers c.in_ok-walks.ensures;
       tours = same_scope (λ b a. AreTours (in_units unit b) a c.in_ok-tours.tours.items) p q among others instance customers c.in_ok-tours.ensures;
       room = same_scope (λ b a. c.min-room.result ≡ room_of (in_units unit b) a) p q among others instance customers room;
