@@ -1,13 +1,13 @@
 #!/usr/bin/env bash
 # Times the proved search (crates/bench_search) beside a plain kernel in Rust (bench/kernel.rs), with the same budget.
-# Prints for each file how many million partial plans each looks at in a second, and the ratio. What is compared is the rate of
-# looking alone: the kernel also prunes by bounds, so the two look at different partial plans and may find different costs.
+# Prints for each file how many million partial plans each looks at in a second, and the ratio. Both prune by the same bounds;
+# the kernel also leaves out one of the two directions of each route, so the two look at different partial plans.
 # Needs the Rattle kit's command rt, rustc and awk.
 set -eu
 top=$(cd "$(dirname "$0")/.." && pwd)
 cases=$top/crates/cases/data
 program=$("$top/bench/build.sh")
-budget=${1:-20000000}
+budget=${1:-100000000}
 room=$(mktemp -d)
 trap 'rm -rf "$room"' EXIT
 

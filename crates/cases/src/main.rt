@@ -1,9 +1,10 @@
-//! Instances whose cheapest plan is known, each solved over four cuttings of its tree. For each file that its command line
-//! names it prints four lines, each with the number of pieces that were asked for and the end of the report: the cost and
-//! the verdict.
+//! Instances whose cheapest plan is known, over four cuttings of the tree each. A word of the command line is a file, or a
+//! file and what a cheapest plan costs, as `P-n16-k8.vrp:450`. A file alone is solved, and each line has the number of pieces
+//! that were asked for and the end of the report: the cost and the verdict. With a cost the search is given little, and each
+//! line says whether that cost lies between the bound and the cost that are printed.
 #![tactic(auto)]
 
-use anyhow::{Result, ensure};
+use anyhow::{Context, Result, ensure};
 use std::alloc::Global;
 use std::rt::Files;
 use std::{env, fs, str};
@@ -14,12 +15,25 @@ const MOST_PIECES: u32 = 65_536;
 // The whole tree; the fewest cuts; the pieces of a plain run; as many pieces as may be asked for.
 const CUTTINGS: [u32; 4] = [1, 2, 64, MOST_PIECES];
 
-// More partial plans than the search looks at in any of these trees.
+// More partial plans than the search looks at in any tree that it is to look through.
 const AMPLE: u64 = 1_000_000_000;
 
+// So few of a piece that the larger instances end soon.
+const LITTLE: u64 = 100;
+
+// What a report says of the cost of a cheapest plan.
+#[derive(Clone, Copy)]
+struct Range {
+    lower: u64,
+    cost: u64,
+}
+
 fn main(rt: HostRuntime) -> Result<()> {
-    for name in env::args(&rt)?.skip(1) {
-        print_endings(&rt, name.as_str())?;
+    for word in env::args(&rt)?.skip(1) {
+        match word.as_str().split_once(':') {
+            None => print_endings(&rt, word.as_str())?,
+            Some((name, least)) => print_ranges(&rt, name, least.parse::<u64>()?)?,
+        }
     }
     Ok(())
 }
@@ -27,19 +41,51 @@ fn main(rt: HostRuntime) -> Result<()> {
 // Prints the end of the report on a file for each number of pieces.
 fn print_endings<R: Files + Print + AllocGlobal>(rt: &R, name: &str) -> Result<()> {
     for pieces in CUTTINGS {
-        let ending = ending(rt, name, pieces)?;
+        let ending = ending(rt, name, pieces, AMPLE)?;
         println!(rt; "{name}, {pieces} pieces: {ending}")?;
     }
     Ok(())
 }
 
-// The last two lines of the report on a file.
-fn ending<R: Files + AllocGlobal>(rt: &R, name: &str, pieces: u32) -> Result<String> {
+// Prints for each number of pieces where the cost of a cheapest plan of a file lies.
+fn print_ranges<R: Files + Print + AllocGlobal>(rt: &R, name: &str, least: u64) -> Result<()> {
+    for pieces in CUTTINGS {
+        let range = read_range(ending(rt, name, pieces, LITTLE)?.as_str())?;
+        let lies = if range.lower <= least && least <= range.cost {
+            "lies"
+        } else {
+            "doesn't lie"
+        };
+        println!(rt; "{name}, {pieces} pieces: {least} {lies} between the bound and the cost")?;
+    }
+    Ok(())
+}
+
+// What the end of a report says: the cost of its plan, and no less than the bound. A plan that is proven costs the least.
+fn read_range(ending: &str) -> Result<Range> {
+    let (cost, verdict) = ending.split_once(", ").context("no verdict")?;
+    let cost = cost
+        .strip_prefix("Cost ")
+        .context("no cost")?
+        .parse::<u64>()?;
+    if verdict == "Proven" {
+        return Ok(Range { lower: cost, cost });
+    }
+    let lower = verdict
+        .strip_prefix("Open ")
+        .context("no bound")?
+        .parse::<u64>()?;
+    Ok(Range { lower, cost })
+}
+
+// The last two lines of the report on a file, with this budget for each piece.
+fn ending<R: Files + AllocGlobal>(rt: &R, name: &str, pieces: u32, budget: u64) -> Result<String> {
     ensure!(1 <= pieces && pieces <= MOST_PIECES, "{pieces} pieces");
+    ensure!(1 <= budget && budget <= AMPLE, "a budget of {budget}");
     let options = Options {
         workers: 1,
         pieces,
-        budget: AMPLE,
+        budget,
         depot: None,
     };
     let file = fs::read(rt, name)?;
