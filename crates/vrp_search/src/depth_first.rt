@@ -75,7 +75,8 @@ pub fn search<B: Board>(
     }
 }
 
-// Offers the plan of a complete word.
+// Offers the plan of a complete word. Few are complete, and the test comes at each push.
+#[inline(always)]
 fn offer_complete<B: Board>(
     alloc: Global,
     partial: &Partial<'_>,

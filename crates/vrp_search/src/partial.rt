@@ -130,6 +130,8 @@ impl<'a> Partial<'a> {
     }
 
     /// Adds a symbol at the end.
+    // The search has computed the same tally for the bound just before: in its loop the two become one.
+    #[inline(always)]
     pub fn push(&mut self, symbol: u16)
         requires { IsFront self.old.problem (self.old.word ++ symbol ∷ []) }
         ensures { self.new ≡ record { problem = self.old.problem; word = self.old.word ++ symbol ∷ [] } }
@@ -142,6 +144,7 @@ impl<'a> Partial<'a> {
     }
 
     // The tally with one more symbol.
+    #[inline(always)]
     fn tally_after(&self, symbol: u16) -> Tally
         requires { IsFront self.now.problem (self.now.word ++ symbol ∷ []) }
         ensures tally { IsTally self.now.problem (self.now.word ++ symbol ∷ []) result }

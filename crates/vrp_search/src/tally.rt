@@ -41,6 +41,8 @@ impl Tally {
 
     /// What is paid along the word, and the bound on what is still to pay from its end. `None` where the bound says that there
     /// is no plan.
+    // Asked at each partial plan that is looked at.
+    #[inline(always)]
     pub(crate) fn low(self, instance: &Instance, tables: &Tables<'_>, at: u16) -> Option<u64>
         requires tables { tables.now.problem ≡ instance.now }
         requires place { at < place_count instance.now }
