@@ -1,19 +1,18 @@
 -- What a lawful word adds to a front is a relaxed completion of it.
-use Rattle.std.proofs.Common.{◌≡◌, ◌≢◌, ℕ, zero, suc, ◌+◌, ◌≤◌, ◌<◌, ◌⊎◌, inl, inr, List, [], ◌∷◌, ◌++◌, length, length-append, get_or, refl, sym, ap, subst, ◌∙◌, append-nil, arith}
-use Rattle.std.specs.List.{All, Contains, sum_by}
+use Rattle.std.proofs.Common.{◌≡◌, ◌≢◌, ℕ, zero, suc, ◌+◌, ◌≤◌, ◌⊎◌, inl, inr, List, [], ◌∷◌, ◌++◌, length, length-append, get_or, refl, sym, ap, subst, ◌∙◌, append-nil, arith}
+use Rattle.std.specs.List.{All, Contains}
 use Rattle.std.proofs.Math.ListN.{get_or-append}
-use Rattle.std.proofs.lemmas.Bool.{cases_lt}
 use Rattle.std.proofs.lemmas.List.{get_or-append-add}
 use Rattle.std.proofs.lemmas.List.Elements.{All-cons, All-nil, All-contains, Contains-get_or}
 use Rattle.std.proofs.lemmas.List.Sums.{sum_by-cons}
 use Rattle.vrp_model.specs.Front.{IsRest, open_load}
-use Rattle.vrp_model.specs.Problem.{IsProblem, Problem, customers, demand_of, weight_of}
+use Rattle.vrp_model.specs.Problem.{IsProblem, Problem, customers, demand_of}
 use Rattle.vrp_model.specs.Route.{cost_along, load_of}
-use Rattle.vrp_model.specs.Word.{IsFront, IsLawfulWord, last_symbol, served_in, word_cost}
+use Rattle.vrp_model.specs.Word.{IsLawfulWord, last_symbol, served_in, word_cost}
 use Rattle.vrp_model.proofs.Children.{closed_is_open}
 use Rattle.vrp_model.proofs.Rearranged.{AreDistinct}
 use Rattle.vrp_model.proofs.Steps.{last_symbol_with, load_at_depot, load_with_customer}
-use Rattle.vrp_bound.specs.Walk.{IsRelaxed, IsTour, IsWalk, NeighborsDiffer, home_cost, relaxed_cost, walk_cost}
+use Rattle.vrp_bound.specs.Walk.{IsRelaxed, IsTour, IsWalk, relaxed_cost, walk_cost}
 use Rattle.vrp_model.proofs.FrontPlaces.{serves_customer}
 use Rattle.vrp_bound.proofs.Unserved.{cost_behind, differs_from_last, front_of, light_front, served_more, sum_of_all, with_symbol}
 

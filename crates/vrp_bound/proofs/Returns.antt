@@ -1,13 +1,13 @@
 -- What a lawful word adds to a front is no less than the capacity bound.
-use Rattle.std.proofs.Common.{◌≡◌, ◌≢◌, ℕ, zero, suc, ◌+◌, ◌-◌, ◌*◌, ◌≤◌, ◌<◌, ◌==◌, if◌then◌else◌, ◌⊎◌, inl, inr, false, List, [], ◌∷◌, ◌++◌, refl, sym, ap, subst, ◌∙◌, append-nil, arith}
-use Rattle.std.specs.List.{All, Contains, sum_by}
+use Rattle.std.proofs.Common.{◌≡◌, ◌≢◌, ℕ, zero, suc, ◌+◌, ◌-◌, ◌*◌, ◌≤◌, ◌==◌, if◌then◌else◌, inl, inr, false, List, [], ◌∷◌, ◌++◌, refl, sym, ap, subst, ◌∙◌, append-nil, arith}
+use Rattle.std.specs.List.{All, sum_by}
 use Rattle.std.proofs.lemmas.Bool.Decides.{nat_tests}
 use Rattle.std.proofs.lemmas.Nat.{mul-le}
 use Rattle.std.proofs.lemmas.List.Elements.{All-contains}
 use Rattle.std.proofs.lemmas.List.Sums.{sum_by-cons}
 use Rattle.vrp_model.specs.Front.{IsRest, open_load}
 use Rattle.vrp_model.specs.LeastWay.{IsLeastHome, IsLeastIn}
-use Rattle.vrp_model.specs.Problem.{IsProblem, Problem, customers, demand_of, place_count, weight_of}
+use Rattle.vrp_model.specs.Problem.{IsProblem, Problem, customers, demand_of, weight_of}
 use Rattle.vrp_model.specs.Route.{cost_along, load_of}
 use Rattle.vrp_model.specs.Word.{IsLawfulWord, last_symbol, served_in, word_cost}
 use Rattle.vrp_model.proofs.Children.{closed_is_open, unserved_if_added}
@@ -15,7 +15,7 @@ use Rattle.vrp_model.proofs.Steps.{last_symbol_with, load_at_depot, load_with_cu
 use Rattle.vrp_bound.specs.Capacity.{IsCapacityBound, IsInsOf, free_room}
 use Rattle.vrp_bound.proofs.Completion.{place_cases}
 use Rattle.vrp_model.proofs.FrontPlaces.{last_is_place, serves_customer}
-use Rattle.vrp_bound.proofs.Unserved.{cost_behind, customer_is_place, differs_from_last, front_of, sum_of_all, with_symbol}
+use Rattle.vrp_bound.proofs.Unserved.{cost_behind, differs_from_last, front_of, sum_of_all, with_symbol}
 
 -- the truck that is out drives home
 abbrev pub out : ℕ → ℕ

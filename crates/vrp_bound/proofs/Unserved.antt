@@ -1,15 +1,13 @@
 -- What a lawful word serves behind a front.
-use Rattle.std.proofs.Common.{◌≡◌, ◌≢◌, ℕ, zero, suc, ◌+◌, ◌-◌, ◌≤◌, ◌<◌, ◌==◌, not, ◌⊎◌, inl, inr, true, false, List, [], ◌∷◌, ◌++◌, length, length-append, get_or, refl, sym, ap, subst, ◌∙◌, append_assoc, arith}
-use Rattle.std.specs.List.{All, Contains, filter, sum_by}
+use Rattle.std.proofs.Common.{◌≡◌, ◌≢◌, ℕ, zero, suc, ◌+◌, ◌-◌, ◌≤◌, ◌<◌, ◌==◌, not, inl, inr, List, [], ◌∷◌, ◌++◌, length, refl, sym, ap, subst, ◌∙◌, append_assoc, arith}
+use Rattle.std.specs.List.{All, Contains, sum_by}
 use Rattle.std.specs.List.Sorted.{IsPermutation}
 use Rattle.std.specs.Prelude.{slice_index_or}
-use Rattle.std.proofs.Math.ListN.{get_or-append}
-use Rattle.std.proofs.lemmas.Bool.Decides.{nat_tests}
 use Rattle.std.proofs.lemmas.Bool.{cases_lt}
-use Rattle.std.proofs.lemmas.List.Elements.{All-cons, All-nil, All-contains, Contains-get_or, filter-append}
+use Rattle.std.proofs.lemmas.List.Elements.{All-contains, filter-append}
 use Rattle.std.proofs.lemmas.List.Sorted.{sum_by-IsPermutation}
 use Rattle.std.proofs.lemmas.List.Sums.{sum_by-append}
-use Rattle.vrp_model.specs.Problem.{IsProblem, Problem, customers, place_count}
+use Rattle.vrp_model.specs.Problem.{Problem, customers, place_count}
 use Rattle.vrp_model.specs.Front.{open_load}
 use Rattle.vrp_model.specs.Route.{cost_along, load_of}
 use Rattle.vrp_model.specs.Word.{IsFront, IsLawfulWord, last_symbol, routes_of, served_in, word_cost}
@@ -18,7 +16,7 @@ use Rattle.vrp_model.proofs.Children.{unserved_if_added}
 use Rattle.vrp_model.proofs.FrontPlaces.{serves_customer}
 use Rattle.vrp_model.proofs.FrontsBefore.{fronts_before}
 use Rattle.vrp_model.proofs.PlanWords.{cost_parts}
-use Rattle.vrp_model.proofs.Rearranged.{AreDistinct, customers_distinct, same_elements}
+use Rattle.vrp_model.proofs.Rearranged.{customers_distinct, same_elements}
 use Rattle.vrp_model.proofs.Steps.{load_at_customer, load_at_depot}
 use Rattle.vrp_model.proofs.Words.{last_behind, last_is}
 

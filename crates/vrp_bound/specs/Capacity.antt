@@ -1,5 +1,5 @@
 -- The capacity bound: each unserved customer is driven into, and enough trucks drive home.
-use Rattle.std.specs.Prelude.{◌≡◌, ℕ, ◌+◌, ◌-◌, ◌*◌, ◌≤◌, ◌<◌, ◌==◌, if◌then◌else◌, List}
+use Rattle.std.specs.Prelude.{◌≡◌, ℕ, ◌+◌, ◌-◌, ◌*◌, ◌≤◌, ◌==◌, if◌then◌else◌, List}
 use Rattle.std.specs.List.{All, sum_by}
 use Rattle.vrp_model.specs.LeastWay.{IsLeastHome, IsLeastIn}
 use Rattle.vrp_model.specs.Problem.{Problem, customers}

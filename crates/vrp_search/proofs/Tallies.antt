@@ -1,6 +1,6 @@
 -- A tally with one more symbol, and what is kept beside a word when a symbol is added or taken off.
-use Rattle.std.proofs.Common.{◌≡◌, ◌≢◌, ℕ, zero, suc, ◌+◌, ◌-◌, ◌*◌, ◌≤◌, ◌<◌, ◌==◌, Bool, true, false, if◌then◌else◌, List, [], ◌∷◌, ◌++◌, length, length-append, get_or, take, refl, sym, ap, subst, ◌∙◌, inl, inr, ◌⊎◌, arith}
-use Rattle.std.specs.List.{All, Contains}
+use Rattle.std.proofs.Common.{◌≡◌, ◌≢◌, ℕ, zero, suc, ◌+◌, ◌-◌, ◌*◌, ◌≤◌, ◌<◌, ◌==◌, Bool, true, false, if◌then◌else◌, List, [], ◌∷◌, ◌++◌, length, length-append, take, refl, sym, ap, subst, ◌∙◌, inl, inr, ◌⊎◌, arith}
+use Rattle.std.specs.List.{All}
 use Rattle.std.specs.Prelude.{slice_index, slice_index_or, slice_set, ◌↔◌}
 use Rattle.std.proofs.Math.ListN.{get_or-append}
 use Rattle.std.proofs.Math.Seq.{get_or-append_seam, take-append_seam}
@@ -11,7 +11,7 @@ use Rattle.std.proofs.lemmas.List.Elements.{All-cons, All-nil}
 use Rattle.vrp_model.specs.Problem.{IsProblem, Problem, customers, demand_of, place_count, weight_of}
 use Rattle.vrp_model.specs.Route.{load_of}
 use Rattle.vrp_model.specs.Word.{IsFront, IsLawfulWord, IsOpen, IsUnserved, MakesChild, last_route, last_symbol, served_in, word_cost}
-use Rattle.vrp_model.proofs.Words.{last_behind, last_is}
+use Rattle.vrp_model.proofs.Words.{last_is}
 use Rattle.vrp_model.proofs.AllCustomers.{is_customer}
 use Rattle.vrp_model.proofs.Children.{closed_is_open, load_with, served_at_depot, served_with, unserved_if_added}
 use Rattle.vrp_model.proofs.ChildCases.{cases_of_child}
@@ -19,7 +19,6 @@ use Rattle.vrp_model.proofs.FrontPlaces.{serves_customer, symbol_is_place}
 use Rattle.vrp_model.proofs.FrontsBefore.{fronts_before}
 use Rattle.vrp_model.proofs.PlanWords.{cost_parts}
 use Rattle.vrp_model.proofs.Rearranged.{customers_distinct}
-use Rattle.vrp_model.specs.Front.{open_load}
 use Rattle.vrp_search.specs.Tallied.{AreBefore, AreFlags, AreTallied, IsTally, stands_in}
 use Rattle.vrp_search.specs.declared.tally.Tally.{Tally}
 use Rattle.vrp_bound.specs.Capacity.{IsInsOf}

@@ -1,4 +1,4 @@
-use Rattle.std.proofs.Common.{◌≡◌, ◌+◌, ◌-◌, ◌*◌, ◌≤◌, ◌<◌, arith}
+use Rattle.std.proofs.Common.{◌≤◌, arith}
 use Rattle.vrp_bound.proofs.Trucks.{all_carried, homes_fit}
 use Rattle.vrp_bound.proofs.capacity.cap_bound.Goals.{then-at-eq0-2, else-at-eq0-2}
 use Rattle.vrp_bound.proofs.capacity.cap_bound.Goals as goal

@@ -1,4 +1,4 @@
-use Rattle.std.proofs.Common.{◌≡◌, ◌≤◌, ◌<◌, ◌+◌, ◌-◌, ◌*◌, ◌/◌, ◌%◌, arith}
+use Rattle.std.proofs.Common.{arith}
 use Rattle.vrp_bound.proofs.Trucks.{rounded_up}
 use Rattle.vrp_bound.proofs.capacity.trucks.Goals as goal
 

@@ -1,4 +1,4 @@
-use Rattle.std.proofs.Common.{◌≡◌, ℕ, List, ◌+◌, ◌/◌, ◌++◌, ◌∷◌, [], ◌∙◌, length, length-append, ap, arith}
+use Rattle.std.proofs.Common.{ℕ, List, ◌+◌, ◌/◌, ◌∷◌, [], ◌∙◌, length, length-append, ap, arith}
 use Rattle.std.specs.Prelude.{slice_index}
 use Rattle.vrp_bound.proofs.WholeUnits.{quotient_more}
 use Rattle.vrp_bound.proofs.quotients.Quotients.up_to.Goals as goal

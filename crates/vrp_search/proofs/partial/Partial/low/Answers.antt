@@ -1,7 +1,5 @@
-use Rattle.std.proofs.Common.{◌≡◌, ◌∙◌, ◌≤◌, ap, subst, sym, arith}
-use Rattle.vrp_model.specs.Problem.{IsProblem, Problem}
-use Rattle.vrp_model.specs.Route.{load_of}
-use Rattle.vrp_model.specs.Word.{last_symbol}
+use Rattle.std.proofs.Common.{subst, sym, arith}
+use Rattle.vrp_model.specs.Problem.{IsProblem}
 use Rattle.vrp_model.proofs.FrontPlaces.{last_is_place}
 use Rattle.vrp_search.specs.Partial.{PartialPlan}
 use Rattle.vrp_search.specs.Search.{AreCovered, IsLow}
