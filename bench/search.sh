@@ -21,7 +21,7 @@ best() {
 }
 
 proved_rate() {
-    "$program" "$1" "$budget" 2>&1 > /dev/null | sed 's/.*, \([0-9.]*\) million each second/\1/'
+    "$program" "$1" "$budget" 2>&1 > /dev/null | sed -n 's/.*, \([0-9.]*\) million each second/\1/p'
 }
 
 kernel_rate() {
