@@ -9,6 +9,7 @@ mod instance;
 mod law;
 mod layout;
 mod least;
+mod limits;
 mod matrix;
 mod memory;
 mod metric;
@@ -23,6 +24,9 @@ pub use law::{
     words_are_plans,
 };
 pub use layout::Layout;
+pub use limits::{
+    MAX_CAPACITY, MAX_COORDINATE, MAX_NODES, MAX_WAYS, MAX_WEIGHT, MAX_WHOLE_DEMAND,
+};
 pub use memory::NoMemory;
 pub use metric::Metric;
 pub use plan::Plan;
