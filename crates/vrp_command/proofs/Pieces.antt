@@ -3,24 +3,18 @@ use Rattle.std.proofs.Common.{◌≡◌, ◌∙◌, ℕ, zero, suc, ◌+◌, ◌
 use Rattle.std.specs.Prelude.{map, slice_index_or, unwrap_or}
 use Rattle.std.specs.List.{All, Contains}
 use Rattle.std.specs.List.Sorted.{IsPermutation, IsStrictlyIncreasing}
-use Rattle.std.proofs.lemmas.List.Elements.{All-append, All-cons, All-nil, Contains-get_or}
+use Rattle.std.proofs.lemmas.List.Elements.{All-append, All-cons, All-nil}
 use Rattle.std.proofs.lemmas.List.{get_or-map, length-map, take_more}
 use Rattle.vrp_model.specs.Cheapest.{IsCheapest, NoneCheaper}
 use Rattle.vrp_model.specs.Problem.{Problem, customers}
 use Rattle.vrp_model.specs.Route.{IsLawful, IsPlanOf, PricedPlan, plan_cost}
 use Rattle.vrp_model.specs.Word.{BeginsWith, IsLawfulWord, NoneCheaperUnder, first_stops, word_cost, word_of}
 use Rattle.vrp_search.specs.Cutting.{HasNoChild, IsCutting, NumberedWord}
-use Rattle.vrp_search.specs.Search.{AreCovered, IsUnfinished}
+use Rattle.vrp_search.specs.Search.{IsUnfinished}
 use Rattle.vrp_command.specs.Answer.{IsAnswer, IsLeftOpen}
 use Rattle.vrp_command.specs.declared.verdict.Verdict.{Verdict}
 use Rattle.vrp_command.specs.declared.verdict.Verdict.TheVariants.{Proven, Open}
 use Rattle.vrp_command.specs.Searched.{AreSearched, BoundedFront, IsLeast, IsLeft, fronts_of, least_of, lows_of}
-
--- ---- all customers
-
--- each customer is among them
-pub all_covered : (p : Problem) (front : List ℕ) → AreCovered p (customers p) front
-all_covered p front = λ k d lt. inr (Contains-get_or (customers p) k d lt)
 
 -- ---- piece by piece
 
