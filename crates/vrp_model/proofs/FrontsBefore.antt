@@ -84,7 +84,8 @@ fronts_before p front [] is_front = subst (IsFront p) (append-nil front) is_fron
 fronts_before p front (k ∷ more) is_front =
     front_before p front k (fronts_before p (front ++ k ∷ []) more (subst (IsFront p) (sym (append_assoc front (k ∷ []) more)) is_front))
 
-same_front : (front xs ys : List ℕ) → front ++ xs ≡ front ++ ys → xs ≡ ys
+-- what goes on behind the same front
+pub same_front : (front xs ys : List ℕ) → front ++ xs ≡ front ++ ys → xs ≡ ys
 same_front [] xs ys e = e
 same_front (symbol ∷ front) xs ys e = same_front front xs ys (cc)
 

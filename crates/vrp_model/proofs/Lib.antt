@@ -3,6 +3,7 @@ pub mod Ceilings
 pub mod ChildCases
 pub mod Children
 pub mod Counting
+pub mod DistinctWithin
 pub mod Distances
 pub mod Euclid
 pub mod Filling
@@ -17,6 +18,7 @@ pub mod Rearranged
 pub mod Rising
 pub mod Rows
 pub mod Steps
+pub mod Trees
 pub mod UnservedCustomers
 pub mod WordReading
 pub mod Words

@@ -3,7 +3,7 @@ use Rattle.std.proofs.Common.{◌≡◌, ◌≢◌, ℕ, zero, suc, ◌+◌, ◌
 use Rattle.std.specs.List.{All, Contains, concat, filter}
 use Rattle.std.specs.List.Sorted.{IsPermutation, IsStrictlyIncreasing}
 use Rattle.std.proofs.lemmas.Bool.Decides.{nat_tests}
-use Rattle.std.proofs.lemmas.List.Elements.{All-cons, All-nil, filter-append}
+use Rattle.std.proofs.lemmas.List.Elements.{All-cons, All-contains_itself, All-nil, filter-append}
 use Rattle.std.proofs.Math.ListN.{get_or-append}
 use Rattle.std.proofs.lemmas.List.{get_or-append-add}
 use Rattle.std.proofs.lemmas.List.Sums.{sum_by-cons}
@@ -13,7 +13,7 @@ use Rattle.vrp_model.specs.Route.{IsLawful, IsPlanOf, PricedPlan, cost_along, lo
 use Rattle.vrp_model.specs.Word.{HasStops, IsLawfulWord, first_stops, last_symbol, routes_of, served_in, word_cost, word_of}
 use Rattle.vrp_model.proofs.Words.{AreClosed, HasStops-append, IsStops, last_behind, last_behind-append, routes_are, shape_of}
 use Rattle.vrp_model.proofs.Children.{last_of_shape, last_stop}
-use Rattle.vrp_model.proofs.Rearranged.{AreDistinct, AreDistinct-permutation, contains_each, customers_distinct, same_elements}
+use Rattle.vrp_model.proofs.Rearranged.{AreDistinct, AreDistinct-permutation, customers_distinct, same_elements}
 use Rattle.vrp_model.proofs.AllCustomers.{customer_is_some}
 
 all_stops_kept : (stops : List ℕ) → IsStops stops → filter (λ k. not (k == 0)) stops ≡ stops
@@ -122,7 +122,7 @@ stops_of_closed (route ∷ routes) before are =
 -- the routes of a lawful plan are closed ones
 pub closed_plan : (p : Problem) (routes : List (List ℕ)) → IsLawful p routes → AreClosed routes
 closed_plan p routes lawful =
-    closed_from routes lawful.stops (λ i d lt. customer_is_some p (get_or (concat routes) i d) (Contains-permutation (concat routes) (customers p) (get_or (concat routes) i d) lawful.served (contains_each (concat routes) i d lt)))
+    closed_from routes lawful.stops (λ i d lt. customer_is_some p (get_or (concat routes) i d) (Contains-permutation (concat routes) (customers p) (get_or (concat routes) i d) lawful.served (All-contains_itself (concat routes) i d lt)))
 
 -- the routes whose word is lawful are lawful
 pub lawful_of_closed : (p : Problem) (word : List ℕ) (routes : List (List ℕ)) → IsLawfulWord p word → word ≡ word_of routes → AreClosed routes → IsLawful p routes
@@ -133,19 +133,19 @@ pub word_of_plan : (p : Problem) (routes : List (List ℕ)) → IsLawful p route
     → IsLawfulWord p (word_of routes) × (word_cost p (word_of routes) ≡ plan_cost p routes)
 word_of_plan p routes lawful rising =
     let back : IsPermutation (customers p) (concat routes) = IsPermutation-sym (concat routes) (customers p) lawful.served in
-    let above : All (λ k. 0 < k) (concat routes) = λ i d lt. customer_is_some p (get_or (concat routes) i d) (Contains-permutation (concat routes) (customers p) (get_or (concat routes) i d) lawful.served (contains_each (concat routes) i d lt)) in
+    let above : All (λ k. 0 < k) (concat routes) = λ i d lt. customer_is_some p (get_or (concat routes) i d) (Contains-permutation (concat routes) (customers p) (get_or (concat routes) i d) lawful.served (All-contains_itself (concat routes) i d lt)) in
     let are : AreClosed routes = closed_from routes lawful.stops above in
     let served : served_in (word_of routes) ≡ concat routes = served_by routes are in
     let same : routes_of (word_of routes) ≡ routes = ap routes_of (sym (append-nil (word_of routes))) ∙ routes_are routes [] are (All-nil _) ∙ append-nil routes in (
       record {
         front = record {
-          known = subst (All (Contains (customers p))) (sym served) (λ i d lt. Contains-permutation (concat routes) (customers p) (get_or (concat routes) i d) lawful.served (contains_each (concat routes) i d lt));
+          known = subst (All (Contains (customers p))) (sym served) (λ i d lt. Contains-permutation (concat routes) (customers p) (get_or (concat routes) i d) lawful.served (All-contains_itself (concat routes) i d lt));
           once = subst AreDistinct (sym served) (AreDistinct-permutation (customers p) (concat routes) back (customers_distinct p));
           stops = stops_of_closed routes 0 are;
           fits = subst (All (λ r. load_of p r ≤ p.capacity)) (sym same) lawful.fits;
           rising = subst (λ (rs : List (List ℕ)). IsStrictlyIncreasing (first_stops rs)) (sym same) rising;
         };
-        every = subst (λ (xs : List ℕ). All (Contains xs) (customers p)) (sym served) (λ i d lt. Contains-permutation (customers p) (concat routes) (get_or (customers p) i d) back (contains_each (customers p) i d lt));
+        every = subst (λ (xs : List ℕ). All (Contains xs) (customers p)) (sym served) (λ i d lt. Contains-permutation (customers p) (concat routes) (get_or (customers p) i d) back (All-contains_itself (customers p) i d lt));
         closed = ap last_symbol (sym (append-nil (word_of routes))) ∙ last_of_shape routes [];
       },
       cost_of_word p routes,

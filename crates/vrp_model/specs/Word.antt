@@ -63,6 +63,16 @@ abbrev pub TreeHasAtLeast : Problem → List ℕ → ℕ → Type 0
 TreeHasAtLeast p front n =
     (fronts : List (List ℕ)) × AllPairs (λ a b. a ≢ b) fronts × All (λ w. IsFront p w × BeginsWith w front) fronts × (n ≤ length fronts)
 
+-- the tree of a front: all fronts that begin with it, itself among them, each once
+pub record IsTree (p : Problem) (front : List ℕ) (fronts : List (List ℕ)) : Type 0 where
+  pub once : AllPairs (λ a b. a ≢ b) fronts
+  pub each : All (λ w. IsFront p w × BeginsWith w front) fronts
+  pub every : (w : List ℕ) → IsFront p w → BeginsWith w front → Contains fronts w
+
+-- so many fronts are in it
+abbrev pub TreeHas : Problem → List ℕ → ℕ → Type 0
+TreeHas p front n = (fronts : List (List ℕ)) × IsTree p front fronts × (length fronts ≡ n)
+
 -- the route that stands last, and nothing where there is none
 abbrev pub last_route : List ℕ → List ℕ
 last_route word = slice_index_or (routes_of word) (length (routes_of word) - 1) []

@@ -1,10 +1,11 @@
 //! What is true of the definitions, whatever the code does.
-ghost use Rattle.std.specs.Prelude.{◌≡◌, ◌≢◌, ◌↔◌, ℕ, ℤ, List, [], ◌∷◌, ◌++◌};
+ghost use Rattle.std.specs.Prelude.{◌≡◌, ◌≢◌, ◌↔◌, ℕ, ℤ, ◌+◌, ◌≤◌, List, [], ◌∷◌, ◌++◌};
+ghost use Rattle.std.specs.List.{All, Contains, sum_by};
 ghost use Rattle.std.specs.List.Sorted.{IsPermutation, IsStrictlyIncreasing};
 ghost use Rattle.vrp_model.specs.Distance.{IsDistance};
 ghost use Rattle.vrp_model.specs.Problem.{IsProblem, Problem};
 ghost use Rattle.vrp_model.specs.Route.{IsLawful, plan_cost};
-ghost use Rattle.vrp_model.specs.Word.{BeginsWith, IsFront, IsLawfulWord, MakesChild, TreeHasAtLeast, first_stops, word_cost, word_of};
+ghost use Rattle.vrp_model.specs.Word.{BeginsWith, IsFront, IsLawfulWord, MakesChild, TreeHas, TreeHasAtLeast, first_stops, word_cost, word_of};
 ghost use Rattle.vrp_model.specs.declared.metric.Metric.{Metric};
 
 /// Two points have one distance by a metric, and no other.
@@ -39,6 +40,18 @@ pub fn child_cases()
 pub fn one_child()
     ensures { (p : Problem) (front word : List ℕ) → IsFront p front → IsLawfulWord p word → BeginsWith word front → word ≢ front
         → (k : ℕ) × IsFront p (front ++ k ∷ []) × BeginsWith word (front ++ k ∷ []) × ((j : ℕ) → BeginsWith word (front ++ j ∷ []) → j ≡ k) }
+{}
+
+/// The tree of a front is the front itself and the trees of its children, so its size can be counted by hand. Symbols are those
+/// of the children, and each child's tree has its size.
+pub fn trees_of_children()
+    ensures { (p : Problem) (front symbols : List ℕ) (size : ℕ → ℕ) → IsFront p front → IsStrictlyIncreasing symbols → ((k : ℕ) → Contains symbols k ↔ IsFront p (front ++ k ∷ []))
+        → All (λ k. TreeHas p (front ++ k ∷ []) (size k)) symbols → TreeHas p front (1 + sum_by size symbols) }
+{}
+
+/// A tree has at least so many fronts exactly where they are no more than its size.
+pub fn tree_sizes()
+    ensures { (p : Problem) (front : List ℕ) (size n : ℕ) → TreeHas p front size → (TreeHasAtLeast p front n ↔ (n ≤ size)) }
 {}
 
 /// The tree of a front is no smaller than that of a longer one.

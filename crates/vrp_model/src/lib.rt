@@ -21,7 +21,7 @@ mod weights;
 pub use instance::{Instance, InstanceError};
 pub use law::{
     child_cases, longer_trees, one_child, one_distance, plans_are_words, plans_can_rise,
-    words_are_plans,
+    tree_sizes, trees_of_children, words_are_plans,
 };
 pub use layout::Layout;
 pub use limits::{

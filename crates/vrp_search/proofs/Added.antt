@@ -6,10 +6,9 @@ use Rattle.std.specs.List.Sorted.{IsStrictlyIncreasing}
 use Rattle.std.proofs.Math.ListN.{get_or-append}
 use Rattle.std.proofs.lemmas.Bool.{cases_lt}
 use Rattle.std.proofs.lemmas.List.{get_or_push, length-map, length_push, map-append}
-use Rattle.std.proofs.lemmas.List.Elements.{Contains-append_left, Contains-push, Contains-push_cases}
+use Rattle.std.proofs.lemmas.List.Elements.{All-contains_itself, Contains-append_left, Contains-push, Contains-push_cases}
 use Rattle.vrp_model.specs.Problem.{IsProblem, Problem, place_count}
 use Rattle.vrp_model.specs.Word.{IsFront}
-use Rattle.vrp_model.proofs.Rearranged.{contains_each}
 use Rattle.vrp_model.proofs.FrontPlaces.{symbol_is_place}
 use Rattle.vrp_search.specs.Pass.{AreAdded}
 
@@ -56,7 +55,7 @@ pub added_child : (p : Problem) (front : List ℕ) (k : ℕ) (old new : List (Li
 added_child p front k old new so_far is_child =
     record {
       symbols = so_far.symbols ++ k ∷ [];
-      rising = rising_push so_far.symbols k so_far.rising (λ i d lt. ((so_far.each (get_or so_far.symbols i d)).0 (contains_each so_far.symbols i d lt)).0);
+      rising = rising_push so_far.symbols k so_far.rising (λ i d lt. ((so_far.each (get_or so_far.symbols i d)).0 (All-contains_itself so_far.symbols i d lt)).0);
       each = λ j. (
         λ contained. elim (Contains-push_cases so_far.symbols k j contained) [
           | inl before ↦ (let both = (so_far.each j).0 before in (omega (arith, both.0), both.1))

@@ -2,11 +2,10 @@
 use Rattle.std.proofs.Common.{ℕ, ◌+◌, ◌<◌, Bool, true, false, List, [], ◌∷◌, ◌++◌, length, length-append, get_or, sym, ap, subst, ◌∙◌, arith, append_assoc}
 use Rattle.std.specs.List.{All}
 use Rattle.std.proofs.Math.Seq.{get_or-append-add}
-use Rattle.std.proofs.lemmas.List.Elements.{All-append, All-map, All-tail}
+use Rattle.std.proofs.lemmas.List.Elements.{All-append, All-contains_itself, All-map, All-tail}
 use Rattle.vrp_model.specs.Problem.{Problem}
 use Rattle.vrp_model.specs.Word.{IsFront}
 use Rattle.vrp_model.proofs.Children.{All-left}
-use Rattle.vrp_model.proofs.Rearranged.{contains_each}
 use Rattle.vrp_search.specs.Child.{AreChildren}
 use Rattle.vrp_search.specs.Cutting.{IsCutting, begins_with}
 use Rattle.vrp_search.specs.Pass.{StandsFor}
@@ -18,7 +17,7 @@ All-right P xs ys all = λ k d lt. subst P (get_or-append-add xs ys k d) (all (l
 pub children_are_fronts : (p : Problem) (front : List ℕ) (children : List (List ℕ)) → AreChildren p front children → All (IsFront p) children
 children_are_fronts p front children are =
     subst (All (IsFront p)) (sym are.are)
-    (All-map (IsFront p) (λ k. front ++ k ∷ []) are.symbols (λ i d lt. (are.each (get_or are.symbols i d)).0 (contains_each are.symbols i d lt)))
+    (All-map (IsFront p) (λ k. front ++ k ∷ []) are.symbols (λ i d lt. (are.each (get_or are.symbols i d)).0 (All-contains_itself are.symbols i d lt)))
 
 -- a front in the middle
 pub front_between : (p : Problem) (before after : List (List ℕ)) (front : List ℕ) → IsCutting p (before ++ front ∷ after) → IsFront p front

@@ -1,5 +1,4 @@
 pub mod Added
-pub mod Among
 pub mod Begins
 pub mod Cut
 pub mod Exactly

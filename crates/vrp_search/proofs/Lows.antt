@@ -14,7 +14,7 @@ use Rattle.vrp_model.proofs.UnservedCustomers.{unserved_before, unserved_distinc
 use Rattle.vrp_search.specs.Search.{AreCovered, IsLow}
 use Rattle.vrp_search.specs.Tallied.{IsLowOf, IsTally}
 use Rattle.vrp_search.specs.declared.tally.Tally.{Tally}
-use Rattle.vrp_search.proofs.Among.{sum_among}
+use Rattle.vrp_model.proofs.DistinctWithin.{sum_among}
 
 -- what holds of a word's numbers holds of the word
 pub low_is : (p : Problem) (among front : List ℕ) (t : Tally) (low : Option ℕ) → IsTally p front t → IsLowOf p among (last_symbol front) t low → IsLow p among front low

@@ -4,7 +4,7 @@ use Rattle.std.proofs.lemmas.Bool.Decides.{nat_tests}
 use Rattle.std.proofs.lemmas.List.FromFn.{length-range_with_len}
 use Rattle.vrp_model.specs.Problem.{IsProblem, Problem, customers, place_count}
 use Rattle.vrp_model.specs.Word.{HasStops, IsFront, served_in}
-use Rattle.vrp_search.proofs.Among.{length_among}
+use Rattle.vrp_model.proofs.DistinctWithin.{length_among}
 
 short_behind : (before : ℕ) (word : List ℕ) → HasStops before word → length word ≤ 2 * length (served_in word) + min before 1
 short_behind before [] has = omega arith

@@ -26,7 +26,7 @@ use Rattle.vrp_search.specs.declared.tally.Tally.{Tally}
 use Rattle.vrp_bound.specs.Capacity.{IsInsOf}
 use Rattle.vrp_model.specs.LeastWay.{IsLeastIn}
 use Rattle.vrp_search.proofs.WaysIn.{ins_at_depot, ins_with}
-use Rattle.vrp_search.proofs.Among.{all_among, length_among, sum_among}
+use Rattle.vrp_model.proofs.DistinctWithin.{all_among, length_among, sum_among}
 use Rattle.vrp_search.proofs.Short.{fronts_are_short, length_customers, served_are_few}
 use Rattle.vrp_model.proofs.Steps.{last_route_closed, last_route_with, last_symbol_with, load_at_customer, load_at_depot}
 
