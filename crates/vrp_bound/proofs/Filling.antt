@@ -4,7 +4,7 @@ use Rattle.std.proofs.lemmas.Bool.{cases_lt}
 use Rattle.std.proofs.lemmas.List.{get_or_append_left, get_or_past, get_or_push, length_push}
 use Rattle.std.proofs.lemmas.Nat.{div-mul-add, mod-mul-add}
 use Rattle.vrp_model.specs.Problem.{Problem, place_count}
-use Rattle.vrp_bound.specs.Cells.{AreToursSoFar, AreWalksSoFar, HasTours, HasWalk, IsLeast, mark}
+use Rattle.vrp_bound.specs.Cells.{AreToursSoFar, AreWalksSoFar, HasTours, HasWalk, IsLeastCell, mark}
 
 small_push : (cells : List ℕ) (cell most : ℕ) → ((k : ℕ) → slice_index cells k ≤ most) → cell ≤ most → (k : ℕ) → slice_index (cells ++ cell ∷ []) k ≤ most
 small_push cells cell most small here k =
@@ -30,27 +30,27 @@ pub no_walks : (p : Problem) (among : List ℕ) → AreWalksSoFar p among []
 no_walks p among = record { each = λ k within. absurd (omega (arith, within)); within = λ k. omega arith }
 
 -- one cell more
-pub more_walks : (p : Problem) (among cells : List ℕ) (cell load at : ℕ) → length cells ≡ load * place_count p + at → at < place_count p → AreWalksSoFar p among cells → IsLeast (HasWalk p among at load) cell → cell ≤ mark → AreWalksSoFar p among (cells ++ cell ∷ [])
+pub more_walks : (p : Problem) (among cells : List ℕ) (cell load at : ℕ) → length cells ≡ load * place_count p + at → at < place_count p → AreWalksSoFar p among cells → IsLeastCell (HasWalk p among at load) cell → cell ≤ mark → AreWalksSoFar p among (cells ++ cell ∷ [])
 more_walks p among cells cell load at next inside so_far least small =
     let row : length cells / place_count p ≡ load = ap (λ n. n / place_count p) next ∙ div-mul-add load (place_count p) at inside in
     let column : length cells % place_count p ≡ at = ap (λ n. n % place_count p) next ∙ mod-mul-add load (place_count p) at inside in
-    let here = subst (λ n. IsLeast (HasWalk p among (length cells % place_count p) n) cell) (sym row) (subst (λ n. IsLeast (HasWalk p among n load) cell) (sym column) least) in
+    let here = subst (λ n. IsLeastCell (HasWalk p among (length cells % place_count p) n) cell) (sym row) (subst (λ n. IsLeastCell (HasWalk p among n load) cell) (sym column) least) in
     record {
-      each = each_push (λ k cost. IsLeast (HasWalk p among (k % place_count p) (k / place_count p)) cost) cells cell so_far.each here;
+      each = each_push (λ k cost. IsLeastCell (HasWalk p among (k % place_count p) (k / place_count p)) cost) cells cell so_far.each here;
       within = small_push cells cell mark so_far.within small;
     }
 
-pub walk_cell : (p : Problem) (among cells : List ℕ) (k load at : ℕ) → k ≡ load * place_count p + at → at < place_count p → k < length cells → AreWalksSoFar p among cells → IsLeast (HasWalk p among at load) (get_or cells k 0)
+pub walk_cell : (p : Problem) (among cells : List ℕ) (k load at : ℕ) → k ≡ load * place_count p + at → at < place_count p → k < length cells → AreWalksSoFar p among cells → IsLeastCell (HasWalk p among at load) (get_or cells k 0)
 walk_cell p among cells k load at is inside within so_far =
     let row : k / place_count p ≡ load = ap (λ n. n / place_count p) is ∙ div-mul-add load (place_count p) at inside in
     let column : k % place_count p ≡ at = ap (λ n. n % place_count p) is ∙ mod-mul-add load (place_count p) at inside in
-    subst (λ n. IsLeast (HasWalk p among n load) (get_or cells k 0)) column (subst (λ n. IsLeast (HasWalk p among (k % place_count p) n) (get_or cells k 0)) row (so_far.each k within))
+    subst (λ n. IsLeastCell (HasWalk p among n load) (get_or cells k 0)) column (subst (λ n. IsLeastCell (HasWalk p among (k % place_count p) n) (get_or cells k 0)) row (so_far.each k within))
 
 pub no_tours : (p : Problem) (among : List ℕ) → AreToursSoFar p among []
 no_tours p among = record { each = λ k within. absurd (omega (arith, within)); within = λ k. omega arith }
 
-pub more_tours : (p : Problem) (among cells : List ℕ) (cell : ℕ) → AreToursSoFar p among cells → IsLeast (HasTours p among (length cells)) cell → cell ≤ mark → AreToursSoFar p among (cells ++ cell ∷ [])
+pub more_tours : (p : Problem) (among cells : List ℕ) (cell : ℕ) → AreToursSoFar p among cells → IsLeastCell (HasTours p among (length cells)) cell → cell ≤ mark → AreToursSoFar p among (cells ++ cell ∷ [])
 more_tours p among cells cell so_far least small = record {
-  each = each_push (λ rest cost. IsLeast (HasTours p among rest) cost) cells cell so_far.each least;
+  each = each_push (λ rest cost. IsLeastCell (HasTours p among rest) cost) cells cell so_far.each least;
   within = small_push cells cell mark so_far.within small;
 }

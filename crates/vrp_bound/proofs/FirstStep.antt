@@ -6,7 +6,7 @@ use Rattle.std.proofs.lemmas.List.Elements.{All-cons, All-contains, All-tail, Co
 use Rattle.std.proofs.lemmas.List.Sums.{sum_by-cons}
 use Rattle.vrp_model.specs.Problem.{IsProblem, Problem, demand_of, place_count, weight_of}
 use Rattle.vrp_model.specs.Route.{load_of}
-use Rattle.vrp_bound.specs.Cells.{HasWalk, IsLeast}
+use Rattle.vrp_bound.specs.Cells.{HasWalk, IsLeastCell}
 use Rattle.vrp_bound.specs.Scope.{IsScope}
 use Rattle.vrp_bound.specs.Walk.{IsWalk, walk_cost}
 use Rattle.vrp_bound.proofs.Least.{IsCostBelow, IsSum, least_same, least_one, least_sum}
@@ -35,7 +35,7 @@ no_load_no_stop p among (stop ∷ stops) scope within none =
     absurd (omega (arith, some, none, load_first p stop stops))
 
 -- the walk home at once
-pub least_at_once : (p : Problem) (among : List ℕ) (at : ℕ) → IsScope p among → IsLeast (HasWalk p among at 0) (weight_of p at 0)
+pub least_at_once : (p : Problem) (among : List ℕ) (at : ℕ) → IsScope p among → IsLeastCell (HasWalk p among at 0) (weight_of p at 0)
 least_at_once p among at scope =
     let home : walk_cost p at [] ≡ weight_of p at 0 = omega arith in
     record {
@@ -57,7 +57,7 @@ pub record IsStep (p : Problem) (among : List ℕ) (at load k cost : ℕ) : Type
   pub fits : demand_of p (get_or among k 0) ≤ load
   pub behind : IsSum (λ first. first ≡ weight_of p at (get_or among k 0)) (HasWalk p among (get_or among k 0) (load - demand_of p (get_or among k 0))) cost
 
-pub least_step : (p : Problem) (among : List ℕ) (at load k cell : ℕ) → k < length among → get_or among k 0 ≢ at → demand_of p (get_or among k 0) ≤ load → IsLeast (HasWalk p among (get_or among k 0) (load - demand_of p (get_or among k 0))) cell → IsLeast (IsStep p among at load k) (weight_of p at (get_or among k 0) + cell)
+pub least_step : (p : Problem) (among : List ℕ) (at load k cell : ℕ) → k < length among → get_or among k 0 ≢ at → demand_of p (get_or among k 0) ≤ load → IsLeastCell (HasWalk p among (get_or among k 0) (load - demand_of p (get_or among k 0))) cell → IsLeastCell (IsStep p among at load k) (weight_of p at (get_or among k 0) + cell)
 least_step p among at load k cell inside differs fits least =
     let c = get_or among k 0 in
     let w = weight_of p at c in

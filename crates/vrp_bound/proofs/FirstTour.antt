@@ -5,7 +5,7 @@ use Rattle.std.proofs.lemmas.List.Elements.{All-cons, All-tail}
 use Rattle.std.proofs.lemmas.List.Sums.{sum_by-cons}
 use Rattle.vrp_model.specs.Problem.{Problem}
 use Rattle.vrp_model.specs.Route.{load_of}
-use Rattle.vrp_bound.specs.Cells.{HasRelaxed, HasTours, HasWalk, IsLeast, mark}
+use Rattle.vrp_bound.specs.Cells.{HasRelaxed, HasTours, HasWalk, IsLeastCell, mark}
 use Rattle.vrp_bound.specs.Scope.{IsScope}
 use Rattle.vrp_bound.specs.Tables.{room_of}
 use Rattle.vrp_bound.specs.Walk.{IsLeastRelaxed, IsRelaxed, IsTour, NoneRelaxed, home_cost, relaxed_cost, walk_cost}
@@ -27,7 +27,7 @@ small_tours p among (tour ∷ tours) scope each =
     omega (arith, behind, small_walk p among 0 tour scope first.walks.within, tour_carries p among tour scope first, sum_by-cons (walk_cost p 0) tour tours, sum_by-cons (load_of p) tour tours)
 
 -- no tours at all
-pub least_no_tours : (p : Problem) (among : List ℕ) → IsLeast (HasTours p among 0) 0
+pub least_no_tours : (p : Problem) (among : List ℕ) → IsLeastCell (HasTours p among 0) 0
 least_no_tours p among = record {
   met = λ small. record { tours = []; each = λ k d lt. absurd (omega (arith, lt)); whole = refl; costs = refl };
   least = λ cost has. omega arith;
@@ -40,7 +40,7 @@ pub record IsFirstTour (p : Problem) (among : List ℕ) (rest load cost : ℕ) :
   pub fits : load ≤ rest
   pub parts : IsSum (HasWalk p among 0 load) (HasTours p among (rest - load)) cost
 
-pub least_first_tour : (p : Problem) (among : List ℕ) (rest load walk tours : ℕ) → 1 ≤ load → load ≤ p.capacity → load ≤ rest → IsLeast (HasWalk p among 0 load) walk → IsLeast (HasTours p among (rest - load)) tours → IsLeast (IsFirstTour p among rest load) (walk + tours)
+pub least_first_tour : (p : Problem) (among : List ℕ) (rest load walk tours : ℕ) → 1 ≤ load → load ≤ p.capacity → load ≤ rest → IsLeastCell (HasWalk p among 0 load) walk → IsLeastCell (HasTours p among (rest - load)) tours → IsLeastCell (IsFirstTour p among rest load) (walk + tours)
 least_first_tour p among rest load walk tours some carried fits least_walk least_tours =
     least_same (IsSum (HasWalk p among 0 load) (HasTours p among (rest - load))) (IsFirstTour p among rest load) (walk + tours)
     (λ cost parts. record { some = some; carried = carried; fits = fits; parts = parts })
@@ -97,7 +97,7 @@ pub record IsWayHome (p : Problem) (among : List ℕ) (at rest home cost : ℕ) 
   pub fits : home ≤ rest
   pub parts : IsSum (HasWalk p among at home) (HasTours p among (rest - home)) cost
 
-pub least_home : (p : Problem) (among : List ℕ) (at rest home walk tours : ℕ) → home ≤ rest → IsLeast (HasWalk p among at home) walk → IsLeast (HasTours p among (rest - home)) tours → IsLeast (IsWayHome p among at rest home) (walk + tours)
+pub least_home : (p : Problem) (among : List ℕ) (at rest home walk tours : ℕ) → home ≤ rest → IsLeastCell (HasWalk p among at home) walk → IsLeastCell (HasTours p among (rest - home)) tours → IsLeastCell (IsWayHome p among at rest home) (walk + tours)
 least_home p among at rest home walk tours fits least_walk least_tours =
     least_same (IsSum (HasWalk p among at home) (HasTours p among (rest - home))) (IsWayHome p among at rest home) (walk + tours)
     (λ cost parts. record { fits = fits; parts = parts })
@@ -154,7 +154,7 @@ small_way_home p among at rest home cost scope within way =
     omega (arith, scope.light, within, way.fits, way.parts.whole, walk.loaded, walk.costs, behind.whole, behind.costs, small_walk p among at walk.stops scope walk.walks.within, small_tours p among behind.tours scope behind.each)
 
 -- at the depot tours alone carry the rest
-pub least_at_depot : (p : Problem) (among : List ℕ) (rest cell : ℕ) → IsLeast (HasTours p among rest) cell → IsLeast (HasRelaxed p among 0 0 rest) cell
+pub least_at_depot : (p : Problem) (among : List ℕ) (rest cell : ℕ) → IsLeastCell (HasTours p among rest) cell → IsLeastCell (HasRelaxed p among 0 0 rest) cell
 least_at_depot p among rest cell least =
     least_same (HasTours p among rest) (HasRelaxed p among 0 0 rest) cell
     (λ cost has. record {
@@ -183,7 +183,7 @@ pub small_relaxed : (p : Problem) (among : List ℕ) (at load rest : ℕ) (home 
 small_relaxed p among at load rest home tours scope within is =
     omega (arith, scope.light, within, is.whole, small_home p among at home scope is.walks.within, small_tours p among tours scope is.each)
 
-pub bound_of_cell : (p : Problem) (among : List ℕ) (at load rest cell : ℕ) → IsLeast (HasRelaxed p among at load rest) cell → cell < mark → IsLeastRelaxed p among at load rest cell
+pub bound_of_cell : (p : Problem) (among : List ℕ) (at load rest cell : ℕ) → IsLeastCell (HasRelaxed p among at load rest) cell → cell < mark → IsLeastRelaxed p among at load rest cell
 bound_of_cell p among at load rest cell least small =
     let has = least.met small in
     record {
@@ -191,7 +191,7 @@ bound_of_cell p among at load rest cell least small =
       least = λ home tours is. least.least (relaxed_cost p at home tours) (record { home = home; tours = tours; relaxed = is; costs = refl });
     }
 
-pub none_of_cell : (p : Problem) (among : List ℕ) (at load rest cell : ℕ) → IsScope p among → rest ≤ load_of p among → IsLeast (HasRelaxed p among at load rest) cell → mark ≤ cell → NoneRelaxed p among at load rest
+pub none_of_cell : (p : Problem) (among : List ℕ) (at load rest cell : ℕ) → IsScope p among → rest ≤ load_of p among → IsLeastCell (HasRelaxed p among at load rest) cell → mark ≤ cell → NoneRelaxed p among at load rest
 none_of_cell p among at load rest cell scope within least large = λ home tours is.
     let low = least.least (relaxed_cost p at home tours) (record { home = home; tours = tours; relaxed = is; costs = refl }) in
     absurd (omega (arith, low, large, small_relaxed p among at load rest home tours scope within is))

@@ -3,7 +3,7 @@ use Rattle.std.proofs.Common.{◌≡◌, ◌≢◌, ℕ, ◌+◌, ◌-◌, ◌*�
 use Rattle.std.specs.List.{All, Contains, sum_by}
 use Rattle.vrp_model.specs.Problem.{Problem}
 use Rattle.vrp_model.specs.Route.{load_of}
-use Rattle.vrp_bound.specs.Cells.{HasRelaxed, IsLeast, mark}
+use Rattle.vrp_bound.specs.Cells.{HasRelaxed, IsLeastCell, mark}
 use Rattle.vrp_bound.specs.Units.{IsUnit, in_units}
 use Rattle.vrp_bound.specs.Walk.{IsTour, IsWalk}
 use Rattle.vrp_bound.proofs.Least.{least_same}
@@ -112,7 +112,7 @@ from_units unit p among at load load_units rest cost is load_in relaxed_in =
     }
 
 -- the least cost of as many units
-pub least_in_units : (unit : ℕ) (p : Problem) (among : List ℕ) (at load load_units rest cell : ℕ) → IsUnit p among unit → IsLoadIn unit p.capacity load load_units → rest ≡ rest / unit * unit → IsLeast (HasRelaxed (in_units unit p) among at load_units (rest / unit)) cell → IsLeast (HasRelaxed p among at load rest) cell
+pub least_in_units : (unit : ℕ) (p : Problem) (among : List ℕ) (at load load_units rest cell : ℕ) → IsUnit p among unit → IsLoadIn unit p.capacity load load_units → rest ≡ rest / unit * unit → IsLeastCell (HasRelaxed (in_units unit p) among at load_units (rest / unit)) cell → IsLeastCell (HasRelaxed p among at load rest) cell
 least_in_units unit p among at load load_units rest cell is load_in whole least =
     least_same (HasRelaxed (in_units unit p) among at load_units (rest / unit)) (HasRelaxed p among at load rest) cell
     (λ cost has. from_units unit p among at load load_units rest cost is load_in (record { whole = whole; has = has }))
@@ -120,7 +120,7 @@ least_in_units unit p among at load load_units rest cell is load_in whole least 
     least
 
 -- a rest that is no whole number of units is carried by nothing
-pub none_in_units : (unit : ℕ) (p : Problem) (among : List ℕ) (at load rest : ℕ) → IsUnit p among unit → load ≤ p.capacity → rest ≢ rest / unit * unit → IsLeast (HasRelaxed p among at load rest) mark
+pub none_in_units : (unit : ℕ) (p : Problem) (among : List ℕ) (at load rest : ℕ) → IsUnit p among unit → load ≤ p.capacity → rest ≢ rest / unit * unit → IsLeastCell (HasRelaxed p among at load rest) mark
 none_in_units unit p among at load rest is light broken = record {
   met = λ small. absurd (omega (arith, small));
   least = λ cost has.

@@ -1,7 +1,7 @@
 -- The least of some costs, found by looking at them one after another.
 use Rattle.std.proofs.Common.{◌≡◌, ℕ, ◌+◌, ◌<◌, ◌≤◌, min, inl, inr, refl, subst, arith}
 use Rattle.std.proofs.lemmas.Bool.{cases_lt}
-use Rattle.vrp_bound.specs.Cells.{IsLeast, mark}
+use Rattle.vrp_bound.specs.Cells.{IsLeastCell, mark}
 
 -- a cost of one of the first ways
 pub record IsCostBelow (IsCost : ℕ → ℕ → Type 0) (ways cost : ℕ) : Type 0 where
@@ -18,14 +18,14 @@ pub record IsSum (IsFirst IsSecond : ℕ → Type 0) (cost : ℕ) : Type 0 where
   pub whole : cost ≡ first + second
 
 -- nothing looked at
-pub least_none : (IsCost : ℕ → ℕ → Type 0) (ways : ℕ) → ((way cost : ℕ) → way < ways → IsCost way cost → ⊥) → IsLeast (IsCostBelow IsCost ways) mark
+pub least_none : (IsCost : ℕ → ℕ → Type 0) (ways : ℕ) → ((way cost : ℕ) → way < ways → IsCost way cost → ⊥) → IsLeastCell (IsCostBelow IsCost ways) mark
 least_none IsCost ways none = record {
   met = λ small. absurd (omega (arith, small));
   least = λ cost has. absurd (none has.way cost has.below has.has);
 }
 
 -- the way has no cost
-pub least_skipped : (IsCost : ℕ → ℕ → Type 0) (ways best : ℕ) → IsLeast (IsCostBelow IsCost ways) best → ((cost : ℕ) → IsCost ways cost → ⊥) → IsLeast (IsCostBelow IsCost (ways + 1)) best
+pub least_skipped : (IsCost : ℕ → ℕ → Type 0) (ways best : ℕ) → IsLeastCell (IsCostBelow IsCost ways) best → ((cost : ℕ) → IsCost ways cost → ⊥) → IsLeastCell (IsCostBelow IsCost (ways + 1)) best
 least_skipped IsCost ways best least none = record {
   met = λ small. let has = least.met small in record { way = has.way; below = omega (arith, has.below); has = has.has };
   least = λ cost has. elim (cases_lt has.way ways) [
@@ -35,7 +35,7 @@ least_skipped IsCost ways best least none = record {
 }
 
 -- the least so far, or the least of the way that was looked at
-pub least_more : (IsCost : ℕ → ℕ → Type 0) (ways best cell : ℕ) → IsLeast (IsCostBelow IsCost ways) best → IsLeast (IsCost ways) cell → IsLeast (IsCostBelow IsCost (ways + 1)) (min best cell)
+pub least_more : (IsCost : ℕ → ℕ → Type 0) (ways best cell : ℕ) → IsLeastCell (IsCostBelow IsCost ways) best → IsLeastCell (IsCost ways) cell → IsLeastCell (IsCostBelow IsCost (ways + 1)) (min best cell)
 least_more IsCost ways best cell least here = record {
   met = λ small. elim (cases_lt cell best) [
     | inl less ↦
@@ -56,17 +56,17 @@ least_more IsCost ways best cell least here = record {
 }
 
 -- the same costs
-pub least_same : (IsCost IsOther : ℕ → Type 0) (cell : ℕ) → ((cost : ℕ) → IsCost cost → IsOther cost) → ((cost : ℕ) → IsOther cost → IsCost cost) → IsLeast IsCost cell → IsLeast IsOther cell
+pub least_same : (IsCost IsOther : ℕ → Type 0) (cell : ℕ) → ((cost : ℕ) → IsCost cost → IsOther cost) → ((cost : ℕ) → IsOther cost → IsCost cost) → IsLeastCell IsCost cell → IsLeastCell IsOther cell
 least_same IsCost IsOther cell to from least = record {
   met = λ small. to cell (least.met small);
   least = λ cost has. least.least cost (from cost has);
 }
 
 -- the only cost
-pub least_one : (cost : ℕ) → IsLeast (λ other. other ≡ cost) cost
+pub least_one : (cost : ℕ) → IsLeastCell (λ other. other ≡ cost) cost
 least_one cost = record { met = λ small. refl; least = λ other is. omega (arith, is) }
 
-pub least_sum : (IsFirst IsSecond : ℕ → Type 0) (first second : ℕ) → IsLeast IsFirst first → IsLeast IsSecond second → IsLeast (IsSum IsFirst IsSecond) (first + second)
+pub least_sum : (IsFirst IsSecond : ℕ → Type 0) (first second : ℕ) → IsLeastCell IsFirst first → IsLeastCell IsSecond second → IsLeastCell (IsSum IsFirst IsSecond) (first + second)
 least_sum IsFirst IsSecond first second least_first least_second = record {
   met = λ small. record {
     first = first;

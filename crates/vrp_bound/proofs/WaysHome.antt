@@ -5,7 +5,7 @@ use Rattle.std.proofs.lemmas.List.{get_or_default}
 use Rattle.std.proofs.lemmas.Nat.{div-mul-add, mod-mul-add, mul-add-lt}
 use Rattle.vrp_model.specs.Problem.{Problem, place_count}
 use Rattle.vrp_model.specs.Route.{load_of}
-use Rattle.vrp_bound.specs.Cells.{AreHomes, AreHomesSoFar, AreTours, HasRelaxed, HasWayHome, IsLeast, IsSmallLeast, mark, small_mark}
+use Rattle.vrp_bound.specs.Cells.{AreHomes, AreHomesSoFar, AreTours, HasRelaxed, HasWayHome, IsLeastCell, IsSmallLeastCell, mark, small_mark}
 use Rattle.vrp_bound.specs.Scope.{IsScope}
 use Rattle.vrp_bound.specs.Tables.{room_of}
 use Rattle.vrp_bound.proofs.Filling.{each_push}
@@ -13,7 +13,7 @@ use Rattle.vrp_bound.proofs.FirstTour.{IsWayHome, home_is_relaxed, relaxed_is_ho
 use Rattle.vrp_bound.proofs.Least.{IsCostBelow}
 
 -- the lesser of the least so far and that of one way more
-small_more : (IsCost : ℕ → ℕ → Type 0) (ways less whole cell : ℕ) → IsSmallLeast (IsCostBelow IsCost ways) less → IsLeast (IsCost ways) whole → ((cost : ℕ) → IsCost ways cost → cost < mark) → (mark ≤ whole → cell ≡ less) → (whole < mark → (cell ≡ min less whole) × (whole < small_mark)) → IsSmallLeast (IsCostBelow IsCost (ways + 1)) cell
+small_more : (IsCost : ℕ → ℕ → Type 0) (ways less whole cell : ℕ) → IsSmallLeastCell (IsCostBelow IsCost ways) less → IsLeastCell (IsCost ways) whole → ((cost : ℕ) → IsCost ways cost → cost < mark) → (mark ≤ whole → cell ≡ less) → (whole < mark → (cell ≡ min less whole) × (whole < small_mark)) → IsSmallLeastCell (IsCostBelow IsCost (ways + 1)) cell
 small_more IsCost ways less whole cell so_far here small none some =
     elim (cases_lt whole mark) [
       | inl cheap ↦
@@ -48,7 +48,7 @@ small_more IsCost ways less whole cell so_far here small none some =
           }
     ]
 
-small_same : (IsCost IsOther : ℕ → Type 0) (cell : ℕ) → ((cost : ℕ) → IsCost cost → IsOther cost) → ((cost : ℕ) → IsOther cost → IsCost cost) → IsSmallLeast IsCost cell → IsSmallLeast IsOther cell
+small_same : (IsCost IsOther : ℕ → Type 0) (cell : ℕ) → ((cost : ℕ) → IsCost cost → IsOther cost) → ((cost : ℕ) → IsOther cost → IsCost cost) → IsSmallLeastCell IsCost cell → IsSmallLeastCell IsOther cell
 small_same IsCost IsOther cell to from least = record {
   met = λ small. to cell (least.met small);
   least = λ cost has. least.least cost (from cost has);
@@ -80,12 +80,12 @@ of_way p among at room rest cost way = record {
 }
 
 -- the least with less room, where there is any
-less_room : (p : Problem) (among : List ℕ) (at room rest less : ℕ) → (room ≡ 0 → less ≡ small_mark) → (0 < room → IsSmallLeast (HasWayHome p among at (room - 1) rest) less) → IsSmallLeast (IsCostBelow (IsWayHome p among at rest) room) less
+less_room : (p : Problem) (among : List ℕ) (at room rest less : ℕ) → (room ≡ 0 → less ≡ small_mark) → (0 < room → IsSmallLeastCell (HasWayHome p among at (room - 1) rest) less) → IsSmallLeastCell (IsCostBelow (IsWayHome p among at rest) room) less
 less_room p among at room rest less none some =
     elim (cases_lt 0 room) [
       | inl more ↦
           let e : room - 1 + 1 ≡ room = omega (arith, more) in
-          subst (λ n. IsSmallLeast (IsCostBelow (IsWayHome p among at rest) n) less) e
+          subst (λ n. IsSmallLeastCell (IsCostBelow (IsWayHome p among at rest) n) less) e
           (small_same (HasWayHome p among at (room - 1) rest) (IsCostBelow (IsWayHome p among at rest) (room - 1 + 1)) less
           (λ cost. of_way p among at (room - 1) rest cost)
           (λ cost. way_of p among at (room - 1) rest cost)
@@ -100,15 +100,15 @@ less_room p among at room rest less none some =
     ]
 
 -- the whole room is more than the rest
-too_much_room : (p : Problem) (among : List ℕ) (at room rest whole : ℕ) → rest < room → whole ≡ mark → IsLeast (IsWayHome p among at rest room) whole
+too_much_room : (p : Problem) (among : List ℕ) (at room rest whole : ℕ) → rest < room → whole ≡ mark → IsLeastCell (IsWayHome p among at rest room) whole
 too_much_room p among at room rest whole more is = record {
   met = λ small. absurd (omega (arith, is, small));
   least = λ cost way. absurd (omega (arith, more, way.fits));
 }
 
-pub next_home : (p : Problem) (among : List ℕ) (at room rest less whole cell : ℕ) → IsScope p among → rest ≤ load_of p among → (room ≡ 0 → less ≡ small_mark) → (0 < room → IsSmallLeast (HasWayHome p among at (room - 1) rest) less) → (room ≤ rest → IsLeast (IsWayHome p among at rest room) whole) → (rest < room → whole ≡ mark) → (mark ≤ whole → cell ≡ less) → (whole < mark → (cell ≡ min less whole) × (whole < small_mark)) → IsSmallLeast (HasWayHome p among at room rest) cell
+pub next_home : (p : Problem) (among : List ℕ) (at room rest less whole cell : ℕ) → IsScope p among → rest ≤ load_of p among → (room ≡ 0 → less ≡ small_mark) → (0 < room → IsSmallLeastCell (HasWayHome p among at (room - 1) rest) less) → (room ≤ rest → IsLeastCell (IsWayHome p among at rest room) whole) → (rest < room → whole ≡ mark) → (mark ≤ whole → cell ≡ less) → (whole < mark → (cell ≡ min less whole) × (whole < small_mark)) → IsSmallLeastCell (HasWayHome p among at room rest) cell
 next_home p among at room rest less whole cell scope within none some fits_whole no_whole costly cheap =
-    let here : IsLeast (IsWayHome p among at rest room) whole = elim (cases_lt rest room) [
+    let here : IsLeastCell (IsWayHome p among at rest room) whole = elim (cases_lt rest room) [
       | inl more ↦ too_much_room p among at room rest whole more (no_whole more)
       | inr enough ↦ fits_whole enough
     ] in
@@ -126,27 +126,27 @@ is_at rooms rests k at room rest room_within rest_within is =
       ap (λ n. n % rests) is ∙ mod-mul-add (at * rooms + room) rests rest rest_within,
     )
 
-moved : (p : Problem) (among : List ℕ) (at at' room room' rest rest' cell : ℕ) → at ≡ at' → room ≡ room' → rest ≡ rest' → IsSmallLeast (HasWayHome p among at room rest) cell → IsSmallLeast (HasWayHome p among at' room' rest') cell
+moved : (p : Problem) (among : List ℕ) (at at' room room' rest rest' cell : ℕ) → at ≡ at' → room ≡ room' → rest ≡ rest' → IsSmallLeastCell (HasWayHome p among at room rest) cell → IsSmallLeastCell (HasWayHome p among at' room' rest') cell
 moved p among at at' room room' rest rest' cell a b c least =
-    subst (λ n. IsSmallLeast (HasWayHome p among at' room' n) cell) c
-    (subst (λ n. IsSmallLeast (HasWayHome p among at' n rest) cell) b
-    (subst (λ n. IsSmallLeast (HasWayHome p among n room rest) cell) a least))
+    subst (λ n. IsSmallLeastCell (HasWayHome p among at' room' n) cell) c
+    (subst (λ n. IsSmallLeastCell (HasWayHome p among at' n rest) cell) b
+    (subst (λ n. IsSmallLeastCell (HasWayHome p among n room rest) cell) a least))
 
-pub home_cell : (p : Problem) (among cells : List ℕ) (k at room rest : ℕ) → room < room_of p among + 1 → rest < load_of p among + 1 → k ≡ (at * (room_of p among + 1) + room) * (load_of p among + 1) + rest → k < length cells → AreHomesSoFar p among cells → IsSmallLeast (HasWayHome p among at room rest) (get_or cells k 0)
+pub home_cell : (p : Problem) (among cells : List ℕ) (k at room rest : ℕ) → room < room_of p among + 1 → rest < load_of p among + 1 → k ≡ (at * (room_of p among + 1) + room) * (load_of p among + 1) + rest → k < length cells → AreHomesSoFar p among cells → IsSmallLeastCell (HasWayHome p among at room rest) (get_or cells k 0)
 home_cell p among cells k at room rest room_within rest_within is inside so_far =
     let rests = load_of p among + 1 in
     let rooms = room_of p among + 1 in
     let at_is = is_at rooms rests k at room rest room_within rest_within is in
     moved p among (k / rests / rooms) at (k / rests % rooms) room (k % rests) rest (get_or cells k 0) at_is.0 at_is.1 at_is.2 (so_far.each k inside)
 
-pub more_homes : (p : Problem) (among cells : List ℕ) (cell at room rest : ℕ) → room < room_of p among + 1 → rest < load_of p among + 1 → length cells ≡ (at * (room_of p among + 1) + room) * (load_of p among + 1) + rest → IsSmallLeast (HasWayHome p among at room rest) cell → AreHomesSoFar p among cells → AreHomesSoFar p among (cells ++ cell ∷ [])
+pub more_homes : (p : Problem) (among cells : List ℕ) (cell at room rest : ℕ) → room < room_of p among + 1 → rest < load_of p among + 1 → length cells ≡ (at * (room_of p among + 1) + room) * (load_of p among + 1) + rest → IsSmallLeastCell (HasWayHome p among at room rest) cell → AreHomesSoFar p among cells → AreHomesSoFar p among (cells ++ cell ∷ [])
 more_homes p among cells cell at room rest room_within rest_within next least so_far =
     let rests = load_of p among + 1 in
     let rooms = room_of p among + 1 in
     let k = length cells in
     let at_is = is_at rooms rests k at room rest room_within rest_within next in
     let here = moved p among at (k / rests / rooms) room (k / rests % rooms) rest (k % rests) cell (sym at_is.0) (sym at_is.1) (sym at_is.2) least in
-    record { each = each_push (λ n cost. IsSmallLeast (HasWayHome p among (n / rests / rooms) (n / rests % rooms) (n % rests)) cost) cells cell so_far.each here }
+    record { each = each_push (λ n cost. IsSmallLeastCell (HasWayHome p among (n / rests / rooms) (n / rests % rooms) (n % rests)) cost) cells cell so_far.each here }
 
 pub no_homes : (p : Problem) (among : List ℕ) → AreHomesSoFar p among []
 no_homes p among = record { each = λ k inside. absurd (omega (arith, inside)) }
@@ -166,13 +166,13 @@ home_within places rooms rests at room rest place_within room_within rest_within
     let index = mul-add-lt (at * rooms + room) rests rest (rooms * places) row rest_within in
     omega (arith, index)
 
-pub cell_some : (p : Problem) (among : List ℕ) (at load rest room cell : ℕ) → at ≢ 0 → load ≤ p.capacity → rest ≤ load_of p among → room ≡ min (p.capacity - load) (room_of p among) → IsSmallLeast (HasWayHome p among at room rest) cell → cell < small_mark → IsLeast (HasRelaxed p among at load rest) cell
+pub cell_some : (p : Problem) (among : List ℕ) (at load rest room cell : ℕ) → at ≢ 0 → load ≤ p.capacity → rest ≤ load_of p among → room ≡ min (p.capacity - load) (room_of p among) → IsSmallLeastCell (HasWayHome p among at room rest) cell → cell < small_mark → IsLeastCell (HasRelaxed p among at load rest) cell
 cell_some p among at load rest room cell out light within is least small = record {
   met = λ _. home_is_relaxed p among at load rest room cell out light (omega (arith, is)) (of_way p among at room rest cell (least.met small));
   least = λ cost has. least.least cost (way_of p among at room rest cost (relaxed_is_home p among at load rest room cost out (omega (arith, is, within)) has));
 }
 
-pub cell_none : (p : Problem) (among : List ℕ) (at load rest room cell : ℕ) → at ≢ 0 → load ≤ p.capacity → rest ≤ load_of p among → room ≡ min (p.capacity - load) (room_of p among) → IsSmallLeast (HasWayHome p among at room rest) cell → small_mark ≤ cell → IsLeast (HasRelaxed p among at load rest) mark
+pub cell_none : (p : Problem) (among : List ℕ) (at load rest room cell : ℕ) → at ≢ 0 → load ≤ p.capacity → rest ≤ load_of p among → room ≡ min (p.capacity - load) (room_of p among) → IsSmallLeastCell (HasWayHome p among at room rest) cell → small_mark ≤ cell → IsLeastCell (HasRelaxed p among at load rest) mark
 cell_none p among at load rest room cell out light within is least large = record {
   met = λ small. absurd (omega (arith, small));
   least = λ cost has. absurd (least.none large cost (way_of p among at room rest cost (relaxed_is_home p among at load rest room cost out (omega (arith, is, within)) has)));
@@ -195,10 +195,10 @@ look_up p among cells tours place room left at rest are have room_is fits inside
     record { is = is; within = inside_all; few = omega (arith, inside_all, are.few) }
 
 -- the cell of less room, as it is read
-pub less_cell : (p : Problem) (among cells tours : List ℕ) (at room rest k less read : ℕ) → AreHomesSoFar p among cells → AreTours p among tours → length cells ≡ (at * (room_of p among + 1) + room) * (load_of p among + 1) + rest → 0 < room → room < room_of p among + 1 → rest < load_of p among + 1 → k ≡ length cells - length tours → less ≡ read → read ≡ get_or cells k read → IsSmallLeast (HasWayHome p among at (room - 1) rest) less
+pub less_cell : (p : Problem) (among cells tours : List ℕ) (at room rest k less read : ℕ) → AreHomesSoFar p among cells → AreTours p among tours → length cells ≡ (at * (room_of p among + 1) + room) * (load_of p among + 1) + rest → 0 < room → room < room_of p among + 1 → rest < load_of p among + 1 → k ≡ length cells - length tours → less ≡ read → read ≡ get_or cells k read → IsSmallLeastCell (HasWayHome p among at (room - 1) rest) less
 less_cell p among cells tours at room rest k less read so_far have next some room_within rest_within is less_is read_is =
     let row = row_less at (room_of p among + 1) room (load_of p among + 1) rest some in
     let k_is : k ≡ (at * (room_of p among + 1) + (room - 1)) * (load_of p among + 1) + rest = omega (arith, row, next, is, have.all) in
     let inside : k < length cells = omega (arith, row, next, k_is) in
     let here : less ≡ get_or cells k 0 = less_is ∙ read_is ∙ get_or_default cells k read 0 inside in
-    subst (IsSmallLeast (HasWayHome p among at (room - 1) rest)) (sym here) (home_cell p among cells k at (room - 1) rest (omega (arith, room_within)) rest_within k_is inside so_far)
+    subst (IsSmallLeastCell (HasWayHome p among at (room - 1) rest)) (sym here) (home_cell p among cells k at (room - 1) rest (omega (arith, room_within)) rest_within k_is inside so_far)

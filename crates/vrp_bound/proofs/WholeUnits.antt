@@ -9,12 +9,12 @@ use Rattle.std.proofs.lemmas.List.{get_or-map, get_or_default, get_or_past, leng
 use Rattle.std.proofs.lemmas.List.Elements.{All-contains, All-contains_itself, All-tail}
 use Rattle.std.proofs.lemmas.List.Sums.{sum_by-cons}
 use Rattle.std.proofs.lemmas.Nat.{div-add-mod', div-mul-add, le-div, mod_below, mul-le}
-use Rattle.std.proofs.lemmas.Nat.Gcd.{dvd_of_mod-eq-zero, dvd_trans, mod-eq-zero_of_dvd}
+use Rattle.std.proofs.lemmas.Nat.Gcd.{dvd_of_mod-eq-zero, dvd_trans, le_of_dvd, mod-eq-zero_of_dvd}
 use Rattle.vrp_model.specs.Problem.{IsProblem, Problem, demand_of}
 use Rattle.vrp_model.specs.Route.{load_of}
 use Rattle.vrp_bound.specs.Scope.{IsScope}
 use Rattle.vrp_bound.specs.Tables.{room_of}
-use Rattle.vrp_bound.specs.Units.{IsUnit, in_units}
+use Rattle.vrp_bound.specs.Units.{IsGreatestUnit, IsUnit, in_units}
 
 -- ---- amounts
 
@@ -120,6 +120,10 @@ scope_in unit p among is scope = record {
 
 -- ---- the unit of some customers
 
+-- 0 divides no amount but 0
+nothing_divides : (amount : ℕ) → 0 < amount → 0 ∣ amount → ⊥
+nothing_divides amount some divides = absurd (omega (arith, some, mod-eq-zero_of_dvd 0 divides))
+
 one_divides : (amount : ℕ) → 1 ∣ amount
 one_divides amount = dvd_of_mod-eq-zero 1 (let none : amount % 1 ≡ 0 = omega (arith, mod_below amount 1 (omega arith)) in none)
 
@@ -140,6 +144,29 @@ unit_of_all p among k unit result all each is = record {
         | inr none ↦ let e : 1 ≡ result = omega (arith, is, none) in subst (λ n. n ∣ demand_of p (get_or among i d)) e (one_divides (demand_of p (get_or among i d)))
       ];
 }
+
+-- what divides each of the first demands divides their unit
+pub divided_more : (p : Problem) (among : List ℕ) (k unit demand more : ℕ) → IsGcd unit demand more → demand ≡ demand_of p (get_or among k 0) → ((other : ℕ) → ((i : ℕ) → i < k → other ∣ demand_of p (get_or among i 0)) → other ∣ unit)
+    → (other : ℕ) → ((i : ℕ) → i < k + 1 → other ∣ demand_of p (get_or among i 0)) → other ∣ more
+divided_more p among k unit demand more gcd is so_far = λ other divides.
+    gcd.2 other (so_far other (λ i lt. divides i (omega (arith, lt)))) (subst (λ n. other ∣ n) (sym is) (divides k (omega arith)))
+
+-- the unit of all demands is the greatest
+pub greatest_of_all : (p : Problem) (among : List ℕ) (k unit result : ℕ) → k ≤ length among → length among ≤ k → ((i : ℕ) → i < k → unit ∣ demand_of p (get_or among i 0)) → ((other : ℕ) → ((i : ℕ) → i < k → other ∣ demand_of p (get_or among i 0)) → other ∣ unit) → result ≡ max unit 1
+    → IsGreatestUnit p among result
+greatest_of_all p among k unit result within all each divided is =
+    let whole = unit_of_all p among k unit result all each is in
+    record {
+      is_unit = whole;
+      greatest = λ other customer other_is (j, lt, here) some.
+          let at : demand_of p (get_or among j 0) ≡ demand_of p customer = ap (demand_of p) (get_or_default among j 0 customer lt ∙ here) in
+          let unit_some : 0 < unit = elim (cases_lt 0 unit) [
+            | inl above ↦ above
+            | inr none ↦ absurd (let zero_is : unit ≡ 0 = omega (arith, none) in let never : 0 ∣ demand_of p customer = subst (λ n. n ∣ demand_of p customer) zero_is (subst (λ n. unit ∣ n) at (each j (omega (arith, lt, all)))) in nothing_divides (demand_of p customer) some never)
+          ] in
+          let divides : other ∣ unit = divided other (λ i inside. subst (λ c. other ∣ demand_of p c) (sym (get_or_default among i 0 customer (omega (arith, inside, within)))) (other_is.whole i customer (omega (arith, inside, within)))) in
+          omega (arith, le_of_dvd {m = other} {n = unit} unit_some divides, is);
+    }
 
 pub demands_more : (unit : ℕ) (p : Problem) (place demand units : ℕ) → 1 ≤ unit → place < length (in_units unit p).demands → demand ≡ demand_of p place → units ≡ demand / unit → take (place + 1) (in_units unit p).demands ≡ take place (in_units unit p).demands ++ units ∷ []
 demands_more unit p place demand units some inside is units_is =

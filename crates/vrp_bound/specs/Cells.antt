@@ -11,7 +11,7 @@ abbrev pub mark : ℕ
 mark = 4000000000000000000
 
 -- the least of some costs, or the mark or more where there is none
-pub record IsLeast (IsCost : ℕ → Type 0) (cell : ℕ) : Type 0 where
+pub record IsLeastCell (IsCost : ℕ → Type 0) (cell : ℕ) : Type 0 where
   pub met : cell < mark → IsCost cell
   pub least : (cost : ℕ) → IsCost cost → cell ≤ cost
 
@@ -38,7 +38,7 @@ pub record HasRelaxed (p : Problem) (among : List ℕ) (at load rest cost : ℕ)
 
 -- the cells of the walks so far: by load, and of each load by place
 pub record AreWalksSoFar (p : Problem) (among cells : List ℕ) : Type 0 where
-  pub each : (k : ℕ) → k < length cells → IsLeast (HasWalk p among (k % place_count p) (k / place_count p)) (slice_index cells k)
+  pub each : (k : ℕ) → k < length cells → IsLeastCell (HasWalk p among (k % place_count p) (k / place_count p)) (slice_index cells k)
   pub within : (k : ℕ) → slice_index cells k ≤ mark
 
 pub record AreWalks (p : Problem) (among cells : List ℕ) : Type 0 where
@@ -47,7 +47,7 @@ pub record AreWalks (p : Problem) (among cells : List ℕ) : Type 0 where
 
 -- the cells of the tours so far, by rest
 pub record AreToursSoFar (p : Problem) (among cells : List ℕ) : Type 0 where
-  pub each : (rest : ℕ) → rest < length cells → IsLeast (HasTours p among rest) (slice_index cells rest)
+  pub each : (rest : ℕ) → rest < length cells → IsLeastCell (HasTours p among rest) (slice_index cells rest)
   pub within : (k : ℕ) → slice_index cells k ≤ mark
 
 pub record AreTours (p : Problem) (among cells : List ℕ) : Type 0 where
@@ -59,7 +59,7 @@ abbrev pub small_mark : ℕ
 small_mark = 1000000000
 
 -- the least of some costs, below the small mark, or the mark where there is none
-pub record IsSmallLeast (IsCost : ℕ → Type 0) (cell : ℕ) : Type 0 where
+pub record IsSmallLeastCell (IsCost : ℕ → Type 0) (cell : ℕ) : Type 0 where
   pub met : cell < small_mark → IsCost cell
   pub least : (cost : ℕ) → IsCost cost → cell ≤ cost
   pub none : small_mark ≤ cell → (cost : ℕ) → IsCost cost → ⊥
@@ -80,7 +80,7 @@ pub record AreHomesSoFar (p : Problem) (among cells : List ℕ) : Type 0 where
   pub each : (k : ℕ) → k < length cells →
       let rests = load_of p among + 1 in
       let rooms = room_of p among + 1 in
-      IsSmallLeast (HasWayHome p among (k / rests / rooms) (k / rests % rooms) (k % rests)) (slice_index cells k)
+      IsSmallLeastCell (HasWayHome p among (k / rests / rooms) (k / rests % rooms) (k % rests)) (slice_index cells k)
 
 pub record AreHomes (p : Problem) (among cells : List ℕ) : Type 0 where
   pub so_far : AreHomesSoFar p among cells

@@ -1,10 +1,10 @@
 //! The capacity bound: each unserved customer is driven into, and enough trucks drive home.
-ghost use Rattle.std.specs.Prelude.{◌≡◌, ◌≤◌, ◌<◌};
+ghost use Rattle.std.specs.Prelude.{◌≡◌, ◌*◌, ◌≤◌, ◌<◌};
 ghost use Rattle.vrp_model.specs.Problem.{customers, place_count};
 ghost use Rattle.vrp_model.specs.Route.{load_of};
 ghost use Rattle.vrp_bound.specs.Capacity.{IsCapacityBound, IsTrucks};
 
-use vrp_model::Instance;
+use vrp_model::{Instance, MAX_WAYS};
 
 /// What is at least still to pay from a place, with this load on the truck that is out there: `ins`, the sum of the least ways
 /// into the unserved customers, and a least way home for that truck and for each that carries what it can't take of the rest.
@@ -12,10 +12,10 @@ pub fn cap_bound(instance: &Instance, at: u16, load: u64, ins: u64, rest: u64) -
     requires place { at < place_count instance.now }
     requires load { load ≤ instance.now.capacity }
     requires depot { at ≡ 0 → load ≡ 0 }
-    requires ins { ins ≤ 1200000000000 }
+    requires ins { ins ≤ MAX_WAYS }
     requires rest { rest ≤ load_of instance.now (customers instance.now) }
     ensures bound { IsCapacityBound instance.now at load ins rest result }
-    ensures small { result ≤ 2400000000000 }
+    ensures small { result ≤ 2 * MAX_WAYS }
 {
     let home = instance.least_home();
     let capacity = instance.capacity();

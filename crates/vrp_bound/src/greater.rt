@@ -6,7 +6,7 @@ ghost use Rattle.vrp_bound.specs.Bound.{IsGreater};
 
 use crate::capacity::cap_bound;
 use crate::tables::Tables;
-use vrp_model::Instance;
+use vrp_model::{Instance, MAX_WAYS};
 
 /// What is at least still to pay from a place, with this load on the truck that is out there, by both bounds: `ins` is the sum
 /// of the least ways into the unserved customers, `rest` what they demand. `None` where nothing carries exactly the rest: then
@@ -23,7 +23,7 @@ pub fn bound(
     requires place { at < place_count instance.now }
     requires load { load ≤ instance.now.capacity }
     requires depot { at ≡ 0 → load ≡ 0 }
-    requires ins { ins ≤ 1200000000000 }
+    requires ins { ins ≤ MAX_WAYS }
     requires rest { rest ≤ load_of instance.now tables.now.among }
     requires all { rest ≤ load_of instance.now (customers instance.now) }
     ensures greater { IsGreater instance.now tables.now.among at load ins rest result }

@@ -2,7 +2,7 @@
 ghost use Rattle.std.specs.Prelude.{◌≡◌, ◌≢◌, ◌+◌, ◌-◌, ◌*◌, ◌≤◌, ◌<◌, min, length, IfOk, IfSome, IsTrue, vec_len, vec_capacity};
 ghost use Rattle.vrp_model.specs.Problem.{place_count};
 ghost use Rattle.vrp_model.specs.Route.{load_of};
-ghost use Rattle.vrp_bound.specs.Cells.{AreHomes, AreHomesSoFar, AreTours, AreWalks, HasRelaxed, IsLeast, mark, small_mark};
+ghost use Rattle.vrp_bound.specs.Cells.{AreHomes, AreHomesSoFar, AreTours, AreWalks, HasRelaxed, IsLeastCell, mark, small_mark};
 ghost use Rattle.vrp_bound.specs.Tables.{room_of};
 ghost use Rattle.vrp_bound.specs.Units.{in_units};
 
@@ -118,7 +118,7 @@ pub(crate) fn looked_up(
     requires place { at < place_count scope.instance.now }
     requires free { free ≤ (in_units scope.unit scope.instance.now).capacity }
     requires rest { rest ≤ load_of (in_units scope.unit scope.instance.now) scope.customers.now }
-    ensures { let p = in_units scope.entry.unit scope.entry.instance.now in IsLeast (HasRelaxed p scope.entry.customers.now at (p.capacity - free) rest) result }
+    ensures { let p = in_units scope.entry.unit scope.entry.instance.now in IsLeastCell (HasRelaxed p scope.entry.customers.now at (p.capacity - free) rest) result }
 {
     let left = free.min(room) as usize;
     let row = usize::from(at) * (room as usize + 1) + left;
@@ -146,7 +146,7 @@ pub(crate) fn least_way_home(
     requires place { at < place_count scope.instance.now }
     requires free { free ≤ (in_units scope.unit scope.instance.now).capacity }
     requires rest { rest ≤ load_of (in_units scope.unit scope.instance.now) scope.customers.now }
-    ensures least { let p = in_units scope.entry.unit scope.entry.instance.now in IsLeast (HasRelaxed p scope.entry.customers.now at (p.capacity - free) rest) result }
+    ensures least { let p = in_units scope.entry.unit scope.entry.instance.now in IsLeastCell (HasRelaxed p scope.entry.customers.now at (p.capacity - free) rest) result }
 {
     let rest = rest as usize;
     let room = free as usize;

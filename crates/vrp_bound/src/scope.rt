@@ -4,6 +4,7 @@ ghost use Rattle.std.specs.List.Sorted.{IsStrictlyIncreasing};
 ghost use Rattle.vrp_model.specs.Problem.{customers as customers_of, demand_of, place_count, IsProblem};
 ghost use Rattle.vrp_model.specs.Route.{load_of};
 ghost use Rattle.vrp_bound.specs.Tables.{AreMade};
+ghost use Rattle.vrp_model.specs.declared.limits.TheConstants.{MAX_CAPACITY, MAX_NODES};
 
 use vrp_model::Instance;
 
@@ -18,7 +19,7 @@ pub(crate) struct Scope<'a> {
     pub(crate) places: usize,
     ghost problem: { IsProblem instance.now },
     ghost counted: { places ≡ place_count instance.now },
-    ghost few: { length customers.now ≤ 1200 },
+    ghost few: { length customers.now ≤ MAX_NODES },
     ghost known: { All (λ customer. customer < place_count instance.now) customers.now },
 }
 
@@ -66,7 +67,7 @@ fn all_demand(scope: Scope<'_>) -> bool
 /// What they demand together.
 pub(crate) fn demand_of_all(scope: Scope<'_>) -> u64
     ensures value { result ≡ load_of scope.entry.instance.now scope.entry.customers.now }
-    ensures small { result ≤ 1000000000 * length scope.entry.customers.now }
+    ensures small { result ≤ MAX_CAPACITY * length scope.entry.customers.now }
 {
     let mut demand = 0;
     for customer in scope.customers {

@@ -3,7 +3,7 @@ ghost use Rattle.std.specs.Prelude.{◌≡◌, ◌≤◌, ◌<◌, All, Contains
 ghost use Rattle.std.specs.List.Sorted.{IsStrictlyIncreasing};
 ghost use Rattle.vrp_model.specs.Problem.{customers, place_count};
 ghost use Rattle.vrp_model.specs.Route.{load_of};
-ghost use Rattle.vrp_bound.specs.Cells.{HasRelaxed, IsLeast};
+ghost use Rattle.vrp_bound.specs.Cells.{HasRelaxed, IsLeastCell};
 ghost use Rattle.vrp_bound.specs.Tables.{AreMade, IsBound, TablesOf};
 ghost use Rattle.vrp_bound.specs.Scope.{IsScope};
 
@@ -141,7 +141,7 @@ impl Cells {
         requires load { load ≤ scope.instance.now.capacity }
         requires depot { at ≡ 0 → load ≡ 0 }
         requires rest { rest ≤ load_of scope.instance.now scope.customers.now }
-        ensures { IsLeast (HasRelaxed scope.entry.instance.now scope.entry.customers.now at load rest) result }
+        ensures { IsLeastCell (HasRelaxed scope.entry.instance.now scope.entry.customers.now at load rest) result }
     {
         let units = UnitScope::new(scope, self.unit);
         let carried = self.quotients.whole_units(rest);

@@ -1,7 +1,7 @@
 //! The table of the tours: the least cost of closed walks of one truck each, by what they carry together.
 ghost use Rattle.std.specs.Prelude.{◌≡◌, ◌≤◌, IfOk, length};
 ghost use Rattle.vrp_model.specs.Route.{load_of};
-ghost use Rattle.vrp_bound.specs.Cells.{AreTours, AreToursSoFar, AreWalks, HasTours, IsLeast, mark};
+ghost use Rattle.vrp_bound.specs.Cells.{AreTours, AreToursSoFar, AreWalks, HasTours, IsLeastCell, mark};
 ghost use Rattle.vrp_bound.specs.Tables.{room_of};
 ghost use Rattle.vrp_bound.specs.Units.{in_units};
 
@@ -38,7 +38,7 @@ fn least_tours(scope: UnitScope<'_>, walks: &[u64], cells: &[u64], room: usize) 
     requires so_far { AreToursSoFar (in_units scope.unit scope.instance.now) scope.customers.now cells.now }
     requires room { room ≡ room_of (in_units scope.unit scope.instance.now) scope.customers.now }
     requires rest { length cells.now ≤ load_of (in_units scope.unit scope.instance.now) scope.customers.now }
-    ensures least { IsLeast (HasTours (in_units scope.entry.unit scope.entry.instance.now) scope.entry.customers.now (length cells.now)) result }
+    ensures least { IsLeastCell (HasTours (in_units scope.entry.unit scope.entry.instance.now) scope.entry.customers.now (length cells.now)) result }
     ensures within { result ≤ mark }
 {
     let rest = cells.len();

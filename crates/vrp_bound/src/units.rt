@@ -2,14 +2,14 @@
 ghost use Rattle.std.specs.Prelude.{◌≡◌, ◌≤◌, ◌/◌, IfOk};
 ghost use Rattle.vrp_model.specs.Problem.{place_count};
 ghost use Rattle.vrp_bound.specs.Scope.{IsScope};
-ghost use Rattle.vrp_bound.specs.Units.{IsUnit, in_units};
+ghost use Rattle.vrp_bound.specs.Units.{IsGreatestUnit, IsUnit, in_units};
 
 use crate::divisor::gcd;
 use crate::scope::Scope;
 use std::alloc::Global;
 use vrp_model::{Instance, NoMemory};
 
-/// Some customers of an instance, and a unit of which each demands a whole number.
+/// Some customers of an instance, and a unit that divides each of their demands.
 #[derive(Clone, Copy)]
 pub(crate) struct UnitScope<'a> {
     pub(crate) instance: &'a Instance,
@@ -49,9 +49,9 @@ impl<'a> UnitScope<'a> {
     }
 }
 
-/// The greatest unit of which each of these customers demands a whole number.
+/// The greatest unit that divides each of these customers' demands; 1 where none of them has a demand.
 pub(crate) fn unit_of(scope: Scope<'_>) -> u64
-    ensures { IsUnit scope.entry.instance.now scope.entry.customers.now result }
+    ensures { IsGreatestUnit scope.entry.instance.now scope.entry.customers.now result }
 {
     let mut unit = 0;
     for customer in scope.customers {

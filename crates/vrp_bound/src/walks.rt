@@ -1,7 +1,7 @@
 //! The table of the walks: the least cost of a walk from each place to the depot, by the load that it takes up.
 ghost use Rattle.std.specs.Prelude.{◌≡◌, ◌+◌, ◌*◌, ◌≤◌, ◌<◌, IfOk, length, vec_len, vec_capacity};
 ghost use Rattle.vrp_model.specs.Problem.{place_count};
-ghost use Rattle.vrp_bound.specs.Cells.{AreWalks, AreWalksSoFar, HasWalk, IsLeast, mark};
+ghost use Rattle.vrp_bound.specs.Cells.{AreWalks, AreWalksSoFar, HasWalk, IsLeastCell, mark};
 ghost use Rattle.vrp_bound.specs.Tables.{room_of};
 ghost use Rattle.vrp_bound.specs.Units.{in_units};
 
@@ -53,7 +53,7 @@ fn least_walk(scope: UnitScope<'_>, demands: &[u64], cells: &[u64], load: usize,
     requires so_far { AreWalksSoFar (in_units scope.unit scope.instance.now) scope.customers.now cells.now }
     requires place { at < place_count scope.instance.now }
     requires next { length cells.now ≡ load * place_count scope.instance.now + at }
-    ensures least { IsLeast (HasWalk (in_units scope.entry.unit scope.entry.instance.now) scope.entry.customers.now at load) result }
+    ensures least { IsLeastCell (HasWalk (in_units scope.entry.unit scope.entry.instance.now) scope.entry.customers.now at load) result }
     ensures within { result ≤ mark }
 {
     if load == 0 {

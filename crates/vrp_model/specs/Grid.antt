@@ -2,6 +2,7 @@
 use Rattle.std.specs.Prelude.{◌≡◌, ℕ, ◌+◌, ◌-◌, ◌*◌, ◌≤◌, ℤ, pos, neg_ℤ, ◌≤ℤ◌, Some, List, length, slice_get, slice_index}
 use Rattle.vrp_model.specs.declared.metric.Metric.{Metric}
 use Rattle.vrp_model.specs.Distance.{IsDistance}
+use Rattle.vrp_model.specs.declared.limits.TheConstants.{MAX_COORDINATE, MAX_NODES, MAX_WEIGHT}
 
 -- a weight from each node to each node, row by row; nodes are numbered from 1
 pub record Grid : Type 0 where
@@ -14,12 +15,12 @@ entry_at grid from to = slice_index grid.entries ((from - 1) * grid.nodes + (to 
 -- what is known of every such grid
 pub record IsGrid (grid : Grid) : Type 0 where
   pub some : 1 ≤ grid.nodes
-  pub few : grid.nodes ≤ 1200
+  pub few : grid.nodes ≤ MAX_NODES
   pub square : length grid.entries ≡ grid.nodes * grid.nodes
-  pub small : (k : ℕ) → slice_index grid.entries k ≤ 1000000000
+  pub small : (k : ℕ) → slice_index grid.entries k ≤ MAX_WEIGHT
 
 abbrev pub IsCoordinate : ℤ → Type 0
-IsCoordinate z = (neg_ℤ (pos 100000000) ≤ℤ z) × (z ≤ℤ pos 100000000)
+IsCoordinate z = (neg_ℤ MAX_COORDINATE ≤ℤ z) × (z ≤ℤ MAX_COORDINATE)
 
 -- each weight is the distance of its two nodes' points; node 1 has the first point
 pub record HasDistances (metric : Metric) (points : List (ℤ × ℤ)) (grid : Grid) : Type 0 where

@@ -4,6 +4,7 @@ use Rattle.std.specs.List.{flat_map, range_with_len}
 use Rattle.vrp_model.specs.Layout.{cells, is_full}
 use Rattle.vrp_model.specs.declared.layout.Layout.{Layout}
 use Rattle.vrp_model.specs.declared.layout.Layout.TheVariants.{FullMatrix, UpperRow, LowerRow, UpperDiagRow, LowerDiagRow, UpperCol, LowerCol, UpperDiagCol, LowerDiagCol}
+use Rattle.vrp_model.specs.declared.limits.TheConstants.{MAX_WEIGHT}
 
 -- whether a line is a row; otherwise it is a column
 abbrev pub goes_by_rows : Layout → Bool
@@ -68,4 +69,4 @@ pub record IsFilled (layout : Layout) (n : ℕ) (entries square : List ℕ) (nex
   pub listed : (k row column : ℕ) → k < next → slice_get (cells layout n) k ≡ Some (row, column) → IsListed layout n row column
   pub earlier : (k l a : ℕ) → k < next → slice_get (cells layout n) k ≡ Some (cell_on layout l a) → (l < line) ⊎ ((l ≡ line) × (a < across))
   pub diagonal : (node : ℕ) → 1 ≤ node → node ≤ n → ((k : ℕ) → slice_get (cells layout n) k ≢ Some (node, node)) → weight_in n square node node ≡ 0
-  pub small : (k : ℕ) → slice_index square k ≤ 1000000000
+  pub small : (k : ℕ) → slice_index square k ≤ MAX_WEIGHT

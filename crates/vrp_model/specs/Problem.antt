@@ -1,6 +1,7 @@
 -- The capacitated vehicle routing problem of TSPLIB 95 (section 1, type CVRP): the depot is place 0, and the customers are places 1 to m.
 use Rattle.std.specs.Prelude.{◌≡◌, ℕ, ◌+◌, ◌*◌, ◌-◌, ◌≤◌, List, length, slice_index}
 use Rattle.std.specs.List.{range_with_len}
+use Rattle.vrp_model.specs.declared.limits.TheConstants.{MAX_CAPACITY, MAX_NODES, MAX_WEIGHT}
 
 pub record Problem : Type 0 where
   -- the file's node number of each place
@@ -30,10 +31,10 @@ weight_of p from to = slice_index p.weights (from * place_count p + to)
 -- what is known of every problem that is made from a file
 pub record IsProblem (p : Problem) : Type 0 where
   pub some_places : 1 ≤ place_count p
-  pub few_places : place_count p ≤ 1200
+  pub few_places : place_count p ≤ MAX_NODES
   pub one_demand_each : length p.demands ≡ place_count p
   pub weight_square : length p.weights ≡ place_count p * place_count p
-  pub small_weights : (k : ℕ) → slice_index p.weights k ≤ 1000000000
+  pub small_weights : (k : ℕ) → slice_index p.weights k ≤ MAX_WEIGHT
   pub empty_depot : demand_of p 0 ≡ 0
   pub fitting_demands : (place : ℕ) → demand_of p place ≤ p.capacity
-  pub small_capacity : p.capacity ≤ 1000000000
+  pub small_capacity : p.capacity ≤ MAX_CAPACITY

@@ -2,10 +2,11 @@
 ghost use Rattle.std.specs.Prelude.{◌≡◌, ℕ, ◌+◌, ◌-◌, ◌≤◌, ◌<◌, MatchOption, List, length, slice_index, false};
 ghost use Rattle.vrp_model.specs.Request.{is_listed, NoDepotHasDemand, NoneIsTooHeavy, IsLowestDepotWithDemand, IsLowestTooHeavy};
 
+use crate::limits::MAX_NODES;
 use std::marker::Model;
 
-// A mark for each node number from 0 to 1,200, the most nodes of a file.
-const MARKS: usize = 1_201;
+// A mark for each node number from 0 to the most nodes of a file.
+const MARKS: usize = MAX_NODES as usize + 1;
 
 /// The listed depots, with a mark for each node: a look-up takes one step, however often a depot is listed.
 #[derive(Drop)]
@@ -28,7 +29,7 @@ impl<'a> Model for Depots<'a> {
 impl<'a> Depots<'a> {
     /// Marks the listed nodes.
     pub(crate) fn new(listed: &'a [u16]) -> Depots<'a>
-        requires { (k : ℕ) → slice_index listed.now k ≤ 1200 }
+        requires { (k : ℕ) → slice_index listed.now k ≤ MAX_NODES }
         ensures { result ≡ listed.now }
     {
         let mut marks = [false; MARKS];
@@ -40,7 +41,7 @@ impl<'a> Depots<'a> {
 
     /// Whether a node is listed.
     pub(crate) fn contains(&self, node: u16) -> bool
-        requires { node ≤ 1200 }
+        requires { node ≤ MAX_NODES }
         ensures { result ≡ is_listed self.now node }
     {
         self.marks[usize::from(node)]
@@ -48,7 +49,7 @@ impl<'a> Depots<'a> {
 
     /// The lowest listed node that has a demand.
     pub(crate) fn lowest_with_demand(&self, demands: &[u64]) -> Option<u16>
-        requires few { length demands.now ≤ 1200 }
+        requires few { length demands.now ≤ MAX_NODES }
         requires from_one { is_listed self.now 0 ≡ false }
         ensures { MatchOption result (NoDepotHasDemand self.now demands.now) (IsLowestDepotWithDemand self.now demands.now) }
     {
@@ -64,7 +65,7 @@ impl<'a> Depots<'a> {
 
     /// The lowest node that is not listed and has a demand above the capacity.
     pub(crate) fn lowest_too_heavy(&self, demands: &[u64], capacity: u64) -> Option<u16>
-        requires few { length demands.now ≤ 1200 }
+        requires few { length demands.now ≤ MAX_NODES }
         ensures { MatchOption result (NoneIsTooHeavy self.now demands.now capacity) (IsLowestTooHeavy self.now demands.now capacity) }
     {
         let count = demands.len() as u16;

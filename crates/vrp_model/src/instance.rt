@@ -9,6 +9,7 @@ ghost use Rattle.vrp_model.specs.Request.{is_listed, node_demand, IsAcceptable, 
 
 use crate::depots::Depots;
 use crate::least::least_ways;
+use crate::limits::{MAX_CAPACITY, MAX_NODES, MAX_WEIGHT, MAX_WHOLE_DEMAND};
 use crate::places::{demands_of, places, weights_between};
 use crate::weights::Weights;
 use std::alloc::{AllocError, Global};
@@ -73,7 +74,7 @@ impl Instance {
         requires some_depot { 0 < length depots.now }
         requires depots_from_one { (k : ℕ) → k < length depots.now → 1 ≤ slice_index depots.now k }
         requires depots_within { (k : ℕ) → k < length depots.now → slice_index depots.now k ≤ weights.nodes }
-        requires small_capacity { capacity ≤ 1000000000 }
+        requires small_capacity { capacity ≤ MAX_CAPACITY }
         ensures acceptable { OnOk result (IsAcceptable (request_of weights demands.now capacity depots.now chosen)) }
         ensures value { IfOk result (λ instance. instance ≡ problem_of (request_of weights demands.now capacity depots.now chosen)) }
         ensures refused { IfErr result (IsRefusal (request_of weights demands.now capacity depots.now chosen)) }
@@ -108,7 +109,7 @@ impl Instance {
         requires one_demand_each { length demands.now ≡ weights.now.nodes }
         requires from_one { 1 ≤ depot }
         requires within { depot ≤ weights.now.nodes }
-        requires small_capacity { capacity ≤ 1000000000 }
+        requires small_capacity { capacity ≤ MAX_CAPACITY }
         requires acceptable { IsAcceptable (record { grid = weights.now; demands = demands.now; capacity = capacity; depots = depots.now; chosen = depot }) }
         ensures { IfOk result (λ instance. instance ≡ problem_of (record { grid = weights.now; demands = demands.now; capacity = capacity; depots = depots.now; chosen = depot })) }
     {
@@ -128,7 +129,7 @@ impl Instance {
     /// How many customers there are: from 0 to 1,199.
     pub fn customers(&self) -> u16
         ensures value { result + 1 ≡ place_count self.now }
-        ensures few { result < 1200 }
+        ensures few { result < MAX_NODES }
         // What is known of every instance.
         ensures problem { IsProblem self.now }
     {
@@ -155,7 +156,7 @@ impl Instance {
     /// What all customers demand together.
     pub fn whole_demand(&self) -> u64
         ensures value { result ≡ load_of self.now (customers self.now) }
-        ensures small { result ≤ 1200000000000 }
+        ensures small { result ≤ MAX_WHOLE_DEMAND }
     {
         let mut demand = 0;
         for index in 0..self.customers() {
@@ -176,7 +177,7 @@ impl Instance {
         requires from_within { from < place_count self.now }
         requires to_within { to < place_count self.now }
         ensures value { result ≡ weight_of self.now from to }
-        ensures small { result ≤ 1000000000 }
+        ensures small { result ≤ MAX_WEIGHT }
     {
         let row = usize::from(from) * self.nodes.len();
         u64::from(self.weights[row + usize::from(to)])
@@ -187,7 +188,7 @@ impl Instance {
         requires some { 0 < customer }
         requires within { customer < place_count self.now }
         ensures least { IsLeastIn self.now customer result }
-        ensures small { result ≤ 1000000000 }
+        ensures small { result ≤ MAX_WEIGHT }
     {
         u64::from(self.least_in[usize::from(customer)])
     }
@@ -195,7 +196,7 @@ impl Instance {
     /// The least weight of a way home from a customer; 0 where there is none.
     pub fn least_home(&self) -> u64
         ensures least { IsLeastHome self.now result }
-        ensures small { result ≤ 1000000000 }
+        ensures small { result ≤ MAX_WEIGHT }
         // What is known of every instance.
         ensures problem { IsProblem self.now }
     {

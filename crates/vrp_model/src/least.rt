@@ -2,6 +2,7 @@
 ghost use Rattle.std.specs.Prelude.{◌≡◌, ◌*◌, ◌≤◌, ◌<◌, ◌+◌, ℕ, IfOk, length, slice_index, vec_len};
 ghost use Rattle.vrp_model.specs.LeastWays.{IsLeastWay};
 
+use crate::limits::MAX_NODES;
 use std::alloc::{AllocError, Global};
 
 /// For each place the least weight of a way into it from another one, 0 where there is no other.
@@ -11,7 +12,7 @@ pub(crate) fn least_ways(
     places: usize,
 ) -> Result<Vec<u32>, AllocError>
     requires square { length weights.now ≡ places * places }
-    requires few { places ≤ 1200 }
+    requires few { places ≤ MAX_NODES }
     ensures all { IfOk result (λ least. vec_len least ≡ places) }
     ensures each { IfOk result (λ least. (to : ℕ) → to < places → IsLeastWay weights.now places to (slice_index least.items to)) }
 {
@@ -26,7 +27,7 @@ pub(crate) fn least_ways(
 fn least_way(weights: &[u32], places: usize, to: usize) -> u32
     requires square { length weights.now ≡ places * places }
     requires within { to < places }
-    requires few { places ≤ 1200 }
+    requires few { places ≤ MAX_NODES }
     ensures { IsLeastWay weights.now places to result }
 {
     let mut least = None;

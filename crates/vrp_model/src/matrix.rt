@@ -4,6 +4,7 @@ ghost use Rattle.vrp_model.specs.Layout.{cells, HasEntries};
 ghost use Rattle.vrp_model.specs.Listing.{IsListed, IsWritten, IsFilled};
 
 use crate::layout::Layout;
+use crate::limits::{MAX_NODES, MAX_WEIGHT};
 use crate::memory::NoMemory;
 use std::alloc::Global;
 
@@ -14,12 +15,12 @@ pub(crate) fn square(
     entries: &[u64],
     nodes: u16,
 ) -> Result<Vec<u32>, NoMemory>
-    requires few { nodes ≤ 1200 }
+    requires few { nodes ≤ MAX_NODES }
     requires count { length entries.now ≡ length (cells layout nodes) }
-    requires small { (k : ℕ) → slice_index entries.now k ≤ 1000000000 }
+    requires small { (k : ℕ) → slice_index entries.now k ≤ MAX_WEIGHT }
     ensures len { IfOk result (λ square. vec_len square ≡ nodes * nodes) }
     ensures entries { IfOk result (λ square. HasEntries layout entries.now (record { nodes = nodes; entries = square.items })) }
-    ensures small { IfOk result (λ square. (k : ℕ) → slice_index square.items k ≤ 1000000000) }
+    ensures small { IfOk result (λ square. (k : ℕ) → slice_index square.items k ≤ MAX_WEIGHT) }
 {
     let side = usize::from(nodes);
     let mut square = vec![in alloc; 0u32; side * side]?;
@@ -39,9 +40,9 @@ fn fill_line(
     line: u16,
     first: usize,
 ) -> usize
-    requires few { nodes ≤ 1200 }
+    requires few { nodes ≤ MAX_NODES }
     requires count { length entries.now ≡ length (cells layout nodes) }
-    requires small { (k : ℕ) → slice_index entries.now k ≤ 1000000000 }
+    requires small { (k : ℕ) → slice_index entries.now k ≤ MAX_WEIGHT }
     requires room { length square.old ≡ nodes * nodes }
     requires line_from_one { 1 ≤ line }
     requires line_within { line ≤ nodes }

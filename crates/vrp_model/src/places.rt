@@ -6,6 +6,7 @@ ghost use Rattle.vrp_model.specs.Request.{is_listed, node_demand};
 ghost use Rattle.vrp_model.specs.Places.{ArePlaces};
 
 use crate::depots::Depots;
+use crate::limits::{MAX_NODES, MAX_WEIGHT};
 use crate::weights::Weights;
 use std::alloc::{AllocError, Global};
 
@@ -16,7 +17,7 @@ pub(crate) fn places(
     depots: &Depots<'_>,
     depot: u16,
 ) -> Result<Vec<u16>, AllocError>
-    requires few { nodes ≤ 1200 }
+    requires few { nodes ≤ MAX_NODES }
     requires from_one { 1 ≤ depot }
     requires listed { is_listed depots.now depot ≡ true }
     ensures { IfOk result (λ places. ArePlaces depots.now depot nodes places.items) }
@@ -55,12 +56,12 @@ pub(crate) fn weights_between(
     weights: &Weights,
     places: &[u16],
 ) -> Result<Vec<u32>, AllocError>
-    requires few { length places.now ≤ 1200 }
+    requires few { length places.now ≤ MAX_NODES }
     requires from_one { (k : ℕ) → k < length places.now → 1 ≤ slice_index places.now k }
     requires within { (k : ℕ) → k < length places.now → slice_index places.now k ≤ weights.now.nodes }
     ensures value { IfOk result (λ entries. entries.items ≡ flat_map (λ from. map (entry_at weights.now from) places.now) places.now) }
     ensures square { IfOk result (λ entries. vec_len entries ≡ length places.now * length places.now) }
-    ensures small { IfOk result (λ entries. (k : ℕ) → slice_index entries.items k ≤ 1000000000) }
+    ensures small { IfOk result (λ entries. (k : ℕ) → slice_index entries.items k ≤ MAX_WEIGHT) }
 {
     let mut entries = Vec::with_capacity(alloc, places.len() * places.len())?;
     for from in places {
@@ -80,9 +81,9 @@ fn push_row(
     requires from_within { from ≤ weights.now.nodes }
     requires to_one { (k : ℕ) → k < length places.now → 1 ≤ slice_index places.now k }
     requires to_within { (k : ℕ) → k < length places.now → slice_index places.now k ≤ weights.now.nodes }
-    requires small { (k : ℕ) → slice_index entries.old.items k ≤ 1000000000 }
+    requires small { (k : ℕ) → slice_index entries.old.items k ≤ MAX_WEIGHT }
     ensures row { OnOk result (entries.new.items ≡ entries.old.items ++ map (entry_at weights.now from) places.now) }
-    ensures still_small { (k : ℕ) → slice_index entries.new.items k ≤ 1000000000 }
+    ensures still_small { (k : ℕ) → slice_index entries.new.items k ≤ MAX_WEIGHT }
 {
     for to in places {
         entries.push(weights.at(from, *to) as u32)?;

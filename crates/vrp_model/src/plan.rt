@@ -8,6 +8,7 @@ ghost use Rattle.vrp_model.specs.Stops.{routes_in, IsWordEnd};
 ghost use Rattle.vrp_model.specs.Word.{IsLawfulWord, first_stops, word_cost, word_of};
 
 use crate::instance::Instance;
+use crate::limits::{MAX_NODES, MAX_WEIGHT};
 use crate::memory::NoMemory;
 use std::alloc::Global;
 use std::marker::Model;
@@ -190,9 +191,9 @@ fn split_route(word: &[u16]) -> (&[u16], &[u16])
 fn route_cost(instance: &Instance, stops: &[u16]) -> u64
     requires some { 0 < place_count instance.now }
     requires places { All (λ stop. stop < place_count instance.now) stops.now }
-    requires few { length stops.now ≤ 2400 }
+    requires few { length stops.now ≤ 2 * MAX_NODES }
     ensures value { result ≡ route_cost instance.now stops.now }
-    ensures small { result ≤ 1000000000 * (length stops.now + 1) }
+    ensures small { result ≤ MAX_WEIGHT * (length stops.now + 1) }
 {
     let mut cost = 0;
     let mut at = 0;

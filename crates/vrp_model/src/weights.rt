@@ -4,6 +4,7 @@ ghost use Rattle.vrp_model.specs.Grid.{entry_at, IsCoordinate};
 ghost use Rattle.vrp_model.specs.Rows.{AreDistances, IsDistanceAt};
 
 use crate::layout::Layout;
+use crate::limits::{MAX_NODES, MAX_WEIGHT};
 use crate::matrix;
 use crate::memory::NoMemory;
 use crate::metric::Metric;
@@ -35,7 +36,7 @@ impl Weights {
     /// computed once.
     pub fn points(alloc: Global, metric: Metric, points: &[(i64, i64)]) -> Result<Weights, NoMemory>
         requires some { 1 ≤ length points.now }
-        requires few { length points.now ≤ 1200 }
+        requires few { length points.now ≤ MAX_NODES }
         requires within { All (λ point. IsCoordinate point.0 × IsCoordinate point.1) points.now }
         ensures { IfOk result (λ grid. HasDistances metric points.now grid) }
     {
@@ -59,9 +60,9 @@ impl Weights {
         n: u16,
     ) -> Result<Weights, NoMemory>
         requires some { 1 ≤ n }
-        requires few { n ≤ 1200 }
+        requires few { n ≤ MAX_NODES }
         requires count { length entries.now ≡ length (cells layout n) }
-        requires small { (k : ℕ) → slice_index entries.now k ≤ 1000000000 }
+        requires small { (k : ℕ) → slice_index entries.now k ≤ MAX_WEIGHT }
         ensures nodes { IfOk result (λ grid. grid.nodes ≡ n) }
         ensures entries { IfOk result (λ grid. HasEntries layout entries.now grid) }
     {
@@ -76,7 +77,7 @@ impl Weights {
     pub fn nodes(&self) -> u16
         ensures value { result ≡ self.now.nodes }
         ensures some { 1 ≤ result }
-        ensures few { result ≤ 1200 }
+        ensures few { result ≤ MAX_NODES }
     {
         self.nodes
     }
@@ -88,7 +89,7 @@ impl Weights {
         requires to_one { 1 ≤ to }
         requires to_within { to ≤ self.now.nodes }
         ensures value { result ≡ entry_at self.now from to }
-        ensures small { result ≤ 1000000000 }
+        ensures small { result ≤ MAX_WEIGHT }
     {
         let nodes = usize::from(self.nodes);
         let row = usize::from(from) - 1;
@@ -99,7 +100,7 @@ impl Weights {
 
 // Enters the weights from one point to each, after the rows of the points before it.
 fn push_row(entries: &mut Vec<u32>, metric: Metric, points: &[(i64, i64)], row: usize)
-    requires few { length points.now ≤ 1200 }
+    requires few { length points.now ≤ MAX_NODES }
     requires within { All (λ point. IsCoordinate point.0 × IsCoordinate point.1) points.now }
     requires row_within { row < length points.now }
     requires next { vec_len entries.old ≡ row * length points.now }
@@ -123,14 +124,14 @@ fn next_weight(
     row: usize,
     column: usize,
 ) -> u32
-    requires few { length points.now ≤ 1200 }
+    requires few { length points.now ≤ MAX_NODES }
     requires within { All (λ point. IsCoordinate point.0 × IsCoordinate point.1) points.now }
     requires row_within { row < length points.now }
     requires column_within { column < length points.now }
     requires next { length entries.now ≡ row * length points.now + column }
     requires so_far { AreDistances metric points.now entries.now }
     ensures distance { IsDistanceAt metric points.now row column result }
-    ensures small { result ≤ 1000000000 }
+    ensures small { result ≤ MAX_WEIGHT }
 {
     if column < row {
         entries[column * points.len() + row]

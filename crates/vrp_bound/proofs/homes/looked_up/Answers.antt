@@ -1,5 +1,5 @@
 use Rattle.std.proofs.Common.{◌+◌, ◌*◌, ◌-◌, length, get_or, subst, sym, arith}
-use Rattle.vrp_bound.specs.Cells.{HasRelaxed, IsLeast}
+use Rattle.vrp_bound.specs.Cells.{HasRelaxed, IsLeastCell}
 use Rattle.vrp_bound.specs.Units.{in_units}
 use Rattle.vrp_bound.proofs.WaysHome.{cell_none, cell_some, home_cell, look_up}
 use Rattle.vrp_bound.proofs.homes.looked_up.Goals as goal
@@ -36,7 +36,7 @@ returns-then-cell-lt-SMALL_MARK c =
     (omega (arith, c.min-left.ensures)) c.requires.place c.from.ensures c.requires.rest in
     let k = (c.from.result * (c.args.room + 1) + c.min-left.result) * length c.args.tours.now + c.args.rest in
     let cell = home_cell p among c.args.cells.now k c.args.at c.min-left.result c.args.rest (omega (arith, c.min-left.ensures, c.requires.room)) (omega (arith, c.requires.rest)) at.is at.within c.requires.homes.so_far in
-    subst (IsLeast (HasRelaxed p among c.args.at (p.capacity - c.args.free) c.args.rest)) (sym c.from-then-cell-lt-SMALL_MARK.ensures)
+    subst (IsLeastCell (HasRelaxed p among c.args.at (p.capacity - c.args.free) c.args.rest)) (sym c.from-then-cell-lt-SMALL_MARK.ensures)
     (cell_some p among c.args.at (p.capacity - c.args.free) c.args.rest c.min-left.result (get_or c.args.cells.now k 0) c.requires.customer (omega arith) c.requires.rest (omega (arith, c.min-left.ensures, c.requires.free, c.requires.room)) cell c.if-cell-lt-SMALL_MARK.true)
 
 pub returns-else-cell-lt-SMALL_MARK : goal.returns-else-cell-lt-SMALL_MARK

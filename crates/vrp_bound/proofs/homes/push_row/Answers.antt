@@ -1,7 +1,7 @@
 use Rattle.std.proofs.Common.{◌≡◌, ◌+◌, ◌-◌, ◌*◌, ◌<◌, ◌≤◌, length, ap, sym, subst, arith}
 use Rattle.vrp_model.specs.Problem.{place_count}
 use Rattle.vrp_model.specs.Route.{load_of}
-use Rattle.vrp_bound.specs.Cells.{AreHomesSoFar, HasWayHome, IsLeast, IsSmallLeast, mark, small_mark}
+use Rattle.vrp_bound.specs.Cells.{AreHomesSoFar, HasWayHome, IsLeastCell, IsSmallLeastCell, mark, small_mark}
 use Rattle.vrp_bound.specs.Tables.{room_of}
 use Rattle.vrp_bound.specs.Units.{in_units}
 use Rattle.vrp_bound.proofs.FirstTour.{IsWayHome}
@@ -35,7 +35,7 @@ loop-rest-preserved c =
       | then-room-eq0 w ↦ w.less-is
       | else-room-eq0 w ↦ absurd (omega (arith, is, w.if-room-eq0.false))
     ] in
-    let some : 0 < room → IsSmallLeast (HasWayHome p among at (room - 1) rest) less = λ more. elim c.if-room-eq0.branch [
+    let some : 0 < room → IsSmallLeastCell (HasWayHome p among at (room - 1) rest) less = λ more. elim c.if-room-eq0.branch [
       | then-room-eq0 w ↦ absurd (omega (arith, more, w.if-room-eq0.true))
       | else-room-eq0 w ↦
           less_cell p among cells c.args.tours.now at room rest (w.len.result - length c.args.tours.now) less w.index.result.now c.loop-rest.invariant.so_far c.requires.tours next more room_within rest_within
@@ -43,9 +43,9 @@ loop-rest-preserved c =
     ] in
     let index = room * c.args.scope.places + c.from.result in
     let index_is : index ≡ room * place_count p + at = cc (c.args.scope.counted, c.from.ensures) in
-    let fits_whole : room ≤ rest → IsLeast (IsWayHome p among at rest room) whole = λ fits. elim c.if-room-rest.branch [
+    let fits_whole : room ≤ rest → IsLeastCell (IsWayHome p among at rest room) whole = λ fits. elim c.if-room-rest.branch [
       | then-room-rest w ↦
-          subst (IsLeast (IsWayHome p among at rest room)) (sym w.whole-is)
+          subst (IsLeastCell (IsWayHome p among at rest room)) (sym w.whole-is)
           (least_home_cells p among c.args.walks.now c.args.tours.now at rest room index c.requires.walks c.requires.tours c.requires.place c.requires.room fits (omega (arith, rest_within)) index_is)
       | else-room-rest w ↦ absurd (omega (arith, fits, w.if-room-rest.false))
     ] in

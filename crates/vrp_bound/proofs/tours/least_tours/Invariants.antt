@@ -1,5 +1,5 @@
 use Rattle.std.proofs.Common.{◌≤◌}
-use Rattle.vrp_bound.specs.Cells.{IsLeast, mark}
+use Rattle.vrp_bound.specs.Cells.{IsLeastCell, mark}
 use Rattle.vrp_bound.specs.Units.{in_units}
 use Rattle.vrp_bound.proofs.FirstTour.{IsFirstTour}
 use Rattle.vrp_bound.proofs.Least.{IsCostBelow}
@@ -7,6 +7,6 @@ use Rattle.vrp_bound.proofs.tours.least_tours.Given as goal
 
 abbrev pub invariant-loop-load : goal.invariant-loop-load
 invariant-loop-load l = record {
-  least : IsLeast (IsCostBelow (IsFirstTour (in_units l.scope.unit l.scope.instance.now) l.scope.customers.now l.rest) l.load) l.least;
+  least : IsLeastCell (IsCostBelow (IsFirstTour (in_units l.scope.unit l.scope.instance.now) l.scope.customers.now l.rest) l.load) l.least;
   within : l.least ≤ mark;
 }

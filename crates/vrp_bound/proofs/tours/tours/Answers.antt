@@ -1,5 +1,5 @@
 use Rattle.std.proofs.Common.{length, subst, sym, ap, arith}
-use Rattle.vrp_bound.specs.Cells.{AreToursSoFar, HasTours, IsLeast}
+use Rattle.vrp_bound.specs.Cells.{AreToursSoFar, HasTours, IsLeastCell}
 use Rattle.vrp_bound.specs.Units.{in_units}
 use Rattle.vrp_bound.proofs.Filling.{more_tours}
 use Rattle.vrp_bound.proofs.tours.tours.Goals as goal
@@ -10,7 +10,7 @@ loop-rest-preserved c =
     let among = c.args.scope.customers.now in
     let cells = c.loop-rest.cells.items in
     let cell = c.least_tours-cell.result in
-    let least : IsLeast (HasTours p among (length cells)) cell = subst (λ n. IsLeast (HasTours p among n) cell) (ap length c.deref.ensures.value) c.least_tours-cell.ensures.least in
+    let least : IsLeastCell (HasTours p among (length cells)) cell = subst (λ n. IsLeastCell (HasTours p among n) cell) (ap length c.deref.ensures.value) c.least_tours-cell.ensures.least in
     record {
       next = omega (arith, c.push_reserved.ensures.len, c.loop-rest.invariant.next);
       capacity = omega (arith, c.push_reserved.ensures.capacity, c.loop-rest.invariant.capacity);

@@ -1,6 +1,6 @@
 use Rattle.std.proofs.Common.{◌≡◌, ℕ, ◌+◌, ◌-◌, ◌*◌, List, get_or, subst, sym, ap, ◌∙◌, arith}
 use Rattle.vrp_model.specs.Problem.{demand_of, place_count}
-use Rattle.vrp_bound.specs.Cells.{HasWalk, IsLeast}
+use Rattle.vrp_bound.specs.Cells.{HasWalk, IsLeastCell}
 use Rattle.vrp_bound.specs.Units.{in_units}
 use Rattle.vrp_bound.proofs.FirstStep.{IsStep, least_at_once}
 use Rattle.vrp_bound.proofs.Least.{IsCostBelow}
@@ -12,8 +12,8 @@ pub returns-then-load-eq0-clause-least : goal.returns-then-load-eq0-clause-least
 returns-then-load-eq0-clause-least c =
     let p = in_units c.args.scope.unit c.args.scope.instance.now in
     let among = c.args.scope.customers.now in
-    subst (λ load. IsLeast (HasWalk p among c.args.at load) c.weight.result) (sym c.if-load-eq0.true)
-    (subst (IsLeast (HasWalk p among c.args.at 0)) (sym c.weight.ensures.value) (least_at_once p among c.args.at c.args.scope.scope))
+    subst (λ load. IsLeastCell (HasWalk p among c.args.at load) c.weight.result) (sym c.if-load-eq0.true)
+    (subst (IsLeastCell (HasWalk p among c.args.at 0)) (sym c.weight.ensures.value) (least_at_once p among c.args.at c.args.scope.scope))
 
 pub loop-customer-preserved : goal.loop-customer-preserved
 loop-customer-preserved c =
@@ -35,7 +35,7 @@ loop-customer-preserved c =
             within = omega (arith, w.least-is, w.min-least.ensures, c.loop-customer.invariant.within);
           }
       | else-customer-at w ↦ record {
-        least = subst (IsLeast (IsCostBelow (IsStep p among c.args.at c.args.load) (k + 1))) (sym w.least-is)
+        least = subst (IsLeastCell (IsCostBelow (IsStep p among c.args.at c.args.load) (k + 1))) (sym w.least-is)
             (step_skipped p among c.args.at c.args.load k c.loop-customer.least
             (λ differs fits. elim w.else-customer-at.branch [
               | else-customer-at-via-then-customer-at+else-demand-load w' ↦ absurd (omega (arith, fits, w'.if-demand-load.false, demand_is))

@@ -1,5 +1,5 @@
 use Rattle.std.proofs.Common.{◌≤◌}
-use Rattle.vrp_bound.specs.Cells.{IsLeast, mark}
+use Rattle.vrp_bound.specs.Cells.{IsLeastCell, mark}
 use Rattle.vrp_bound.specs.Units.{in_units}
 use Rattle.vrp_bound.proofs.FirstStep.{IsStep}
 use Rattle.vrp_bound.proofs.Least.{IsCostBelow}
@@ -7,6 +7,6 @@ use Rattle.vrp_bound.proofs.walks.least_walk.Given as goal
 
 abbrev pub invariant-loop-customer : goal.invariant-loop-customer
 invariant-loop-customer l = record {
-  least : IsLeast (IsCostBelow (IsStep (in_units l.scope.unit l.scope.instance.now) l.scope.customers.now l.at l.load) l.customer-index) l.least;
+  least : IsLeastCell (IsCostBelow (IsStep (in_units l.scope.unit l.scope.instance.now) l.scope.customers.now l.at l.load) l.customer-index) l.least;
   within : l.least ≤ mark;
 }
