@@ -1,5 +1,5 @@
 -- How many cells a layout lists.
-use Rattle.std.proofs.Common.{◌≡◌, ℕ, zero, suc, ◌+◌, ◌-◌, ◌*◌, ◌/◌, ◌<◌, ◌≤◌, Bool, not, min, ltb, leb, List, length, map, filter, inl, inr, refl, length-append, arith}
+use Rattle.std.proofs.Common.{◌≡◌, ℕ, zero, suc, ◌+◌, ◌-◌, ◌*◌, ◌/◌, ◌<◌, ◌≤◌, Bool, true, not, min, ltb, leb, List, [], ◌∷◌, length, ap, ◌∙◌, map, filter, inl, inr, refl, length-append, arith}
 use Rattle.std.specs.List.{flat_map, range_with_len}
 use Rattle.std.proofs.lemmas.Bool.{cases_lt, lt-ltb, le-ltb}
 use Rattle.std.proofs.lemmas.Bool.Decides.{nat_tests}
@@ -70,8 +70,12 @@ leb_turned a b = grind (arith, nat_tests)
 ltb_turned : (a b : ℕ) → ltb a b ≡ not (leb b a)
 ltb_turned a b = grind (arith, nat_tests)
 
+filter_all : {X : Type 0} (xs : List X) → filter (λ _. true) xs ≡ xs
+filter_all [] = refl
+filter_all (x ∷ xs) = ap (λ rest. x ∷ rest) (filter_all xs)
+
 pub length_cells_full : (n : ℕ) → length (cells FullMatrix n) ≡ n * n
-length_cells_full n = count_walk (λ row column. (row, column)) n
+length_cells_full n = ap length (filter_all (walk (λ row column. (row, column)) n)) ∙ count_walk (λ row column. (row, column)) n
 
 pub length_cells_upper_row : (n : ℕ) → 2 * length (cells UpperRow n) + n ≡ n * n
 length_cells_upper_row n =

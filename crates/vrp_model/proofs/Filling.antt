@@ -6,16 +6,12 @@ use Rattle.std.proofs.lemmas.Nat.{same_from_place}
 use Rattle.std.proofs.lemmas.Option.{slice_get_within, same_Some}
 use Rattle.vrp_model.specs.declared.layout.Layout.{Layout}
 use Rattle.vrp_model.specs.declared.layout.Layout.TheVariants.{FullMatrix, UpperRow, LowerRow, UpperDiagRow, LowerDiagRow, UpperCol, LowerCol, UpperDiagCol, LowerDiagCol}
-use Rattle.vrp_model.specs.Layout.{cells, is_full, HasEntries}
-use Rattle.vrp_model.specs.Listing.{goes_by_rows, cell_on, lists, cells_in_lines, cells_left, weight_in, IsListed, IsWritten, IsFilled}
-
-filter_all : {X : Type 0} (xs : List X) → filter (λ _. true) xs ≡ xs
-filter_all [] = refl
-filter_all (x ∷ xs) = ap (λ rest. x ∷ rest) (filter_all xs)
+use Rattle.vrp_model.specs.Layout.{cells, goes_by_rows, is_full, lists, HasEntries}
+use Rattle.vrp_model.specs.Listing.{cell_on, cells_in_lines, cells_left, weight_in, IsListed, IsWritten, IsFilled}
 
 -- one walk over the square passes all cells of a layout in its order
 pub cells_by_lines : (layout : Layout) (n : ℕ) → cells layout n ≡ filter (lists layout) (cells_in_lines layout n 1 n)
-cells_by_lines FullMatrix n = sym (filter_all _)
+cells_by_lines FullMatrix n = refl
 cells_by_lines UpperRow n = refl
 cells_by_lines LowerRow n = refl
 cells_by_lines UpperDiagRow n = refl

@@ -1,6 +1,6 @@
 -- The layouts of a matrix of weights in a file (TSPLIB 95, section 1.1, EDGE_WEIGHT_FORMAT): which cells of the square a
 -- file lists, and in which order. Rows and columns are numbered from 1; a cell is a row and a column.
-use Rattle.std.specs.Prelude.{◌≡◌, ◌≢◌, ℕ, ◌≤◌, Bool, true, false, nat_lt, nat_le, Some, List, map, filter, slice_get, slice_index}
+use Rattle.std.specs.Prelude.{◌≡◌, ◌≢◌, ℕ, ◌≤◌, Bool, true, false, if◌then◌else◌, nat_lt, nat_le, Some, List, map, filter, slice_get, slice_index}
 use Rattle.std.specs.List.{flat_map, range_with_len}
 use Rattle.vrp_model.specs.Grid.{Grid, entry_at}
 use Rattle.vrp_model.specs.declared.layout.Layout.{Layout}
@@ -14,17 +14,33 @@ cells_by_rows n = flat_map (λ row. map (λ column. (row, column)) (range_with_l
 abbrev pub cells_by_columns : ℕ → List (ℕ × ℕ)
 cells_by_columns n = flat_map (λ column. map (λ row. (row, column)) (range_with_len 1 n)) (range_with_len 1 n)
 
+-- whether a layout goes by rows; otherwise it goes by columns
+abbrev pub goes_by_rows : Layout → Bool
+goes_by_rows FullMatrix = true
+goes_by_rows UpperRow = true
+goes_by_rows LowerRow = true
+goes_by_rows UpperDiagRow = true
+goes_by_rows LowerDiagRow = true
+goes_by_rows UpperCol = false
+goes_by_rows LowerCol = false
+goes_by_rows UpperDiagCol = false
+goes_by_rows LowerDiagCol = false
+
+-- whether a layout lists a cell: those on one side of the diagonal, or with it
+abbrev pub lists : Layout → ℕ × ℕ → Bool
+lists FullMatrix cell = true
+lists UpperRow cell = nat_lt cell.0 cell.1
+lists LowerRow cell = nat_lt cell.1 cell.0
+lists UpperDiagRow cell = nat_le cell.0 cell.1
+lists LowerDiagRow cell = nat_le cell.1 cell.0
+lists UpperCol cell = nat_lt cell.0 cell.1
+lists LowerCol cell = nat_lt cell.1 cell.0
+lists UpperDiagCol cell = nat_le cell.0 cell.1
+lists LowerDiagCol cell = nat_le cell.1 cell.0
+
 -- the cells that a layout lists, in its order
 abbrev pub cells : Layout → ℕ → List (ℕ × ℕ)
-cells FullMatrix n = cells_by_rows n
-cells UpperRow n = filter (λ cell. nat_lt cell.0 cell.1) (cells_by_rows n)
-cells LowerRow n = filter (λ cell. nat_lt cell.1 cell.0) (cells_by_rows n)
-cells UpperDiagRow n = filter (λ cell. nat_le cell.0 cell.1) (cells_by_rows n)
-cells LowerDiagRow n = filter (λ cell. nat_le cell.1 cell.0) (cells_by_rows n)
-cells UpperCol n = filter (λ cell. nat_lt cell.0 cell.1) (cells_by_columns n)
-cells LowerCol n = filter (λ cell. nat_lt cell.1 cell.0) (cells_by_columns n)
-cells UpperDiagCol n = filter (λ cell. nat_le cell.0 cell.1) (cells_by_columns n)
-cells LowerDiagCol n = filter (λ cell. nat_le cell.1 cell.0) (cells_by_columns n)
+cells layout n = filter (lists layout) (if goes_by_rows layout then cells_by_rows n else cells_by_columns n)
 
 -- the one layout whose weights hold one way only
 abbrev pub is_full : Layout → Bool

@@ -1,38 +1,13 @@
 -- A layout's cells as one walk over the square, line by line, that passes over the cells which the layout doesn't list.
-use Rattle.std.specs.Prelude.{◌≡◌, ◌≢◌, ℕ, ◌+◌, ◌-◌, ◌*◌, ◌≤◌, ◌<◌, ◌⊎◌, Bool, true, false, if◌then◌else◌, nat_lt, nat_le, Some, List, ◌++◌, map, drop, filter, slice_get, slice_index}
+use Rattle.std.specs.Prelude.{◌≡◌, ◌≢◌, ℕ, ◌+◌, ◌-◌, ◌*◌, ◌≤◌, ◌<◌, ◌⊎◌, true, false, if◌then◌else◌, Some, List, ◌++◌, map, drop, filter, slice_get, slice_index}
 use Rattle.std.specs.List.{flat_map, range_with_len}
-use Rattle.vrp_model.specs.Layout.{cells, is_full}
+use Rattle.vrp_model.specs.Layout.{cells, goes_by_rows, is_full, lists}
 use Rattle.vrp_model.specs.declared.layout.Layout.{Layout}
-use Rattle.vrp_model.specs.declared.layout.Layout.TheVariants.{FullMatrix, UpperRow, LowerRow, UpperDiagRow, LowerDiagRow, UpperCol, LowerCol, UpperDiagCol, LowerDiagCol}
 use Rattle.vrp_model.specs.declared.limits.TheConstants.{MAX_WEIGHT}
-
--- whether a line is a row; otherwise it is a column
-abbrev pub goes_by_rows : Layout → Bool
-goes_by_rows FullMatrix = true
-goes_by_rows UpperRow = true
-goes_by_rows LowerRow = true
-goes_by_rows UpperDiagRow = true
-goes_by_rows LowerDiagRow = true
-goes_by_rows UpperCol = false
-goes_by_rows LowerCol = false
-goes_by_rows UpperDiagCol = false
-goes_by_rows LowerDiagCol = false
 
 -- the cell at a place of a line
 abbrev pub cell_on : Layout → ℕ → ℕ → ℕ × ℕ
 cell_on layout line across = if goes_by_rows layout then (line, across) else (across, line)
-
--- whether a file in this layout lists a cell
-abbrev pub lists : Layout → ℕ × ℕ → Bool
-lists FullMatrix cell = true
-lists UpperRow cell = nat_lt cell.0 cell.1
-lists LowerRow cell = nat_lt cell.1 cell.0
-lists UpperDiagRow cell = nat_le cell.0 cell.1
-lists LowerDiagRow cell = nat_le cell.1 cell.0
-lists UpperCol cell = nat_lt cell.0 cell.1
-lists LowerCol cell = nat_lt cell.1 cell.0
-lists UpperDiagCol cell = nat_le cell.0 cell.1
-lists LowerDiagCol cell = nat_le cell.1 cell.0
 
 -- the cells that are listed in so many lines from one on
 abbrev pub cells_in_lines : Layout → ℕ → ℕ → ℕ → List (ℕ × ℕ)
