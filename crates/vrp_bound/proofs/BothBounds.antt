@@ -11,8 +11,8 @@ use Rattle.vrp_bound.specs.Bound.{IsGreater}
 use Rattle.vrp_bound.specs.Capacity.{IsInsOf}
 use Rattle.vrp_bound.specs.Tables.{IsBound}
 use Rattle.vrp_bound.specs.Walk.{IsRelaxed, relaxed_cost}
-use Rattle.vrp_bound.proofs.Completion.{completion}
-use Rattle.vrp_bound.proofs.Returns.{none_adds_less}
+use Rattle.vrp_bound.proofs.RelaxedBelow.{completion}
+use Rattle.vrp_bound.proofs.CapacityBelow.{none_adds_less}
 
 relaxed_below : (p : Problem) (among : List ℕ) (at load rest : ℕ) (answer : Option ℕ) (home : List ℕ) (tours : List (List ℕ)) → IsBound p among at load rest answer → IsRelaxed p among at load rest home tours
     → MatchOption answer ⊥ (λ least. least ≤ relaxed_cost p at home tours)

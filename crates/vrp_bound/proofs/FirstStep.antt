@@ -9,7 +9,7 @@ use Rattle.vrp_model.specs.Route.{load_of}
 use Rattle.vrp_bound.specs.Cells.{HasWalk, IsLeastCell}
 use Rattle.vrp_bound.specs.Scope.{IsScope}
 use Rattle.vrp_bound.specs.Walk.{IsWalk, walk_cost}
-use Rattle.vrp_bound.proofs.Least.{IsCostBelow, IsSum, least_same, least_one, least_sum}
+use Rattle.vrp_bound.proofs.LeastOfCosts.{IsCostBelow, IsSum, least_same, least_one, least_sum}
 
 -- what a stop and those behind it demand
 pub load_first : (p : Problem) (stop : ℕ) (stops : List ℕ) → load_of p (stop ∷ stops) ≡ demand_of p stop + load_of p stops

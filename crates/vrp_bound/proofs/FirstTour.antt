@@ -9,7 +9,7 @@ use Rattle.vrp_bound.specs.Cells.{HasRelaxed, HasTours, HasWalk, IsLeastCell, ma
 use Rattle.vrp_bound.specs.Scope.{IsScope}
 use Rattle.vrp_bound.specs.Tables.{room_of}
 use Rattle.vrp_bound.specs.Walk.{IsLeastRelaxed, IsRelaxed, IsTour, NoneRelaxed, home_cost, relaxed_cost, walk_cost}
-use Rattle.vrp_bound.proofs.Least.{IsCostBelow, IsSum, least_same, least_sum}
+use Rattle.vrp_bound.proofs.LeastOfCosts.{IsCostBelow, IsSum, least_same, least_sum}
 use Rattle.vrp_bound.proofs.FirstStep.{no_load_no_stop, small_walk}
 
 -- a tour takes up something

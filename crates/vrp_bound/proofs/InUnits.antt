@@ -6,7 +6,7 @@ use Rattle.vrp_model.specs.Route.{load_of}
 use Rattle.vrp_bound.specs.Cells.{HasRelaxed, IsLeastCell, mark}
 use Rattle.vrp_bound.specs.Units.{IsUnit, in_units}
 use Rattle.vrp_bound.specs.Walk.{IsTour, IsWalk}
-use Rattle.vrp_bound.proofs.Least.{least_same}
+use Rattle.vrp_bound.proofs.LeastOfCosts.{least_same}
 use Rattle.vrp_bound.proofs.WholeUnits.{load_in, loads_in, units_of_whole, units_rise, units_within, within_of_units}
 
 walk_same : (p q : Problem) (among : List ℕ) (at : ℕ) (stops : List ℕ) → IsWalk p among at stops → IsWalk q among at stops

@@ -8,9 +8,9 @@ use Rattle.vrp_model.specs.Route.{load_of}
 use Rattle.vrp_bound.specs.Cells.{AreHomes, AreHomesSoFar, AreTours, HasRelaxed, HasWayHome, IsLeastCell, IsSmallLeastCell, mark, small_mark}
 use Rattle.vrp_bound.specs.Scope.{IsScope}
 use Rattle.vrp_bound.specs.Tables.{room_of}
-use Rattle.vrp_bound.proofs.Filling.{each_push}
+use Rattle.vrp_bound.proofs.FilledTables.{each_push}
 use Rattle.vrp_bound.proofs.FirstTour.{IsWayHome, home_is_relaxed, relaxed_is_home, small_way_home}
-use Rattle.vrp_bound.proofs.Least.{IsCostBelow}
+use Rattle.vrp_bound.proofs.LeastOfCosts.{IsCostBelow}
 
 -- the lesser of the least so far and that of one way more
 small_more : (IsCost : ℕ → ℕ → Type 0) (ways less whole cell : ℕ) → IsSmallLeastCell (IsCostBelow IsCost ways) less → IsLeastCell (IsCost ways) whole → ((cost : ℕ) → IsCost ways cost → cost < mark) → (mark ≤ whole → cell ≡ less) → (whole < mark → (cell ≡ min less whole) × (whole < small_mark)) → IsSmallLeastCell (IsCostBelow IsCost (ways + 1)) cell

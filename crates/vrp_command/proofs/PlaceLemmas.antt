@@ -4,7 +4,7 @@ use Rattle.std.specs.List.{All, concat}
 use Rattle.std.proofs.lemmas.List.Elements.{All-cons, All-nil, Contains-get_or}
 use Rattle.std.proofs.lemmas.List.Sorted.{Contains-permutation}
 use Rattle.vrp_model.specs.Problem.{Problem, customers, place_count}
-use Rattle.vrp_model.proofs.AllCustomers.{customer_below}
+use Rattle.vrp_model.proofs.CustomerPlaces.{customer_below}
 use Rattle.vrp_model.specs.Route.{IsLawful}
 
 parts : (P : ℕ → Type 0) (xs ys : List ℕ) → All P (xs ++ ys) → All P xs × All P ys

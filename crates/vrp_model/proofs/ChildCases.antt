@@ -9,8 +9,8 @@ use Rattle.vrp_model.specs.Problem.{Problem, IsProblem, demand_of}
 use Rattle.vrp_model.specs.Route.{load_of}
 use Rattle.vrp_model.specs.Word.{IsFront, IsOpen, MakesChild, first_stops, last_route, last_symbol, routes_of, word_of}
 use Rattle.vrp_model.proofs.Words.{AreClosed, IsStops, routes_are, shape_of}
-use Rattle.vrp_model.proofs.Children.{All-last, All-left, closed_is_open, customer_added, front_closed, last_of, last_of_shape, last_stop, rising_last, rising_more, routes_with_stop, unserved_if_added}
-use Rattle.vrp_model.proofs.AllCustomers.{customer_is_some, load_with}
+use Rattle.vrp_model.proofs.FrontWithSymbol.{All-last, All-left, closed_is_open, customer_added, front_closed, last_of, last_of_shape, last_stop, rising_last, rising_more, routes_with_stop, unserved_if_added}
+use Rattle.vrp_model.proofs.CustomerPlaces.{customer_is_some, load_with}
 use Rattle.vrp_model.proofs.UnservedCustomers.{unserved_is_customer}
 
 pub firsts_with : (closed : List (List ℕ)) (route : List ℕ) → first_stops (closed ++ route ∷ []) ≡ first_stops closed ++ slice_index route 0 ∷ []

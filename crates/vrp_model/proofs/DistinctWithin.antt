@@ -7,7 +7,7 @@ use Rattle.std.proofs.lemmas.List.Elements.{All-contains_itself}
 use Rattle.std.proofs.lemmas.List.Sorted.{IsPermutation-refl, IsPermutation-cons, IsPermutation-remove, IsPermutation-trans, Contains-permutation, length_permutation, sum_by-IsPermutation}
 use Rattle.std.proofs.lemmas.List.{nil_from_length}
 use Rattle.std.proofs.lemmas.List.Sums.{sum_by-append}
-use Rattle.vrp_model.proofs.Rearranged.{AreDistinct, head_differs, in_tail, tail_distinct}
+use Rattle.vrp_model.proofs.DistinctLists.{AreDistinct, head_differs, in_tail, tail_distinct}
 
 -- a rearrangement of the other list begins with it
 pub begins_among : {X : Type 0} (xs ys : List X) → AreDistinct xs → All (Contains ys) xs → (others : List X) × IsPermutation ys (xs ++ others)

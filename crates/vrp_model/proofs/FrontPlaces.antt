@@ -4,8 +4,8 @@ use Rattle.std.specs.List.{All, Contains}
 use Rattle.std.proofs.lemmas.Bool.Decides.{nat_tests}
 use Rattle.vrp_model.specs.Problem.{IsProblem, Problem, customers, place_count}
 use Rattle.vrp_model.specs.Word.{IsFront, last_symbol, served_in}
-use Rattle.vrp_model.proofs.AllCustomers.{customer_below}
-use Rattle.vrp_model.proofs.Children.{added_is_customer}
+use Rattle.vrp_model.proofs.CustomerPlaces.{customer_below}
+use Rattle.vrp_model.proofs.FrontWithSymbol.{added_is_customer}
 use Rattle.vrp_model.proofs.Words.{last_behind, last_is, serves_customer}
 
 pub symbol_is_place : (p : Problem) (word : List ℕ) (k : ℕ) → IsProblem p → IsFront p (word ++ k ∷ []) → k < place_count p

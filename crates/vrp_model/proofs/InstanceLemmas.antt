@@ -7,10 +7,6 @@ use Rattle.vrp_model.specs.Problem.{IsProblem}
 use Rattle.vrp_model.specs.Request.{is_listed, node_demand, NoDepotHasDemand, NoneIsTooHeavy}
 use Rattle.vrp_model.specs.Places.{ArePlaces}
 
--- what bounds a list's numbers and one more bounds them all
-pub bounded_push : (xs : List ℕ) (x bound : ℕ) → ((k : ℕ) → slice_index xs k ≤ bound) → x ≤ bound → (k : ℕ) → slice_index (xs ++ x ∷ []) k ≤ bound
-bounded_push xs x bound bounded small k = grind (arith, common_steps, bounded k)
-
 -- a listed depot has no demand
 pub node_demand_depot : (depots demands : List ℕ) (node : ℕ) → NoDepotHasDemand depots demands → is_listed depots node ≡ true → node_demand demands node ≡ 0
 node_demand_depot depots demands node none listed =

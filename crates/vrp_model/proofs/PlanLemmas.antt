@@ -8,7 +8,7 @@ use Rattle.std.proofs.lemmas.List.Elements.{All-append, All-cons, All-map, All-n
 use Rattle.std.proofs.lemmas.List.Sorted.{IsPermutation-refl}
 use Rattle.std.proofs.lemmas.List.Sums.{sum_by_push}
 use Rattle.vrp_model.proofs.Words.{word_of-append}
-use Rattle.vrp_model.proofs.Rearranged.{range_rises}
+use Rattle.vrp_model.proofs.DistinctLists.{range_rises}
 use Rattle.vrp_model.proofs.PlacesLemmas.{range_with_len_more}
 use Rattle.vrp_model.specs.Problem.{Problem, IsProblem, customers}
 use Rattle.vrp_model.specs.Route.{IsLawful, load_of, plan_cost, route_cost}

@@ -11,10 +11,10 @@ use Rattle.std.proofs.lemmas.List.Sorted.{IsPermutation-sym, Contains-permutatio
 use Rattle.vrp_model.specs.Problem.{Problem, customers}
 use Rattle.vrp_model.specs.Route.{IsLawful, IsPlanOf, PricedPlan, cost_along, load_of, plan_cost, route_cost}
 use Rattle.vrp_model.specs.Word.{HasStops, IsLawfulWord, first_stops, last_symbol, routes_of, served_in, word_cost, word_of}
-use Rattle.vrp_model.proofs.Words.{AreClosed, HasStops-append, IsStops, last_behind, last_behind-append, routes_are, shape_of}
-use Rattle.vrp_model.proofs.Children.{last_of_shape, last_stop}
-use Rattle.vrp_model.proofs.Rearranged.{AreDistinct, AreDistinct-permutation, customers_distinct, same_elements}
-use Rattle.vrp_model.proofs.AllCustomers.{customer_is_some}
+use Rattle.vrp_model.proofs.Words.{AreClosed, HasStops-append, IsStops, is_stop, last_behind, last_behind-append, routes_are, shape_of}
+use Rattle.vrp_model.proofs.FrontWithSymbol.{last_of_shape, last_stop}
+use Rattle.vrp_model.proofs.DistinctLists.{AreDistinct, AreDistinct-permutation, customers_distinct, same_elements}
+use Rattle.vrp_model.proofs.CustomerPlaces.{customer_is_some}
 
 all_stops_kept : (stops : List ℕ) → IsStops stops → filter (λ k. not (k == 0)) stops ≡ stops
 all_stops_kept [] free = refl
@@ -86,9 +86,6 @@ plan_of_word p word lawful =
 
 -- ---- from a plan to its word
 
-stop_test : (k : ℕ) → 0 < k → (k == 0) ≡ false
-stop_test k some = grind (arith, nat_tests)
-
 read_left : (xs ys : List ℕ) (i d : ℕ) → i < length xs → get_or (xs ++ ys) i d ≡ get_or xs i d
 read_left xs ys i d lt = get_or-append xs ys d i lt
 
@@ -107,7 +104,7 @@ stops_alone before (suc k ∷ stops) free = ((λ e. absurd (omega (arith, e))), 
 closed_from : (routes : List (List ℕ)) → All (λ r. r ≢ []) routes → All (λ k. 0 < k) (concat routes) → AreClosed routes
 closed_from [] some above = tt
 closed_from (route ∷ routes) some above = (
-  λ i d lt. stop_test (get_or route i d) (subst (λ n. 0 < n) (read_left route (concat routes) i d lt) (above i d (omega (arith, lt, length-append route (concat routes))))),
+  λ i d lt. is_stop (get_or route i d) (subst (λ n. 0 < n) (read_left route (concat routes) i d lt) (above i d (omega (arith, lt, length-append route (concat routes))))),
   has_length route (some 0 route (omega arith)),
   closed_from routes (λ i d lt. some (suc i) d (omega arith)) (λ i d lt. subst (λ n. 0 < n) (read_right route (concat routes) i d) (above (length route + i) d (omega (arith, lt, length-append route (concat routes))))),
 )

@@ -6,13 +6,13 @@ use Rattle.std.specs.Prelude.{slice_index}
 use Rattle.std.proofs.Math.ListN.{get_or-append}
 use Rattle.std.proofs.lemmas.Bool.{cases_Bool}
 use Rattle.std.proofs.lemmas.Bool.Decides.{nat_tests}
-use Rattle.std.proofs.lemmas.List.{get_or-append-add}
+use Rattle.std.proofs.lemmas.List.{get_or-append-add, get_or_default}
 use Rattle.std.proofs.lemmas.List.Elements.{All-cons, All-nil, Contains-append_left, Contains-append_right}
 use Rattle.std.proofs.lemmas.List.Sorted.{All-permutation, IsPermutation-append_comm, IsPermutation-append_left, IsPermutation-append_right, IsPermutation-cons, IsPermutation-middle, IsPermutation-refl, IsPermutation-sym, IsPermutation-trans, sum_by-IsPermutation}
 use Rattle.vrp_model.specs.Problem.{Problem, customers}
 use Rattle.vrp_model.specs.Route.{IsLawful, load_of, plan_cost, route_cost}
 use Rattle.vrp_model.specs.Word.{first_stops}
-use Rattle.vrp_model.proofs.Rearranged.{AreDistinct, AreDistinct-permutation, customers_distinct}
+use Rattle.vrp_model.proofs.DistinctLists.{AreDistinct, AreDistinct-permutation, customers_distinct}
 
 abbrev first_stop : List ℕ → ℕ
 first_stop route = slice_index route 0
@@ -100,16 +100,11 @@ rising_firsts (route ∷ next ∷ routes) rises (suc k) lt =
     let e : suc k + 1 ≡ suc (k + 1) = omega arith in
     rw e (rising_firsts (next ∷ routes) rises.1 k (omega (arith, lt)))
 
-same_value : (xs : List ℕ) (k d e : ℕ) → k < length xs → get_or xs k e ≡ get_or xs k d
-same_value [] k d e lt = absurd (omega arith)
-same_value (x ∷ xs) zero d e lt = refl
-same_value (x ∷ xs) (suc k) d e lt = same_value xs k d e (omega (arith, lt))
-
 -- the parts of a list in which nothing stands twice have nothing in common
 apart : (xs ys : List ℕ) (x y : ℕ) → AreDistinct (xs ++ ys) → Contains xs x → Contains ys y → x ≢ y
 apart xs ys x y distinct (i, lt, is) (j, within, at) =
     λ same.
-    let left : get_or (xs ++ ys) i y ≡ x = get_or-append xs ys y i lt ∙ same_value xs i x y lt ∙ is in
+    let left : get_or (xs ++ ys) i y ≡ x = get_or-append xs ys y i lt ∙ get_or_default xs i y x lt ∙ is in
     let right : get_or (xs ++ ys) (length xs + j) y ≡ y = get_or-append-add xs ys j y ∙ at in
     distinct i (length xs + j) y (omega (arith, lt)) (omega (arith, within, length-append xs ys)) (left ∙ same ∙ sym right)
 

@@ -9,6 +9,7 @@ use Rattle.vrp_model.specs.Distance.{IsDistance}
 use Rattle.vrp_model.specs.Grid.{HasDistances}
 use Rattle.vrp_model.specs.Rows.{AreDistances, IsDistanceAt}
 use Rattle.vrp_model.proofs.Distances.{IsDistance-both_ways}
+use Rattle.vrp_model.proofs.BoundedLists.{bounded_push}
 
 -- the place of a pair left of the diagonal comes after that of the pair turned round
 pub place_before : (i j n : ℕ) → i < j → j < n → i * n + j < j * n + i
@@ -22,16 +23,6 @@ pub IsDistanceAt-read : (metric : Metric) (points : List (ℤ × ℤ)) (i j weig
 IsDistanceAt-read metric points i j weight d e h =
     λ from to a b. rw (← get_or_from_slice_get points i from d a, ← get_or_from_slice_get points j to e b) h
 
-small_push : (entries : List ℕ) (weight most : ℕ) → ((k : ℕ) → slice_index entries k ≤ most) → weight ≤ most → (k : ℕ) → slice_index (entries ++ weight ∷ []) k ≤ most
-small_push entries weight most h w k =
-    elim (cases_lt k (length entries)) [
-      | inl p ↦ rw (get_or_append_left entries (weight ∷ []) 0 k p) (h k)
-      | inr q ↦ elim (cases_lt (length entries) k) [
-        | inl r ↦ rw (get_or_past (entries ++ weight ∷ []) k 0 (omega (arith, length_push entries weight))) (omega arith)
-        | inr r ↦ rw (get_or_push entries weight 0 k (omega arith)) w
-      ]
-    ]
-
 -- one entry more, at the next place
 pub AreDistances-push : (metric : Metric) (points : List (ℤ × ℤ)) (entries : List ℕ) (row column weight : ℕ) → length entries ≡ row * length points + column → column < length points → IsDistanceAt metric points row column weight → weight ≤ 1000000000 → AreDistances metric points entries → AreDistances metric points (entries ++ weight ∷ [])
 AreDistances-push metric points entries row column weight next within distance small so_far = record {
@@ -43,7 +34,7 @@ AreDistances-push metric points entries row column weight next within distance s
             let same = same_from_place i j row column (length points) inside within (e ∙ next) in
             rw (get_or_push entries weight 0 (i * length points + j) (sym e), same.0, same.1) distance
       ];
-  small = small_push entries weight 1000000000 so_far.small small;
+  small = bounded_push entries weight 1000000000 so_far.small small;
 }
 
 -- the grid that is all written

@@ -10,7 +10,7 @@ use Rattle.vrp_model.specs.Problem.{Problem}
 use Rattle.vrp_model.specs.Word.{BeginsWith, IsFront, IsTree, TreeHas, TreeHasAtLeast}
 use Rattle.vrp_model.proofs.DistinctWithin.{length_among}
 use Rattle.vrp_model.proofs.FrontsBefore.{fronts_before, same_front}
-use Rattle.vrp_model.proofs.Rearranged.{AreDistinct, behind_head, head_differs, tail_distinct}
+use Rattle.vrp_model.proofs.DistinctLists.{AreDistinct, behind_head, head_differs, tail_distinct}
 
 -- two lists without a common item, joined
 distinct_append : (xs ys : List (List ℕ)) → AreDistinct xs → AreDistinct ys → ((x : List ℕ) → Contains xs x → Contains ys x → ⊥) → AreDistinct (xs ++ ys)

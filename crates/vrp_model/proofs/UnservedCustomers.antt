@@ -10,8 +10,8 @@ use Rattle.std.proofs.lemmas.List.Kept.{AllPairs-filter}
 use Rattle.std.proofs.lemmas.List.Sorted.{sum_by-IsPermutation}
 use Rattle.vrp_model.specs.Problem.{Problem, customers}
 use Rattle.vrp_model.specs.Word.{IsFront, served_in, stands_in, unserved_in}
-use Rattle.vrp_model.proofs.AllCustomers.{customer_is_some}
-use Rattle.vrp_model.proofs.Rearranged.{AreDistinct, behind_head, customers_distinct, same_elements}
+use Rattle.vrp_model.proofs.CustomerPlaces.{customer_is_some}
+use Rattle.vrp_model.proofs.DistinctLists.{AreDistinct, behind_head, customers_distinct, same_elements}
 use Rattle.vrp_model.proofs.Words.{serves_customer}
 
 -- two numbers are equal, or they differ

@@ -18,6 +18,7 @@ use Rattle.vrp_model.proofs.FrontsBefore.{rising_left}
 use Rattle.vrp_model.proofs.Words.{AreClosed, AreClosed-append, IsStops, is_stop, last_behind, last_behind-append, last_is, open_routes, routes_are, shape_of, word_of-append}
 use Rattle.vrp_model.proofs.PlanWords.{closed_plan, cost_parts, plan_of_word}
 use Rattle.vrp_model.proofs.PlanLemmas.{plan_cost_push}
+use Rattle.vrp_model.proofs.CustomerPlaces.{customer_below}
 
 -- the routes that a lawful word begins with rise
 pub read_routes_rise : (p : Problem) (word : List ℕ) (routes : List (List ℕ)) (rest : List ℕ) → IsLawfulWord p word → word ≡ word_of routes ++ rest → AreClosed routes → IsWordEnd rest → IsStrictlyIncreasing (first_stops routes)
@@ -151,19 +152,13 @@ all_left P xs ys all = λ k d lt. subst P (get_or-append xs ys d k lt) (all k d 
 all_right : (P : ℕ → Type 0) (xs ys : List ℕ) → All P (xs ++ ys) → All P ys
 all_right P xs ys all = λ k d lt. subst P (get_or-append-add xs ys k d) (all (length xs + k) d (omega (arith, lt, length-append xs ys)))
 
-customer_place : (p : Problem) (k : ℕ) → Contains (customers p) k → k < place_count p
-customer_place p k (i, lt, is) =
-    let bound : i < place_count p - 1 = rw (length-range_with_len 1 (place_count p - 1)) at lt in
-    let value : get_or (customers p) i k ≡ 1 + i = get_or-range_with_len 1 (place_count p - 1) i k bound in
-    omega (arith, value, is, bound)
-
 symbol_places : (p : Problem) (word : List ℕ) → 0 < place_count p → All (Contains (customers p)) (served_in word) → All (λ k. k < place_count p) word
 symbol_places p [] some known = All-nil (λ k. k < place_count p)
 symbol_places p (zero ∷ word) some known = All-cons (λ k. k < place_count p) 0 word some (symbol_places p word some known)
 symbol_places p (suc j ∷ word) some known =
     let kept : served_in (suc j ∷ word) ≡ suc j ∷ served_in word = (let test : not (suc j == 0) ≡ true = grind (arith, nat_tests) in rw test refl) in
     let all = subst (All (Contains (customers p))) kept known in
-    All-cons (λ k. k < place_count p) (suc j) word (customer_place p (suc j) (all 0 (suc j) (omega arith))) (symbol_places p word some (λ k d lt. all (suc k) d (omega (arith, lt))))
+    All-cons (λ k. k < place_count p) (suc j) word (customer_below p (suc j) (all 0 (suc j) (omega arith))) (symbol_places p word some (λ k d lt. all (suc k) d (omega (arith, lt))))
 
 pub none_read : (p : Problem) (word : List ℕ) → IsLawfulWord p word → 0 < place_count p → ReadsRoutes p word [] 0 word
 none_read p word lawful some =

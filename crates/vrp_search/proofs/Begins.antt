@@ -10,10 +10,10 @@ use Rattle.std.proofs.lemmas.List.Kept.{AllPairs-from_increasing}
 use Rattle.std.proofs.lemmas.List.Sums.{sum_by-append, sum_by-cons}
 use Rattle.vrp_model.specs.Problem.{Problem, customers}
 use Rattle.vrp_model.specs.Word.{BeginsWith, IsFront, IsLawfulWord, served_in}
-use Rattle.vrp_model.proofs.Children.{closed_is_open, unserved_if_added}
+use Rattle.vrp_model.proofs.FrontWithSymbol.{closed_is_open, unserved_if_added}
 use Rattle.vrp_model.proofs.UnservedCustomers.{unserved_differs, unserved_is_customer}
 use Rattle.vrp_model.proofs.FrontsBefore.{one_child_behind}
-use Rattle.vrp_model.proofs.Rearranged.{AreDistinct, head_differs, tail_distinct}
+use Rattle.vrp_model.proofs.DistinctLists.{AreDistinct, head_differs, tail_distinct}
 use Rattle.vrp_search.specs.Child.{AreChildren}
 use Rattle.vrp_search.specs.Cutting.{begins_with}
 

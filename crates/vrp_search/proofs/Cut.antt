@@ -5,7 +5,7 @@ use Rattle.std.proofs.Math.Seq.{get_or-append-add}
 use Rattle.std.proofs.lemmas.List.Elements.{All-append, All-contains_itself, All-map, All-tail}
 use Rattle.vrp_model.specs.Problem.{Problem}
 use Rattle.vrp_model.specs.Word.{IsFront}
-use Rattle.vrp_model.proofs.Children.{All-left}
+use Rattle.vrp_model.proofs.FrontWithSymbol.{All-left}
 use Rattle.vrp_search.specs.Child.{AreChildren}
 use Rattle.vrp_search.specs.Cutting.{IsCutting, begins_with}
 use Rattle.vrp_search.specs.Pass.{StandsFor}

@@ -13,13 +13,13 @@ use Rattle.vrp_model.specs.Problem.{IsProblem, Problem, customers, demand_of, pl
 use Rattle.vrp_model.specs.Route.{load_of}
 use Rattle.vrp_model.specs.Word.{IsFront, IsLawfulWord, IsOpen, MakesChild, last_route, last_symbol, served_in, stands_in, unserved_in, word_cost}
 use Rattle.vrp_model.proofs.Words.{last_is, serves_customer}
-use Rattle.vrp_model.proofs.AllCustomers.{is_customer, load_with}
-use Rattle.vrp_model.proofs.Children.{closed_is_open, served_at_depot, served_with, unserved_if_added}
+use Rattle.vrp_model.proofs.CustomerPlaces.{is_customer, load_with}
+use Rattle.vrp_model.proofs.FrontWithSymbol.{closed_is_open, served_at_depot, served_with, unserved_if_added}
 use Rattle.vrp_model.proofs.ChildCases.{cases_of_child}
 use Rattle.vrp_model.proofs.FrontPlaces.{symbol_is_place}
 use Rattle.vrp_model.proofs.FrontsBefore.{fronts_before}
 use Rattle.vrp_model.proofs.PlanWords.{cost_parts}
-use Rattle.vrp_model.proofs.Rearranged.{customers_distinct}
+use Rattle.vrp_model.proofs.DistinctLists.{customers_distinct}
 use Rattle.vrp_model.proofs.UnservedCustomers.{all_unserved, nat_same, stands_in-append, stands_last, sum_of_unserved, unserved_at_depot, unserved_if_not_standing, unserved_stands_not}
 use Rattle.vrp_search.specs.Tallied.{AreBefore, AreFlags, AreTallied, IsTally}
 use Rattle.vrp_search.specs.declared.tally.Tally.{Tally}
@@ -28,7 +28,7 @@ use Rattle.vrp_model.specs.LeastWay.{IsLeastIn}
 use Rattle.vrp_search.proofs.WaysIn.{ins_at_depot, ins_with}
 use Rattle.vrp_model.proofs.DistinctWithin.{all_among, length_among, sum_among}
 use Rattle.vrp_search.proofs.Short.{fronts_are_short, length_customers, served_are_few}
-use Rattle.vrp_model.proofs.Steps.{last_route_closed, last_route_with, last_symbol_with, load_at_customer, load_at_depot}
+use Rattle.vrp_model.proofs.LastRoute.{last_route_closed, last_route_with, last_symbol_with, load_at_customer, load_at_depot}
 
 pub cost_with : (p : Problem) (word : List ℕ) (k : ℕ) → word_cost p (word ++ k ∷ []) ≡ word_cost p word + weight_of p (last_symbol word) k
 cost_with p word k = let parts = cost_parts p 0 word (k ∷ []) in rw (last_is word) (omega (arith, parts))

@@ -10,8 +10,8 @@ use Rattle.vrp_bound.specs.Capacity.{IsInsOf}
 use Rattle.vrp_model.specs.LeastWay.{IsLeastIn}
 use Rattle.vrp_model.specs.Problem.{Problem, customers, place_count}
 use Rattle.vrp_model.specs.Word.{IsFront, served_in, unserved_in}
-use Rattle.vrp_model.proofs.AllCustomers.{all_taken, up_to}
-use Rattle.vrp_model.proofs.Children.{served_with, unserved_if_added}
+use Rattle.vrp_model.proofs.CustomerPlaces.{all_taken, up_to}
+use Rattle.vrp_model.proofs.FrontWithSymbol.{served_with, unserved_if_added}
 use Rattle.vrp_model.proofs.UnservedCustomers.{all_unserved, sum_of_unserved, unserved_at_depot, unserved_before}
 
 least_is_one : (p : Problem) (to one other : ℕ) → IsLeastIn p to one → IsLeastIn p to other → one ≡ other

@@ -7,7 +7,7 @@ use Rattle.std.proofs.lemmas.Bool.Decides.{nat_tests}
 use Rattle.std.proofs.lemmas.List.Elements.{filter_passes}
 use Rattle.std.proofs.lemmas.List.FromFn.{length-range_with_len, get_or-range_with_len, length-map-range_with_len}
 use Rattle.std.proofs.lemmas.Option.{slice_get-get_or, get_or_from_slice_get, slice_get-map, slice_get_within, same_Some}
-use Rattle.vrp_model.proofs.Filling.{cells_by_lines}
+use Rattle.vrp_model.proofs.FilledSquare.{cells_by_lines}
 use Rattle.vrp_model.specs.Distance.{IsDistance}
 use Rattle.vrp_model.specs.Grid.{Grid, HasDistances, entry_at}
 use Rattle.vrp_model.specs.Layout.{HasEntries, cells, is_full}

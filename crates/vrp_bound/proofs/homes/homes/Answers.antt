@@ -2,7 +2,7 @@ use Rattle.std.proofs.Common.{◌≡◌, ◌+◌, ◌*◌, ◌/◌, ◌%◌, len
 use Rattle.std.proofs.lemmas.Nat.{div-add-mod'}
 use Rattle.vrp_bound.specs.Tables.{room_of}
 use Rattle.vrp_bound.specs.Units.{in_units}
-use Rattle.vrp_bound.proofs.Looking.{row_before}
+use Rattle.vrp_bound.proofs.WaysLookedAt.{row_before}
 use Rattle.vrp_bound.proofs.homes.homes.Goals as goal
 
 pub push_row-requires-clause-next : goal.push_row-requires-clause-next

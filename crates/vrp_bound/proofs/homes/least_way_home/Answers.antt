@@ -1,7 +1,7 @@
 use Rattle.std.proofs.Common.{◌≡◌, ◌+◌, ◌*◌, ◌-◌, arith}
 use Rattle.vrp_model.specs.Problem.{place_count}
 use Rattle.vrp_bound.specs.Units.{in_units}
-use Rattle.vrp_bound.proofs.Looking.{home_looked, homes_looked}
+use Rattle.vrp_bound.proofs.WaysLookedAt.{home_looked, homes_looked}
 use Rattle.vrp_bound.proofs.homes.least_way_home.Goals as goal
 
 pub loop-home-preserved : goal.loop-home-preserved

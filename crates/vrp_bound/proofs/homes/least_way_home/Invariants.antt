@@ -2,7 +2,7 @@ use Rattle.std.proofs.Common.{◌≤◌}
 use Rattle.vrp_bound.specs.Cells.{IsLeastCell, mark}
 use Rattle.vrp_bound.specs.Units.{in_units}
 use Rattle.vrp_bound.proofs.FirstTour.{IsWayHome}
-use Rattle.vrp_bound.proofs.Least.{IsCostBelow}
+use Rattle.vrp_bound.proofs.LeastOfCosts.{IsCostBelow}
 use Rattle.vrp_bound.proofs.homes.least_way_home.Given as goal
 
 abbrev pub invariant-loop-home : goal.invariant-loop-home

@@ -5,7 +5,7 @@ use Rattle.vrp_bound.specs.Cells.{AreHomesSoFar, HasWayHome, IsLeastCell, IsSmal
 use Rattle.vrp_bound.specs.Tables.{room_of}
 use Rattle.vrp_bound.specs.Units.{in_units}
 use Rattle.vrp_bound.proofs.FirstTour.{IsWayHome}
-use Rattle.vrp_bound.proofs.Looking.{least_home_cells, row_before}
+use Rattle.vrp_bound.proofs.WaysLookedAt.{least_home_cells, row_before}
 use Rattle.vrp_bound.proofs.WaysHome.{less_cell, more_homes, next_home}
 use Rattle.vrp_bound.proofs.homes.push_row.Goals.{then-room-eq0, else-room-eq0, then-room-rest, else-room-rest}
 use Rattle.vrp_bound.proofs.homes.push_row.Goals as goal

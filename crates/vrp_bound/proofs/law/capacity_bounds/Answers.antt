@@ -1,4 +1,4 @@
-use Rattle.vrp_bound.proofs.Returns.{none_adds_less}
+use Rattle.vrp_bound.proofs.CapacityBelow.{none_adds_less}
 use Rattle.vrp_bound.proofs.law.capacity_bounds.Goals as goal
 
 pub returns : goal.returns

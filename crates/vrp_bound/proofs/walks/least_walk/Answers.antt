@@ -3,8 +3,8 @@ use Rattle.vrp_model.specs.Problem.{demand_of, place_count}
 use Rattle.vrp_bound.specs.Cells.{HasWalk, IsLeastCell}
 use Rattle.vrp_bound.specs.Units.{in_units}
 use Rattle.vrp_bound.proofs.FirstStep.{IsStep, least_at_once}
-use Rattle.vrp_bound.proofs.Least.{IsCostBelow}
-use Rattle.vrp_bound.proofs.Looking.{step_looked, step_skipped, steps_looked}
+use Rattle.vrp_bound.proofs.LeastOfCosts.{IsCostBelow}
+use Rattle.vrp_bound.proofs.WaysLookedAt.{step_looked, step_skipped, steps_looked}
 use Rattle.vrp_bound.proofs.walks.least_walk.Goals.{then-customer-at+then-demand-load, else-customer-at, else-customer-at-via-then-customer-at+else-demand-load, else-customer-at-via-else-customer-at}
 use Rattle.vrp_bound.proofs.walks.least_walk.Goals as goal
 

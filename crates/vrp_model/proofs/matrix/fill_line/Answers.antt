@@ -1,5 +1,5 @@
 use Rattle.std.proofs.Common.{◌<◌, ◌≤◌, length, sym, ◌∙◌, arith, rules}
-use Rattle.vrp_model.proofs.Filling.{IsFilled-line, IsFilled-skip, IsFilled-write, IsListed-on, next_within}
+use Rattle.vrp_model.proofs.FilledSquare.{IsFilled-line, IsFilled-skip, IsFilled-write, IsListed-on, next_within}
 use Rattle.vrp_model.proofs.matrix.fill_line.Goals as goal
 use Rattle.vrp_model.proofs.matrix.fill_line.Goals.{then-lists, else-lists}
 

@@ -1,6 +1,6 @@
 use Rattle.std.proofs.Common.{◌≡◌, ◌+◌, ◌-◌, ◌*◌, length, take, drop, ◌++◌, arith, rules}
 use Rattle.std.proofs.lemmas.Grind.{common_steps}
-use Rattle.vrp_model.proofs.Filling.{IsFilled-start, HasEntries-from_filled}
+use Rattle.vrp_model.proofs.FilledSquare.{IsFilled-start, HasEntries-from_filled}
 use Rattle.vrp_model.proofs.matrix.square.Goals as goal
 
 pub loop-line-init : goal.loop-line-init

@@ -1,6 +1,6 @@
 use Rattle.std.proofs.Common.{arith}
 use Rattle.std.proofs.lemmas.Grind.{common_steps}
-use Rattle.vrp_model.proofs.InstanceLemmas.{bounded_push}
+use Rattle.vrp_model.proofs.BoundedLists.{bounded_push}
 use Rattle.vrp_model.proofs.places.push_row.Goals as goal
 
 pub loop-to-preserved : goal.loop-to-preserved

@@ -1,5 +1,5 @@
 use Rattle.std.proofs.Common.{arith}
-use Rattle.vrp_bound.proofs.Sizes.{few_customers, places_of}
+use Rattle.vrp_bound.proofs.TableSizes.{few_customers, places_of}
 use Rattle.vrp_bound.proofs.scope.Scope.new.Goals as goal
 
 pub invariant_of-result : goal.invariant_of-result

@@ -1,5 +1,5 @@
 use Rattle.std.proofs.Common.{◌-◌, ◌*◌, ◌/◌, ap, refl, sym, ◌∙◌, arith}
-use Rattle.vrp_bound.proofs.Answering.{carried_within, carried_within_same, least_from_customer, least_from_depot, none_carried}
+use Rattle.vrp_bound.proofs.CellAnswers.{carried_within, carried_within_same, least_from_customer, least_from_depot, none_carried}
 use Rattle.vrp_bound.proofs.tables.Cells.least.Goals as goal
 
 pub returns-then-whole-rest : goal.returns-then-whole-rest

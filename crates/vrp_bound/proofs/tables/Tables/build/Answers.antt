@@ -5,8 +5,8 @@ use Rattle.vrp_model.specs.Problem.{Problem, customers}
 use Rattle.vrp_bound.specs.declared.tables.Cells.{Cells}
 use Rattle.vrp_bound.specs.Filled.{AreCells}
 use Rattle.vrp_bound.specs.Tables.{AreMade}
-use Rattle.vrp_bound.proofs.Answering.{filled_same}
-use Rattle.vrp_bound.proofs.Sizes.{light_where_made}
+use Rattle.vrp_bound.proofs.CellAnswers.{filled_same}
+use Rattle.vrp_bound.proofs.TableSizes.{light_where_made}
 use Rattle.vrp_bound.proofs.tables.Tables.build.Goals.{then-are_made+in_ok-fill, else-are_made}
 use Rattle.vrp_bound.proofs.tables.Tables.build.Goals as goal
 

@@ -3,7 +3,7 @@ use Rattle.std.specs.List.{All, Contains}
 use Rattle.std.specs.List.Sorted.{IsStrictlyIncreasing}
 use Rattle.std.proofs.lemmas.List.Elements.{All-contains_itself}
 use Rattle.vrp_model.specs.Problem.{customers}
-use Rattle.vrp_model.proofs.Rearranged.{customers_rise}
+use Rattle.vrp_model.proofs.DistinctLists.{customers_rise}
 use Rattle.vrp_bound.proofs.tables.Tables.over_all.Goals as goal
 
 pub build-requires-clause-rising : goal.build-requires-clause-rising

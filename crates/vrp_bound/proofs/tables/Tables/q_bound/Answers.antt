@@ -1,5 +1,5 @@
 use Rattle.std.proofs.Common.{◌∙◌}
-use Rattle.vrp_bound.proofs.Answering.{cell_read}
+use Rattle.vrp_bound.proofs.CellAnswers.{cell_read}
 use Rattle.vrp_bound.proofs.tables.Tables.q_bound.Goals as goal
 
 pub returns-then-least-lt-MARK-clause-bound : goal.returns-then-least-lt-MARK-clause-bound

@@ -1,5 +1,5 @@
 use Rattle.std.proofs.Common.{◌∙◌, arith}
-use Rattle.vrp_model.proofs.AllCustomers.{demand_all, demand_more}
+use Rattle.vrp_model.proofs.CustomerPlaces.{demand_all, demand_more}
 use Rattle.vrp_model.proofs.instance.Instance.whole_demand.Goals as goal
 
 pub loop-index-preserved : goal.loop-index-preserved

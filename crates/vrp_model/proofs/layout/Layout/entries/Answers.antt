@@ -1,6 +1,6 @@
 use Rattle.std.proofs.Common.{length, inl, inr, sym}
 use Rattle.vrp_model.specs.Layout.{cells}
-use Rattle.vrp_model.proofs.Counting.{half_with_diagonal, half_without_diagonal, length_cells_full, length_cells_lower_col, length_cells_lower_diag_col, length_cells_lower_diag_row, length_cells_lower_row, length_cells_upper_col, length_cells_upper_diag_col, length_cells_upper_diag_row, length_cells_upper_row}
+use Rattle.vrp_model.proofs.CellCounts.{half_with_diagonal, half_without_diagonal, length_cells_full, length_cells_lower_col, length_cells_lower_diag_col, length_cells_lower_diag_row, length_cells_lower_row, length_cells_upper_col, length_cells_upper_diag_col, length_cells_upper_diag_row, length_cells_upper_row}
 use Rattle.vrp_model.proofs.layout.Layout.entries.Goals as goal
 
 pub returns-in-FullMatrix : goal.returns-in-FullMatrix

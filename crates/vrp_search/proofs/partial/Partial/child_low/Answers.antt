@@ -2,7 +2,7 @@ use Rattle.std.proofs.Common.{◌≡◌, ◌≤◌, ◌++◌, ◌∷◌, [], ap,
 use Rattle.vrp_model.specs.Problem.{Problem, customers, demand_of}
 use Rattle.vrp_model.specs.Route.{load_of}
 use Rattle.vrp_model.proofs.UnservedCustomers.{sum_of_unserved_fits}
-use Rattle.vrp_model.proofs.Steps.{last_symbol_with}
+use Rattle.vrp_model.proofs.LastRoute.{last_symbol_with}
 use Rattle.vrp_search.specs.Partial.{PartialPlan}
 use Rattle.vrp_search.specs.Tallied.{IsLowOf}
 use Rattle.vrp_search.proofs.Lows.{covered_more, low_is, rest_within}

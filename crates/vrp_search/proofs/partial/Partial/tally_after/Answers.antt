@@ -6,7 +6,7 @@ use Rattle.vrp_search.specs.Partial.{PartialPlan}
 use Rattle.vrp_search.specs.declared.tally.Tally.{Tally}
 use Rattle.vrp_search.specs.Tallied.{IsTally}
 use Rattle.vrp_search.proofs.Tallies.{added, cost_fits, room_left, tally_at_customer, tally_at_depot}
-use Rattle.vrp_model.proofs.Children.{closed_is_open}
+use Rattle.vrp_model.proofs.FrontWithSymbol.{closed_is_open}
 use Rattle.vrp_search.proofs.WaysIn.{ins_with}
 use Rattle.vrp_search.proofs.Views.{at_inside, child_inside}
 use Rattle.vrp_search.proofs.partial.Partial.tally_after.Goals.{then-at-eq0, else-at-eq0}

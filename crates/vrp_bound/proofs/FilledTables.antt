@@ -5,16 +5,7 @@ use Rattle.std.proofs.lemmas.List.{get_or_append_left, get_or_past, get_or_push,
 use Rattle.std.proofs.lemmas.Nat.{div-mul-add, mod-mul-add}
 use Rattle.vrp_model.specs.Problem.{Problem, place_count}
 use Rattle.vrp_bound.specs.Cells.{AreToursSoFar, AreWalksSoFar, HasTours, HasWalk, IsLeastCell, mark}
-
-small_push : (cells : List ℕ) (cell most : ℕ) → ((k : ℕ) → slice_index cells k ≤ most) → cell ≤ most → (k : ℕ) → slice_index (cells ++ cell ∷ []) k ≤ most
-small_push cells cell most small here k =
-    elim (cases_lt k (length cells)) [
-      | inl p ↦ rw (get_or_append_left cells (cell ∷ []) 0 k p) (small k)
-      | inr q ↦ elim (cases_lt (length cells) k) [
-        | inl r ↦ rw (get_or_past (cells ++ cell ∷ []) k 0 (omega (arith, length_push cells cell))) (omega arith)
-        | inr r ↦ rw (get_or_push cells cell 0 k (omega arith)) here
-      ]
-    ]
+use Rattle.vrp_model.proofs.BoundedLists.{bounded_push}
 
 pub each_push : (P : ℕ → ℕ → Type 0) (cells : List ℕ) (cell : ℕ) → ((k : ℕ) → k < length cells → P k (slice_index cells k)) → P (length cells) cell → (k : ℕ) → k < length (cells ++ cell ∷ []) → P k (slice_index (cells ++ cell ∷ []) k)
 each_push P cells cell each here k within =
@@ -37,7 +28,7 @@ more_walks p among cells cell load at next inside so_far least small =
     let here = subst (λ n. IsLeastCell (HasWalk p among (length cells % place_count p) n) cell) (sym row) (subst (λ n. IsLeastCell (HasWalk p among n load) cell) (sym column) least) in
     record {
       each = each_push (λ k cost. IsLeastCell (HasWalk p among (k % place_count p) (k / place_count p)) cost) cells cell so_far.each here;
-      within = small_push cells cell mark so_far.within small;
+      within = bounded_push cells cell mark so_far.within small;
     }
 
 pub walk_cell : (p : Problem) (among cells : List ℕ) (k load at : ℕ) → k ≡ load * place_count p + at → at < place_count p → k < length cells → AreWalksSoFar p among cells → IsLeastCell (HasWalk p among at load) (get_or cells k 0)
@@ -52,5 +43,5 @@ no_tours p among = record { each = λ k within. absurd (omega (arith, within)); 
 pub more_tours : (p : Problem) (among cells : List ℕ) (cell : ℕ) → AreToursSoFar p among cells → IsLeastCell (HasTours p among (length cells)) cell → cell ≤ mark → AreToursSoFar p among (cells ++ cell ∷ [])
 more_tours p among cells cell so_far least small = record {
   each = each_push (λ rest cost. IsLeastCell (HasTours p among rest) cost) cells cell so_far.each least;
-  within = small_push cells cell mark so_far.within small;
+  within = bounded_push cells cell mark so_far.within small;
 }

@@ -7,13 +7,13 @@ use Rattle.std.proofs.lemmas.List.Elements.{All-contains, Contains-get_or}
 use Rattle.vrp_model.specs.Front.{open_load}
 use Rattle.vrp_model.specs.Problem.{IsProblem, Problem, customers, demand_of, place_count}
 use Rattle.vrp_model.specs.Word.{IsLawfulWord, last_symbol, served_in, unserved_in}
-use Rattle.vrp_model.proofs.Children.{closed_is_open}
+use Rattle.vrp_model.proofs.FrontWithSymbol.{closed_is_open}
 use Rattle.vrp_model.proofs.FrontPlaces.{last_is_place}
-use Rattle.vrp_model.proofs.Rearranged.{AreDistinct}
-use Rattle.vrp_model.proofs.Steps.{last_symbol_with, load_at_depot, load_with_customer}
+use Rattle.vrp_model.proofs.DistinctLists.{AreDistinct}
+use Rattle.vrp_model.proofs.LastRoute.{last_symbol_with, load_at_depot, load_with_customer}
 use Rattle.vrp_model.proofs.UnservedCustomers.{sum_of_unserved, unserved_if_not_served}
 use Rattle.vrp_model.proofs.Words.{serves_customer}
-use Rattle.vrp_bound.proofs.Unserved.{differs_from_last, front_of, light_front, served_more, sum_of_all, with_symbol}
+use Rattle.vrp_bound.proofs.ServedBehind.{differs_from_last, front_of, light_front, served_more, sum_of_all, with_symbol}
 
 -- What holds of nothing more at the depot, and of a symbol more where it holds of what is behind that symbol: the truck that is
 -- out drives home, one leaves the depot for a customer, and the one that is out drives to a customer.

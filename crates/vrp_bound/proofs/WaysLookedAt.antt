@@ -6,10 +6,10 @@ use Rattle.vrp_model.specs.Route.{load_of}
 use Rattle.vrp_bound.specs.Cells.{AreTours, AreToursSoFar, AreWalks, AreWalksSoFar, HasRelaxed, HasTours, HasWalk, IsLeastCell}
 use Rattle.vrp_bound.specs.Scope.{IsScope}
 use Rattle.vrp_bound.specs.Tables.{room_of}
-use Rattle.vrp_bound.proofs.Filling.{walk_cell}
+use Rattle.vrp_bound.proofs.FilledTables.{walk_cell}
 use Rattle.vrp_bound.proofs.FirstStep.{IsStep, least_step, step_is_walk, walk_is_step}
 use Rattle.vrp_bound.proofs.FirstTour.{IsFirstTour, IsWayHome, first_is_tours, home_is_relaxed, least_first_tour, least_home, relaxed_is_home, tours_are_first}
-use Rattle.vrp_bound.proofs.Least.{IsCostBelow, least_more, least_same, least_skipped}
+use Rattle.vrp_bound.proofs.LeastOfCosts.{IsCostBelow, least_more, least_same, least_skipped}
 
 -- a row of the cells lies before the next
 pub row_before : (a b n : ℕ) → a < b → a * n + n ≤ b * n

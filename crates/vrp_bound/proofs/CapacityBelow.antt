@@ -11,8 +11,8 @@ use Rattle.vrp_model.specs.Route.{cost_along, load_of}
 use Rattle.vrp_model.specs.Word.{IsLawfulWord, last_symbol, served_in, unserved_in, word_cost}
 use Rattle.vrp_model.proofs.Words.{serves_customer}
 use Rattle.vrp_bound.specs.Capacity.{IsCapacityBound, IsInsOf, free_room}
-use Rattle.vrp_bound.proofs.AddedSymbols.{HoldsBySymbol, all_served_behind, by_symbols, first_and_rest, sum_behind}
-use Rattle.vrp_bound.proofs.Unserved.{cost_behind}
+use Rattle.vrp_bound.proofs.SymbolBySymbol.{HoldsBySymbol, all_served_behind, by_symbols, first_and_rest, sum_behind}
+use Rattle.vrp_bound.proofs.ServedBehind.{cost_behind}
 
 -- the truck that is out drives home
 abbrev pub out : ℕ → ℕ

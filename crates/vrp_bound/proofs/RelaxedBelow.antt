@@ -9,9 +9,9 @@ use Rattle.vrp_model.specs.Route.{cost_along, load_of}
 use Rattle.vrp_model.specs.Word.{IsLawfulWord, last_symbol, served_in, unserved_in, word_cost}
 use Rattle.vrp_model.proofs.Words.{serves_customer}
 use Rattle.vrp_bound.specs.Walk.{IsRelaxed, IsTour, IsWalk, relaxed_cost, walk_cost}
-use Rattle.vrp_bound.proofs.AddedSymbols.{HoldsBySymbol, all_served_behind, by_symbols, first_and_rest, sum_behind}
+use Rattle.vrp_bound.proofs.SymbolBySymbol.{HoldsBySymbol, all_served_behind, by_symbols, first_and_rest, sum_behind}
 use Rattle.vrp_bound.proofs.FirstStep.{load_first}
-use Rattle.vrp_bound.proofs.Unserved.{cost_behind}
+use Rattle.vrp_bound.proofs.ServedBehind.{cost_behind}
 
 -- what is added costs what a relaxed completion costs
 pub record Completes (p : Problem) (among : List ℕ) (at load : ℕ) (more : List ℕ) : Type 0 where

@@ -11,13 +11,13 @@ use Rattle.vrp_model.specs.Problem.{Problem, customers, place_count}
 use Rattle.vrp_model.specs.Front.{open_load}
 use Rattle.vrp_model.specs.Route.{cost_along, load_of}
 use Rattle.vrp_model.specs.Word.{IsFront, IsLawfulWord, last_symbol, routes_of, served_in, word_cost}
-use Rattle.vrp_model.proofs.AllCustomers.{customer_below}
-use Rattle.vrp_model.proofs.Children.{added_is_customer, unserved_if_added}
+use Rattle.vrp_model.proofs.CustomerPlaces.{customer_below}
+use Rattle.vrp_model.proofs.FrontWithSymbol.{added_is_customer, unserved_if_added}
 use Rattle.vrp_model.proofs.UnservedCustomers.{unserved_differs}
 use Rattle.vrp_model.proofs.FrontsBefore.{fronts_before}
 use Rattle.vrp_model.proofs.PlanWords.{cost_parts}
-use Rattle.vrp_model.proofs.Rearranged.{customers_distinct, same_elements}
-use Rattle.vrp_model.proofs.Steps.{load_at_customer, load_at_depot}
+use Rattle.vrp_model.proofs.DistinctLists.{customers_distinct, same_elements}
+use Rattle.vrp_model.proofs.LastRoute.{load_at_customer, load_at_depot}
 use Rattle.vrp_model.proofs.Words.{last_behind, last_is, serves_customer}
 
 pub served_more : (front more : List ℕ) → served_in (front ++ more) ≡ served_in front ++ served_in more

@@ -5,7 +5,7 @@ use Rattle.std.specs.List.Sorted.{IsStrictlyIncreasing}
 use Rattle.std.proofs.lemmas.Bool.{cases_lt}
 use Rattle.std.proofs.lemmas.List.Elements.{All-from_get_or}
 use Rattle.vrp_model.specs.Problem.{Problem, customers, place_count}
-use Rattle.vrp_model.proofs.AllCustomers.{is_customer}
+use Rattle.vrp_model.proofs.CustomerPlaces.{is_customer}
 
 -- so far
 pub record AreListed (p : Problem) (places : List ℕ) (count before : ℕ) : Type 0 where
