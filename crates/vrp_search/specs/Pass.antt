@@ -3,7 +3,7 @@ use Rattle.std.specs.Prelude.{◌≡◌, ◌⊎◌, ℕ, ◌+◌, ◌≤◌, ◌
 use Rattle.std.specs.List.{All}
 use Rattle.vrp_model.specs.Problem.{Problem}
 use Rattle.vrp_search.specs.Child.{AreChildren}
-use Rattle.vrp_search.specs.Cutting.{HasNoChild, IsCutting}
+use Rattle.vrp_search.specs.Cutting.{BeginsAmong, HasNoChild, IsCutting}
 
 -- a front's children stand behind a list
 pub record AreAdded (p : Problem) (front : List ℕ) (old new : List (List ℕ)) : Type 0 where
@@ -35,6 +35,7 @@ AreDeep p depth fronts = All (λ front. HasNoChild p front ⊎ (depth ≤ length
 pub record IsPass (p : Problem) (pieces : ℕ) (old done ahead : List (List ℕ)) (refined : Bool) : Type 0 where
   pub cutting : IsCutting p (done ++ ahead)
   pub few : length done + length ahead ≤ pieces + 1199
+  pub begins : All (BeginsAmong old) done
   -- with too few still, each front that had a child has been refined
   pub deeper : length done + length ahead < pieces → (depth : ℕ) → AreDeep p depth old → AreDeep p (depth + 1) done
   -- nothing is refined: as many as there were, and with too few still, none of those seen has a child

@@ -2,7 +2,7 @@
 ghost use Rattle.std.specs.Prelude.{◌≡◌, ◌⊎◌, ◌+◌, ◌≤◌, ◌<◌, IfOk, OnOk, OnErr, [], ◌∷◌, ◌++◌, length, map, max, IsTrue, ◌↔◌};
 ghost use Rattle.std.specs.List.{All};
 ghost use Rattle.vrp_model.specs.Word.{IsFront};
-ghost use Rattle.vrp_search.specs.Cutting.{AreNumbered, HasNoChild, IsCutting, IsRefined};
+ghost use Rattle.vrp_search.specs.Cutting.{AreNumbered, BeginsAmong, HasNoChild, IsCutting, IsRefined};
 ghost use Rattle.vrp_search.specs.Pass.{AreAdded, IsPass, IsStep};
 
 use crate::partial::Partial;
@@ -75,7 +75,8 @@ impl Cutting {
         Ok(true)
     }
 
-    /// Refines until there are so many pieces, or none has a child. A refused call leaves a cutting.
+    /// Refines until there are so many pieces, or none has a child. Each piece lies under one that was there before. A refused
+    /// call leaves a cutting.
     pub fn at_least(
         &mut self,
         alloc: Global,
@@ -87,6 +88,7 @@ impl Cutting {
         ensures cutting { IsCutting instance.now self.new }
         ensures enough { OnOk result ((pieces ≤ length self.new) ⊎ All (HasNoChild instance.now) self.new) }
         ensures few { length self.new ≤ max (pieces + 1199) (length self.old) }
+        ensures begins { All (BeginsAmong self.old) self.new }
     {
         let wanted = pieces as usize;
         // A front has at most two symbols for each customer, and a pass adds one to each that has a child.
