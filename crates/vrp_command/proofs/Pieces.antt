@@ -1,11 +1,11 @@
 -- What is known after each piece that is searched, and what follows when all are.
-use Rattle.std.proofs.Common.{◌≡◌, ◌∙◌, ℕ, zero, suc, ◌+◌, ◌-◌, ◌≤◌, ◌<◌, ◌⊎◌, inl, inr, min, Option, Some, None, List, [], ◌∷◌, ◌++◌, length, get_or, take, refl, sym, ap, subst, arith}
+use Rattle.std.proofs.Common.{◌≡◌, ◌∙◌, ℕ, suc, ◌+◌, ◌-◌, ◌≤◌, ◌<◌, ◌⊎◌, inl, inr, min, Option, Some, None, List, [], ◌∷◌, ◌++◌, length, get_or, take, refl, sym, ap, subst, arith}
 use Rattle.std.specs.Str.{bytes_eq}
-use Rattle.std.specs.Prelude.{Bool, true, false, if◌then◌else◌, map, slice_index_or, unwrap_or}
+use Rattle.std.specs.Prelude.{true, if◌then◌else◌, map, slice_index_or, unwrap_or}
 use Rattle.std.specs.List.{All, Contains}
 use Rattle.std.specs.List.Sorted.{IsPermutation, IsStrictlyIncreasing}
 use Rattle.std.proofs.lemmas.List.Elements.{All-append, All-cons, All-contains, All-nil, All-tail, Contains-get_or}
-use Rattle.std.proofs.lemmas.Bool.{cases_lt}
+use Rattle.std.proofs.lemmas.Bool.{cases_Bool, cases_lt}
 use Rattle.std.proofs.lemmas.Bool.Decides.{not_from_Decides}
 use Rattle.std.proofs.lemmas.Slice.Eq.{bytes_eq-Decides}
 use Rattle.std.proofs.lemmas.List.{get_or-map, length-map, take_more}
@@ -82,14 +82,6 @@ others_more p front unfinished searched cost others = λ k d lt. elim (others k 
   | inr none ↦ inr none
 ]
 
-either : (b : Bool) → (b ≡ true) ⊎ (b ≡ false)
-either true = inl refl
-either false = inr refl
-
-is_false : (b : Bool) → (b ≡ true → ⊥) → b ≡ false
-is_false true never = absurd (never refl)
-is_false false never = refl
-
 -- a function on fronts with another number at one front
 abbrev with_low : (List ℕ → ℕ) → List ℕ → ℕ → List ℕ → ℕ
 with_low low front number other = if bytes_eq other front then number else low other
@@ -98,10 +90,13 @@ low_there : (low : List ℕ → ℕ) (front : List ℕ) (number : ℕ) (other : 
 low_there low front number other same = let test : bytes_eq other front ≡ true = (bytes_eq-Decides other front).1 same in rw test refl
 
 low_elsewhere : (low : List ℕ → ℕ) (front : List ℕ) (number : ℕ) (other : List ℕ) → (other ≡ front → ⊥) → with_low low front number other ≡ low other
-low_elsewhere low front number other differs = let test : bytes_eq other front ≡ false = is_false (bytes_eq other front) (λ test. differs ((bytes_eq-Decides other front).0 test)) in rw test refl
+low_elsewhere low front number other differs = elim (cases_Bool (bytes_eq other front)) [
+  | inl test ↦ absurd (differs ((bytes_eq-Decides other front).0 test))
+  | inr test ↦ rw test refl
+]
 
 same_or_not : (front other : List ℕ) → (front ≡ other) ⊎ (front ≡ other → ⊥)
-same_or_not front other = elim (either (bytes_eq front other)) [
+same_or_not front other = elim (cases_Bool (bytes_eq front other)) [
   | inl test ↦ inl ((bytes_eq-Decides front other).0 test)
   | inr test ↦ inr (not_from_Decides (bytes_eq front other) (bytes_eq-Decides front other) test)
 ]
@@ -150,28 +145,28 @@ has_number p cutting budget number front low (f ∷ fronts) here none left bound
     let has = has_number p cutting budget number front low fronts here none (All-tail (λ g. IsLeft p cutting budget g (low g)) f fronts left) (All-tail (λ g. NoneCheaperUnder p g (low g)) f fronts bounds) in
     elim (same_or_not f front) [
       | inl same ↦ elim (cases_lt has.is (low f)) [
-          | inl less ↦ record {
-              is = has.is;
-              left = has.left;
-              bound = has.bound;
-              less = All-cons (λ g. g ≡ front → has.is ≤ low g) f fronts (λ _. omega (arith, less)) has.less;
-              least = λ other. omega (arith, has.least other);
-            }
-          | inr more ↦ record {
-              is = low f;
-              left = subst (λ g. IsLeft p cutting budget g (low f)) same (left 0 f (omega arith));
-              bound = subst (λ g. NoneCheaperUnder p g (low f)) same (bounds 0 f (omega arith));
-              less = All-cons (λ g. g ≡ front → low f ≤ low g) f fronts (λ _. omega arith) (λ k d lt here. omega (arith, more, has.less k d lt here));
-              least = λ other. omega (arith, more, has.least other);
-            }
-        ]
-      | inr differs ↦ record {
+        | inl less ↦ record {
           is = has.is;
           left = has.left;
           bound = has.bound;
-          less = All-cons (λ g. g ≡ front → has.is ≤ low g) f fronts (λ same. absurd (differs same)) has.less;
+          less = All-cons (λ g. g ≡ front → has.is ≤ low g) f fronts (λ _. omega (arith, less)) has.less;
           least = λ other. omega (arith, has.least other);
         }
+        | inr more ↦ record {
+          is = low f;
+          left = subst (λ g. IsLeft p cutting budget g (low f)) same (left 0 f (omega arith));
+          bound = subst (λ g. NoneCheaperUnder p g (low f)) same (bounds 0 f (omega arith));
+          less = All-cons (λ g. g ≡ front → low f ≤ low g) f fronts (λ _. omega arith) (λ k d lt here. omega (arith, more, has.less k d lt here));
+          least = λ other. omega (arith, more, has.least other);
+        }
+      ]
+      | inr differs ↦ record {
+        is = has.is;
+        left = has.left;
+        bound = has.bound;
+        less = All-cons (λ g. g ≡ front → has.is ≤ low g) f fronts (λ same. absurd (differs same)) has.less;
+        least = λ other. omega (arith, has.least other);
+      }
     ]
 
 pub piece_left : (p : Problem) (cutting : List (List ℕ)) (budget cost falls_to spent low : ℕ) (searched : List (List ℕ)) (front : List ℕ) (lower : Option ℕ)

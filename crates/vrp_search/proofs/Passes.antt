@@ -8,6 +8,7 @@ use Rattle.std.proofs.lemmas.List.{drop_all, length-map, length_push}
 use Rattle.std.proofs.lemmas.List.Elements.{All-append, All-cons, All-contains, All-map, All-nil, Contains-get_or}
 use Rattle.vrp_model.specs.Problem.{IsProblem, Problem, place_count}
 use Rattle.vrp_model.specs.Word.{BeginsWith, IsFront}
+use Rattle.vrp_model.specs.declared.limits.TheConstants.{MAX_NODES}
 use Rattle.vrp_search.specs.Cutting.{BeginsAmong, HasNoChild, IsCutting, NumberedWord}
 use Rattle.vrp_search.specs.Pass.{AreDeep, IsPass, IsStep, StandsFor}
 use Rattle.vrp_search.proofs.Begins.{either}
@@ -145,7 +146,7 @@ pub piece_is_front : (p : Problem) (wanted i : ℕ) (old done : List (List ℕ))
 piece_is_front p wanted i old done pieces piece refined are lt is pass =
     front_between p done (drop (i + 1) old) piece.word (subst (λ (xs : List (List ℕ)). IsCutting p (done ++ xs)) (pieces_from pieces old i piece are lt is) pass.cutting)
 
-pub pass_count : (p : Problem) (wanted i : ℕ) (old done : List (List ℕ)) (pieces : List NumberedWord) (refined : Bool) → map (λ x. x.word) pieces ≡ old → IsPass p wanted old done (drop i old) refined → length done + (length pieces - i) ≤ wanted + 1199
+pub pass_count : (p : Problem) (wanted i : ℕ) (old done : List (List ℕ)) (pieces : List NumberedWord) (refined : Bool) → map (λ x. x.word) pieces ≡ old → IsPass p wanted old done (drop i old) refined → length done + (length pieces - i) ≤ wanted + (MAX_NODES - 1)
 pass_count p wanted i old done pieces refined are pass =
     omega (arith, pass.few, length-drop i old, ap length (sym are) ∙ length-map pieces (λ x. x.word))
 
@@ -167,7 +168,7 @@ none_deep p fronts depth problem long deep = λ i d lt.
 -- what is known of the pieces after a number of passes
 pub record AreRefined (p : Problem) (pieces depth : ℕ) (start fronts : List (List ℕ)) : Type 0 where
   pub cutting : IsCutting p fronts
-  pub few : length fronts ≤ max (pieces + 1199) (length start)
+  pub few : length fronts ≤ max (pieces + (MAX_NODES - 1)) (length start)
   pub begins : All (BeginsAmong start) fronts
   pub deep : length fronts < pieces → AreDeep p depth fronts
 
