@@ -1,11 +1,12 @@
 -- No lawful word adds less to a front than the greater of the two bounds.
-use Rattle.std.proofs.Common.{◌≡◌, ℕ, ◌+◌, ◌≤◌, ◌⊎◌, inl, inr, max, Option, None, Some, MatchOption, List, ◌++◌, arith}
+use Rattle.std.proofs.Common.{◌≡◌, ℕ, ◌+◌, ◌≤◌, inl, inr, max, Option, None, Some, MatchOption, List, ◌++◌, arith}
 use Rattle.std.specs.List.{All, Contains}
 use Rattle.std.specs.Option.{option_map}
 use Rattle.std.proofs.lemmas.Bool.{cases_lt}
-use Rattle.vrp_model.specs.Front.{IsRest, open_load}
-use Rattle.vrp_model.specs.Problem.{IsProblem, Problem, customers}
-use Rattle.vrp_model.specs.Word.{IsLawfulWord, last_symbol, served_in, word_cost}
+use Rattle.vrp_model.specs.Front.{open_load}
+use Rattle.vrp_model.specs.Problem.{IsProblem, Problem}
+use Rattle.vrp_model.specs.Route.{load_of}
+use Rattle.vrp_model.specs.Word.{IsLawfulWord, last_symbol, unserved_in, word_cost}
 use Rattle.vrp_bound.specs.Bound.{IsGreater}
 use Rattle.vrp_bound.specs.Capacity.{IsInsOf}
 use Rattle.vrp_bound.specs.Tables.{IsBound}
@@ -29,11 +30,12 @@ greater_below : (relaxed answer : Option ℕ) (capacity front cost whole : ℕ) 
 greater_below None answer capacity front cost whole is below cap costs = absurd below
 greater_below (Some least) answer capacity front cost whole is below cap costs = rw is (omega (arith, below, cap, costs))
 
-pub none_below : (p : Problem) (front more among : List ℕ) (rest ins : ℕ) (answer : Option ℕ) → IsProblem p → IsLawfulWord p (front ++ more) → IsRest p front rest → IsInsOf p front ins
-    → All (λ customer. Contains (served_in front) customer ⊎ Contains among customer) (customers p) → IsGreater p among (last_symbol front) (open_load p front) ins rest answer
+pub none_below : (p : Problem) (front more among : List ℕ) (ins : ℕ) (answer : Option ℕ) → IsProblem p → IsLawfulWord p (front ++ more) → All (Contains among) (unserved_in p front) → IsInsOf p front ins
+    → IsGreater p among (last_symbol front) (open_load p front) ins (load_of p (unserved_in p front)) answer
     → MatchOption answer ⊥ (λ least. word_cost p front + least ≤ word_cost p (front ++ more))
-none_below p front more among rest ins answer problem lawful is_rest is_ins covered greater =
-    let (home, tours, relaxed, costs) = completion p front more among rest problem lawful is_rest covered in
+none_below p front more among ins answer problem lawful covered is_ins greater =
+    let rest = load_of p (unserved_in p front) in
+    let (home, tours, relaxed, costs) = completion p front more among problem lawful covered in
     let below = relaxed_below p among (last_symbol front) (open_load p front) rest greater.relaxed home tours greater.is_bound relaxed in
-    let cap = none_adds_less p front more rest ins greater.capacity problem lawful is_rest is_ins greater.is_capacity in
+    let cap = none_adds_less p front more ins greater.capacity problem lawful is_ins greater.is_capacity in
     greater_below greater.relaxed answer greater.capacity (word_cost p front) (relaxed_cost p (last_symbol front) home tours) (word_cost p (front ++ more)) greater.greater below cap costs

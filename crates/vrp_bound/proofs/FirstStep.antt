@@ -11,7 +11,8 @@ use Rattle.vrp_bound.specs.Scope.{IsScope}
 use Rattle.vrp_bound.specs.Walk.{IsWalk, walk_cost}
 use Rattle.vrp_bound.proofs.Least.{IsCostBelow, IsSum, least_same, least_one, least_sum}
 
-load_first : (p : Problem) (stop : ℕ) (stops : List ℕ) → load_of p (stop ∷ stops) ≡ demand_of p stop + load_of p stops
+-- what a stop and those behind it demand
+pub load_first : (p : Problem) (stop : ℕ) (stops : List ℕ) → load_of p (stop ∷ stops) ≡ demand_of p stop + load_of p stops
 load_first p stop stops = sum_by-cons (demand_of p) stop stops
 
 -- the weight of a step is small

@@ -1,3 +1,4 @@
+pub mod AddedSymbols
 pub mod Answering
 pub mod BothBounds
 pub mod Completion

@@ -1,21 +1,18 @@
 -- What a lawful word adds to a front is no less than the capacity bound.
-use Rattle.std.proofs.Common.{◌≡◌, ◌≢◌, ℕ, zero, suc, ◌+◌, ◌-◌, ◌*◌, ◌≤◌, ◌==◌, if◌then◌else◌, inl, inr, false, List, [], ◌∷◌, ◌++◌, refl, sym, ap, subst, ◌∙◌, append-nil, arith}
+use Rattle.std.proofs.Common.{◌≡◌, ◌≢◌, ℕ, zero, suc, ◌+◌, ◌-◌, ◌*◌, ◌≤◌, ◌==◌, if◌then◌else◌, false, List, [], ◌∷◌, ◌++◌, refl, sym, ap, ◌∙◌, arith}
 use Rattle.std.specs.List.{All, sum_by}
 use Rattle.std.proofs.lemmas.Bool.Decides.{nat_tests}
 use Rattle.std.proofs.lemmas.Nat.{mul-le}
-use Rattle.std.proofs.lemmas.List.Elements.{All-contains}
 use Rattle.std.proofs.lemmas.List.Sums.{sum_by-cons}
-use Rattle.vrp_model.specs.Front.{IsRest, open_load}
+use Rattle.vrp_model.specs.Front.{open_load}
 use Rattle.vrp_model.specs.LeastWay.{IsLeastHome, IsLeastIn}
-use Rattle.vrp_model.specs.Problem.{IsProblem, Problem, customers, demand_of, weight_of}
+use Rattle.vrp_model.specs.Problem.{IsProblem, Problem, demand_of, weight_of}
 use Rattle.vrp_model.specs.Route.{cost_along, load_of}
-use Rattle.vrp_model.specs.Word.{IsLawfulWord, last_symbol, served_in, word_cost}
-use Rattle.vrp_model.proofs.Children.{closed_is_open, unserved_if_added}
-use Rattle.vrp_model.proofs.Steps.{last_symbol_with, load_at_depot, load_with_customer}
+use Rattle.vrp_model.specs.Word.{IsLawfulWord, last_symbol, served_in, unserved_in, word_cost}
+use Rattle.vrp_model.proofs.Words.{serves_customer}
 use Rattle.vrp_bound.specs.Capacity.{IsCapacityBound, IsInsOf, free_room}
-use Rattle.vrp_bound.proofs.Completion.{place_cases}
-use Rattle.vrp_model.proofs.FrontPlaces.{last_is_place, serves_customer}
-use Rattle.vrp_bound.proofs.Unserved.{cost_behind, differs_from_last, front_of, sum_of_all, with_symbol}
+use Rattle.vrp_bound.proofs.AddedSymbols.{HoldsBySymbol, all_served_behind, by_symbols, first_and_rest, sum_behind}
+use Rattle.vrp_bound.proofs.Unserved.{cost_behind}
 
 -- the truck that is out drives home
 abbrev pub out : ℕ → ℕ
@@ -77,62 +74,31 @@ then_out p least_in home k more way fits rest =
       carried = omega (arith, rest.carried, ins_with (demand_of p) k more, fits, room, room_there p k (demand_of p (suc k)), room_here p 0);
     }
 
-at_front : (p : Problem) (least_in : ℕ → ℕ) (home : ℕ) (front more : List ℕ) (at load : ℕ) → last_symbol front ≡ at → open_load p front ≡ load → Pays p least_in home at load more → Pays p least_in home (last_symbol front) (open_load p front) more
-at_front p least_in home front more at load here on rest = subst (λ n. Pays p least_in home (last_symbol front) n more) (sym on) (subst (λ n. Pays p least_in home n load more) (sym here) rest)
+-- of each customer that is served behind a least way in is known
+pays_by_symbol : (p : Problem) (least_in : ℕ → ℕ) (home : ℕ) → IsProblem p → IsLeastHome p home → HoldsBySymbol p (λ at load more. All (λ customer. IsLeastIn p customer (least_in customer)) (served_in more) → Pays p least_in home at load more)
+pays_by_symbol p least_in home problem way_home =
+    let Into : ℕ → Type 0 = λ customer. IsLeastIn p customer (least_in customer) in
+    record {
+      nothing = λ _. nothing_more p least_in home;
+      home = λ j load more place light rest ins. then_home p least_in home j load more ((way_home.some (omega (arith, place))).least (suc j) place (λ same. omega (arith, same))) (rest ins);
+      leaves = λ k more fits rest ins. (
+        let both = first_and_rest Into k more ins in
+        then_out p least_in home k more (both.0.least 0 (omega (arith, problem.some_places)) (λ same. omega (arith, same))) fits (rest both.1));
+      goes_on = λ j load k more place differs fits rest ins. (
+        let both = first_and_rest Into k more ins in
+        then_on p least_in home j load k more (both.0.least (suc j) place differs) fits (rest both.1));
+    }
 
-from_front : (p : Problem) (least_in : ℕ → ℕ) (home : ℕ) (front more : List ℕ) (at load : ℕ) → last_symbol front ≡ at → open_load p front ≡ load → Pays p least_in home (last_symbol front) (open_load p front) more → Pays p least_in home at load more
-from_front p least_in home front more at load here on rest = subst (λ n. Pays p least_in home at n more) on (subst (λ n. Pays p least_in home n (open_load p front) more) here rest)
-
-pub pays : (p : Problem) (least_in : ℕ → ℕ) (home : ℕ) (front more : List ℕ) → IsProblem p → All (λ customer. IsLeastIn p customer (least_in customer)) (customers p) → IsLeastHome p home → IsLawfulWord p (front ++ more)
-    → Pays p least_in home (last_symbol front) (open_load p front) more
-pays p least_in home front [] problem ins way_home lawful =
-    let closed : last_symbol front ≡ 0 = ap last_symbol (sym (append-nil front)) ∙ lawful.closed in
-    at_front p least_in home front [] 0 0 closed (load_at_depot p front closed) (nothing_more p least_in home)
-pays p least_in home front (zero ∷ more) problem ins way_home lawful =
-    let longer = front ++ 0 ∷ [] in
-    let after = with_symbol p front more 0 lawful in
-    let is_front = front_of p longer more after in
-    let here : last_symbol longer ≡ 0 = last_symbol_with front 0 in
-    let rest = from_front p least_in home longer more 0 0 here (load_at_depot p longer here) (pays p least_in home longer more problem ins way_home after) in
-    let is_open = closed_is_open p front is_front in
-    let place = last_is_place p front problem (front_of p front (0 ∷ more) lawful) in
-    elim (place_cases (last_symbol front)) [
-      | inl none ↦ absurd (omega (arith, none, is_open))
-      | inr (j, some) ↦
-          let way : home ≤ weight_of p (suc j) 0 = (way_home.some (omega (arith, place, is_open))).least (suc j) (omega (arith, place, some)) (λ same. omega (arith, same)) in
-          at_front p least_in home front (0 ∷ more) (suc j) (open_load p front) some refl (then_home p least_in home j (open_load p front) more way rest)
-    ]
-pays p least_in home front (suc k ∷ more) problem ins way_home lawful =
-    let longer = front ++ suc k ∷ [] in
-    let after = with_symbol p front more (suc k) lawful in
-    let is_front = front_of p longer more after in
-    let before = front_of p front (suc k ∷ more) lawful in
-    let loads = load_with_customer p front (suc k) problem before (omega arith) is_front in
-    let rest = pays p least_in home longer more problem ins way_home after in
-    let here : last_symbol longer ≡ suc k = last_symbol_with front (suc k) in
-    let into = All-contains (λ customer. IsLeastIn p customer (least_in customer)) (customers p) (suc k) ins (unserved_if_added p front (suc k) (omega arith) is_front).0 in
-    elim (place_cases (last_symbol front)) [
-      | inl none ↦
-          let way = into.least 0 (omega (arith, problem.some_places)) (λ same. omega (arith, same)) in
-          at_front p least_in home front (suc k ∷ more) 0 0 none (load_at_depot p front none)
-          (then_out p least_in home k more way (problem.fitting_demands (suc k)) (from_front p least_in home longer more (suc k) (demand_of p (suc k)) here (loads.starts none) rest))
-      | inr (j, some) ↦
-          let differs : suc j ≢ suc k = λ same. differs_from_last p front (suc k) (omega arith) is_front (some ∙ same) in
-          let place = last_is_place p front problem before in
-          let way = into.least (suc j) (omega (arith, place, some)) differs in
-          let grows = loads.grows (omega (arith, some)) in
-          at_front p least_in home front (suc k ∷ more) (suc j) (open_load p front) some refl
-          (then_on p least_in home j (open_load p front) k more way (omega (arith, grows, loads.fits)) (from_front p least_in home longer more (suc k) (open_load p front + demand_of p (suc k)) here grows rest))
-    ]
-
-pub none_adds_less : (p : Problem) (front more : List ℕ) (rest ins bound : ℕ) → IsProblem p → IsLawfulWord p (front ++ more) → IsRest p front rest → IsInsOf p front ins
-    → IsCapacityBound p (last_symbol front) (open_load p front) ins rest bound → word_cost p front + bound ≤ word_cost p (front ++ more)
-none_adds_less p front more rest ins bound problem lawful is_rest is_ins is_bound =
+pub none_adds_less : (p : Problem) (front more : List ℕ) (ins bound : ℕ) → IsProblem p → IsLawfulWord p (front ++ more) → IsInsOf p front ins
+    → IsCapacityBound p (last_symbol front) (open_load p front) ins (load_of p (unserved_in p front)) bound → word_cost p front + bound ≤ word_cost p (front ++ more)
+none_adds_less p front more ins bound problem lawful is_ins is_bound =
     let at = last_symbol front in
-    let paid = pays p is_ins.least_in is_bound.home front more problem is_ins.each is_bound.least_home lawful in
-    let sum : sum_by is_ins.least_in (served_in more) ≡ ins = omega (arith, is_ins.whole, sum_of_all is_ins.least_in p front more lawful) in
-    let carried : load_of p (served_in more) ≡ rest = omega (arith, is_rest, sum_of_all (demand_of p) p front more lawful) in
-    let over : rest - free_room p at (open_load p front) ≤ paid.trucks * p.capacity = omega (arith, paid.carried, carried) in
+    let f = is_ins.least_in in
+    let Into : ℕ → Type 0 = λ customer. IsLeastIn p customer (f customer) in
+    let paid = by_symbols p (λ place load behind. All Into (served_in behind) → Pays p f is_bound.home place load behind) (pays_by_symbol p f is_bound.home problem is_bound.least_home) problem front more lawful (all_served_behind Into p front more lawful is_ins.each) in
+    let sum : sum_by f (served_in more) ≡ ins = sum_behind f p front more lawful ∙ sym is_ins.whole in
+    let carried = sum_behind (demand_of p) p front more lawful in
+    let over : load_of p (unserved_in p front) - free_room p at (open_load p front) ≤ paid.trucks * p.capacity = omega (arith, paid.carried, carried) in
     let fewer : is_bound.count.trucks ≤ paid.trucks = is_bound.count.carry.least paid.trucks over in
     let homes : is_bound.returns * is_bound.home ≤ (paid.trucks + out at) * is_bound.home = mul-le is_bound.returns is_bound.home (paid.trucks + out at) is_bound.home (omega (arith, is_bound.count.all, fewer)) (omega arith) in
     omega (arith, paid.paid, sum, homes, is_bound.is, cost_behind p front more at refl)

@@ -12,13 +12,13 @@ use Rattle.vrp_model.specs.Front.{open_load}
 use Rattle.vrp_model.specs.Route.{cost_along, load_of}
 use Rattle.vrp_model.specs.Word.{IsFront, IsLawfulWord, last_symbol, routes_of, served_in, word_cost}
 use Rattle.vrp_model.proofs.AllCustomers.{customer_below}
-use Rattle.vrp_model.proofs.Children.{unserved_if_added}
-use Rattle.vrp_model.proofs.FrontPlaces.{serves_customer}
+use Rattle.vrp_model.proofs.Children.{added_is_customer, unserved_if_added}
+use Rattle.vrp_model.proofs.UnservedCustomers.{unserved_differs}
 use Rattle.vrp_model.proofs.FrontsBefore.{fronts_before}
 use Rattle.vrp_model.proofs.PlanWords.{cost_parts}
 use Rattle.vrp_model.proofs.Rearranged.{customers_distinct, same_elements}
 use Rattle.vrp_model.proofs.Steps.{load_at_customer, load_at_depot}
-use Rattle.vrp_model.proofs.Words.{last_behind, last_is}
+use Rattle.vrp_model.proofs.Words.{last_behind, last_is, serves_customer}
 
 pub served_more : (front more : List ℕ) → served_in (front ++ more) ≡ served_in front ++ served_in more
 served_more front more = filter-append (λ k. not (k == 0)) front more
@@ -60,10 +60,10 @@ differs_from_last p front k some after same =
     let unserved = unserved_if_added p front k some after in
     let above : 0 < last_behind 0 front = omega (arith, some, same, last_is front) in
     let served = last_served 0 front (some_length front above) above in
-    All-contains (λ s. s ≢ k) (served_in front) (last_behind 0 front) unserved.1 served (sym (last_is front) ∙ same)
+    All-contains (λ s. s ≢ k) (served_in front) (last_behind 0 front) (unserved_differs p front k unserved) served (sym (last_is front) ∙ same)
 
 pub customer_is_place : (p : Problem) (front : List ℕ) (k : ℕ) → 0 < k → IsFront p (front ++ k ∷ []) → k < place_count p
-customer_is_place p front k some after = customer_below p k (unserved_if_added p front k some after).0
+customer_is_place p front k some after = customer_below p k (added_is_customer p front k some after)
 
 last_fits : (p : Problem) (routes : List (List ℕ)) → All (λ r. load_of p r ≤ p.capacity) routes → load_of p (slice_index_or routes (length routes - 1) []) ≤ p.capacity
 last_fits p [] all = omega arith

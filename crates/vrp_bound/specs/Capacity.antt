@@ -2,14 +2,14 @@
 use Rattle.std.specs.Prelude.{◌≡◌, ℕ, ◌+◌, ◌-◌, ◌*◌, ◌≤◌, ◌==◌, if◌then◌else◌, List}
 use Rattle.std.specs.List.{All, sum_by}
 use Rattle.vrp_model.specs.LeastWay.{IsLeastHome, IsLeastIn}
-use Rattle.vrp_model.specs.Problem.{Problem, customers}
-use Rattle.vrp_model.specs.Word.{served_in}
+use Rattle.vrp_model.specs.Problem.{Problem}
+use Rattle.vrp_model.specs.Word.{unserved_in}
 
--- what the least ways into the customers cost together that the word doesn't serve
+-- what the least ways into the customers cost together that the word leaves unserved
 pub record IsInsOf (p : Problem) (word : List ℕ) (ins : ℕ) : Type 0 where
   pub least_in : ℕ → ℕ
-  pub each : All (λ customer. IsLeastIn p customer (least_in customer)) (customers p)
-  pub whole : ins + sum_by least_in (served_in word) ≡ sum_by least_in (customers p)
+  pub each : All (λ customer. IsLeastIn p customer (least_in customer)) (unserved_in p word)
+  pub whole : ins ≡ sum_by least_in (unserved_in p word)
 
 -- what the truck that is out can still take; none is out at the depot
 abbrev pub free_room : Problem → ℕ → ℕ → ℕ

@@ -4,7 +4,7 @@ use Rattle.std.specs.Str.{bytes_eq}
 use Rattle.std.specs.Prelude.{true, if◌then◌else◌, map, slice_index_or, unwrap_or}
 use Rattle.std.specs.List.{All, Contains}
 use Rattle.std.specs.List.Sorted.{IsPermutation, IsStrictlyIncreasing}
-use Rattle.std.proofs.lemmas.List.Elements.{All-append, All-cons, All-contains, All-nil, All-tail, Contains-get_or}
+use Rattle.std.proofs.lemmas.List.Elements.{All-append, All-cons, All-contains, All-nil, All-tail}
 use Rattle.std.proofs.lemmas.Bool.{cases_Bool, cases_lt}
 use Rattle.std.proofs.lemmas.Bool.Decides.{not_from_Decides}
 use Rattle.std.proofs.lemmas.Slice.Eq.{bytes_eq-Decides}
@@ -15,17 +15,11 @@ use Rattle.vrp_model.specs.Route.{IsLawful, IsPlanOf, PricedPlan, plan_cost}
 use Rattle.vrp_model.specs.Word.{BeginsWith, IsLawfulWord, NoneCheaperUnder, first_stops, word_cost, word_of}
 use Rattle.vrp_model.specs.declared.limits.TheConstants.{MAX_NODES}
 use Rattle.vrp_search.specs.Cutting.{HasNoChild, IsCutting, NumberedWord}
-use Rattle.vrp_search.specs.Search.{AreCovered, IsUnfinished}
+use Rattle.vrp_search.specs.Search.{IsUnfinished}
 use Rattle.vrp_command.specs.Answer.{IsAnswer, IsLeftOpen}
 use Rattle.vrp_command.specs.declared.verdict.Verdict.{Verdict}
 use Rattle.vrp_command.specs.declared.verdict.Verdict.TheVariants.{Proven, Open}
 use Rattle.vrp_command.specs.Searched.{AreSearched, IsLeastOfAll, IsLeft, least_of}
-
--- ---- all customers
-
--- each customer is among them
-pub all_covered : (p : Problem) (front : List ℕ) → AreCovered p (customers p) front
-all_covered p front = λ k d lt. inr (Contains-get_or (customers p) k d lt)
 
 -- ---- piece by piece
 

@@ -1,23 +1,36 @@
 -- The customers of a problem, one behind the other: the places from 1 on.
-use Rattle.std.proofs.Common.{◌≡◌, ℕ, ◌+◌, ◌-◌, ◌<◌, [], ◌∷◌, ◌++◌, length, get_or, take, ap, ◌∙◌, arith}
+use Rattle.std.proofs.Common.{◌≡◌, ℕ, ◌+◌, ◌-◌, ◌<◌, List, [], ◌∷◌, ◌++◌, length, get_or, take, ap, ◌∙◌, arith}
 use Rattle.std.specs.List.{Contains}
 use Rattle.std.proofs.lemmas.List.{take_all, take_more}
 use Rattle.std.proofs.lemmas.List.FromFn.{get_or-range_with_len, length-range_with_len}
 use Rattle.vrp_model.specs.Problem.{Problem, customers, demand_of, place_count}
 use Rattle.vrp_model.specs.Route.{load_of}
-use Rattle.vrp_model.proofs.Children.{load_with}
+use Rattle.std.proofs.lemmas.List.Sums.{sum_by-append}
 
+-- a customer is a place
 pub customer_below : (p : Problem) (k : ℕ) → Contains (customers p) k → k < place_count p
 customer_below p k (i, lt, is) =
     let bound : i < place_count p - 1 = rw (length-range_with_len 1 (place_count p - 1)) at lt in
     let value : get_or (customers p) i k ≡ 1 + i = get_or-range_with_len 1 (place_count p - 1) i k bound in
     omega (arith, value, is, bound)
 
+-- and each place but the depot is a customer
 pub is_customer : (p : Problem) (k : ℕ) → 0 < k → k < place_count p → Contains (customers p) k
 is_customer p k some below =
     let bound : k - 1 < place_count p - 1 = omega arith in
     let value : get_or (customers p) (k - 1) k ≡ 1 + (k - 1) = get_or-range_with_len 1 (place_count p - 1) (k - 1) k bound in
     (k - 1, rw (length-range_with_len 1 (place_count p - 1)) bound, omega (arith, value))
+
+-- a customer is not the depot
+pub customer_is_some : (p : Problem) (k : ℕ) → Contains (customers p) k → 0 < k
+customer_is_some p k (i, lt, is) =
+    let bound : i < place_count p - 1 = rw (length-range_with_len 1 (place_count p - 1)) at lt in
+    let value : get_or (customers p) i k ≡ 1 + i = get_or-range_with_len 1 (place_count p - 1) i k bound in
+    omega (arith, value, is)
+
+-- what some stops and one more demand
+pub load_with : (p : Problem) (stops : List ℕ) (k : ℕ) → load_of p (stops ++ k ∷ []) ≡ load_of p stops + demand_of p k
+load_with p stops k = let more = sum_by-append (demand_of p) stops (k ∷ []) in omega (arith, more)
 
 -- the first customers, and the one behind them
 pub up_to : (p : Problem) (i : ℕ) → i + 1 < place_count p → take (i + 1) (customers p) ≡ take i (customers p) ++ (i + 1) ∷ []

@@ -9,7 +9,9 @@ use Rattle.vrp_model.specs.Problem.{Problem, IsProblem, demand_of}
 use Rattle.vrp_model.specs.Route.{load_of}
 use Rattle.vrp_model.specs.Word.{IsFront, IsOpen, MakesChild, first_stops, last_route, last_symbol, routes_of, word_of}
 use Rattle.vrp_model.proofs.Words.{AreClosed, IsStops, routes_are, shape_of}
-use Rattle.vrp_model.proofs.Children.{All-last, All-left, closed_is_open, customer_added, customer_is_some, front_closed, last_of, last_of_shape, last_stop, load_with, rising_last, rising_more, routes_with_stop, unserved_if_added}
+use Rattle.vrp_model.proofs.Children.{All-last, All-left, closed_is_open, customer_added, front_closed, last_of, last_of_shape, last_stop, rising_last, rising_more, routes_with_stop, unserved_if_added}
+use Rattle.vrp_model.proofs.AllCustomers.{customer_is_some, load_with}
+use Rattle.vrp_model.proofs.UnservedCustomers.{unserved_is_customer}
 
 pub firsts_with : (closed : List (List ℕ)) (route : List ℕ) → first_stops (closed ++ route ∷ []) ≡ first_stops closed ++ slice_index route 0 ∷ []
 firsts_with closed route = map-append (λ r. slice_index r 0) closed (route ∷ [])
@@ -88,7 +90,7 @@ cases_of_child p front zero problem is_front = (
   λ child. inl (refl, closed_is_open p front child),
   λ made. elim made [
     | inl depot ↦ front_closed p front is_front depot.1
-    | inr (inl inside) ↦ absurd (omega (arith, customer_is_some p 0 inside.0.0))
+    | inr (inl inside) ↦ absurd (omega (arith, customer_is_some p 0 (unserved_is_customer p front 0 inside.0)))
     | inr (inr behind) ↦ absurd (omega (arith, behind.2))
   ],
 )

@@ -12,7 +12,9 @@ use Rattle.std.proofs.lemmas.List.Quantifiers.{all_pairs_push}
 use Rattle.std.proofs.lemmas.List.Sums.{sum_by-append}
 use Rattle.vrp_model.specs.Problem.{Problem, customers, demand_of, place_count}
 use Rattle.vrp_model.specs.Route.{load_of}
-use Rattle.vrp_model.specs.Word.{IsFront, IsOpen, IsUnserved, first_stops, last_symbol, routes_of, served_in, word_of}
+use Rattle.vrp_model.specs.Word.{IsFront, IsOpen, first_stops, last_symbol, routes_of, served_in, unserved_in, word_of}
+use Rattle.vrp_model.proofs.AllCustomers.{customer_is_some, load_with}
+use Rattle.vrp_model.proofs.UnservedCustomers.{unserved_differs, unserved_if_not_served, unserved_is_customer}
 use Rattle.vrp_model.proofs.Words.{AreClosed, AreClosed-append, HasStops-append, HasStops-parts, IsStops, last_behind, last_behind-append, last_is, one_stop, open_routes, routes_are, shape_of, word_of-append}
 
 -- the last of some stops is a stop
@@ -92,12 +94,6 @@ closed_is_open p front is_front = rw (last_is front) ((HasStops-parts 0 front (0
 
 -- ---- a customer
 
-pub customer_is_some : (p : Problem) (k : ℕ) → Contains (customers p) k → 0 < k
-customer_is_some p k (i, lt, is) =
-    let bound : i < place_count p - 1 = rw (length-range_with_len 1 (place_count p - 1)) at lt in
-    let value : get_or (customers p) i k ≡ 1 + i = get_or-range_with_len 1 (place_count p - 1) i k bound in
-    omega (arith, value, is)
-
 pub rising_last : (xs : List ℕ) (k : ℕ) → IsStrictlyIncreasing (xs ++ k ∷ []) → 0 < length xs → slice_index xs (length xs - 1) < k
 rising_last xs k rising some =
     let long : length (xs ++ k ∷ []) ≡ length xs + 1 = length-append xs (k ∷ []) in
@@ -122,9 +118,6 @@ rising_more xs k rising above = λ i lt.
           let high : slice_index (xs ++ k ∷ []) (i + 1) ≡ k = rw place (get_or-append_seam xs k [] 0) in
           omega (arith, low, high, above (omega (arith, place)))
     ]
-
-pub load_with : (p : Problem) (stops : List ℕ) (k : ℕ) → load_of p (stops ++ k ∷ []) ≡ load_of p stops + demand_of p k
-load_with p stops k = let more = sum_by-append (demand_of p) stops (k ∷ []) in omega (arith, more)
 
 first_with : (stop : ℕ) (stops : List ℕ) (k : ℕ) → slice_index ((stop ∷ stops) ++ k ∷ []) 0 ≡ slice_index (stop ∷ stops) 0
 first_with stop stops k = refl
@@ -155,20 +148,25 @@ others_differ xs k pairs = λ i d lt.
     λ same. pairs i (length xs) d lt (omega (arith, long)) (a ∙ same ∙ sym b)
 
 -- an unserved customer may be added where its route can carry it, and its route rises
-pub customer_added : (p : Problem) (front : List ℕ) (k : ℕ) (routes : List (List ℕ)) → IsFront p front → IsUnserved p front k → routes_of (front ++ k ∷ []) ≡ routes
+pub customer_added : (p : Problem) (front : List ℕ) (k : ℕ) (routes : List (List ℕ)) → IsFront p front → Contains (unserved_in p front) k → routes_of (front ++ k ∷ []) ≡ routes
     → All (λ r. load_of p r ≤ p.capacity) routes → IsStrictlyIncreasing (first_stops routes) → IsFront p (front ++ k ∷ [])
 customer_added p front k routes is_front unserved is fits rising =
-    let some : 0 < k = customer_is_some p k unserved.0 in
+    let known = unserved_is_customer p front k unserved in
+    let some : 0 < k = customer_is_some p k known in
     record {
-      known = subst (All (Contains (customers p))) (sym (served_with front k some)) (All-append (Contains (customers p)) (served_in front) (k ∷ []) is_front.known (All-cons (Contains (customers p)) k [] unserved.0 (All-nil (Contains (customers p)))));
-      once = subst (AllPairs (λ a b. a ≢ b)) (sym (served_with front k some)) (all_pairs_push (λ a b. a ≢ b) (served_in front) k is_front.once (λ i d lt. unserved.1 i d lt));
+      known = subst (All (Contains (customers p))) (sym (served_with front k some)) (All-append (Contains (customers p)) (served_in front) (k ∷ []) is_front.known (All-cons (Contains (customers p)) k [] known (All-nil (Contains (customers p)))));
+      once = subst (AllPairs (λ a b. a ≢ b)) (sym (served_with front k some)) (all_pairs_push (λ a b. a ≢ b) (served_in front) k is_front.once (unserved_differs p front k unserved));
       stops = HasStops-append 0 front (k ∷ []) is_front.stops ((λ zero_is. absurd (omega (arith, some, zero_is))), tt);
       fits = subst (All (λ r. load_of p r ≤ p.capacity)) (sym is) fits;
       rising = subst (λ (rs : List (List ℕ)). IsStrictlyIncreasing (first_stops rs)) (sym is) rising;
     }
 
-pub unserved_if_added : (p : Problem) (front : List ℕ) (k : ℕ) → 0 < k → IsFront p (front ++ k ∷ []) → IsUnserved p front k
-unserved_if_added p front k some is_front = (
-  All-last (Contains (customers p)) (served_in front) k (subst (All (Contains (customers p))) (served_with front k some) is_front.known),
-  others_differ (served_in front) k (subst (AllPairs (λ a b. a ≢ b)) (served_with front k some) is_front.once),
-)
+pub unserved_if_added : (p : Problem) (front : List ℕ) (k : ℕ) → 0 < k → IsFront p (front ++ k ∷ []) → Contains (unserved_in p front) k
+unserved_if_added p front k some is_front =
+    unserved_if_not_served p front k
+    (All-last (Contains (customers p)) (served_in front) k (subst (All (Contains (customers p))) (served_with front k some) is_front.known))
+    (others_differ (served_in front) k (subst (AllPairs (λ a b. a ≢ b)) (served_with front k some) is_front.once))
+
+-- a symbol that a front ends with, other than the depot, is a customer
+pub added_is_customer : (p : Problem) (front : List ℕ) (k : ℕ) → 0 < k → IsFront p (front ++ k ∷ []) → Contains (customers p) k
+added_is_customer p front k some is_front = unserved_is_customer p front k (unserved_if_added p front k some is_front)

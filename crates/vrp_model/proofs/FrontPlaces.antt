@@ -5,15 +5,12 @@ use Rattle.std.proofs.lemmas.Bool.Decides.{nat_tests}
 use Rattle.vrp_model.specs.Problem.{IsProblem, Problem, customers, place_count}
 use Rattle.vrp_model.specs.Word.{IsFront, last_symbol, served_in}
 use Rattle.vrp_model.proofs.AllCustomers.{customer_below}
-use Rattle.vrp_model.proofs.Children.{unserved_if_added}
-use Rattle.vrp_model.proofs.Words.{last_behind, last_is}
+use Rattle.vrp_model.proofs.Children.{added_is_customer}
+use Rattle.vrp_model.proofs.Words.{last_behind, last_is, serves_customer}
 
 pub symbol_is_place : (p : Problem) (word : List ℕ) (k : ℕ) → IsProblem p → IsFront p (word ++ k ∷ []) → k < place_count p
 symbol_is_place p word zero problem front = omega (arith, problem.some_places)
-symbol_is_place p word (suc k) problem front = customer_below p (suc k) (unserved_if_added p word (suc k) (omega arith) front).0
-
-pub serves_customer : (k : ℕ) (word : List ℕ) → served_in (suc k ∷ word) ≡ suc k ∷ served_in word
-serves_customer k word = let test : not (suc k == 0) ≡ true = grind (arith, nat_tests) in rw test refl
+symbol_is_place p word (suc k) problem front = customer_below p (suc k) (added_is_customer p word (suc k) (omega arith) front)
 
 last_below : (p : Problem) (before : ℕ) (word : List ℕ) → before < place_count p → 0 < place_count p → All (Contains (customers p)) (served_in word) → last_behind before word < place_count p
 last_below p before [] below some known = below

@@ -9,8 +9,9 @@ use Rattle.vrp_model.specs.Problem.{Problem, customers}
 use Rattle.vrp_model.specs.Route.{load_of}
 use Rattle.vrp_model.specs.Word.{BeginsWith, IsFront, IsLawfulWord, TreeHasAtLeast, first_stops, last_symbol, routes_of, served_in, word_of}
 use Rattle.vrp_model.proofs.Words.{AreClosed, HasStops-parts, IsStops, last_is, routes_are, shape_of}
-use Rattle.vrp_model.proofs.Children.{All-last, All-left, load_with, open_is_some, pairs_left, routes_when_closed, routes_with_stop}
+use Rattle.vrp_model.proofs.Children.{All-last, All-left, open_is_some, pairs_left, routes_when_closed, routes_with_stop}
 use Rattle.vrp_model.proofs.ChildCases.{firsts_with}
+use Rattle.vrp_model.proofs.AllCustomers.{load_with}
 
 rising_left : (xs ys : List ℕ) → IsStrictlyIncreasing (xs ++ ys) → IsStrictlyIncreasing xs
 rising_left xs ys rising = λ i lt.

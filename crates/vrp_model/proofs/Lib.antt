@@ -17,5 +17,6 @@ pub mod Rearranged
 pub mod Rising
 pub mod Rows
 pub mod Steps
+pub mod UnservedCustomers
 pub mod WordReading
 pub mod Words

@@ -12,8 +12,9 @@ use Rattle.vrp_model.specs.Problem.{Problem, customers}
 use Rattle.vrp_model.specs.Route.{IsLawful, cost_along, load_of, plan_cost, route_cost}
 use Rattle.vrp_model.specs.Word.{HasStops, IsLawfulWord, first_stops, last_symbol, routes_of, served_in, word_cost, word_of}
 use Rattle.vrp_model.proofs.Words.{AreClosed, HasStops-append, IsStops, last_behind, last_behind-append, routes_are, shape_of}
-use Rattle.vrp_model.proofs.Children.{customer_is_some, last_of_shape, last_stop}
+use Rattle.vrp_model.proofs.Children.{last_of_shape, last_stop}
 use Rattle.vrp_model.proofs.Rearranged.{AreDistinct, AreDistinct-permutation, contains_each, customers_distinct, same_elements}
+use Rattle.vrp_model.proofs.AllCustomers.{customer_is_some}
 
 all_stops_kept : (stops : List ℕ) → IsStops stops → filter (λ k. not (k == 0)) stops ≡ stops
 all_stops_kept [] free = refl

@@ -26,14 +26,16 @@ head_differs x xs distinct = λ k d lt. distinct 0 (suc k) d (omega arith) (omeg
 pub tail_distinct : (x : ℕ) (xs : List ℕ) → AreDistinct (x ∷ xs) → AreDistinct xs
 tail_distinct x xs distinct = λ i j d lt within. distinct (suc i) (suc j) d (omega arith) (omega arith)
 
-in_tail : (x y : ℕ) (xs : List ℕ) → Contains (x ∷ xs) y → x ≢ y → Contains xs y
+-- what is contained and isn't the head is contained behind it
+pub in_tail : (x y : ℕ) (xs : List ℕ) → Contains (x ∷ xs) y → x ≢ y → Contains xs y
 in_tail x y xs (zero, lt, is) differs = absurd (differs is)
 in_tail x y xs (suc k, lt, is) differs = (k, omega (arith, lt), is)
 
 pub member_at : (P : ℕ → Type 0) (xs : List ℕ) (x : ℕ) → All P xs → Contains xs x → P x
 member_at P xs x all (k, lt, is) = subst P is (all k x lt)
 
-behind_head : (x y : ℕ) (xs : List ℕ) → Contains xs y → Contains (x ∷ xs) y
+-- what is contained behind the head is contained
+pub behind_head : (x y : ℕ) (xs : List ℕ) → Contains xs y → Contains (x ∷ xs) y
 behind_head x y xs (k, lt, is) = (suc k, omega (arith, lt), is)
 
 same_read : (xs : List ℕ) (k d e : ℕ) → k < length xs → get_or xs k e ≡ get_or xs k d

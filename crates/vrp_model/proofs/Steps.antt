@@ -8,7 +8,8 @@ use Rattle.vrp_model.specs.Route.{load_of}
 use Rattle.vrp_model.specs.Word.{HasStops, IsFront, IsOpen, MakesChild, last_route, last_symbol, routes_of, word_of}
 use Rattle.vrp_model.proofs.ChildCases.{cases_of_child}
 use Rattle.vrp_model.proofs.Words.{AreClosed, IsStops, last_behind-append, last_is, routes_are, shape_of}
-use Rattle.vrp_model.proofs.Children.{load_with, last_of, last_of_shape, last_stop, open_is_some, routes_when_closed, routes_with_stop}
+use Rattle.vrp_model.proofs.Children.{last_of, last_of_shape, last_stop, open_is_some, routes_when_closed, routes_with_stop}
+use Rattle.vrp_model.proofs.AllCustomers.{load_with}
 
 pub last_symbol_with : (word : List ℕ) (k : ℕ) → last_symbol (word ++ k ∷ []) ≡ k
 last_symbol_with word k = last_is (word ++ k ∷ []) ∙ last_behind-append 0 word (k ∷ [])

@@ -5,7 +5,7 @@ use Rattle.std.specs.Prelude.{slice_index}
 use Rattle.std.proofs.lemmas.Bool.Decides.{nat_tests}
 use Rattle.std.proofs.lemmas.List.Elements.{All-cons, All-nil, All-append}
 use Rattle.std.proofs.lemmas.List.Splits.{slice_split_at, slice_split_none}
-use Rattle.vrp_model.specs.Word.{HasStops, last_symbol, routes_of, word_of}
+use Rattle.vrp_model.specs.Word.{HasStops, last_symbol, routes_of, served_in, word_of}
 
 -- stops alone, without the depot
 abbrev pub IsStops : List ℕ → Type 0
@@ -107,3 +107,7 @@ last_at symbol (next ∷ word) = last_at next word
 pub last_is : (word : List ℕ) → last_symbol word ≡ last_behind 0 word
 last_is [] = refl
 last_is (symbol ∷ word) = let e : length (symbol ∷ word) - 1 ≡ length word = omega arith in rw e (last_at symbol word)
+
+-- a customer at the front is served first
+pub serves_customer : (k : ℕ) (word : List ℕ) → served_in (suc k ∷ word) ≡ suc k ∷ served_in word
+serves_customer k word = let test : not (suc k == 0) ≡ true = grind (arith, nat_tests) in rw test refl

@@ -1,7 +1,7 @@
 -- A plan as one list, its word: its routes by rising first customer, each followed by 0, the depot. A front is what a word
 -- may begin with: a partial plan.
-use Rattle.std.specs.Prelude.{◌≡◌, ◌≢◌, ◌⊎◌, ℕ, ◌+◌, ◌-◌, ◌≤◌, ◌<◌, ◌==◌, not, List, [], ◌∷◌, ◌++◌, length, map, slice_index, slice_index_or}
-use Rattle.std.specs.List.{All, AllPairs, Contains, filter, flat_map, slice_split}
+use Rattle.std.specs.Prelude.{◌≡◌, ◌≢◌, ◌⊎◌, ℕ, ◌+◌, ◌-◌, ◌≤◌, ◌<◌, ◌==◌, Bool, not, List, [], ◌∷◌, ◌++◌, length, map, slice_index, slice_index_or}
+use Rattle.std.specs.List.{All, AllPairs, Contains, filter, flat_map, list_any, slice_split}
 use Rattle.std.specs.List.Sorted.{IsStrictlyIncreasing}
 use Rattle.vrp_model.specs.Problem.{Problem, customers, demand_of}
 use Rattle.vrp_model.specs.Route.{load_of, cost_along}
@@ -67,14 +67,19 @@ TreeHasAtLeast p front n =
 abbrev pub last_route : List ℕ → List ℕ
 last_route word = slice_index_or (routes_of word) (length (routes_of word) - 1) []
 
+-- whether a symbol stands in the word
+abbrev pub stands_in : List ℕ → ℕ → Bool
+stands_in word k = list_any (λ symbol. symbol == k) word
+
+-- the customers that don't stand in the word, by rising place
+abbrev pub unserved_in : Problem → List ℕ → List ℕ
+unserved_in p word = filter (λ k. not (stands_in word k)) (customers p)
+
 -- the symbols that make a child of a front, in three cases: the depot, where a route is open; an unserved customer, where a
 -- route is open that can still carry its demand; an unserved customer, where no route is open and the customer is above the
 -- first one of the last route, or there is no route yet
-abbrev pub IsUnserved : Problem → List ℕ → ℕ → Type 0
-IsUnserved p word k = Contains (customers p) k × All (λ served. served ≢ k) (served_in word)
-
 abbrev pub MakesChild : Problem → List ℕ → ℕ → Type 0
 MakesChild p word k =
     ((k ≡ 0) × IsOpen word)
-    ⊎ (IsUnserved p word k × IsOpen word × (load_of p (last_route word) + demand_of p k ≤ p.capacity))
-    ⊎ (IsUnserved p word k × (last_symbol word ≡ 0) × (slice_index (last_route word) 0 < k))
+    ⊎ (Contains (unserved_in p word) k × IsOpen word × (load_of p (last_route word) + demand_of p k ≤ p.capacity))
+    ⊎ (Contains (unserved_in p word) k × (last_symbol word ≡ 0) × (slice_index (last_route word) 0 < k))

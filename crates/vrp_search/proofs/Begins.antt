@@ -11,6 +11,7 @@ use Rattle.std.proofs.lemmas.List.Sums.{sum_by-append, sum_by-cons}
 use Rattle.vrp_model.specs.Problem.{Problem, customers}
 use Rattle.vrp_model.specs.Word.{BeginsWith, IsFront, IsLawfulWord, served_in}
 use Rattle.vrp_model.proofs.Children.{closed_is_open, unserved_if_added}
+use Rattle.vrp_model.proofs.UnservedCustomers.{unserved_differs, unserved_is_customer}
 use Rattle.vrp_model.proofs.FrontsBefore.{one_child_behind}
 use Rattle.vrp_model.proofs.Rearranged.{AreDistinct, head_differs, tail_distinct}
 use Rattle.vrp_search.specs.Child.{AreChildren}
@@ -98,8 +99,8 @@ pub no_child_of_lawful : (p : Problem) (word : List ℕ) (k : ℕ) → IsLawfulW
 no_child_of_lawful p word zero lawful after = absurd (let is_open = closed_is_open p word after in omega (arith, is_open, lawful.closed))
 no_child_of_lawful p word (suc k) lawful after =
     let added = unserved_if_added p word (suc k) (omega arith) after in
-    let contained = All-contains (Contains (served_in word)) (customers p) (suc k) lawful.every added.0 in
-    All-contains (λ served. served ≢ suc k) (served_in word) (suc k) added.1 contained refl
+    let contained = All-contains (Contains (served_in word)) (customers p) (suc k) lawful.every (unserved_is_customer p word (suc k) added) in
+    All-contains (λ served. served ≢ suc k) (served_in word) (suc k) (unserved_differs p word (suc k) added) contained refl
 
 -- a lawful word begins with one of a front's children where it begins with the front, and with none elsewhere
 pub count_children : (p : Problem) (front word : List ℕ) (children : List (List ℕ)) → IsFront p front → IsLawfulWord p word → AreChildren p front children → 0 < length children

@@ -1,17 +1,16 @@
 -- What a word under a front costs at least, by the tables.
-use Rattle.std.proofs.Common.{◌≡◌, ℕ, ◌+◌, ◌≤◌, inl, inr, Option, Some, None, get_or, refl, List, ◌++◌, sym, ap, subst, ◌∙◌, arith}
-use Rattle.std.specs.List.{All, Contains}
+use Rattle.std.proofs.Common.{◌≡◌, ℕ, ◌+◌, ◌≤◌, Option, Some, None, get_or, refl, List, [], ◌∷◌, ◌++◌, append-nil, append_assoc, sym, ap, subst, ◌∙◌, arith}
+use Rattle.std.specs.List.{Contains}
 use Rattle.std.specs.Option.{option_map}
-use Rattle.std.specs.Prelude.{MatchOption, not, ◌==◌, unwrap_or}
-use Rattle.std.proofs.lemmas.List.Elements.{Contains-append_left, Contains-append_right, filter-append}
-use Rattle.std.proofs.lemmas.List.Sums.{sum_by-append}
+use Rattle.std.specs.Prelude.{MatchOption, unwrap_or}
+use Rattle.std.proofs.lemmas.List.Elements.{All-contains, Contains-get_or}
 use Rattle.vrp_bound.specs.Bound.{IsGreater}
 use Rattle.vrp_bound.specs.Capacity.{IsInsOf}
-use Rattle.vrp_model.specs.Front.{IsRest, open_load}
-use Rattle.vrp_model.specs.Problem.{IsProblem, Problem, customers, demand_of}
+use Rattle.vrp_model.specs.Front.{open_load}
+use Rattle.vrp_model.specs.Problem.{IsProblem, Problem, demand_of}
 use Rattle.vrp_model.specs.Route.{load_of}
-use Rattle.vrp_model.specs.Word.{BeginsWith, IsLawfulWord, NoneCheaperUnder, last_symbol, served_in, word_cost}
-use Rattle.vrp_model.proofs.Rearranged.{customers_distinct}
+use Rattle.vrp_model.specs.Word.{BeginsWith, IsLawfulWord, NoneCheaperUnder, last_symbol, unserved_in, word_cost}
+use Rattle.vrp_model.proofs.UnservedCustomers.{unserved_before, unserved_distinct}
 use Rattle.vrp_search.specs.Search.{AreCovered, IsLow}
 use Rattle.vrp_search.specs.Tallied.{IsLowOf, IsTally}
 use Rattle.vrp_search.specs.declared.tally.Tally.{Tally}
@@ -20,29 +19,26 @@ use Rattle.vrp_search.proofs.Among.{sum_among}
 -- what holds of a word's numbers holds of the word
 pub low_is : (p : Problem) (among front : List ℕ) (t : Tally) (low : Option ℕ) → IsTally p front t → IsLowOf p among (last_symbol front) t low → IsLow p among front low
 low_is p among front t low tally is_low = record {
-  rest = t.rest;
-  is_rest = tally.rest;
   ins = t.ins;
   is_ins = tally.ins;
   bound = is_low.bound;
-  is_bound = subst (λ load. IsGreater p among (last_symbol front) load t.ins t.rest is_low.bound) tally.load is_low.is_bound;
+  is_bound = subst (λ rest. IsGreater p among (last_symbol front) (open_load p front) t.ins rest is_low.bound) tally.rest (subst (λ load. IsGreater p among (last_symbol front) load t.ins t.rest is_low.bound) tally.load is_low.is_bound);
   whole = is_low.whole ∙ ap (λ cost. option_map (λ more. cost + more) is_low.bound) tally.cost;
 }
 
--- what is unserved is among the tables' customers
-pub rest_within : (p : Problem) (among front : List ℕ) (rest : ℕ) → AreCovered p among front → IsRest p front rest → rest ≤ load_of p among
-rest_within p among front rest covered is_rest =
-    let both : All (Contains (served_in front ++ among)) (customers p) = λ k d lt. elim (covered k d lt) [
-      | inl served ↦ Contains-append_left (served_in front) among (get_or (customers p) k d) served
-      | inr unserved ↦ Contains-append_right (served_in front) among (get_or (customers p) k d) unserved
-    ] in
-    omega (arith, is_rest, sum_among (demand_of p) (customers p) (served_in front ++ among) (customers_distinct p) both, sum_by-append (demand_of p) (served_in front) among)
+-- the tables' customers demand no less than the unserved ones, who are among them
+pub rest_within : (p : Problem) (among front : List ℕ) → AreCovered p among front → load_of p (unserved_in p front) ≤ load_of p among
+rest_within p among front covered = sum_among (demand_of p) (unserved_in p front) among (unserved_distinct p front) covered
+
+-- who is covered at a front is covered at each word that goes on behind it
+covered_next : (p : Problem) (among front : List ℕ) (k : ℕ) → AreCovered p among front → AreCovered p among (front ++ k ∷ [])
+covered_next p among front k covered = λ i d lt.
+    All-contains (Contains among) (unserved_in p front) (get_or (unserved_in p (front ++ k ∷ [])) i d) covered
+    (unserved_before p front k (get_or (unserved_in p (front ++ k ∷ [])) i d) (Contains-get_or (unserved_in p (front ++ k ∷ [])) i d lt))
 
 pub covered_more : (p : Problem) (among front more : List ℕ) → AreCovered p among front → AreCovered p among (front ++ more)
-covered_more p among front more covered = λ k d lt. elim (covered k d lt) [
-  | inl served ↦ inl (subst (λ (xs : List ℕ). Contains xs (get_or (customers p) k d)) (sym (filter-append (λ n. not (n == 0)) front more)) (Contains-append_left (served_in front) (served_in more) (get_or (customers p) k d) served))
-  | inr unserved ↦ inr unserved
-]
+covered_more p among front [] covered = subst (AreCovered p among) (sym (append-nil front)) covered
+covered_more p among front (k ∷ more) covered = subst (AreCovered p among) (append_assoc front (k ∷ []) more) (covered_more p among (front ++ k ∷ []) more (covered_next p among front k covered))
 
 pub covered_under : (p : Problem) (among root word : List ℕ) → AreCovered p among root → BeginsWith word root → AreCovered p among word
 covered_under p among root word covered begins = subst (AreCovered p among) (sym begins.1) (covered_more p among root begins.0 covered)
@@ -50,20 +46,20 @@ covered_under p among root word covered begins = subst (AreCovered p among) (sym
 -- ---- no word under a front costs less
 
 abbrev pub BoundsHold : Type 0
-BoundsHold = (p : Problem) (front more among : List ℕ) (rest ins : ℕ) (answer : Option ℕ) → IsProblem p → IsLawfulWord p (front ++ more) → IsRest p front rest → IsInsOf p front ins → AreCovered p among front
-    → IsGreater p among (last_symbol front) (open_load p front) ins rest answer → MatchOption answer ⊥ (λ least. word_cost p front + least ≤ word_cost p (front ++ more))
+BoundsHold = (p : Problem) (front more among : List ℕ) (ins : ℕ) (answer : Option ℕ) → IsProblem p → IsLawfulWord p (front ++ more) → AreCovered p among front → IsInsOf p front ins
+    → IsGreater p among (last_symbol front) (open_load p front) ins (load_of p (unserved_in p front)) answer → MatchOption answer ⊥ (λ least. word_cost p front + least ≤ word_cost p (front ++ more))
 
 abbrev pub NoneUnder : Problem → List ℕ → Option ℕ → Type 0
 NoneUnder p front low = MatchOption low ((w : List ℕ) → IsLawfulWord p w → BeginsWith w front → ⊥) (NoneCheaperUnder p front)
 
-by_bound : BoundsHold → (p : Problem) (among front : List ℕ) (rest ins : ℕ) (bound : Option ℕ) → IsProblem p → AreCovered p among front → IsRest p front rest → IsInsOf p front ins
-    → IsGreater p among (last_symbol front) (open_load p front) ins rest bound → NoneUnder p front (option_map (λ more. word_cost p front + more) bound)
-by_bound law p among front rest ins None problem covered is_rest is_ins is_bound = λ w lawful begins. law p front begins.0 among rest ins None problem (subst (IsLawfulWord p) begins.1 lawful) is_rest is_ins covered is_bound
-by_bound law p among front rest ins (Some more) problem covered is_rest is_ins is_bound = λ w lawful begins.
-    omega (arith, law p front begins.0 among rest ins (Some more) problem (subst (IsLawfulWord p) begins.1 lawful) is_rest is_ins covered is_bound, ap (word_cost p) begins.1)
+by_bound : BoundsHold → (p : Problem) (among front : List ℕ) (ins : ℕ) (bound : Option ℕ) → IsProblem p → AreCovered p among front → IsInsOf p front ins
+    → IsGreater p among (last_symbol front) (open_load p front) ins (load_of p (unserved_in p front)) bound → NoneUnder p front (option_map (λ more. word_cost p front + more) bound)
+by_bound law p among front ins None problem covered is_ins is_bound = λ w lawful begins. law p front begins.0 among ins None problem (subst (IsLawfulWord p) begins.1 lawful) covered is_ins is_bound
+by_bound law p among front ins (Some more) problem covered is_ins is_bound = λ w lawful begins.
+    omega (arith, law p front begins.0 among ins (Some more) problem (subst (IsLawfulWord p) begins.1 lawful) covered is_ins is_bound, ap (word_cost p) begins.1)
 
 pub none_under : BoundsHold → (p : Problem) (among front : List ℕ) (low : Option ℕ) → IsProblem p → AreCovered p among front → IsLow p among front low → NoneUnder p front low
-none_under law p among front low problem covered is_low = subst (NoneUnder p front) (sym is_low.whole) (by_bound law p among front is_low.rest is_low.ins is_low.bound problem covered is_low.is_rest is_low.is_ins is_low.is_bound)
+none_under law p among front low problem covered is_low = subst (NoneUnder p front) (sym is_low.whole) (by_bound law p among front is_low.ins is_low.bound problem covered is_low.is_ins is_low.is_bound)
 
 -- where a bound is not under this cost, or there is none
 pub none_cheaper : (p : Problem) (front : List ℕ) (low : Option ℕ) (least : ℕ) → NoneUnder p front low → least ≤ unwrap_or low least → NoneCheaperUnder p front least

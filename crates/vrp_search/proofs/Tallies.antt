@@ -1,6 +1,6 @@
 -- A tally with one more symbol, and what is kept beside a word when a symbol is added or taken off.
 use Rattle.std.proofs.Common.{◌≡◌, ◌≢◌, ℕ, zero, suc, ◌+◌, ◌-◌, ◌*◌, ◌≤◌, ◌<◌, ◌==◌, Bool, true, false, if◌then◌else◌, List, [], ◌∷◌, ◌++◌, length, length-append, take, refl, sym, ap, subst, ◌∙◌, inl, inr, ◌⊎◌, arith}
-use Rattle.std.specs.List.{All}
+use Rattle.std.specs.List.{All, Contains}
 use Rattle.std.specs.Prelude.{slice_index, slice_index_or, slice_set, ◌↔◌}
 use Rattle.std.proofs.Math.ListN.{get_or-append}
 use Rattle.std.proofs.Math.Seq.{get_or-append_seam, take-append_seam}
@@ -8,18 +8,20 @@ use Rattle.std.proofs.lemmas.Bool.Decides.{nat_tests}
 use Rattle.std.proofs.lemmas.Bool.{cases_lt}
 use Rattle.std.proofs.lemmas.List.{get_or_default, get_or-set_same, get_or-set_other, length-set, take-append-le}
 use Rattle.std.proofs.lemmas.List.Elements.{All-cons, All-nil}
+use Rattle.vrp_model.specs.declared.limits.TheConstants.{MAX_WAYS}
 use Rattle.vrp_model.specs.Problem.{IsProblem, Problem, customers, demand_of, place_count, weight_of}
 use Rattle.vrp_model.specs.Route.{load_of}
-use Rattle.vrp_model.specs.Word.{IsFront, IsLawfulWord, IsOpen, IsUnserved, MakesChild, last_route, last_symbol, served_in, word_cost}
-use Rattle.vrp_model.proofs.Words.{last_is}
-use Rattle.vrp_model.proofs.AllCustomers.{is_customer}
-use Rattle.vrp_model.proofs.Children.{closed_is_open, load_with, served_at_depot, served_with, unserved_if_added}
+use Rattle.vrp_model.specs.Word.{IsFront, IsLawfulWord, IsOpen, MakesChild, last_route, last_symbol, served_in, stands_in, unserved_in, word_cost}
+use Rattle.vrp_model.proofs.Words.{last_is, serves_customer}
+use Rattle.vrp_model.proofs.AllCustomers.{is_customer, load_with}
+use Rattle.vrp_model.proofs.Children.{closed_is_open, served_at_depot, served_with, unserved_if_added}
 use Rattle.vrp_model.proofs.ChildCases.{cases_of_child}
-use Rattle.vrp_model.proofs.FrontPlaces.{serves_customer, symbol_is_place}
+use Rattle.vrp_model.proofs.FrontPlaces.{symbol_is_place}
 use Rattle.vrp_model.proofs.FrontsBefore.{fronts_before}
 use Rattle.vrp_model.proofs.PlanWords.{cost_parts}
 use Rattle.vrp_model.proofs.Rearranged.{customers_distinct}
-use Rattle.vrp_search.specs.Tallied.{AreBefore, AreFlags, AreTallied, IsTally, stands_in}
+use Rattle.vrp_model.proofs.UnservedCustomers.{all_unserved, nat_same, stands_in-append, stands_last, sum_of_unserved, unserved_at_depot, unserved_if_not_standing, unserved_stands_not}
+use Rattle.vrp_search.specs.Tallied.{AreBefore, AreFlags, AreTallied, IsTally}
 use Rattle.vrp_search.specs.declared.tally.Tally.{Tally}
 use Rattle.vrp_bound.specs.Capacity.{IsInsOf}
 use Rattle.vrp_model.specs.LeastWay.{IsLeastIn}
@@ -30,6 +32,21 @@ use Rattle.vrp_model.proofs.Steps.{last_route_closed, last_route_with, last_symb
 
 pub cost_with : (p : Problem) (word : List ℕ) (k : ℕ) → word_cost p (word ++ k ∷ []) ≡ word_cost p word + weight_of p (last_symbol word) k
 cost_with p word k = let parts = cost_parts p 0 word (k ∷ []) in rw (last_is word) (omega (arith, parts))
+
+-- the empty word
+pub tally_of_nothing : (p : Problem) (rest ins unserved : ℕ) → rest ≡ load_of p (customers p) → IsInsOf p [] ins → ins ≤ MAX_WAYS → unserved + 1 ≡ place_count p
+    → IsTally p [] (record { cost = 0; load = 0; rest = rest; ins = ins; first = 0; unserved = unserved })
+tally_of_nothing p rest ins unserved whole is_ins few all = record {
+  cost = refl;
+  small = omega arith;
+  load = refl;
+  light = omega arith;
+  rest = whole ∙ ap (load_of p) (sym (all_unserved p));
+  ins = is_ins;
+  small_ins = few;
+  first = refl;
+  unserved = omega (arith, all);
+}
 
 -- the depot
 pub tally_at_depot : (p : Problem) (word : List ℕ) (t : Tally) (cost : ℕ) → IsProblem p → IsFront p word → IsOpen word → IsTally p word t → cost ≡ t.cost + weight_of p (last_symbol word) 0
@@ -42,7 +59,7 @@ tally_at_depot p word t cost problem front is_open tally is =
       small = omega (arith, tally.small, is, weight, long);
       load = sym (load_at_depot p (word ++ 0 ∷ []) (last_symbol_with word 0));
       light = omega arith;
-      rest = rw (served_at_depot word) tally.rest;
+      rest = tally.rest ∙ ap (load_of p) (sym (unserved_at_depot p word));
       ins = ins_at_depot p word t.ins tally.ins;
       small_ins = tally.small_ins;
       first = tally.first ∙ ap (λ (r : List ℕ). slice_index r 0) (sym (last_route_closed word front.stops is_open));
@@ -80,7 +97,7 @@ added p word k t problem front some after tally =
     let long : length (served_in (word ++ k ∷ [])) ≡ length (served_in word) + 1 = ap length (served_with word k some) ∙ length-append (served_in word) (k ∷ []) in
     record {
       fits = loads.0;
-      left = omega (arith, sum_among (demand_of p) (served_in (word ++ k ∷ [])) (customers p) after.once after.known, served, tally.rest);
+      left = omega (arith, sum_of_unserved (demand_of p) p (word ++ k ∷ []) after, sum_of_unserved (demand_of p) p word front, served, tally.rest);
       some_left = omega (arith, served_are_few p (word ++ k ∷ []) problem after, long, tally.unserved);
       load = loads.1;
     }
@@ -91,7 +108,7 @@ pub tally_at_customer : (p : Problem) (word : List ℕ) (k least : ℕ) (t new :
     → (last_symbol word ≡ 0 → new.first ≡ k) → (0 < last_symbol word → new.first ≡ t.first) → new.unserved ≡ t.unserved - 1
     → IsTally p (word ++ k ∷ []) new
 tally_at_customer p word k least t new is_least ins problem front some after tally cost load rest starts goes_on unserved =
-    let ways = ins_with p word k t.ins least some after tally.ins is_least in
+    let ways = ins_with p word k t.ins least some front after tally.ins is_least in
     let facts = added p word k t problem front some after tally in
     let with_stop = last_route_with word k front.stops some in
     let long : length (word ++ k ∷ []) ≡ length word + 1 = length-append word (k ∷ []) in
@@ -104,7 +121,7 @@ tally_at_customer p word k least t new is_least ins problem front some after tal
       small = omega (arith, tally.small, cost, weight, long);
       load = load ∙ facts.load ∙ sym (load_at_customer p (word ++ k ∷ []) is_open);
       light = omega (arith, load, facts.fits);
-      rest = omega (arith, rest, facts.left, served, tally.rest);
+      rest = omega (arith, rest, facts.left, served, tally.rest, sum_of_unserved (demand_of p) p (word ++ k ∷ []) after, sum_of_unserved (demand_of p) p word front);
       ins = subst (IsInsOf p (word ++ k ∷ [])) (sym ins) ways.is;
       small_ins = omega (arith, ins, tally.small_ins);
       first = elim (cases_lt 0 (last_symbol word)) [
@@ -116,41 +133,6 @@ tally_at_customer p word k least t new is_least ins problem front some after tal
 
 -- ---- flags
 
-pub stands_in-append : (word : List ℕ) (k j : ℕ) → j ≢ k → stands_in (word ++ k ∷ []) j ≡ stands_in word j
-stands_in-append [] k j differs = let test : (k == j) ≡ false = grind (arith, nat_tests) in rw test refl
-stands_in-append (symbol ∷ word) k j differs = rw (stands_in-append word k j differs) refl
-
-pub stands_last : (word : List ℕ) (k : ℕ) → stands_in (word ++ k ∷ []) k ≡ true
-stands_last [] k = let test : (k == k) ≡ true = grind (arith, nat_tests) in rw test refl
-stands_last (symbol ∷ word) k = rw (stands_last word k) (elim (symbol == k) as (λ b. (if b then true else true) ≡ true) [ true ↦ refl | false ↦ refl ])
-
--- a customer that doesn't stand in the word isn't served by it, and the other way round
-pub none_stands : (word : List ℕ) (k : ℕ) → stands_in word k ≡ false → All (λ served. served ≢ k) (served_in word)
-none_stands [] k none = All-nil (λ served. served ≢ k)
-none_stands (zero ∷ word) k none = none_stands word k (grind (arith, nat_tests, none))
-none_stands (suc j ∷ word) k none =
-    let differs : suc j ≢ k = grind (arith, nat_tests, none) in
-    let rest : stands_in word k ≡ false = grind (arith, nat_tests, none) in
-    subst (All (λ served. served ≢ k)) (sym (serves_customer j word)) (All-cons (λ served. served ≢ k) (suc j) (served_in word) differs (none_stands word k rest))
-
-pub none_served : (word : List ℕ) (k : ℕ) → 0 < k → All (λ served. served ≢ k) (served_in word) → stands_in word k ≡ false
-none_served [] k some all = refl
-none_served (zero ∷ word) k some all = let test : (0 == k) ≡ false = grind (arith, nat_tests) in rw test (none_served word k some all)
-none_served (suc j ∷ word) k some all =
-    let here = subst (All (λ served. served ≢ k)) (serves_customer j word) all in
-    let differs : suc j ≢ k = here 0 (suc j) (omega arith) in
-    let test : (suc j == k) ≡ false = grind (arith, nat_tests) in
-    rw test (none_served word k some (λ i d lt. here (suc i) d (omega (arith, lt))))
-
-nat_same : (j k : ℕ) → (j ≡ k) ⊎ (j ≢ k)
-nat_same j k = elim (cases_lt j k) [
-  | inl below ↦ inr (λ same. absurd (omega (arith, below, same)))
-  | inr above ↦ elim (cases_lt k j) [
-    | inl over ↦ inr (λ same. absurd (omega (arith, over, same)))
-    | inr under ↦ inl (omega (arith, above, under))
-  ]
-]
-
 pub flags_pushed : (p : Problem) (word : List ℕ) (k : ℕ) (flags : List Bool) → length flags ≡ place_count p → k < place_count p → AreFlags p word flags → AreFlags p (word ++ k ∷ []) (slice_set flags k true)
 flags_pushed p word k flags long within are = λ j some below.
     elim (nat_same j k) [
@@ -161,7 +143,7 @@ flags_pushed p word k flags long within are = λ j some below.
 pub flags_popped : (p : Problem) (word : List ℕ) (k : ℕ) (flags : List Bool) → length flags ≡ place_count p → k < place_count p → IsFront p (word ++ k ∷ []) → AreFlags p (word ++ k ∷ []) flags → AreFlags p word (slice_set flags k false)
 flags_popped p word k flags long within front are = λ j some below.
     elim (nat_same j k) [
-      | inl same ↦ rw same (get_or-set_same flags k false false (omega (arith, long, within)) ∙ sym (none_served word k (omega (arith, some, same)) (unserved_if_added p word k (omega (arith, some, same)) front).1))
+      | inl same ↦ rw same (get_or-set_same flags k false false (omega (arith, long, within)) ∙ sym (unserved_stands_not p word k (unserved_if_added p word k (omega (arith, some, same)) front)))
       | inr differs ↦ get_or-set_other flags k j false false differs ∙ are j some below ∙ stands_in-append word k j differs
     ]
 
@@ -229,12 +211,12 @@ depot_child p word problem front = (λ is_open. (cases_of_child p word 0 problem
 
 pub no_served_child : (p : Problem) (word : List ℕ) (k : ℕ) (served : List Bool) (before : List Tally) (t : Tally) → AreTallied p word served before t → 0 < k → k < place_count p → slice_index_or served k true ≡ true → IsFront p (word ++ k ∷ []) → ⊥
 no_served_child p word k served before t are some below is_served after =
-    let none : stands_in word k ≡ false = none_served word k some (unserved_if_added p word k some after).1 in
+    let none : stands_in word k ≡ false = unserved_stands_not p word k (unserved_if_added p word k some after) in
     let never : true ≡ false = sym is_served ∙ get_or_default served k true false (omega (arith, below, are.one_flag_each)) ∙ are.flags k some below ∙ none in
     absurd (cc)
 
-unserved : (p : Problem) (word : List ℕ) (k : ℕ) (served : List Bool) → AreFlags p word served → 0 < k → k < place_count p → slice_index_or served k false ≡ false → IsUnserved p word k
-unserved p word k served flags some below isnt_served = (is_customer p k some below, none_stands word k (sym (flags k some below) ∙ isnt_served))
+unserved : (p : Problem) (word : List ℕ) (k : ℕ) (served : List Bool) → AreFlags p word served → 0 < k → k < place_count p → slice_index_or served k false ≡ false → Contains (unserved_in p word) k
+unserved p word k served flags some below isnt_served = unserved_if_not_standing p word k (is_customer p k some below) (sym (flags k some below) ∙ isnt_served)
 
 pub first_child : (p : Problem) (word : List ℕ) (k : ℕ) (served : List Bool) (before : List Tally) (t : Tally) → AreTallied p word served before t → 0 < k → k < place_count p → slice_index_or served k false ≡ false → last_symbol word ≡ 0
     → (t.first < k) ↔ IsFront p (word ++ k ∷ [])

@@ -3,17 +3,17 @@ use Rattle.std.proofs.Common.{◌≡◌, ◌≢◌, ℕ, zero, suc, inl, inr, �
 use Rattle.std.specs.List.{All, sum_by}
 use Rattle.std.proofs.lemmas.Bool.{cases_lt}
 use Rattle.std.proofs.lemmas.Bool.Decides.{nat_tests}
-use Rattle.std.proofs.lemmas.List.Elements.{All-append, All-cons, All-nil}
+use Rattle.std.proofs.lemmas.List.Elements.{All-append, All-cons, All-contains, All-nil, Contains-get_or}
 use Rattle.std.proofs.lemmas.List.FromFn.{get_or-range_with_len, length-range_with_len}
 use Rattle.std.proofs.lemmas.List.Sums.{sum_by-cons, sum_by_push}
 use Rattle.vrp_model.specs.declared.limits.TheConstants.{MAX_WEIGHT}
 use Rattle.vrp_bound.specs.Capacity.{IsInsOf}
 use Rattle.vrp_model.specs.LeastWay.{IsLeastIn}
 use Rattle.vrp_model.specs.Problem.{Problem, customers, place_count}
-use Rattle.vrp_model.specs.Word.{IsFront, served_in}
+use Rattle.vrp_model.specs.Word.{IsFront, served_in, unserved_in}
 use Rattle.vrp_model.proofs.AllCustomers.{all_taken, up_to}
-use Rattle.vrp_model.proofs.Children.{served_at_depot, served_with, unserved_if_added}
-use Rattle.vrp_search.proofs.Among.{sum_among}
+use Rattle.vrp_model.proofs.Children.{served_with, unserved_if_added}
+use Rattle.vrp_model.proofs.UnservedCustomers.{all_unserved, sum_of_unserved, unserved_at_depot, unserved_before}
 
 least_is_one : (p : Problem) (to one other : ℕ) → IsLeastIn p to one → IsLeastIn p to other → one ≡ other
 least_is_one p to one other a b =
@@ -24,22 +24,32 @@ least_is_one p to one other a b =
 -- ---- one more symbol
 
 pub ins_at_depot : (p : Problem) (word : List ℕ) (ins : ℕ) → IsInsOf p word ins → IsInsOf p (word ++ 0 ∷ []) ins
-ins_at_depot p word ins is = record { least_in = is.least_in; each = is.each; whole = rw (served_at_depot word) is.whole }
+ins_at_depot p word ins is =
+    let same : unserved_in p word ≡ unserved_in p (word ++ 0 ∷ []) = sym (unserved_at_depot p word) in
+    record {
+      least_in = is.least_in;
+      each = subst (All (λ customer. IsLeastIn p customer (is.least_in customer))) same is.each;
+      whole = is.whole ∙ ap (sum_by is.least_in) same;
+    }
 
 -- a customer is no longer unserved
 pub record InsWith (p : Problem) (word : List ℕ) (k ins least : ℕ) : Type 0 where
   pub left : least ≤ ins
   pub is : IsInsOf p (word ++ k ∷ []) (ins - least)
 
-pub ins_with : (p : Problem) (word : List ℕ) (k ins least : ℕ) → 0 < k → IsFront p (word ++ k ∷ []) → IsInsOf p word ins → IsLeastIn p k least → InsWith p word k ins least
-ins_with p word k ins least some after is is_least =
+pub ins_with : (p : Problem) (word : List ℕ) (k ins least : ℕ) → 0 < k → IsFront p word → IsFront p (word ++ k ∷ []) → IsInsOf p word ins → IsLeastIn p k least → InsWith p word k ins least
+ins_with p word k ins least some front after is is_least =
     let f = is.least_in in
-    let (i, lt, at) = (unserved_if_added p word k some after).0 in
-    let same : f k ≡ least = least_is_one p k (f k) least (subst (λ c. IsLeastIn p c (f c)) at (is.each i k lt)) is_least in
+    let Into : ℕ → Type 0 = λ customer. IsLeastIn p customer (f customer) in
+    let same : f k ≡ least = least_is_one p k (f k) least (All-contains Into (unserved_in p word) k is.each (unserved_if_added p word k some after)) is_least in
     let served : sum_by f (served_in (word ++ k ∷ [])) ≡ sum_by f (served_in word) + f k = ap (sum_by f) (served_with word k some) ∙ sum_by_push f (served_in word) k in
-    let within = sum_among f (served_in (word ++ k ∷ [])) (customers p) after.once after.known in
-    let left : least ≤ ins = omega (arith, within, served, same, is.whole) in
-    record { left = left; is = record { least_in = f; each = is.each; whole = omega (arith, left, served, same, is.whole) } }
+    let before = sum_of_unserved f p word front in
+    let behind = sum_of_unserved f p (word ++ k ∷ []) after in
+    let left : least ≤ ins = omega (arith, before, behind, served, same, is.whole) in
+    let still : All Into (unserved_in p (word ++ k ∷ [])) = λ i d lt.
+        All-contains Into (unserved_in p word) (get_or (unserved_in p (word ++ k ∷ [])) i d) is.each
+        (unserved_before p word k (get_or (unserved_in p (word ++ k ∷ [])) i d) (Contains-get_or (unserved_in p (word ++ k ∷ [])) i d lt)) in
+    record { left = left; is = record { least_in = f; each = still; whole = omega (arith, left, before, behind, served, same, is.whole) } }
 
 -- ---- all customers
 
@@ -94,11 +104,14 @@ one_more_way p i ins least lt so_far is few =
     }
 
 pub all_ways : (p : Problem) (count ins : ℕ) → count + 1 ≡ place_count p → InsSoFar p count ins → IsInsOf p [] ins
-all_ways p count ins all so_far = record {
-  least_in = so_far.least_in;
-  each = λ i d lt.
+all_ways p count ins all so_far =
+    let everyone : customers p ≡ unserved_in p [] = sym (all_unserved p) in
+    let ways : All (λ customer. IsLeastIn p customer (so_far.least_in customer)) (customers p) = λ i d lt.
       let bound : i < place_count p - 1 = rw (length-range_with_len 1 (place_count p - 1)) at lt in
       let value : get_or (customers p) i d ≡ 1 + i = get_or-range_with_len 1 (place_count p - 1) i d bound in
-      so_far.each (get_or (customers p) i d) (omega (arith, value)) (omega (arith, value, bound, all));
-  whole = omega (arith, so_far.whole, ap (sum_by so_far.least_in) (all_taken p count all));
-}
+      so_far.each (get_or (customers p) i d) (omega (arith, value)) (omega (arith, value, bound, all)) in
+    record {
+      least_in = so_far.least_in;
+      each = subst (All (λ customer. IsLeastIn p customer (so_far.least_in customer))) everyone ways;
+      whole = so_far.whole ∙ ap (sum_by so_far.least_in) (all_taken p count all ∙ everyone);
+    }

@@ -1,28 +1,27 @@
 -- What is known of the words under a front, and how the search of a piece ends.
-use Rattle.std.specs.Prelude.{◌≡◌, ◌⊎◌, ℕ, ◌+◌, ◌≤◌, Option, Some, List}
+use Rattle.std.specs.Prelude.{◌≡◌, ℕ, ◌+◌, ◌≤◌, Option, Some, List}
 use Rattle.std.specs.List.{All, Contains}
 use Rattle.std.specs.Option.{option_map}
 use Rattle.vrp_bound.specs.Bound.{IsGreater}
 use Rattle.vrp_bound.specs.Capacity.{IsInsOf}
-use Rattle.vrp_model.specs.Front.{IsRest, open_load}
-use Rattle.vrp_model.specs.Problem.{Problem, customers}
-use Rattle.vrp_model.specs.Word.{NoneCheaperUnder, TreeHasAtLeast, last_symbol, served_in, word_cost}
+use Rattle.vrp_model.specs.Front.{open_load}
+use Rattle.vrp_model.specs.Problem.{Problem}
+use Rattle.vrp_model.specs.Route.{load_of}
+use Rattle.vrp_model.specs.Word.{NoneCheaperUnder, TreeHasAtLeast, last_symbol, unserved_in, word_cost}
 use Rattle.vrp_search.specs.declared.depth_first.Ended.{Ended}
 use Rattle.vrp_search.specs.declared.depth_first.Ended.TheVariants.{Finished, Unfinished}
 
--- each customer is served by the front, or is among these
+-- each customer that the front leaves unserved is among these
 abbrev pub AreCovered : Problem → List ℕ → List ℕ → Type 0
-AreCovered p among front = All (λ customer. Contains (served_in front) customer ⊎ Contains among customer) (customers p)
+AreCovered p among front = All (Contains among) (unserved_in p front)
 
 -- What a word under the front costs at least, with tables over these customers: what is paid along the front, and the bound on
 -- what is still to pay. None: there is no word under it.
 pub record IsLow (p : Problem) (among front : List ℕ) (low : Option ℕ) : Type 0 where
-  pub rest : ℕ
-  pub is_rest : IsRest p front rest
   pub ins : ℕ
   pub is_ins : IsInsOf p front ins
   pub bound : Option ℕ
-  pub is_bound : IsGreater p among (last_symbol front) (open_load p front) ins rest bound
+  pub is_bound : IsGreater p among (last_symbol front) (open_load p front) ins (load_of p (unserved_in p front)) bound
   pub whole : low ≡ option_map (λ more. word_cost p front + more) bound
 
 -- no word under the front costs less than the floor

@@ -1,11 +1,12 @@
 -- What a partial plan keeps beside its word: counters that are what they are called, and what they were before each symbol.
-use Rattle.std.specs.Prelude.{◌≡◌, ℕ, ◌+◌, ◌*◌, ◌≤◌, ◌<◌, ◌==◌, if◌then◌else◌, Bool, true, false, Option, List, [], ◌∷◌, length, slice_index, slice_index_or, take}
+use Rattle.std.specs.Prelude.{◌≡◌, ℕ, ◌+◌, ◌*◌, ◌≤◌, ◌<◌, Bool, false, Option, List, [], ◌∷◌, length, slice_index, slice_index_or, take}
 use Rattle.std.specs.Option.{option_map}
 use Rattle.vrp_bound.specs.Bound.{IsGreater}
 use Rattle.vrp_bound.specs.Capacity.{IsInsOf}
 use Rattle.vrp_model.specs.Problem.{IsProblem, Problem, place_count}
-use Rattle.vrp_model.specs.Word.{IsFront, last_route, served_in, word_cost}
-use Rattle.vrp_model.specs.Front.{IsRest, open_load}
+use Rattle.vrp_model.specs.Word.{IsFront, last_route, served_in, stands_in, unserved_in, word_cost}
+use Rattle.vrp_model.specs.Front.{open_load}
+use Rattle.vrp_model.specs.Route.{load_of}
 use Rattle.vrp_model.specs.declared.limits.TheConstants.{MAX_WAYS, MAX_WEIGHT}
 use Rattle.vrp_search.specs.declared.tally.Tally.{Tally}
 
@@ -14,7 +15,7 @@ pub record IsTally (p : Problem) (word : List ℕ) (tally : Tally) : Type 0 wher
   pub small : tally.cost ≤ MAX_WEIGHT * length word
   pub load : tally.load ≡ open_load p word
   pub light : tally.load ≤ p.capacity
-  pub rest : IsRest p word tally.rest
+  pub rest : tally.rest ≡ load_of p (unserved_in p word)
   pub ins : IsInsOf p word tally.ins
   pub small_ins : tally.ins ≤ MAX_WAYS
   -- the first customer of the last route, 0 where there is no route yet
@@ -26,11 +27,6 @@ pub record IsLowOf (p : Problem) (among : List ℕ) (at : ℕ) (tally : Tally) (
   pub bound : Option ℕ
   pub is_bound : IsGreater p among at tally.load tally.ins tally.rest bound
   pub whole : low ≡ option_map (λ more. tally.cost + more) bound
-
--- a symbol of the word is this one
-abbrev pub stands_in : List ℕ → ℕ → Bool
-stands_in [] k = false
-stands_in (symbol ∷ word) k = if symbol == k then true else stands_in word k
 
 -- a flag for each place: what stands at 0 is of no account
 abbrev pub AreFlags : Problem → List ℕ → List Bool → Type 0

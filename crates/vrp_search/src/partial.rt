@@ -1,11 +1,11 @@
 //! Partial plans: a word that grows and shrinks by one symbol, with what the search asks of it kept in step.
 ghost use Rattle.std.specs.Prelude.{◌≡◌, ◌<◌, ◌≤◌, ◌+◌, ◌*◌, ◌↔◌, [], ◌∷◌, ◌++◌, length, IsTrue, IfOk, IfSome, MatchOption};
 ghost use Rattle.vrp_model.specs.Problem.{IsProblem, place_count};
-ghost use Rattle.vrp_model.specs.Route.{IsPlanOf};
-ghost use Rattle.vrp_model.specs.Word.{IsFront, IsLawfulWord, last_symbol, word_cost, word_of};
+ghost use Rattle.vrp_model.specs.Route.{IsPlanOf, load_of};
+ghost use Rattle.vrp_model.specs.Word.{IsFront, IsLawfulWord, last_symbol, unserved_in, word_cost, word_of};
 ghost use Rattle.vrp_model.specs.declared.limits.TheConstants.{MAX_NODES};
 ghost use Rattle.vrp_search.specs.Partial.{PartialPlan};
-ghost use Rattle.vrp_model.specs.Front.{open_load, IsRest};
+ghost use Rattle.vrp_model.specs.Front.{open_load};
 ghost use Rattle.vrp_search.specs.Child.{IsNextChild, NoChildFrom};
 ghost use Rattle.vrp_search.specs.Search.{AreCovered, IsLow};
 ghost use Rattle.vrp_search.specs.Tallied.{IsTally};
@@ -233,7 +233,7 @@ impl<'a> Partial<'a> {
 
     /// What the unserved customers demand.
     pub fn rest(&self) -> u64
-        ensures { IsRest self.now.problem self.now.word result }
+        ensures { result ≡ load_of self.now.problem (unserved_in self.now.problem self.now.word) }
     {
         self.tally.rest
     }

@@ -1,11 +1,11 @@
-use Rattle.std.proofs.Common.{◌≡◌, ◌∙◌, ◌<◌, List, ℕ, get_or, length, ap, inr, sym, subst, arith}
-use Rattle.std.specs.List.{Contains}
-use Rattle.std.proofs.lemmas.List.Elements.{All-contains_itself}
+use Rattle.std.proofs.Common.{◌≡◌, ◌∙◌, ◌<◌, List, ℕ, get_or, length, ap, sym, subst, arith}
 use Rattle.vrp_bound.specs.Tables.{TablesOf}
 use Rattle.vrp_model.specs.Problem.{customers}
 use Rattle.std.proofs.lemmas.List.{get_or-map, length-map}
 use Rattle.vrp_model.specs.Word.{IsFront}
+use Rattle.vrp_model.proofs.UnservedCustomers.{unserved_are_customers}
 use Rattle.vrp_search.specs.Cutting.{NumberedWord}
+use Rattle.vrp_search.specs.Search.{AreCovered}
 use Rattle.bench_search.proofs.main.Goals as goal
 
 -- the piece is one of the cutting's words, and they are fronts
@@ -25,4 +25,4 @@ pub search-requires-clause-covered : goal.search-requires-clause-covered
 search-requires-clause-covered c =
     let p = c.in_ok-instance.instance in
     let among : c.in_ok-tables.tables.among ≡ customers p = ap (λ (tables : TablesOf). tables.among) c.in_ok-tables.ensures in
-    λ k d lt. inr (subst (λ (xs : List ℕ). Contains xs (get_or (customers p) k d)) (sym among) (All-contains_itself (customers p) k d lt))
+    subst (λ (xs : List ℕ). AreCovered p xs c.index-pieces-0.result.word) (sym among) (unserved_are_customers p c.index-pieces-0.result.word)

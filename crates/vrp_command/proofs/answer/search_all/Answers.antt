@@ -2,9 +2,10 @@ use Rattle.std.proofs.Common.{◌≡◌, ◌∙◌, ◌+◌, List, ℕ, Some, mi
 use Rattle.vrp_bound.specs.Tables.{TablesOf}
 use Rattle.vrp_model.specs.Problem.{customers}
 use Rattle.vrp_model.specs.Word.{IsFront}
+use Rattle.vrp_model.proofs.UnservedCustomers.{unserved_are_customers}
 use Rattle.vrp_search.specs.Search.{AreCovered, EndsSearch}
 use Rattle.vrp_command.specs.Searched.{AreSearched}
-use Rattle.vrp_command.proofs.Pieces.{all_covered, contains_at, none_searched, one_more, piece_at, piece_finished, piece_left, with_one}
+use Rattle.vrp_command.proofs.Pieces.{contains_at, none_searched, one_more, piece_at, piece_finished, piece_left, with_one}
 use Rattle.vrp_command.proofs.answer.search_all.Goals.{in-Unfinished, in_default}
 use Rattle.vrp_command.proofs.answer.search_all.Goals as goal
 
@@ -18,7 +19,7 @@ pub search-requires-clause-covered : goal.search-requires-clause-covered
 search-requires-clause-covered c =
     let p = c.args.instance.now in
     let front = c.piece-item.result.word in
-    subst (λ (tables : TablesOf). AreCovered p tables.among front) (sym c.requires.tables) (all_covered p front)
+    subst (λ (tables : TablesOf). AreCovered p tables.among front) (sym c.requires.tables) (unserved_are_customers p front)
 
 pub search-requires-clause-piece : goal.search-requires-clause-piece
 search-requires-clause-piece c =

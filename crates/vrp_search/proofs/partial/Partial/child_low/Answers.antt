@@ -1,6 +1,7 @@
-use Rattle.std.proofs.Common.{◌≡◌, ◌≤◌, ◌++◌, ◌∷◌, [], ap, subst, sym}
-use Rattle.vrp_model.specs.Problem.{Problem}
+use Rattle.std.proofs.Common.{◌≡◌, ◌≤◌, ◌++◌, ◌∷◌, [], ap, subst, sym, arith}
+use Rattle.vrp_model.specs.Problem.{Problem, customers, demand_of}
 use Rattle.vrp_model.specs.Route.{load_of}
+use Rattle.vrp_model.proofs.UnservedCustomers.{sum_of_unserved_fits}
 use Rattle.vrp_model.proofs.Steps.{last_symbol_with}
 use Rattle.vrp_search.specs.Partial.{PartialPlan}
 use Rattle.vrp_search.specs.Tallied.{IsLowOf}
@@ -14,7 +15,14 @@ low-requires-clause-rest c =
     let word = c.args.self.now.word in
     let problem : c.self.inside.instance.now ≡ p = ap (λ (v : PartialPlan). v.problem) c.self.view_is in
     subst (λ (q : Problem). c.tally_after.result.rest ≤ load_of q among) (sym problem)
-    (rest_within p among (word ++ c.args.symbol ∷ []) c.tally_after.result.rest (covered_more p among word (c.args.symbol ∷ []) c.requires.covered) c.tally_after.ensures.tally.rest)
+    (omega (arith, c.tally_after.ensures.tally.rest, rest_within p among (word ++ c.args.symbol ∷ []) (covered_more p among word (c.args.symbol ∷ []) c.requires.covered)))
+
+pub low-requires-clause-all : goal.low-requires-clause-all
+low-requires-clause-all c =
+    let p = c.args.self.now.problem in
+    let problem : c.self.inside.instance.now ≡ p = ap (λ (v : PartialPlan). v.problem) c.self.view_is in
+    subst (λ (q : Problem). c.tally_after.result.rest ≤ load_of q (customers q)) (sym problem)
+    (omega (arith, c.tally_after.ensures.tally.rest, sum_of_unserved_fits (demand_of p) p (c.args.self.now.word ++ c.args.symbol ∷ [])))
 
 pub returns : goal.returns
 returns c =

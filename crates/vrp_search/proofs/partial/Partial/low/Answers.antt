@@ -1,5 +1,6 @@
 use Rattle.std.proofs.Common.{subst, sym, arith}
-use Rattle.vrp_model.specs.Problem.{IsProblem}
+use Rattle.vrp_model.specs.Problem.{IsProblem, demand_of}
+use Rattle.vrp_model.proofs.UnservedCustomers.{sum_of_unserved_fits}
 use Rattle.vrp_model.proofs.FrontPlaces.{last_is_place}
 use Rattle.vrp_search.specs.Partial.{PartialPlan}
 use Rattle.vrp_search.specs.Search.{AreCovered, IsLow}
@@ -21,7 +22,10 @@ low-requires-clause-cost c =
 pub low-requires-clause-rest : goal.low-requires-clause-rest
 low-requires-clause-rest c =
     let covered = subst (λ (v : PartialPlan). AreCovered v.problem c.args.tables.now.among v.word) (sym c.self.view_is) c.requires.covered in
-    rest_within c.self.inside.instance.now c.args.tables.now.among c.self.inside.word.items c.self.inside.tally.rest covered c.self.invariant.0.now.rest
+    omega (arith, c.self.invariant.0.now.rest, rest_within c.self.inside.instance.now c.args.tables.now.among c.self.inside.word.items covered)
+
+pub low-requires-clause-all : goal.low-requires-clause-all
+low-requires-clause-all c = omega (arith, c.self.invariant.0.now.rest, sum_of_unserved_fits (demand_of c.self.inside.instance.now) c.self.inside.instance.now c.self.inside.word.items)
 
 pub returns-clause-low : goal.returns-clause-low
 returns-clause-low c =

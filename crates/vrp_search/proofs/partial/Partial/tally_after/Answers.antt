@@ -47,7 +47,7 @@ least_in-requires-clause-within c =
 pub overflow_sub-result-2 : goal.overflow_sub-result-2
 overflow_sub-result-2 c =
     let after = child_inside c.self.inside.instance.now c.self.inside.word.items c.args.symbol c.args.self.now c.self.view_is c.requires in
-    let ways = ins_with c.self.inside.instance.now c.self.inside.word.items c.args.symbol c.self.inside.tally.ins c.least_in.result (omega (arith, c.if-symbol-eq0.false)) after c.self.invariant.0.now.ins c.least_in.ensures.least in
+    let ways = ins_with c.self.inside.instance.now c.self.inside.word.items c.args.symbol c.self.inside.tally.ins c.least_in.result (omega (arith, c.if-symbol-eq0.false)) c.self.invariant.0.front after c.self.invariant.0.now.ins c.least_in.ensures.least in
     ways.left
 
 pub overflow_sub-result-3 : goal.overflow_sub-result-3
