@@ -13,7 +13,8 @@ use Rattle.vrp_model.proofs.Children.{All-last, All-left, open_is_some, pairs_le
 use Rattle.vrp_model.proofs.ChildCases.{firsts_with}
 use Rattle.vrp_model.proofs.AllCustomers.{load_with}
 
-rising_left : (xs ys : List ℕ) → IsStrictlyIncreasing (xs ++ ys) → IsStrictlyIncreasing xs
+-- what a rising list begins with rises
+pub rising_left : (xs ys : List ℕ) → IsStrictlyIncreasing (xs ++ ys) → IsStrictlyIncreasing xs
 rising_left xs ys rising = λ i lt.
     let low : slice_index (xs ++ ys) i ≡ slice_index xs i = get_or-append xs ys 0 i (omega (arith, lt)) in
     let high : slice_index (xs ++ ys) (i + 1) ≡ slice_index xs (i + 1) = get_or-append xs ys 0 (i + 1) lt in

@@ -8,7 +8,7 @@ use Rattle.std.proofs.lemmas.List.Elements.{All-append, All-cons, All-map, All-n
 use Rattle.std.proofs.lemmas.List.Sorted.{IsPermutation-refl}
 use Rattle.std.proofs.lemmas.List.Sums.{sum_by_push}
 use Rattle.vrp_model.proofs.Words.{word_of-append}
-use Rattle.vrp_model.proofs.Rearranged.{customers_rise}
+use Rattle.vrp_model.proofs.Rearranged.{range_rises}
 use Rattle.vrp_model.proofs.PlacesLemmas.{range_with_len_more}
 use Rattle.vrp_model.specs.Problem.{Problem, IsProblem, customers}
 use Rattle.vrp_model.specs.Route.{IsLawful, load_of, plan_cost, route_cost}
@@ -41,8 +41,8 @@ routes_in_push word route spans span within start end =
     map-append _ spans (span ∷ []) ∙ cc
 
 -- the word, and the spans within it, when a route is appended
-pub IsKept-push : (word route : List ℕ) (spans : List Span) (span : Span) → IsKept word spans → span.start ≡ length word → span.end ≡ length word + length route → IsKept ((word ++ route) ++ 0 ∷ []) (spans ++ span ∷ [])
-IsKept-push word route spans span kept start end =
+pub IsKept-push : (word route : List ℕ) (spans : List Span) (span : Span) → IsKept word spans → IsStrictlyIncreasing (first_stops (routes_in word spans ++ route ∷ [])) → span.start ≡ length word → span.end ≡ length word + length route → IsKept ((word ++ route) ++ 0 ∷ []) (spans ++ span ∷ [])
+IsKept-push word route spans span kept rising start end =
     let long : length ((word ++ route) ++ 0 ∷ []) ≡ length word + length route + 1 = length-append (word ++ route) (0 ∷ []) ∙ ap (λ n. n + 1) (length-append word route) in
     let routes = routes_in_push word route spans span kept.within start end in
     record {
@@ -55,6 +55,7 @@ IsKept-push word route spans span kept start end =
           ∙ ap (λ (w : List ℕ). word_of (routes_in word spans) ++ w) (sym (append-nil (route ++ 0 ∷ [])))
           ∙ sym (word_of-append (routes_in word spans) (route ∷ []))
           ∙ ap word_of (sym routes);
+      rising = subst (λ (rs : List (List ℕ)). IsStrictlyIncreasing (first_stops rs)) (sym routes) rising;
     }
 
 concat_singles : (xs : List ℕ) → concat (map (λ x. x ∷ []) xs) ≡ xs
@@ -82,6 +83,10 @@ first_of_singles : (xs : List ℕ) → first_stops (map (λ x. x ∷ []) xs) ≡
 first_of_singles [] = refl
 first_of_singles (x ∷ xs) = ap (λ rest. x ∷ rest) (first_of_singles xs)
 
--- the routes of the singles plan rise by first customer
-pub rising_singles : (p : Problem) → IsStrictlyIncreasing (first_stops (map (λ customer. customer ∷ []) (customers p)))
-rising_singles p = subst IsStrictlyIncreasing (sym (first_of_singles (customers p))) (customers_rise p)
+-- the routes of so many customers, one each, rise by first customer
+pub rising_singles : (count : ℕ) → IsStrictlyIncreasing (first_stops (map (λ customer. customer ∷ []) (range_with_len 1 count)))
+rising_singles count = subst IsStrictlyIncreasing (sym (first_of_singles (range_with_len 1 count))) (range_rises count)
+
+-- and with one more behind them
+pub rising_with_single : (routes : List (List ℕ)) (count : ℕ) → routes ≡ map (λ customer. customer ∷ []) (range_with_len 1 count) → IsStrictlyIncreasing (first_stops (routes ++ (((count + 1) ∷ []) ∷ [])))
+rising_with_single routes count so_far = subst (λ (rs : List (List ℕ)). IsStrictlyIncreasing (first_stops rs)) (sym (singles_push routes count so_far)) (rising_singles (count + 1))

@@ -9,7 +9,7 @@ use Rattle.std.proofs.lemmas.List.{get_or-append-add}
 use Rattle.std.proofs.lemmas.List.Sums.{sum_by-cons}
 use Rattle.std.proofs.lemmas.List.Sorted.{IsPermutation-sym, Contains-permutation}
 use Rattle.vrp_model.specs.Problem.{Problem, customers}
-use Rattle.vrp_model.specs.Route.{IsLawful, cost_along, load_of, plan_cost, route_cost}
+use Rattle.vrp_model.specs.Route.{IsLawful, IsPlanOf, PricedPlan, cost_along, load_of, plan_cost, route_cost}
 use Rattle.vrp_model.specs.Word.{HasStops, IsLawfulWord, first_stops, last_symbol, routes_of, served_in, word_cost, word_of}
 use Rattle.vrp_model.proofs.Words.{AreClosed, HasStops-append, IsStops, last_behind, last_behind-append, routes_are, shape_of}
 use Rattle.vrp_model.proofs.Children.{last_of_shape, last_stop}
@@ -150,3 +150,9 @@ word_of_plan p routes lawful rising =
       },
       cost_of_word p routes,
     )
+
+-- the word of a lawful plan whose routes rise, at the plan's cost
+pub lawful_word_of : (p : Problem) (plan : PricedPlan) → IsPlanOf p plan → IsStrictlyIncreasing (first_stops plan.routes) → IsLawfulWord p (word_of plan.routes) × (word_cost p (word_of plan.routes) ≡ plan.cost)
+lawful_word_of p plan plan_of rising =
+    let (lawful, price) = word_of_plan p plan.routes plan_of.lawful rising in
+    (lawful, price ∙ sym plan_of.priced)

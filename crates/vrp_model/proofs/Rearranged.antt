@@ -4,7 +4,7 @@ use Rattle.std.proofs.lemmas.List.FromFn.{get_or-range_with_len, length-range_wi
 use Rattle.std.proofs.lemmas.List.Kept.{AllPairs-from_increasing}
 use Rattle.std.specs.List.{All, AllPairs, Contains}
 use Rattle.std.specs.List.Sorted.{IsPermutation, IsStrictlyIncreasing}
-use Rattle.std.specs.List.{remove}
+use Rattle.std.specs.List.{range_with_len, remove}
 use Rattle.std.proofs.lemmas.Bool.Decides.{Decides-eqb, nat_tests}
 use Rattle.std.proofs.lemmas.List.Sorted.{IsPermutation-refl, IsPermutation-sym, IsPermutation-cons, IsPermutation-remove, IsPermutation-trans, Contains-permutation}
 use Rattle.std.proofs.lemmas.Map.Keys.{IsDistinct-IsPermutation}
@@ -61,10 +61,15 @@ same_elements (y ∷ ys) xs one other covers covered =
     (head_differs y (remove xs i) left k d within)) in
     IsPermutation-trans xs (y ∷ remove xs i) (y ∷ ys) moved (IsPermutation-cons y (remove xs i) ys rest)
 
+-- the numbers from 1 on rise
+pub range_rises : (count : ℕ) → IsStrictlyIncreasing (range_with_len 1 count)
+range_rises count = λ k lt.
+    let bound : k + 1 < count = rw (length-range_with_len 1 count) at lt in
+    omega (arith, get_or-range_with_len 1 count k 0 (omega (arith, bound)), get_or-range_with_len 1 count (k + 1) 0 bound)
+
+-- and so do the customers
 pub customers_rise : (p : Problem) → IsStrictlyIncreasing (customers p)
-customers_rise p = λ k lt.
-    let bound : k + 1 < place_count p - 1 = rw (length-range_with_len 1 (place_count p - 1)) at lt in
-    omega (arith, get_or-range_with_len 1 (place_count p - 1) k 0 (omega (arith, bound)), get_or-range_with_len 1 (place_count p - 1) (k + 1) 0 bound)
+customers_rise p = range_rises (place_count p - 1)
 
 pub customers_distinct : (p : Problem) → AreDistinct (customers p)
 customers_distinct p =

@@ -1,20 +1,32 @@
 -- A word while its routes are read from the front.
 use Rattle.std.proofs.Common.{◌≡◌, ℕ, zero, suc, ◌+◌, ◌*◌, ◌-◌, ◌≤◌, ◌<◌, true, false, not, ◌==◌, List, [], ◌∷◌, ◌++◌, length, length-append, take, drop, get_or, refl, sym, ap, subst, ◌∙◌, append_assoc, append-nil, arith}
 use Rattle.std.specs.List.{All, Contains, concat, position_or_len}
+use Rattle.std.specs.List.Sorted.{IsStrictlyIncreasing}
+use Rattle.std.specs.Prelude.{slice_index}
 use Rattle.std.proofs.Math.ListN.{get_or-append}
 use Rattle.std.proofs.Math.Seq.{take-append_seam}
 use Rattle.std.proofs.lemmas.Bool.Decides.{nat_tests}
-use Rattle.std.proofs.lemmas.List.{get_or-append-add, take_more, take_rest, nil_from_length}
+use Rattle.std.proofs.lemmas.List.{get_or-append-add, map-append, take_more, take_rest, nil_from_length}
 use Rattle.std.proofs.lemmas.List.Elements.{All-cons, All-nil}
 use Rattle.std.proofs.lemmas.List.Sorted.{length_permutation}
 use Rattle.std.proofs.lemmas.List.FromFn.{get_or-range_with_len, length-range_with_len}
 use Rattle.vrp_model.specs.Problem.{Problem, IsProblem, customers, place_count, weight_of}
 use Rattle.vrp_model.specs.Route.{cost_along, plan_cost, route_cost}
 use Rattle.vrp_model.specs.Stops.{IsWordEnd}
-use Rattle.vrp_model.specs.Word.{HasStops, IsLawfulWord, served_in, word_of}
-use Rattle.vrp_model.proofs.Words.{AreClosed, AreClosed-append, IsStops, is_stop, last_behind, last_behind-append, last_is, word_of-append}
+use Rattle.vrp_model.specs.Word.{HasStops, IsLawfulWord, first_stops, routes_of, served_in, word_of}
+use Rattle.vrp_model.proofs.FrontsBefore.{rising_left}
+use Rattle.vrp_model.proofs.Words.{AreClosed, AreClosed-append, IsStops, is_stop, last_behind, last_behind-append, last_is, open_routes, routes_are, shape_of, word_of-append}
 use Rattle.vrp_model.proofs.PlanWords.{closed_plan, cost_parts, plan_of_word}
 use Rattle.vrp_model.proofs.PlanLemmas.{plan_cost_push}
+
+-- the routes that a lawful word begins with rise
+pub read_routes_rise : (p : Problem) (word : List ℕ) (routes : List (List ℕ)) (rest : List ℕ) → IsLawfulWord p word → word ≡ word_of routes ++ rest → AreClosed routes → IsWordEnd rest → IsStrictlyIncreasing (first_stops routes)
+read_routes_rise p word routes rest lawful is are end =
+    let s = shape_of rest end.stops in
+    let whole : word ≡ word_of (routes ++ s.closed) ++ s.open_stops = is ∙ ap (λ (w : List ℕ). word_of routes ++ w) s.is ∙ sym (append_assoc (word_of routes) (word_of s.closed) s.open_stops) ∙ ap (λ (w : List ℕ). w ++ s.open_stops) (sym (word_of-append routes s.closed)) in
+    let all : routes_of word ≡ routes ++ (s.closed ++ open_routes s.open_stops) = ap routes_of whole ∙ routes_are (routes ++ s.closed) s.open_stops (AreClosed-append routes s.closed are s.are_closed) s.are_stops ∙ append_assoc routes s.closed (open_routes s.open_stops) in
+    let firsts : first_stops (routes_of word) ≡ first_stops routes ++ first_stops (s.closed ++ open_routes s.open_stops) = ap first_stops all ∙ map-append (λ r. slice_index r 0) routes (s.closed ++ open_routes s.open_stops) in
+    rising_left (first_stops routes) (first_stops (s.closed ++ open_routes s.open_stops)) (subst IsStrictlyIncreasing firsts lawful.front.rising)
 
 -- one more stop on the way
 pub way_more : (p : Problem) (stops : List ℕ) (k : ℕ) → k < length stops

@@ -1,7 +1,8 @@
 -- Routes that lie one after the other in one list of stops.
 use Rattle.std.specs.Prelude.{◌≡◌, ℕ, ◌≤◌, List, map, length, slice_range}
 use Rattle.std.specs.List.{All}
-use Rattle.vrp_model.specs.Word.{HasStops, last_symbol, word_of}
+use Rattle.std.specs.List.Sorted.{IsStrictlyIncreasing}
+use Rattle.vrp_model.specs.Word.{HasStops, first_stops, last_symbol, word_of}
 use Rattle.vrp_model.specs.declared.plan.Span.{Span}
 
 abbrev pub routes_in : List ℕ → List Span → List (List ℕ)
@@ -14,10 +15,11 @@ pub record IsWithin (stops : List ℕ) (span : Span) : Type 0 where
 abbrev pub AreWithin : List ℕ → List Span → Type 0
 AreWithin stops spans = All (IsWithin stops) spans
 
--- the list is the word of the routes that the spans name
+-- the list is the word of the routes that the spans name, which rise by first customer
 pub record IsKept (word : List ℕ) (spans : List Span) : Type 0 where
   pub within : AreWithin word spans
   pub is_word : word ≡ word_of (routes_in word spans)
+  pub rising : IsStrictlyIncreasing (first_stops (routes_in word spans))
 
 -- what is left of a lawful word behind some of its routes
 pub record IsWordEnd (rest : List ℕ) : Type 0 where

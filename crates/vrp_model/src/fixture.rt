@@ -2,7 +2,6 @@
 ghost use Rattle.std.specs.Prelude.{◌≡◌, ◌≤◌, length, All, IsTrue, ◌↔◌};
 
 use crate::instance::{Instance, InstanceError};
-use crate::memory::NoMemory;
 use crate::metric::Metric;
 use crate::weights::Weights;
 use std::alloc::Global;
@@ -25,7 +24,7 @@ pub(crate) fn three_nodes(
     assert!(rt; !case.depots.is_empty() && are_nodes(case.depots));
     match Weights::points(alloc, Metric::Euc2d, &[(0, 0), (3, 4), (6, 8)]) {
         Ok(weights) => Instance::new(alloc, weights, &case.demands, 2, case.depots, case.chosen),
-        Err(NoMemory) => Err(InstanceError::OutOfMemory),
+        Err(_) => Err(InstanceError::OutOfMemory),
     }
 }
 

@@ -4,20 +4,21 @@ ghost use Rattle.std.specs.Prelude.{◌≡◌};
 use std::alloc::{AllocError, AllocFailed};
 use thiserror::Error;
 
-/// A growth was refused: there was no memory for it.
+/// A growth was refused: there was no memory for it. Only a refusal of the allocator becomes one: the field is private, so
+/// that nobody can answer want of memory in place of another error.
 #[derive(Clone, Copy, Debug, PartialEq, Eq, Error)]
 #[error("out of memory")]
-pub struct NoMemory;
+pub struct NoMemory(());
 
 impl From<AllocError> for NoMemory {
     fn from(_refusal: AllocError) -> NoMemory {
-        NoMemory
+        NoMemory(())
     }
 }
 
 impl<T: Drop> From<AllocFailed<T>> for NoMemory {
     fn from(_refusal: AllocFailed<T>) -> NoMemory {
-        NoMemory
+        NoMemory(())
     }
 }
 
@@ -28,7 +29,7 @@ mod tests {
 
     #[test]
     fn text(rt: HostRuntime) -> Result<(), Fail> {
-        assert_eq!(rt; NoMemory.to_string(rt.alloc())?.as_str(), "out of memory");
+        assert_eq!(rt; NoMemory(()).to_string(rt.alloc())?.as_str(), "out of memory");
         Ok(())
     }
 }

@@ -1,10 +1,11 @@
 //! Plans: the routes of the trucks, and what they cost.
 ghost use Rattle.std.specs.Prelude.{◌≡◌, ℕ, ◌+◌, ◌*◌, ◌<◌, ◌≤◌, ◌==◌, false, Some, IfOk, OnOk, List, [], ◌∷◌, ◌++◌, ◌^◌, length, map, slice_get};
 ghost use Rattle.std.specs.List.{All, position_or_len};
-ghost use Rattle.vrp_model.specs.Problem.{customers, place_count};
+ghost use Rattle.std.specs.List.Sorted.{IsStrictlyIncreasing};
+ghost use Rattle.vrp_model.specs.Problem.{Problem, customers, place_count};
 ghost use Rattle.vrp_model.specs.Route.{IsPlanOf, plan_cost, route_cost};
 ghost use Rattle.vrp_model.specs.Stops.{routes_in, IsWordEnd};
-ghost use Rattle.vrp_model.specs.Word.{IsLawfulWord, word_of};
+ghost use Rattle.vrp_model.specs.Word.{IsLawfulWord, first_stops, word_cost, word_of};
 
 use crate::instance::Instance;
 use crate::memory::NoMemory;
@@ -18,7 +19,7 @@ struct Span {
     end: usize,
 }
 
-/// A plan: routes, each a list of places, and their cost.
+/// A plan: routes, each a list of places, and their cost. The routes rise by their first places.
 #[derive(Debug, Drop)]
 pub struct Plan {
     // The stops of all routes, one route after the other, each followed by 0.
@@ -98,9 +99,10 @@ impl Plan {
         })
     }
 
-    // The plan with one more route, of this cost.
+    // The plan with one more route, of this cost. It goes behind the others: its first stop is above theirs.
     fn with_route(self, stops: &[u16], cost: u64) -> Result<Plan, NoMemory>
-        requires { self.cost + cost < 2 ^ 64 }
+        requires fits { self.cost + cost < 2 ^ 64 }
+        requires rising { IsStrictlyIncreasing (first_stops (self.routes ++ stops.now ∷ [])) }
         ensures routes { IfOk result (λ plan. plan.routes ≡ self.routes ++ stops.now ∷ []) }
         ensures cost { IfOk result (λ plan. plan.cost ≡ self.cost + cost) }
     {
@@ -121,9 +123,13 @@ impl Plan {
         })
     }
 
-    /// The plan as one list: the stops of all routes, one route after the other, each followed by 0.
+    /// The plan as one list: the stops of all routes, one route after the other, each followed by 0. Where the plan is lawful for
+    /// an instance, this is a lawful word of it, of the plan's cost.
     pub fn word(&self) -> &[u16]
-        ensures { result.now ≡ word_of self.now.routes }
+        ensures value { result.now ≡ word_of self.now.routes }
+        // What is known of every plan.
+        ensures rising { IsStrictlyIncreasing (first_stops self.now.routes) }
+        ensures lawful { (p : Problem) → IsPlanOf p self.now → IsLawfulWord p result.now × (word_cost p result.now ≡ self.now.cost) }
     {
         self.word.as_slice()
     }

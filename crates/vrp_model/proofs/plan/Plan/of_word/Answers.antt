@@ -1,9 +1,9 @@
-use Rattle.std.proofs.Common.{◌<◌, ◌∷◌, length, length-append, sym, ap, subst, ◌∙◌, arith}
+use Rattle.std.proofs.Common.{◌<◌, [], ◌∷◌, ◌++◌, length, length-append, sym, ap, subst, ◌∙◌, arith}
 use Rattle.std.specs.List.{All}
 use Rattle.std.proofs.lemmas.Bool.Decides.{nat_tests}
 use Rattle.vrp_model.specs.Problem.{place_count}
 use Rattle.vrp_model.proofs.PlanWords.{lawful_of_closed}
-use Rattle.vrp_model.proofs.WordReading.{all_left, all_read, none_read, one_route_more, word_is_short}
+use Rattle.vrp_model.proofs.WordReading.{all_left, all_read, none_read, one_route_more, read_routes_rise, word_is_short}
 use Rattle.vrp_model.proofs.plan.Plan.of_word.Goals as goal
 
 pub loop-rest-init : goal.loop-rest-init
@@ -24,8 +24,18 @@ route_cost-requires-clause-few c =
     let rest = ap length c.split_route.ensures.whole ∙ length-append route (0 ∷ c.split_route.result.1.now) in
     omega (arith, short, rest, c.loop-rest.invariant.small)
 
-pub with_route-requires : goal.with_route-requires
-with_route-requires c =
+pub with_route-requires-clause-rising : goal.with_route-requires-clause-rising
+with_route-requires-clause-rising c =
+    let p = c.args.instance.now in
+    let word = c.args.word.now in
+    let route = c.split_route.result.0.now in
+    let behind = c.split_route.result.1.now in
+    let more = one_route_more p word c.loop-rest.plan.routes c.loop-rest.plan.cost c.loop-rest.rest.now route behind c.route_cost.result
+    c.loop-rest.invariant c.split_route.ensures.whole c.split_route.ensures.stops c.split_route.ensures.some c.split_route.ensures.end c.route_cost.ensures.value c.route_cost.ensures.small in
+    read_routes_rise p word (c.loop-rest.plan.routes ++ route ∷ []) behind c.requires more.is more.are_closed more.end
+
+pub with_route-requires-clause-fits : goal.with_route-requires-clause-fits
+with_route-requires-clause-fits c =
     let route = c.split_route.result.0.now in
     let short = word_is_short c.args.instance.now c.args.word.now c.customers.ensures.problem c.requires in
     let rest = ap length c.split_route.ensures.whole ∙ length-append route (0 ∷ c.split_route.result.1.now) in

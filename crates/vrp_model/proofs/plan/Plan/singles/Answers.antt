@@ -1,7 +1,10 @@
 use Rattle.std.proofs.Common.{◌≡◌, ◌-◌, arith}
 use Rattle.vrp_model.specs.Problem.{place_count}
-use Rattle.vrp_model.proofs.PlanLemmas.{IsLawful-singles, plan_cost_push, singles_push}
+use Rattle.vrp_model.proofs.PlanLemmas.{IsLawful-singles, plan_cost_push, rising_with_single, singles_push}
 use Rattle.vrp_model.proofs.plan.Plan.singles.Goals as goal
+
+pub with_route-requires-clause-rising : goal.with_route-requires-clause-rising
+with_route-requires-clause-rising c = rising_with_single c.loop-index.plan.routes c.loop-index.index c.loop-index.invariant.0
 
 pub loop-index-preserved : goal.loop-index-preserved
 loop-index-preserved c =
