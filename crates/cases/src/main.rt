@@ -8,12 +8,10 @@ use anyhow::{Context, Result, ensure};
 use std::alloc::Global;
 use std::rt::Files;
 use std::{env, fs, str};
-use vrp_command::{Options, run};
-
-const MOST_PIECES: u32 = 65_536;
+use vrp_command::{MAX_PIECES, Options, run};
 
 // The whole tree; the fewest cuts; the pieces of a plain run; as many pieces as may be asked for.
-const CUTTINGS: [u32; 4] = [1, 2, 64, MOST_PIECES];
+const CUTTINGS: [u32; 4] = [1, 2, 64, MAX_PIECES];
 
 // More partial plans than the search looks at in any tree that it is to look through.
 const AMPLE: u64 = 1_000_000_000;
@@ -80,7 +78,7 @@ fn read_range(ending: &str) -> Result<Range> {
 
 // The last two lines of the report on a file, with this budget for each piece.
 fn ending<R: Files + AllocGlobal>(rt: &R, name: &str, pieces: u32, budget: u64) -> Result<String> {
-    ensure!(1 <= pieces && pieces <= MOST_PIECES, "{pieces} pieces");
+    ensure!(1 <= pieces && pieces <= MAX_PIECES, "{pieces} pieces");
     ensure!(1 <= budget && budget <= AMPLE, "a budget of {budget}");
     let options = Options {
         workers: 1,

@@ -1,28 +1,34 @@
 -- What is known after each piece that is searched, and what follows when all are.
-use Rattle.std.proofs.Common.{◌≡◌, ◌∙◌, ℕ, zero, suc, ◌+◌, ◌≤◌, ◌<◌, ◌⊎◌, inl, inr, min, Option, Some, None, List, [], ◌∷◌, ◌++◌, length, get_or, take, refl, sym, ap, subst, arith}
-use Rattle.std.specs.Prelude.{map, slice_index_or, unwrap_or}
+use Rattle.std.proofs.Common.{◌≡◌, ◌∙◌, ℕ, suc, ◌+◌, ◌-◌, ◌≤◌, ◌<◌, ◌⊎◌, inl, inr, min, Option, Some, None, List, [], ◌∷◌, ◌++◌, length, get_or, take, refl, sym, ap, subst, arith}
+use Rattle.std.specs.Str.{bytes_eq}
+use Rattle.std.specs.Prelude.{true, if◌then◌else◌, map, slice_index_or, unwrap_or}
 use Rattle.std.specs.List.{All, Contains}
 use Rattle.std.specs.List.Sorted.{IsPermutation, IsStrictlyIncreasing}
-use Rattle.std.proofs.lemmas.List.Elements.{All-append, All-cons, All-nil}
+use Rattle.std.proofs.lemmas.List.Elements.{All-append, All-cons, All-contains, All-nil, All-tail}
+use Rattle.std.proofs.lemmas.Bool.{cases_Bool, cases_lt}
+use Rattle.std.proofs.lemmas.Bool.Decides.{not_from_Decides}
+use Rattle.std.proofs.lemmas.Slice.Eq.{bytes_eq-Decides}
 use Rattle.std.proofs.lemmas.List.{get_or-map, length-map, take_more}
 use Rattle.vrp_model.specs.Cheapest.{IsCheapest, NoneCheaper}
 use Rattle.vrp_model.specs.Problem.{Problem, customers}
 use Rattle.vrp_model.specs.Route.{IsLawful, IsPlanOf, PricedPlan, plan_cost}
 use Rattle.vrp_model.specs.Word.{BeginsWith, IsLawfulWord, NoneCheaperUnder, first_stops, word_cost, word_of}
+use Rattle.vrp_model.specs.declared.limits.TheConstants.{MAX_NODES}
 use Rattle.vrp_search.specs.Cutting.{HasNoChild, IsCutting, NumberedWord}
 use Rattle.vrp_search.specs.Search.{IsUnfinished}
 use Rattle.vrp_command.specs.Answer.{IsAnswer, IsLeftOpen}
 use Rattle.vrp_command.specs.declared.verdict.Verdict.{Verdict}
 use Rattle.vrp_command.specs.declared.verdict.Verdict.TheVariants.{Proven, Open}
-use Rattle.vrp_command.specs.Searched.{AreSearched, BoundedFront, IsLeast, IsLeft, fronts_of, least_of, lows_of}
+use Rattle.vrp_command.specs.Searched.{AreSearched, IsLeastOfAll, IsLeft, least_of}
 
 -- ---- piece by piece
 
 pub none_searched : (p : Problem) (cutting : List (List ℕ)) (budget cost : ℕ) → AreSearched p cutting budget cost [] None
 none_searched p cutting budget cost = record {
   unfinished = [];
-  left = All-nil (IsLeft p cutting budget);
-  bounds = All-nil (λ (piece : BoundedFront). NoneCheaperUnder p piece.front piece.low);
+  low = λ _. 0;
+  left = All-nil (λ front. IsLeft p cutting budget front 0);
+  bounds = All-nil (λ front. NoneCheaperUnder p front 0);
   others = All-nil (λ front. Contains {X = List ℕ} [] front ⊎ NoneCheaperUnder p front cost);
   least = refl;
 }
@@ -41,10 +47,11 @@ pub piece_finished : (p : Problem) (cutting : List (List ℕ)) (budget cost fall
     → AreSearched p cutting budget cost searched lower → falls_to ≤ cost → NoneCheaperUnder p front falls_to → AreSearched p cutting budget falls_to (searched ++ front ∷ []) lower
 piece_finished p cutting budget cost falls_to searched front lower so_far falls none = record {
   unfinished = so_far.unfinished;
+  low = so_far.low;
   left = so_far.left;
   bounds = so_far.bounds;
   others =
-      let fronts = fronts_of so_far.unfinished in
+      let fronts = so_far.unfinished in
       All-append (λ f. Contains fronts f ⊎ NoneCheaperUnder p f falls_to) searched (front ∷ []) (others_lower p fronts searched cost falls_to falls so_far.others)
       (All-cons (λ f. Contains fronts f ⊎ NoneCheaperUnder p f falls_to) front [] (inr none) (All-nil (λ f. Contains fronts f ⊎ NoneCheaperUnder p f falls_to)));
   least = so_far.least;
@@ -54,9 +61,10 @@ piece_finished p cutting budget cost falls_to searched front lower so_far falls 
 abbrev pub with_one : Option ℕ → ℕ → ℕ
 with_one lower low = min (unwrap_or lower low) low
 
-least_with : (lower : Option ℕ) (low : ℕ) (costs : List ℕ) → IsLeast lower costs → IsLeast (Some (with_one lower low)) (low ∷ costs)
-least_with None low costs none = (omega arith, λ other. (let numbers : least_of other costs ≡ other = ap (least_of other) none in omega (arith, numbers)))
-least_with (Some least) low costs some = (omega arith, λ other. omega (arith, some.1 other))
+least_with : (lower : Option ℕ) (low : ℕ) (costs news : List ℕ) → IsLeastOfAll lower costs → 0 < length news → ((other : ℕ) → least_of other news ≡ min low (least_of other costs)) → IsLeastOfAll (Some (with_one lower low)) news
+least_with None low costs news none some with =
+    (some, λ other. (let numbers : least_of other costs ≡ other = ap (least_of other) none in omega (arith, numbers, with other)))
+least_with (Some least) low costs news least_is some with = (some, λ other. omega (arith, least_is.1 other, with other))
 
 contains_more : (front other : List ℕ) (fronts : List (List ℕ)) → Contains fronts other → Contains (front ∷ fronts) other
 contains_more front other fronts (k, lt, is) = (suc k, omega (arith, lt), is)
@@ -68,23 +76,114 @@ others_more p front unfinished searched cost others = λ k d lt. elim (others k 
   | inr none ↦ inr none
 ]
 
+-- a function on fronts with another number at one front
+abbrev with_low : (List ℕ → ℕ) → List ℕ → ℕ → List ℕ → ℕ
+with_low low front number other = if bytes_eq other front then number else low other
+
+low_there : (low : List ℕ → ℕ) (front : List ℕ) (number : ℕ) (other : List ℕ) → other ≡ front → with_low low front number other ≡ number
+low_there low front number other same = let test : bytes_eq other front ≡ true = (bytes_eq-Decides other front).1 same in rw test refl
+
+low_elsewhere : (low : List ℕ → ℕ) (front : List ℕ) (number : ℕ) (other : List ℕ) → (other ≡ front → ⊥) → with_low low front number other ≡ low other
+low_elsewhere low front number other differs = elim (cases_Bool (bytes_eq other front)) [
+  | inl test ↦ absurd (differs ((bytes_eq-Decides other front).0 test))
+  | inr test ↦ rw test refl
+]
+
+same_or_not : (front other : List ℕ) → (front ≡ other) ⊎ (front ≡ other → ⊥)
+same_or_not front other = elim (cases_Bool (bytes_eq front other)) [
+  | inl test ↦ inl ((bytes_eq-Decides front other).0 test)
+  | inr test ↦ inr (not_from_Decides (bytes_eq front other) (bytes_eq-Decides front other) test)
+]
+
+-- what is true of each front and its number, and of one front and another number
+all_with_low : (P : List ℕ → ℕ → Type 0) (low : List ℕ → ℕ) (front : List ℕ) (number : ℕ) (fronts : List (List ℕ)) → P front number → All (λ f. P f (low f)) fronts → All (λ f. P f (with_low low front number f)) fronts
+all_with_low P low front number fronts here all = λ k d lt.
+    let other = get_or fronts k d in
+    elim (same_or_not other front) [
+      | inl same ↦ subst (P other) (sym (low_there low front number other same)) (subst (λ f. P f number) (sym same) here)
+      | inr differs ↦ subst (P other) (sym (low_elsewhere low front number other differs)) (all k d lt)
+    ]
+
+-- where the number is no greater than those it replaces, the least of it and all is the same
+least_with_low : (low : List ℕ → ℕ) (front : List ℕ) (number other : ℕ) (fronts : List (List ℕ)) → All (λ f. f ≡ front → number ≤ low f) fronts
+    → min number (least_of other (map (with_low low front number) fronts)) ≡ min number (least_of other (map low fronts))
+least_with_low low front number other [] none = refl
+least_with_low low front number other (f ∷ fronts) less =
+    let rest = least_with_low low front number other fronts (All-tail (λ g. g ≡ front → number ≤ low g) f fronts less) in
+    elim (same_or_not f front) [
+      | inl same ↦ omega (arith, rest, low_there low front number f same, less 0 f (omega arith) same)
+      | inr differs ↦ omega (arith, rest, low_elsewhere low front number f differs)
+    ]
+
+-- the least is no greater than any
+least_is_below : (low : List ℕ → ℕ) (other : ℕ) (fronts : List (List ℕ)) → All (λ f. least_of other (map low fronts) ≤ low f) fronts
+least_is_below low other [] = All-nil _
+least_is_below low other (f ∷ fronts) =
+    let least = least_of other (map low (f ∷ fronts)) in
+    All-cons (λ g. least ≤ low g) f fronts (omega arith) (λ k d lt. omega (arith, least_is_below low other fronts k d lt))
+
+-- A number for one more front: the one that it ends with, or what it had before where that is less. The least stays what it
+-- would be.
+record HasNumber (p : Problem) (cutting : List (List ℕ)) (budget number : ℕ) (front : List ℕ) (low : List ℕ → ℕ) (fronts : List (List ℕ)) : Type 0 where
+  is : ℕ
+  left : IsLeft p cutting budget front is
+  bound : NoneCheaperUnder p front is
+  less : All (λ f. f ≡ front → is ≤ low f) fronts
+  least : (other : ℕ) → min is (least_of other (map low fronts)) ≡ min number (least_of other (map low fronts))
+
+has_number : (p : Problem) (cutting : List (List ℕ)) (budget number : ℕ) (front : List ℕ) (low : List ℕ → ℕ) (fronts : List (List ℕ)) → IsLeft p cutting budget front number → NoneCheaperUnder p front number
+    → All (λ f. IsLeft p cutting budget f (low f)) fronts → All (λ f. NoneCheaperUnder p f (low f)) fronts → HasNumber p cutting budget number front low fronts
+has_number p cutting budget number front low [] here none left bounds =
+    record { is = number; left = here; bound = none; less = All-nil _; least = λ _. refl }
+has_number p cutting budget number front low (f ∷ fronts) here none left bounds =
+    let has = has_number p cutting budget number front low fronts here none (All-tail (λ g. IsLeft p cutting budget g (low g)) f fronts left) (All-tail (λ g. NoneCheaperUnder p g (low g)) f fronts bounds) in
+    elim (same_or_not f front) [
+      | inl same ↦ elim (cases_lt has.is (low f)) [
+        | inl less ↦ record {
+          is = has.is;
+          left = has.left;
+          bound = has.bound;
+          less = All-cons (λ g. g ≡ front → has.is ≤ low g) f fronts (λ _. omega (arith, less)) has.less;
+          least = λ other. omega (arith, has.least other);
+        }
+        | inr more ↦ record {
+          is = low f;
+          left = subst (λ g. IsLeft p cutting budget g (low f)) same (left 0 f (omega arith));
+          bound = subst (λ g. NoneCheaperUnder p g (low f)) same (bounds 0 f (omega arith));
+          less = All-cons (λ g. g ≡ front → low f ≤ low g) f fronts (λ _. omega arith) (λ k d lt here. omega (arith, more, has.less k d lt here));
+          least = λ other. omega (arith, more, has.least other);
+        }
+      ]
+      | inr differs ↦ record {
+        is = has.is;
+        left = has.left;
+        bound = has.bound;
+        less = All-cons (λ g. g ≡ front → has.is ≤ low g) f fronts (λ same. absurd (differs same)) has.less;
+        least = λ other. omega (arith, has.least other);
+      }
+    ]
+
 pub piece_left : (p : Problem) (cutting : List (List ℕ)) (budget cost falls_to spent low : ℕ) (searched : List (List ℕ)) (front : List ℕ) (lower : Option ℕ)
     → AreSearched p cutting budget cost searched lower → falls_to ≤ cost → Contains cutting front → IsUnfinished p (customers p) front budget spent low
     → AreSearched p cutting budget falls_to (searched ++ front ∷ []) (Some (with_one lower low))
 piece_left p cutting budget cost falls_to spent low searched front lower so_far falls within left =
-    let piece : BoundedFront = record { front = front; low = low } in
-    let is_left : IsLeft p cutting budget piece = record { among = within; large = left.tree; is_low = left.is_low } in
-    let before = fronts_of so_far.unfinished in
+    let is_left : IsLeft p cutting budget front low = record { among = within; large = left.tree; is_low = left.is_low } in
+    let before = so_far.unfinished in
+    let has = has_number p cutting budget low front so_far.low before is_left left.none_cheaper so_far.left so_far.bounds in
+    let lows = with_low so_far.low front has.is in
+    let at_front : lows front ≡ has.is = low_there so_far.low front has.is front refl in
     let fronts = front ∷ before in
     let here : Contains fronts front = (0, omega arith, refl) in
     record {
-      unfinished = piece ∷ so_far.unfinished;
-      left = All-cons (IsLeft p cutting budget) piece so_far.unfinished is_left so_far.left;
-      bounds = All-cons (λ (other : BoundedFront). NoneCheaperUnder p other.front other.low) piece so_far.unfinished left.none_cheaper so_far.bounds;
+      unfinished = fronts;
+      low = lows;
+      left = All-cons (λ f. IsLeft p cutting budget f (lows f)) front before (subst (IsLeft p cutting budget front) (sym at_front) has.left) (all_with_low (IsLeft p cutting budget) so_far.low front has.is before has.left so_far.left);
+      bounds = All-cons (λ f. NoneCheaperUnder p f (lows f)) front before (subst (NoneCheaperUnder p front) (sym at_front) has.bound) (all_with_low (NoneCheaperUnder p) so_far.low front has.is before has.bound so_far.bounds);
       others = All-append (λ f. Contains fronts f ⊎ NoneCheaperUnder p f falls_to) searched (front ∷ [])
           (others_more p front before searched falls_to (others_lower p before searched cost falls_to falls so_far.others))
           (All-cons (λ f. Contains fronts f ⊎ NoneCheaperUnder p f falls_to) front [] (inl here) (All-nil (λ f. Contains fronts f ⊎ NoneCheaperUnder p f falls_to)));
-      least = least_with lower low (lows_of so_far.unfinished) so_far.least;
+      least = least_with lower low (map so_far.low before) (map lows fronts) so_far.least (omega arith)
+          (λ other. omega (arith, at_front, least_with_low so_far.low front has.is other before has.less, has.least other));
     }
 
 -- ---- all pieces
@@ -94,15 +193,11 @@ least_is_low number [] = omega arith
 least_is_low number (other ∷ numbers) = omega (arith, least_is_low number numbers)
 
 -- a word under one of these fronts costs no less than the least of their lows
-least_is_bound : (p : Problem) (number : ℕ) (pieces : List BoundedFront) (front word : List ℕ) → All (λ piece. NoneCheaperUnder p piece.front piece.low) pieces → Contains (fronts_of pieces) front
-    → IsLawfulWord p word → BeginsWith word front → least_of number (lows_of pieces) ≤ word_cost p word
-least_is_bound p number [] front word bounds (k, lt, is) lawful begins = absurd (omega (arith, lt))
-least_is_bound p number (piece ∷ pieces) front word bounds (zero, lt, is) lawful begins =
-    let low : piece.low ≤ word_cost p word = bounds 0 piece (omega arith) word lawful (subst (BeginsWith word) (sym is) begins) in
-    omega (arith, low)
-least_is_bound p number (piece ∷ pieces) front word bounds (suc k, lt, is) lawful begins =
-    let rest : All (λ other. NoneCheaperUnder p other.front other.low) pieces = λ j d within. bounds (suc j) d (omega (arith, within)) in
-    omega (arith, least_is_bound p number pieces front word rest (k, omega (arith, lt), is) lawful begins)
+least_is_bound : (p : Problem) (number : ℕ) (low : List ℕ → ℕ) (fronts : List (List ℕ)) (front word : List ℕ) → All (λ f. NoneCheaperUnder p f (low f)) fronts → Contains fronts front
+    → IsLawfulWord p word → BeginsWith word front → least_of number (map low fronts) ≤ word_cost p word
+least_is_bound p number low fronts front word bounds within lawful begins =
+    let least = All-contains (λ f. least_of number (map low fronts) ≤ low f) fronts front (least_is_below low number fronts) within in
+    omega (arith, least, All-contains (λ f. NoneCheaperUnder p f (low f)) fronts front bounds within word lawful begins)
 
 -- each lawful word is under one piece
 abbrev pub OnePiece : Type 0
@@ -126,12 +221,12 @@ words_to_plans rise words p cost none = λ routes lawful.
 
 -- no word costs less than the plan and all that is unfinished
 no_word_cheaper : OnePiece → (p : Problem) (cutting : List (List ℕ)) (budget cost : ℕ) (lower : Option ℕ) → IsCutting p cutting → (so_far : AreSearched p cutting budget cost cutting lower)
-    → (word : List ℕ) → IsLawfulWord p word → least_of cost (lows_of so_far.unfinished) ≤ word_cost p word
+    → (word : List ℕ) → IsLawfulWord p word → least_of cost (map so_far.low so_far.unfinished) ≤ word_cost p word
 no_word_cheaper piece p cutting budget cost lower is_cutting so_far word lawful =
     let (k, lt, begins, only) = piece p cutting word is_cutting lawful in
     elim (so_far.others k [] lt) [
-      | inl left ↦ least_is_bound p cost so_far.unfinished (get_or cutting k []) word so_far.bounds left lawful begins
-      | inr none ↦ omega (arith, least_is_low cost (lows_of so_far.unfinished), none word lawful begins)
+      | inl left ↦ least_is_bound p cost so_far.low so_far.unfinished (get_or cutting k []) word so_far.bounds left lawful begins
+      | inr none ↦ omega (arith, least_is_low cost (map so_far.low so_far.unfinished), none word lawful begins)
     ]
 
 pub proven : OnePiece → PlansCanRise → PlansAreWords → (p : Problem) (cutting : List (List ℕ)) (budget : ℕ) (plan : PricedPlan) → IsCutting p cutting → IsPlanOf p plan
@@ -144,9 +239,9 @@ proven piece rise words p cutting budget plan is_cutting plan_of so_far = record
 }
 
 pub left_open : OnePiece → PlansCanRise → PlansAreWords → (p : Problem) (cutting : List (List ℕ)) (pieces budget : ℕ) (plan : PricedPlan) (lower : ℕ) → IsCutting p cutting
-    → (pieces ≤ length cutting) ⊎ All (HasNoChild p) cutting → IsPlanOf p plan → AreSearched p cutting budget plan.cost cutting (Some lower) → IsLeftOpen p pieces budget plan (min lower plan.cost)
-left_open piece rise words p cutting pieces budget plan lower is_cutting enough plan_of so_far =
-    let least : min lower plan.cost ≡ least_of plan.cost (lows_of so_far.unfinished) = omega (arith, so_far.least.1 plan.cost) in
+    → (pieces ≤ length cutting) ⊎ All (HasNoChild p) cutting → length cutting ≤ pieces + (MAX_NODES - 1) → IsPlanOf p plan → AreSearched p cutting budget plan.cost cutting (Some lower) → IsLeftOpen p pieces budget plan (min lower plan.cost)
+left_open piece rise words p cutting pieces budget plan lower is_cutting enough few plan_of so_far =
+    let least : min lower plan.cost ≡ least_of plan.cost (map so_far.low so_far.unfinished) = omega (arith, so_far.least.1 plan.cost) in
     record {
       plan_of = plan_of;
       none_cheaper = words_to_plans rise words p (min lower plan.cost) (λ word lawful. omega (arith, least, no_word_cheaper piece p cutting budget plan.cost (Some lower) is_cutting so_far word lawful));
@@ -154,8 +249,10 @@ left_open piece rise words p cutting pieces budget plan lower is_cutting enough 
         cutting = cutting;
         is_cutting = is_cutting;
         enough = enough;
+        few = few;
         unfinished = so_far.unfinished;
-        some = omega (arith, so_far.least.0, length-map so_far.unfinished (λ (piece : BoundedFront). piece.low));
+        low = so_far.low;
+        some = omega (arith, so_far.least.0, length-map so_far.unfinished so_far.low);
         left = so_far.left;
         others = so_far.others;
         least = least;

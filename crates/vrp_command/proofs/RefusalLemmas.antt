@@ -4,8 +4,6 @@ use Rattle.vrp_text.specs.declared.error.TextError.{TextError}
 use Rattle.vrp_text.specs.declared.error.TextError.TheVariants as text
 use Rattle.vrp_command.specs.Fault.{refusal_fault}
 use Rattle.vrp_command.specs.Run.{OnRefusedFile}
-use Rattle.vrp_command.specs.declared.fault.RunError.{RunError}
-use Rattle.vrp_command.specs.declared.fault.RunError.TheVariants as fault
 
 -- what is known of a refusal is known of its fault
 pub on_refusal : (P : TextError → Type 0) (refusal : TextError) → (refusal ≢ text.OutOfMemory → P refusal) → OnRefusedFile (refusal_fault refusal) P
@@ -22,10 +20,3 @@ on_refusal P (text.BadNode key node) known = (λ same. cc, known (λ same. cc))
 on_refusal P (text.Instance refusal) known = (λ same. cc, known (λ same. cc))
 on_refusal P text.TooLong known = (λ same. cc, known (λ same. cc))
 on_refusal P text.OutOfMemory known = tt
-
--- what follows from what is known of a refusal
-pub on_refused_file : (P Q : TextError → Type 0) (failed : RunError) → ((refusal : TextError) → P refusal → Q refusal) → OnRefusedFile failed P → OnRefusedFile failed Q
-on_refused_file P Q (fault.Text refusal) follows known = (known.0, follows refusal known.1)
-on_refused_file P Q fault.OutOfMemory follows known = known
-on_refused_file P Q fault.Read follows known = known
-on_refused_file P Q fault.Write follows known = known

@@ -1,26 +1,30 @@
 -- What is known of a plan and the verdict on it.
-use Rattle.std.specs.Prelude.{◌≡◌, ◌⊎◌, ℕ, ◌≤◌, ◌<◌, List, length}
+use Rattle.std.specs.Prelude.{◌≡◌, ◌⊎◌, ℕ, ◌+◌, ◌-◌, ◌≤◌, ◌<◌, List, length, map}
 use Rattle.std.specs.List.{All, Contains}
 use Rattle.vrp_model.specs.Cheapest.{IsCheapest, NoneCheaper}
 use Rattle.vrp_model.specs.Problem.{Problem}
 use Rattle.vrp_model.specs.Route.{IsPlanOf, PricedPlan}
 use Rattle.vrp_model.specs.Word.{NoneCheaperUnder}
+use Rattle.vrp_model.specs.declared.limits.TheConstants.{MAX_NODES}
 use Rattle.vrp_search.specs.Cutting.{HasNoChild, IsCutting}
-use Rattle.vrp_command.specs.Searched.{BoundedFront, IsLeft, fronts_of, least_of, lows_of}
+use Rattle.vrp_command.specs.Searched.{IsLeft, least_of}
 use Rattle.vrp_command.specs.declared.verdict.Verdict.{Verdict}
 use Rattle.vrp_command.specs.declared.verdict.Verdict.TheVariants.{Proven, Open}
 
--- The words are cut into pieces, as many as were asked for or until none has a child. Some are left unfinished. No word under
--- any other piece costs less than the plan. The lower number is the least of the plan's cost and those of the unfinished pieces.
+-- The words are cut into pieces, as many as were asked for or until none has a child, and fewer than `MAX_NODES` more. Some
+-- pieces are left unfinished. No word under any other piece costs less than the plan. The lower number is the least of the plan's
+-- cost and the lows of the unfinished pieces.
 pub record HasUnfinished (p : Problem) (pieces budget cost lower : ℕ) : Type 0 where
   pub cutting : List (List ℕ)
   pub is_cutting : IsCutting p cutting
   pub enough : (pieces ≤ length cutting) ⊎ All (HasNoChild p) cutting
-  pub unfinished : List BoundedFront
+  pub few : length cutting ≤ pieces + (MAX_NODES - 1)
+  pub unfinished : List (List ℕ)
+  pub low : List ℕ → ℕ
   pub some : 0 < length unfinished
-  pub left : All (IsLeft p cutting budget) unfinished
-  pub others : All (λ front. Contains (fronts_of unfinished) front ⊎ NoneCheaperUnder p front cost) cutting
-  pub least : lower ≡ least_of cost (lows_of unfinished)
+  pub left : All (λ front. IsLeft p cutting budget front (low front)) unfinished
+  pub others : All (λ front. Contains unfinished front ⊎ NoneCheaperUnder p front cost) cutting
+  pub least : lower ≡ least_of cost (map low unfinished)
 
 -- a lawful plan; no lawful plan costs less than the number behind `Open`, and some pieces are left unfinished
 pub record IsLeftOpen (p : Problem) (pieces budget : ℕ) (plan : PricedPlan) (lower : ℕ) : Type 0 where

@@ -1,16 +1,17 @@
 -- Which bytes of a reader are read.
-use Rattle.std.specs.Prelude.{ℕ, ◌≤◌, ◌<◌, Option, List, length}
+use Rattle.std.specs.Prelude.{ℕ, ◌+◌, ◌≤◌, ◌<◌, Option, List, length}
 use Rattle.std.specs.Io.KnownBytes.{Consumes, IsAtEnd}
+use Rattle.vrp_text.specs.declared.reading.TheConstants.{MAX_BYTES}
 
--- All bytes that a reader has left, or its first 16,777,217 where it has more. Old and new are what is known of the bytes
--- that it has left before and after.
+-- All bytes that a reader has left, or one more than a file may have where it has more. Old and new are what is known of the
+-- bytes that it has left before and after.
 pub record IsInput (old new : Option (List ℕ)) (bytes : List ℕ) : Type 0 where
   pub taken : Consumes old new bytes
-  pub bounded : length bytes ≤ 16777217
-  pub whole : length bytes < 16777217 → IsAtEnd new
+  pub bounded : length bytes ≤ MAX_BYTES + 1
+  pub whole : length bytes < MAX_BYTES + 1 → IsAtEnd new
 
--- Some of the bytes that a reader has left, and no more than are read at most.
-pub record TakesSome (old new : Option (List ℕ)) : Type 0 where
+-- Some of the bytes that a reader has left, and no more than so many.
+pub record TakesAtMost (most : ℕ) (old new : Option (List ℕ)) : Type 0 where
   pub bytes : List ℕ
   pub taken : Consumes old new bytes
-  pub bounded : length bytes ≤ 16777217
+  pub bounded : length bytes ≤ most

@@ -1,6 +1,8 @@
 -- How a run is asked for where nothing is said.
 use Rattle.std.specs.Prelude.{◌≡◌, ◌≤◌, None}
+use Rattle.vrp_search.specs.declared.cutting.TheConstants.{MAX_PIECES}
 use Rattle.vrp_command.specs.declared.options.Options.{Options}
+use Rattle.vrp_command.specs.declared.options.TheConstants.{MAX_BUDGET, MAX_WORKERS}
 
 abbrev pub IsDefault : Options → Type 0
 IsDefault options = options ≡ record { workers = 1; pieces = 64; budget = 10000000; depot = None }
@@ -8,8 +10,8 @@ IsDefault options = options ≡ record { workers = 1; pieces = 64; budget = 1000
 -- what may be asked for
 pub record AreInRange (options : Options) : Type 0 where
   pub some_worker : 1 ≤ options.workers
-  pub few_workers : options.workers ≤ 64
+  pub few_workers : options.workers ≤ MAX_WORKERS
   pub some_piece : 1 ≤ options.pieces
-  pub few_pieces : options.pieces ≤ 65536
+  pub few_pieces : options.pieces ≤ MAX_PIECES
   pub some_budget : 1 ≤ options.budget
-  pub small_budget : options.budget ≤ 1000000000000
+  pub small_budget : options.budget ≤ MAX_BUDGET

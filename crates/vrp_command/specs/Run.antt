@@ -22,10 +22,8 @@ abbrev pub status_of : Verdict → Status
 status_of verdict.Proven = status.Proven
 status_of (verdict.Open lower) = status.Open
 
--- the report of a plan of the problem that the bytes mean, with the verdict that is known of it
-pub record ReportsAnswer (options : Options) (bytes report : List ℕ) (ended : Status) : Type 0 where
-  pub problem : Problem
-  pub meant : MeansProblem bytes options.depot problem
+-- the report of a plan of the problem, with the verdict that is known of it
+pub record ReportsAnswer (options : Options) (problem : Problem) (report : List ℕ) (ended : Status) : Type 0 where
   pub plan : PricedPlan
   pub judged : Verdict
   pub answer : IsAnswer problem options.pieces options.budget plan judged
@@ -37,8 +35,10 @@ pub record ReportsAnswer (options : Options) (bytes report : List ℕ) (ended : 
 pub record PrintsAnswer (options : Options) (unread_old unread_new written_old written_new : Option (List ℕ)) (ended : Status) : Type 0 where
   pub bytes : List ℕ
   pub input : IsInput unread_old unread_new bytes
+  pub problem : Problem
+  pub meant : MeansProblem bytes options.depot problem
   pub report : List ℕ
-  pub reported : ReportsAnswer options bytes report ended
+  pub reported : ReportsAnswer options problem report ended
   pub output : Appends written_old written_new report
 
 -- what was read is refused for this

@@ -11,33 +11,23 @@ least_of number [] = number
 least_of number (other ∷ others) = min other (least_of number others)
 
 -- the least number of a list, if it has any
-abbrev pub IsLeast : Option ℕ → List ℕ → Type 0
-IsLeast None numbers = numbers ≡ []
-IsLeast (Some least) numbers = (0 < length numbers) × ((other : ℕ) → min other least ≡ least_of other numbers)
+abbrev pub IsLeastOfAll : Option ℕ → List ℕ → Type 0
+IsLeastOfAll None numbers = numbers ≡ []
+IsLeastOfAll (Some least) numbers = (0 < length numbers) × ((other : ℕ) → min other least ≡ least_of other numbers)
 
--- a front, and what a word under it costs at least
-pub record BoundedFront : Type 0 where
-  pub front : List ℕ
-  pub low : ℕ
+-- A piece that is left unfinished: its tree is above the budget. Its low is what is paid along its word and the bound on what is
+-- still to pay there, with tables over all customers.
+pub record IsLeft (p : Problem) (cutting : List (List ℕ)) (budget : ℕ) (front : List ℕ) (low : ℕ) : Type 0 where
+  pub among : Contains cutting front
+  pub large : TreeHasAtLeast p front (budget + 1)
+  pub is_low : IsLow p (customers p) front (Some low)
 
-abbrev pub fronts_of : List BoundedFront → List (List ℕ)
-fronts_of pieces = map (λ (piece : BoundedFront). piece.front) pieces
-
-abbrev pub lows_of : List BoundedFront → List ℕ
-lows_of pieces = map (λ (piece : BoundedFront). piece.low) pieces
-
--- A piece that is left unfinished: its tree is above the budget, and the number is what is paid along its word and the bound
--- there, with tables over all customers.
-pub record IsLeft (p : Problem) (cutting : List (List ℕ)) (budget : ℕ) (piece : BoundedFront) : Type 0 where
-  pub among : Contains cutting piece.front
-  pub large : TreeHasAtLeast p piece.front (budget + 1)
-  pub is_low : IsLow p (customers p) piece.front (Some piece.low)
-
--- Some pieces are left unfinished, and the lower number is the least of theirs. No word under any other of the pieces searched
--- costs less than this cost.
+-- Some pieces are left unfinished, and the lower number is the least of their lows. No word under any other of the pieces
+-- searched costs less than this cost.
 pub record AreSearched (p : Problem) (cutting : List (List ℕ)) (budget cost : ℕ) (searched : List (List ℕ)) (lower : Option ℕ) : Type 0 where
-  pub unfinished : List BoundedFront
-  pub left : All (IsLeft p cutting budget) unfinished
-  pub bounds : All (λ piece. NoneCheaperUnder p piece.front piece.low) unfinished
-  pub others : All (λ front. Contains (fronts_of unfinished) front ⊎ NoneCheaperUnder p front cost) searched
-  pub least : IsLeast lower (lows_of unfinished)
+  pub unfinished : List (List ℕ)
+  pub low : List ℕ → ℕ
+  pub left : All (λ front. IsLeft p cutting budget front (low front)) unfinished
+  pub bounds : All (λ front. NoneCheaperUnder p front (low front)) unfinished
+  pub others : All (λ front. Contains unfinished front ⊎ NoneCheaperUnder p front cost) searched
+  pub least : IsLeastOfAll lower (map low unfinished)

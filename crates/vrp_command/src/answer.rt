@@ -3,6 +3,7 @@ ghost use Rattle.std.specs.Prelude.{◌≡◌, ◌≤◌, IfOk};
 ghost use Rattle.vrp_model.specs.Problem.{customers};
 ghost use Rattle.vrp_model.specs.Route.{IsPlanOf};
 ghost use Rattle.vrp_search.specs.Cutting.{IsCutting};
+ghost use Rattle.vrp_search.specs.declared.cutting.TheConstants.{MAX_PIECES};
 ghost use Rattle.vrp_command.specs.Answer.{IsAnswer};
 ghost use Rattle.vrp_command.specs.Searched.{AreSearched};
 
@@ -27,7 +28,7 @@ pub(crate) fn solve(
     pieces: u32,
     budget: u64,
 ) -> Result<Answer, NoMemory>
-    requires pieces { pieces ≤ 65536 }
+    requires pieces { pieces ≤ MAX_PIECES }
     requires budget { 1 ≤ budget }
     ensures { IfOk result (λ answer. IsAnswer instance.now pieces budget answer.plan answer.verdict) }
 {

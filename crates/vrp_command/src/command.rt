@@ -1,10 +1,9 @@
 //! A run: from the bytes of a file to the bytes of a report.
-ghost use Rattle.std.specs.Prelude.{◌≡◌, ◌≢◌, IfOk, IfErr, OnOk, string_bytes};
+ghost use Rattle.std.specs.Prelude.{◌≡◌, ◌≢◌, ◌+◌, IfOk, IfErr, OnOk, string_bytes};
 ghost use Rattle.std.specs.Io.KnownBytes.{Appends, Keeps};
-ghost use Rattle.vrp_text.specs.Meaning.{MeansRefusal};
 ghost use Rattle.vrp_command.specs.Options.{AreInRange};
 ghost use Rattle.vrp_command.specs.Run.{ReportsAnswer, PrintsAnswer, RefusesInput, AcceptsInput, OnRefusedFile, status_of};
-ghost use Rattle.vrp_command.specs.Input.{TakesSome};
+ghost use Rattle.vrp_command.specs.Input.{TakesAtMost};
 
 use crate::answer::solve;
 use crate::fault::RunError;
@@ -14,10 +13,12 @@ use crate::report::report;
 use crate::verdict::Verdict;
 use std::alloc::Global;
 use std::io::{Read, Write};
+use vrp_model::{Instance, NoMemory};
+use vrp_text::MAX_BYTES;
 
 /// Reads a CVRP file, and writes the report of a lawful plan of the problem that it means with the chosen node as its depot:
-/// a cheapest one, where the status is `Proven`. Reading ends at the end of the input or after 16,777,217 bytes. On a fault
-/// other than `Write` nothing is written.
+/// a cheapest one, where the status is `Proven`. Reading ends at the end of the input or after one byte more than
+/// a file may have. On a fault other than `Write` nothing is written.
 pub fn run<R: Read, W: Write>(
     alloc: Global,
     options: Options,
@@ -28,11 +29,13 @@ pub fn run<R: Read, W: Write>(
     ensures printed { IfOk result (PrintsAnswer options (R.remaining input.old) (R.remaining input.new) (W.contents output.old) (W.contents output.new)) }
     ensures refused { IfErr result (λ fault. OnRefusedFile fault (RefusesInput options.depot (R.remaining input.old) (R.remaining input.new))) }
     ensures unwritten { IfErr result (λ fault. fault ≡ RunError.Write → AcceptsInput options.depot (R.remaining input.old) (R.remaining input.new)) }
-    ensures taken { TakesSome (R.remaining input.old) (R.remaining input.new) }
+    ensures failed { IfErr result (λ fault. fault ≡ RunError.Read → TakesAtMost MAX_BYTES (R.remaining input.old) (R.remaining input.new)) }
+    ensures taken { TakesAtMost (MAX_BYTES + 1) (R.remaining input.old) (R.remaining input.new) }
     ensures silent { IfErr result (λ fault. fault ≢ RunError.Write → Keeps (W.contents output.old) (W.contents output.new)) }
 {
     let bytes = read_input(alloc, input)?;
-    let outcome = answer_to(alloc, &bytes, options)?;
+    let instance = vrp_text::read(alloc, &bytes, options.depot)?;
+    let outcome = answer_to(alloc, &instance, options)?;
     write_report(output, outcome.report.as_bytes())?;
     Ok(outcome.status)
 }
@@ -44,17 +47,13 @@ struct Outcome {
     status: Status,
 }
 
-// The report of an answer to the problem that the bytes mean.
-fn answer_to(alloc: Global, bytes: &[u8], options: Options) -> Result<Outcome, RunError>
+// The report of an answer to an instance.
+fn answer_to(alloc: Global, instance: &Instance, options: Options) -> Result<Outcome, NoMemory>
     requires { AreInRange options }
-    ensures reported { IfOk result (λ outcome. ReportsAnswer options bytes.now (string_bytes outcome.report) outcome.status) }
-    ensures refused { IfErr result (λ fault. OnRefusedFile fault (MeansRefusal bytes.now options.depot)) }
-    ensures no_read { IfErr result (λ fault. fault ≢ RunError.Read) }
-    ensures no_write { IfErr result (λ fault. fault ≢ RunError.Write) }
+    ensures { IfOk result (λ outcome. ReportsAnswer options instance.now (string_bytes outcome.report) outcome.status) }
 {
-    let instance = vrp_text::read(alloc, bytes, options.depot)?;
-    let answer = solve(alloc, &instance, options.pieces, options.budget)?;
-    let report = report(alloc, &instance, &answer.plan, answer.verdict)?;
+    let answer = solve(alloc, instance, options.pieces, options.budget)?;
+    let report = report(alloc, instance, &answer.plan, answer.verdict)?;
     let status = status(answer.verdict);
     Ok(Outcome { report, status })
 }

@@ -14,4 +14,5 @@ mod verdict;
 
 pub use command::run;
 pub use fault::{RunError, exit_status, fault_line};
-pub use options::{Options, Status};
+pub use options::{MAX_BUDGET, MAX_WORKERS, Options, Status};
+pub use vrp_search::MAX_PIECES;

@@ -1,14 +1,20 @@
 //! How a run is asked for, and how it ended.
 ghost use Rattle.vrp_command.specs.Options.{IsDefault};
 
+/// The most threads that may be asked for.
+pub const MAX_WORKERS: u32 = 64;
+
+/// The most partial plans that may be looked at in each part.
+pub const MAX_BUDGET: u64 = 1_000_000_000_000;
+
 /// How a run is asked for.
 #[derive(Clone, Copy, Debug, PartialEq, Eq)]
 pub struct Options {
-    /// Threads, from 1 to 64.
+    /// Threads, from 1 to `MAX_WORKERS`.
     pub workers: u32,
-    /// Parts into which the search is to be cut, from 1 to 65,536.
+    /// Parts into which the search is to be cut, from 1 to `MAX_PIECES`.
     pub pieces: u32,
-    /// Partial plans that may be looked at in each part, from 1 to 1,000,000,000,000.
+    /// Partial plans that may be looked at in each part, from 1 to `MAX_BUDGET`.
     pub budget: u64,
     /// The node that is the depot, or else the first that the file lists.
     pub depot: Option<u16>,

@@ -3,6 +3,7 @@ pub mod Begins
 pub mod Cut
 pub mod Exactly
 pub mod Lows
+pub mod OneLow
 pub mod Order
 pub mod Passes
 pub mod Progress

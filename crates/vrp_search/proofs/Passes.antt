@@ -1,5 +1,5 @@
 -- Passes over a cutting.
-use Rattle.std.proofs.Common.{◌≡◌, ℕ, ◌+◌, ◌*◌, ◌≤◌, ◌<◌, Bool, true, false, List, [], ◌∷◌, ◌++◌, length, length-append, get_or, refl, sym, ap, subst, ◌∙◌, inl, inr, ◌⊎◌, arith, append-nil, drop-cons, length-drop, ◌-◌, max}
+use Rattle.std.proofs.Common.{◌≡◌, ℕ, ◌+◌, ◌*◌, ◌≤◌, ◌<◌, Bool, true, false, List, [], ◌∷◌, ◌++◌, length, length-append, get_or, refl, sym, ap, subst, ◌∙◌, inl, inr, ◌⊎◌, arith, append-nil, drop-cons, length-drop, ◌-◌, max, append_assoc}
 use Rattle.std.specs.Prelude.{map, drop, nat_lt, ◌||◌}
 use Rattle.std.specs.List.{All, Contains}
 use Rattle.std.proofs.lemmas.Bool.Decides.{nat_tests}
@@ -7,13 +7,29 @@ use Rattle.std.proofs.lemmas.Bool.{cases_lt}
 use Rattle.std.proofs.lemmas.List.{drop_all, length-map, length_push}
 use Rattle.std.proofs.lemmas.List.Elements.{All-append, All-cons, All-contains, All-map, All-nil, Contains-get_or}
 use Rattle.vrp_model.specs.Problem.{IsProblem, Problem, place_count}
-use Rattle.vrp_model.specs.Word.{IsFront}
-use Rattle.vrp_search.specs.Cutting.{HasNoChild, IsCutting, NumberedWord}
+use Rattle.vrp_model.specs.Word.{BeginsWith, IsFront}
+use Rattle.vrp_model.specs.declared.limits.TheConstants.{MAX_NODES}
+use Rattle.vrp_search.specs.Cutting.{BeginsAmong, HasNoChild, IsCutting, NumberedWord}
 use Rattle.vrp_search.specs.Pass.{AreDeep, IsPass, IsStep, StandsFor}
 use Rattle.vrp_search.proofs.Begins.{either}
 use Rattle.vrp_search.proofs.Short.{fronts_are_short}
 use Rattle.vrp_search.proofs.Cut.{front_between, stands_instead}
 use Rattle.vrp_search.proofs.Refined.{pieces_from}
+
+-- ---- what a word begins with
+
+begins_with_itself : (word : List ℕ) → BeginsWith word word
+begins_with_itself word = ([], sym (append-nil word))
+
+begins_further : (word front start : List ℕ) → BeginsWith word front → BeginsWith front start → BeginsWith word start
+begins_further word front start (rest, is) (more, from) = (more ++ rest, is ∙ ap (λ (xs : List ℕ). xs ++ rest) from ∙ append_assoc start more rest)
+
+-- what lies under fronts that lie under others lies under these
+pub begin_further : (start old new : List (List ℕ)) → All (BeginsAmong start) old → All (BeginsAmong old) new → All (BeginsAmong start) new
+begin_further start old new from begins = λ i d lt.
+    let (front, among, here) = begins i d lt in
+    let (first, contained, before) = All-contains (BeginsAmong start) old front from among in
+    (first, contained, begins_further (get_or new i d) front first here before)
 
 -- ---- what stands for a front
 
@@ -40,6 +56,13 @@ one_front : (p : Problem) (front : List ℕ) (refined : Bool) (fronts : List (Li
 one_front p front true fronts isnt stand = absurd (cc isnt)
 one_front p front false fronts isnt stand = ap length stand
 
+-- what stands for a front lies under it
+fronts_behind : (p : Problem) (front : List ℕ) (refined : Bool) (fronts : List (List ℕ)) → StandsFor p front refined fronts → All (λ w. BeginsWith w front) fronts
+fronts_behind p front true fronts stand =
+    let are = stand.0 in
+    subst (All (λ w. BeginsWith w front)) (sym are.are) (All-map (λ w. BeginsWith w front) (λ k. front ++ k ∷ []) are.symbols (λ i d lt. (get_or are.symbols i d ∷ [], refl)))
+fronts_behind p front false fronts stand = subst (All (λ w. BeginsWith w front)) (sym stand) (All-cons (λ w. BeginsWith w front) front [] (begins_with_itself front) (All-nil _))
+
 -- ---- a pass
 
 pub pass_none : (p : Problem) (pieces : ℕ) (old : List (List ℕ)) → IsCutting p old → length old < pieces → IsPass p pieces old [] old false
@@ -47,6 +70,7 @@ pass_none p pieces old cut fewer =
     record {
       cutting = cut;
       few = omega (arith, fewer);
+      begins = All-nil _;
       deeper = λ _ depth deep. All-nil _;
       as_many = λ _. omega arith;
       childless = λ _ _. All-nil _;
@@ -74,6 +98,8 @@ pass_step p pieces old done ahead new front refined asked step pass is_asked con
         | inl does ↦ omega (arith, long, is.few, is_asked.few does)
         | inr doesnt ↦ omega (arith, long, one_kept doesnt, pass.few, total)
       ];
+      begins = subst (All (BeginsAmong old)) (sym is.behind)
+          (All-append (BeginsAmong old) done is.fronts pass.begins (λ i d lt. (front, contained, fronts_behind p front step is.fronts is.stand i d lt)));
       deeper = λ few depth deep. elim (either asked) [
         | inl does ↦
             subst (AreDeep p (depth + 1)) (sym is.behind)
@@ -120,7 +146,7 @@ pub piece_is_front : (p : Problem) (wanted i : ℕ) (old done : List (List ℕ))
 piece_is_front p wanted i old done pieces piece refined are lt is pass =
     front_between p done (drop (i + 1) old) piece.word (subst (λ (xs : List (List ℕ)). IsCutting p (done ++ xs)) (pieces_from pieces old i piece are lt is) pass.cutting)
 
-pub pass_count : (p : Problem) (wanted i : ℕ) (old done : List (List ℕ)) (pieces : List NumberedWord) (refined : Bool) → map (λ x. x.word) pieces ≡ old → IsPass p wanted old done (drop i old) refined → length done + (length pieces - i) ≤ wanted + 1199
+pub pass_count : (p : Problem) (wanted i : ℕ) (old done : List (List ℕ)) (pieces : List NumberedWord) (refined : Bool) → map (λ x. x.word) pieces ≡ old → IsPass p wanted old done (drop i old) refined → length done + (length pieces - i) ≤ wanted + (MAX_NODES - 1)
 pass_count p wanted i old done pieces refined are pass =
     omega (arith, pass.few, length-drop i old, ap length (sym are) ∙ length-map pieces (λ x. x.word))
 
@@ -142,8 +168,19 @@ none_deep p fronts depth problem long deep = λ i d lt.
 -- what is known of the pieces after a number of passes
 pub record AreRefined (p : Problem) (pieces depth : ℕ) (start fronts : List (List ℕ)) : Type 0 where
   pub cutting : IsCutting p fronts
-  pub few : length fronts ≤ max (pieces + 1199) (length start)
+  pub few : length fronts ≤ max (pieces + (MAX_NODES - 1)) (length start)
+  pub begins : All (BeginsAmong start) fronts
   pub deep : length fronts < pieces → AreDeep p depth fronts
+
+-- before the first pass
+pub refined_none : (p : Problem) (pieces : ℕ) (start : List (List ℕ)) → IsCutting p start → AreRefined p pieces 0 start start
+refined_none p pieces start cut =
+    record {
+      cutting = cut;
+      few = omega arith;
+      begins = λ i d lt. (get_or start i d, Contains-get_or start i d lt, begins_with_itself (get_or start i d));
+      deep = λ _ i d lt. inr (omega arith);
+    }
 
 pub pass_cutting : (p : Problem) (pieces : ℕ) (old new : List (List ℕ)) (refined : Bool) → IsPass p pieces old new [] refined → IsCutting p new
 pass_cutting p pieces old new refined pass = subst (IsCutting p) (append-nil new) pass.cutting
@@ -153,6 +190,7 @@ refined_more p pieces depth start old new refined are fewer pass =
     record {
       cutting = pass_cutting p pieces old new refined pass;
       few = omega (arith, pass.few);
+      begins = begin_further start old new are.begins pass.begins;
       deep = λ few. pass.deeper (omega (arith, few)) depth (are.deep fewer);
     }
 

@@ -6,6 +6,7 @@ use Rattle.std.proofs.lemmas.Bool.Decides.{nat_tests}
 use Rattle.std.proofs.lemmas.List.Elements.{All-append, All-cons, All-contains, All-nil, Contains-get_or}
 use Rattle.std.proofs.lemmas.List.FromFn.{get_or-range_with_len, length-range_with_len}
 use Rattle.std.proofs.lemmas.List.Sums.{sum_by-cons, sum_by_push}
+use Rattle.vrp_model.specs.declared.limits.TheConstants.{MAX_WEIGHT}
 use Rattle.vrp_bound.specs.Capacity.{IsInsOf}
 use Rattle.vrp_model.specs.LeastWay.{IsLeastIn}
 use Rattle.vrp_model.specs.Problem.{Problem, customers, place_count}
@@ -57,7 +58,7 @@ pub record InsSoFar (p : Problem) (count ins : ℕ) : Type 0 where
   pub least_in : ℕ → ℕ
   pub each : (k : ℕ) → 0 < k → k ≤ count → IsLeastIn p k (least_in k)
   pub whole : ins ≡ sum_by least_in (take count (customers p))
-  pub small : ins ≤ 1000000000 * count
+  pub small : ins ≤ MAX_WEIGHT * count
 
 pub none_so_far : (p : Problem) → InsSoFar p 0 0
 none_so_far p = record { least_in = λ k. k; each = λ k some within. absurd (omega (arith, some, within)); whole = refl; small = omega arith }
@@ -85,7 +86,7 @@ each_up_to p (suc i) lt =
     subst (All (λ k. k ≤ suc i)) (sym more) (All-append (λ k. k ≤ suc i) (take i (customers p)) (suc i ∷ [])
     (λ k d within. omega (arith, each_up_to p i (omega (arith, lt)) k d within)) (All-cons (λ k. k ≤ suc i) (suc i) [] (omega arith) (All-nil (λ k. k ≤ suc i))))
 
-pub one_more_way : (p : Problem) (i ins least : ℕ) → i + 1 < place_count p → InsSoFar p i ins → IsLeastIn p (i + 1) least → least ≤ 1000000000 → InsSoFar p (i + 1) (ins + least)
+pub one_more_way : (p : Problem) (i ins least : ℕ) → i + 1 < place_count p → InsSoFar p i ins → IsLeastIn p (i + 1) least → least ≤ MAX_WEIGHT → InsSoFar p (i + 1) (ins + least)
 one_more_way p i ins least lt so_far is few =
     let f = so_far.least_in in
     let g = with_way f (i + 1) least in

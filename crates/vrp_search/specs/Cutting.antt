@@ -1,8 +1,8 @@
 -- A cutting: fronts among which all lawful words are shared out.
 use Rattle.std.specs.Prelude.{◌≡◌, ℕ, ◌+◌, ◌<◌, ◌==◌, if◌then◌else◌, Bool, true, false, List, [], ◌∷◌, ◌++◌, count_by, drop, length, slice_index_or, take}
-use Rattle.std.specs.List.{All}
+use Rattle.std.specs.List.{All, Contains}
 use Rattle.vrp_model.specs.Problem.{Problem}
-use Rattle.vrp_model.specs.Word.{IsFront, IsLawfulWord}
+use Rattle.vrp_model.specs.Word.{BeginsWith, IsFront, IsLawfulWord}
 use Rattle.vrp_search.specs.Child.{AreChildren, NoChildFrom}
 
 -- whether the word begins with the front
@@ -15,6 +15,10 @@ begins_with (j ∷ word) (k ∷ front) = if j == k then begins_with word front e
 pub record IsCutting (p : Problem) (fronts : List (List ℕ)) : Type 0 where
   pub each : All (IsFront p) fronts
   pub one : (word : List ℕ) → IsLawfulWord p word → count_by (begins_with word) fronts ≡ 1
+
+-- the word begins with one of these fronts
+abbrev pub BeginsAmong : List (List ℕ) → List ℕ → Type 0
+BeginsAmong fronts word = (front : List ℕ) × Contains fronts front × BeginsWith word front
 
 abbrev pub HasNoChild : Problem → List ℕ → Type 0
 HasNoChild p front = NoChildFrom p front 0

@@ -1,15 +1,16 @@
 -- What becomes of a front, and of a list of fronts, in a pass over a cutting.
-use Rattle.std.specs.Prelude.{◌≡◌, ◌⊎◌, ℕ, ◌+◌, ◌≤◌, ◌<◌, Bool, true, false, List, [], ◌∷◌, ◌++◌, length}
+use Rattle.std.specs.Prelude.{◌≡◌, ◌⊎◌, ℕ, ◌+◌, ◌-◌, ◌≤◌, ◌<◌, Bool, true, false, List, [], ◌∷◌, ◌++◌, length}
 use Rattle.std.specs.List.{All}
 use Rattle.vrp_model.specs.Problem.{Problem}
+use Rattle.vrp_model.specs.declared.limits.TheConstants.{MAX_NODES}
 use Rattle.vrp_search.specs.Child.{AreChildren}
-use Rattle.vrp_search.specs.Cutting.{HasNoChild, IsCutting}
+use Rattle.vrp_search.specs.Cutting.{BeginsAmong, HasNoChild, IsCutting}
 
 -- a front's children stand behind a list
 pub record AreAdded (p : Problem) (front : List ℕ) (old new : List (List ℕ)) : Type 0 where
   pub children : List (List ℕ)
   pub are : AreChildren p front children
-  pub few : length children ≤ 1200
+  pub few : length children ≤ MAX_NODES
   pub behind : new ≡ old ++ children
 
 -- what stands for a front: its children, where it is refined, and else itself
@@ -21,7 +22,7 @@ StandsFor p front false fronts = fronts ≡ front ∷ []
 pub record IsStep (p : Problem) (front : List ℕ) (asked : Bool) (old : List (List ℕ)) (refined : Bool) (new : List (List ℕ)) : Type 0 where
   pub fronts : List (List ℕ)
   pub stand : StandsFor p front refined fronts
-  pub few : length fronts ≤ 1200
+  pub few : length fronts ≤ MAX_NODES
   pub behind : new ≡ old ++ fronts
   -- it is refined where that is asked for and it has a child
   pub only : asked ≡ false → refined ≡ false
@@ -34,7 +35,8 @@ AreDeep p depth fronts = All (λ front. HasNoChild p front ⊎ (depth ≤ length
 -- how far a pass has come: what stands for the fronts that it has seen, and those that are ahead
 pub record IsPass (p : Problem) (pieces : ℕ) (old done ahead : List (List ℕ)) (refined : Bool) : Type 0 where
   pub cutting : IsCutting p (done ++ ahead)
-  pub few : length done + length ahead ≤ pieces + 1199
+  pub few : length done + length ahead ≤ pieces + (MAX_NODES - 1)
+  pub begins : All (BeginsAmong old) done
   -- with too few still, each front that had a child has been refined
   pub deeper : length done + length ahead < pieces → (depth : ℕ) → AreDeep p depth old → AreDeep p (depth + 1) done
   -- nothing is refined: as many as there were, and with too few still, none of those seen has a child

@@ -7,16 +7,17 @@ use Rattle.vrp_model.specs.Problem.{IsProblem, Problem, place_count}
 use Rattle.vrp_model.specs.Word.{IsFront, last_route, served_in, stands_in, unserved_in, word_cost}
 use Rattle.vrp_model.specs.Front.{open_load}
 use Rattle.vrp_model.specs.Route.{load_of}
+use Rattle.vrp_model.specs.declared.limits.TheConstants.{MAX_WAYS, MAX_WEIGHT}
 use Rattle.vrp_search.specs.declared.tally.Tally.{Tally}
 
 pub record IsTally (p : Problem) (word : List ℕ) (tally : Tally) : Type 0 where
   pub cost : tally.cost ≡ word_cost p word
-  pub small : tally.cost ≤ 1000000000 * length word
+  pub small : tally.cost ≤ MAX_WEIGHT * length word
   pub load : tally.load ≡ open_load p word
   pub light : tally.load ≤ p.capacity
   pub rest : tally.rest ≡ load_of p (unserved_in p word)
   pub ins : IsInsOf p word tally.ins
-  pub small_ins : tally.ins ≤ 1200000000000
+  pub small_ins : tally.ins ≤ MAX_WAYS
   -- the first customer of the last route, 0 where there is no route yet
   pub first : tally.first ≡ slice_index (last_route word) 0
   pub unserved : tally.unserved + length (served_in word) + 1 ≡ place_count p

@@ -1,8 +1,10 @@
 //! Cuttings: the lawful words of an instance, shared out among pieces that are searched one by one.
-ghost use Rattle.std.specs.Prelude.{◌≡◌, ◌⊎◌, ◌+◌, ◌≤◌, ◌<◌, IfOk, OnOk, OnErr, [], ◌∷◌, ◌++◌, length, map, max, IsTrue, ◌↔◌};
+ghost use Rattle.std.specs.Prelude.{◌≡◌, ◌⊎◌, ◌+◌, ◌-◌, ◌*◌, ◌≤◌, ◌<◌, IfOk, OnOk, OnErr, [], ◌∷◌, ◌++◌, length, map, max, IsTrue, ◌↔◌};
 ghost use Rattle.std.specs.List.{All};
 ghost use Rattle.vrp_model.specs.Word.{IsFront};
-ghost use Rattle.vrp_search.specs.Cutting.{AreNumbered, HasNoChild, IsCutting, IsRefined};
+ghost use Rattle.vrp_model.specs.declared.limits.TheConstants.{MAX_NODES};
+ghost use Rattle.vrp_search.specs.declared.cutting.TheConstants.{MAX_PIECES, MAX_REFINED};
+ghost use Rattle.vrp_search.specs.Cutting.{AreNumbered, BeginsAmong, HasNoChild, IsCutting, IsRefined};
 ghost use Rattle.vrp_search.specs.Pass.{AreAdded, IsPass, IsStep};
 
 use crate::partial::Partial;
@@ -10,6 +12,12 @@ use crate::piece::Piece;
 use std::alloc::Global;
 use std::marker::Model;
 use vrp_model::{Instance, NoMemory};
+
+/// The most pieces that may be asked for.
+pub const MAX_PIECES: u32 = 65_536;
+
+/// The most pieces of a cutting that is to be refined: their numbers stay far below what a `u32` holds.
+pub const MAX_REFINED: usize = 1_000_000;
 
 /// A cutting of an instance's words: fronts such that each lawful word begins with exactly one of them. It starts as the
 /// empty word alone, and grows as fronts are replaced by their children.
@@ -21,6 +29,8 @@ pub struct Cutting {
 
 impl Model for Cutting {
     ghost use Rattle.std.specs.Prelude.{List, ℕ, map};
+    ghost use Rattle.vrp_model.specs.declared.limits.TheConstants.{MAX_NODES};
+    ghost use Rattle.vrp_search.specs.declared.cutting.TheConstants.{MAX_PIECES, MAX_REFINED};
     ghost use Rattle.vrp_search.specs.Cutting.{AreNumbered};
 
     ghost Value = { List (List ℕ) };
@@ -58,7 +68,7 @@ impl Cutting {
     ) -> Result<bool, NoMemory>
         requires cutting { IsCutting instance.now self.old }
         requires piece { piece < length self.old }
-        requires few { length self.old ≤ 1000000 }
+        requires few { length self.old ≤ MAX_REFINED }
         ensures refined { IfOk result (λ refined. IsRefined instance.now piece self.old refined self.new) }
         ensures cutting { IsCutting instance.now self.new }
         ensures err { OnErr result (self.new ≡ self.old) }
@@ -75,7 +85,8 @@ impl Cutting {
         Ok(true)
     }
 
-    /// Refines until there are so many pieces, or none has a child. A refused call leaves a cutting.
+    /// Refines until there are so many pieces, or none has a child. Each piece lies under one that was there before. A refused
+    /// call leaves a cutting.
     pub fn at_least(
         &mut self,
         alloc: Global,
@@ -83,10 +94,11 @@ impl Cutting {
         pieces: u32,
     ) -> Result<(), NoMemory>
         requires cutting { IsCutting instance.now self.old }
-        requires pieces { pieces ≤ 65536 }
+        requires pieces { pieces ≤ MAX_PIECES }
         ensures cutting { IsCutting instance.now self.new }
         ensures enough { OnOk result ((pieces ≤ length self.new) ⊎ All (HasNoChild instance.now) self.new) }
-        ensures few { length self.new ≤ max (pieces + 1199) (length self.old) }
+        ensures few { length self.new ≤ max (pieces + (MAX_NODES - 1)) (length self.old) }
+        ensures begins { All (BeginsAmong self.old) self.new }
     {
         let wanted = pieces as usize;
         // A front has at most two symbols for each customer, and a pass adds one to each that has a child.
@@ -113,7 +125,7 @@ impl Cutting {
     ) -> Result<(Cutting, bool), NoMemory>
         requires cutting { IsCutting instance.now self.now }
         requires fewer { length self.now < wanted }
-        requires wanted { wanted ≤ 65536 }
+        requires wanted { wanted ≤ MAX_PIECES }
         ensures { IfOk result (λ next. IsPass instance.now wanted self.now next.0 [] next.1) }
     {
         let pieces = self.pieces();
@@ -143,7 +155,7 @@ impl Cutting {
 
     // Adds a piece with the next number.
     fn push(&mut self, word: Vec<u16>) -> Result<(), NoMemory>
-        requires { length self.old ≤ 2000000 }
+        requires { length self.old ≤ 2 * MAX_REFINED }
         ensures { OnOk result (self.new ≡ self.old ++ word.items ∷ []) }
     {
         let number = self.pieces.len() as u32;
@@ -153,7 +165,7 @@ impl Cutting {
 
     // Adds pieces of the same words.
     fn push_copies(&mut self, alloc: Global, pieces: &[Piece]) -> Result<(), NoMemory>
-        requires { length self.old + length pieces.now ≤ 2000000 }
+        requires { length self.old + length pieces.now ≤ 2 * MAX_REFINED }
         ensures { OnOk result (self.new ≡ self.old ++ map (λ piece. piece.word) pieces.now) }
     {
         for piece in pieces {
@@ -170,7 +182,7 @@ impl Cutting {
         front: &[u16],
     ) -> Result<bool, NoMemory>
         requires front { IsFront instance.now front.now }
-        requires room { length self.old ≤ 1000000 }
+        requires room { length self.old ≤ MAX_REFINED }
         ensures children { OnOk result (AreAdded instance.now front.now self.old self.new) }
         ensures some { IfOk result (λ some. IsTrue some ↔ length self.old < length self.new) }
     {
@@ -193,7 +205,7 @@ impl Cutting {
         refine: bool,
     ) -> Result<bool, NoMemory>
         requires front { IsFront instance.now front.now }
-        requires room { length self.old ≤ 1000000 }
+        requires room { length self.old ≤ MAX_REFINED }
         ensures { IfOk result (λ refined. IsStep instance.now front.now refine self.old refined self.new) }
     {
         if refine && self.push_children(alloc, instance, front)? {
@@ -228,14 +240,14 @@ mod tests {
         let starts: [&[u16]; 2] = [&[1], &[2]];
         let thirds: [&[u16]; 3] = [&[1, 0], &[1, 2], &[2]];
         let table = [
-            (2, 65_536, plans.as_slice()),
-            (1, 65_536, singles.as_slice()),
+            (2, MAX_PIECES, plans.as_slice()),
+            (1, MAX_PIECES, singles.as_slice()),
             (2, 2, starts.as_slice()),
             (2, 3, thirds.as_slice()),
         ];
         for (capacity, count, words) in table {
             assert!(rt; capacity <= 2);
-            assert!(rt; count <= 65_536);
+            assert!(rt; count <= MAX_PIECES);
             let points = [(0, 0), (3, 4), (6, 8)];
             let weights = Weights::points(rt.alloc(), Metric::Euc2d, &points)?;
             let instance = Instance::new(rt.alloc(), weights, &[0, 1, 1], capacity, &[1], None)?;

@@ -13,9 +13,9 @@ mod slow;
 mod tally;
 
 pub use board::Board;
-pub use cutting::Cutting;
+pub use cutting::{Cutting, MAX_PIECES, MAX_REFINED};
 pub use depth_first::{Ended, search};
-pub use law::one_piece;
+pub use law::{one_low, one_piece};
 pub use local::Local;
 pub use partial::Partial;
 pub use piece::Piece;

@@ -3,6 +3,7 @@ ghost use Rattle.std.specs.Prelude.{◌≡◌, ◌<◌, ◌≤◌, ◌+◌, ◌*
 ghost use Rattle.vrp_model.specs.Problem.{IsProblem, place_count};
 ghost use Rattle.vrp_model.specs.Route.{IsPlanOf, load_of};
 ghost use Rattle.vrp_model.specs.Word.{IsFront, IsLawfulWord, last_symbol, unserved_in, word_cost, word_of};
+ghost use Rattle.vrp_model.specs.declared.limits.TheConstants.{MAX_NODES};
 ghost use Rattle.vrp_search.specs.Partial.{PartialPlan};
 ghost use Rattle.vrp_model.specs.Front.{open_load};
 ghost use Rattle.vrp_search.specs.Child.{IsNextChild, NoChildFrom};
@@ -97,7 +98,7 @@ impl<'a> Partial<'a> {
     /// The first symbol from this one on that makes a child.
     pub(crate) fn next_child(&self, from: u16) -> Option<u16>
         ensures next { MatchOption result (NoChildFrom self.now.problem self.now.word from) (IsNextChild self.now.problem self.now.word from) }
-        ensures small { IfSome result (λ symbol. symbol < 1200) }
+        ensures small { IfSome result (λ symbol. symbol < MAX_NODES) }
     {
         for symbol in from..self.instance.customers() + 1 {
             if self.child(symbol) {
@@ -181,7 +182,7 @@ impl<'a> Partial<'a> {
         requires { 0 < length self.old.word }
         ensures problem { self.new.problem ≡ self.old.problem }
         ensures word { self.old.word ≡ self.new.word ++ result ∷ [] }
-        ensures small { result < 1200 }
+        ensures small { result < MAX_NODES }
     {
         let symbol = self.word.pop().unwrap();
         self.tally = self.before.pop().unwrap();

@@ -1,7 +1,7 @@
 //! A plain slow program beside the fast bodies: it judges each short list of symbols as a whole, and so finds all fronts of a
 //! small instance.
 
-use crate::cutting::Cutting;
+use crate::cutting::{Cutting, MAX_PIECES};
 use crate::partial::Partial;
 use std::alloc::{AllocError, Global};
 use std::process::Abort;
@@ -15,9 +15,6 @@ const WEIGHTS: [u64; 16] = [0, 5, 9, 14, 3, 0, 7, 2, 8, 1, 0, 6, 11, 4, 10, 0];
 
 // More steps than a walk through any of the trees takes.
 const MOST_STEPS: u32 = 10_000;
-
-// As many pieces as may be asked for: more than any of the trees has.
-const MOST_PIECES: u32 = 65_536;
 
 // Into how many pieces a tree is cut before a piece is refined, at most: enough for the trees to be cut down to their leaves.
 const MOST_REFINED: u32 = 24;
@@ -252,7 +249,7 @@ impl Small {
         pieces: u32,
         number: u32,
     ) -> Result<(), Fail> {
-        assert!(rt; pieces <= MOST_PIECES);
+        assert!(rt; pieces <= MAX_PIECES);
         let mut cutting = Cutting::whole(alloc, instance)?;
         cutting.at_least(alloc, instance, pieces)?;
         if number as usize >= cutting.pieces().len() {
@@ -398,7 +395,7 @@ fn cuttings_end_at_the_leaves(rt: HostRuntime) -> Result<(), Fail> {
         let small = Small::new(case);
         let instance = small.instance(&rt, rt.alloc())?;
         let mut cutting = Cutting::whole(rt.alloc(), &instance)?;
-        cutting.at_least(rt.alloc(), &instance, MOST_PIECES)?;
+        cutting.at_least(rt.alloc(), &instance, MAX_PIECES)?;
         let words = words(rt.alloc(), &cutting)?;
         assert_eq!(rt; words, small.leaves(rt.alloc())?, "{small:?}");
     }

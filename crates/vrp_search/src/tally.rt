@@ -1,8 +1,9 @@
 //! What is counted along a word, and what a plan under it costs at least.
-ghost use Rattle.std.specs.Prelude.{◌≡◌, ◌≤◌, ◌<◌, []};
+ghost use Rattle.std.specs.Prelude.{◌≡◌, ◌*◌, ◌≤◌, ◌<◌, []};
 ghost use Rattle.vrp_bound.specs.Capacity.{IsInsOf};
 ghost use Rattle.vrp_model.specs.Problem.{customers, place_count};
 ghost use Rattle.vrp_model.specs.Route.{load_of};
+ghost use Rattle.vrp_model.specs.declared.limits.TheConstants.{MAX_WAYS};
 ghost use Rattle.vrp_search.specs.Tallied.{IsLowOf, IsTally};
 
 use vrp_bound::{Tables, bound};
@@ -48,8 +49,8 @@ impl Tally {
         requires place { at < place_count instance.now }
         requires load { self.load ≤ instance.now.capacity }
         requires depot { at ≡ 0 → self.load ≡ 0 }
-        requires ins { self.ins ≤ 1200000000000 }
-        requires cost { self.cost ≤ 2400000000000 }
+        requires ins { self.ins ≤ MAX_WAYS }
+        requires cost { self.cost ≤ 2 * MAX_WAYS }
         requires rest { self.rest ≤ load_of instance.now tables.now.among }
         requires all { self.rest ≤ load_of instance.now (customers instance.now) }
         ensures { IsLowOf instance.now tables.now.among at self result }
@@ -62,7 +63,7 @@ impl Tally {
 // What the least ways into all customers cost together.
 fn whole_ins(instance: &Instance) -> u64
     ensures ins { IsInsOf instance.now [] result }
-    ensures small { result ≤ 1200000000000 }
+    ensures small { result ≤ MAX_WAYS }
 {
     let mut ins = 0;
     for index in 0..instance.customers() {

@@ -5,9 +5,15 @@ use Rattle.vrp_model.specs.Word.{IsFront}
 use Rattle.vrp_model.proofs.UnservedCustomers.{unserved_are_customers}
 use Rattle.vrp_search.specs.Search.{AreCovered, EndsSearch}
 use Rattle.vrp_command.specs.Searched.{AreSearched}
-use Rattle.vrp_command.proofs.Pieces.{contains_at, one_more, piece_at, piece_finished, piece_left, with_one}
+use Rattle.vrp_command.proofs.Pieces.{contains_at, none_searched, one_more, piece_at, piece_finished, piece_left, with_one}
 use Rattle.vrp_command.proofs.answer.search_all.Goals.{in-Unfinished, in_default}
 use Rattle.vrp_command.proofs.answer.search_all.Goals as goal
+
+pub loop-piece-init : goal.loop-piece-init
+loop-piece-init c = record {
+  plan = c.requires.board;
+  searched = none_searched c.args.instance.now c.args.cutting.now c.args.budget c.args.board.now.cost;
+}
 
 pub search-requires-clause-covered : goal.search-requires-clause-covered
 search-requires-clause-covered c =

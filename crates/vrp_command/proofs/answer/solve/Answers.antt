@@ -1,5 +1,6 @@
-use Rattle.std.proofs.Common.{◌≡◌, ◌∙◌, min, ap, sym, subst}
+use Rattle.std.proofs.Common.{◌≡◌, ◌∙◌, ◌+◌, ◌-◌, ◌≤◌, arith, length, min, ap, sym, subst}
 use Rattle.vrp_model.specs.Route.{IsPlanOf, PricedPlan}
+use Rattle.vrp_model.specs.declared.limits.TheConstants.{MAX_NODES}
 use Rattle.vrp_command.specs.Answer.{IsLeftOpen}
 use Rattle.vrp_command.specs.Searched.{AreSearched}
 use Rattle.vrp_command.proofs.Pieces.{left_open, proven}
@@ -22,6 +23,7 @@ returns c =
       | in-Some w ↦
           let all = subst (AreSearched p cutting budget plan.cost cutting) w.in-Some.is searched in
           let lower : w.min.result ≡ min w.in-Some.lower plan.cost = w.min.ensures ∙ ap (min w.in-Some.lower) w.cost.ensures in
-          let left = left_open c.one_piece.ensures c.plans_can_rise.ensures c.plans_are_words.ensures p cutting c.args.pieces budget plan w.in-Some.lower c.at_least.ensures.cutting c.in_ok-at_least.ensures.enough plan_of all in
+          let few : length cutting ≤ c.args.pieces + (MAX_NODES - 1) = omega (arith, c.at_least.ensures.few, ap length c.in_ok-cutting.ensures.words) in
+          let left = left_open c.one_piece.ensures c.plans_can_rise.ensures c.plans_are_words.ensures p cutting c.args.pieces budget plan w.in-Some.lower c.at_least.ensures.cutting c.in_ok-at_least.ensures.enough few plan_of all in
           rw w.verdict-is (subst (IsLeftOpen p c.args.pieces budget plan) (sym lower) left)
     ]
