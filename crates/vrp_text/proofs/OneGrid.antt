@@ -16,7 +16,7 @@ use Rattle.vrp_model.specs.declared.layout.Layout.{Layout}
 use Rattle.vrp_model.specs.declared.layout.Layout.TheVariants.{FullMatrix, UpperRow, LowerRow, UpperDiagRow, LowerDiagRow, UpperCol, LowerCol, UpperDiagCol, LowerDiagCol}
 use Rattle.vrp_model.specs.declared.metric.Metric.{Metric}
 use Rattle.vrp_text.specs.Complete.{Source, Points, Matrix, points_of, row_nodes, row_points}
-use Rattle.vrp_text.specs.Given.{beside_node}
+use Rattle.vrp_text.specs.Inner.PlacedRows.{beside_node}
 use Rattle.vrp_text.specs.Meaning.{HasWeights}
 
 abbrev pub OneDistance : Type 0

@@ -2,16 +2,16 @@
 ghost use Rattle.std.specs.Prelude.{◌≡◌, ◌≢◌, ◌≤◌, Ok, Err, Some, None, IfOk, IfErr};
 ghost use Rattle.vrp_text.specs.Complete.{count_fault, nodes_fault, source_count_fault, source_node_fault};
 ghost use Rattle.vrp_text.specs.Meaning.{HasWeights, MeansProblem, MeansRefusal, or_fault, reading_of};
-ghost use Rattle.vrp_text.specs.Sources.{complete_in, source_in};
-ghost use Rattle.vrp_text.specs.Step.{IsInRange, IsSourceInRange};
-ghost use Rattle.vrp_text.specs.Meant.{StatesProblem, IsStatedRefusal};
+ghost use Rattle.vrp_text.specs.Inner.InMemory.{complete_in, source_in};
+ghost use Rattle.vrp_text.specs.Inner.StatedSoFar.{IsInRange, IsSourceInRange};
+ghost use Rattle.vrp_text.specs.Inner.Outcome.{StatesProblem, IsStatedRefusal};
 
 use crate::complete::{Complete, Source, listed_depots};
 use crate::error::TextError;
 use crate::nodes::{demands_of, depots_of, entries_of, points_of};
 use crate::reading::read_statements;
 use std::alloc::Global;
-use vrp_model::{Instance, Weights};
+use vrp_model::{Instance, MAX_NODES, Weights};
 
 /// The instance that a CVRP file means (TSPLIB 95, section 1), with the chosen node as its depot, or the first listed
 /// depot where none is chosen. The refusal is the first that the file means, in this order: too long; the fault of the
@@ -59,7 +59,7 @@ fn instance_of(
 // The weights between all nodes.
 fn weights_of(alloc: Global, nodes: u16, source: &Source) -> Result<Weights, TextError>
     requires some { 1 ≤ nodes }
-    requires few { nodes ≤ 1200 }
+    requires few { nodes ≤ MAX_NODES }
     requires count { source_count_fault nodes (source_in source.now) ≡ None }
     requires within { IsSourceInRange (source_in source.now) }
     ensures sound { IfOk result (λ _. source_node_fault nodes (source_in source.now) ≡ None) }

@@ -1,8 +1,7 @@
 //! What is true of CVRP files, whatever reads them.
-ghost use Rattle.std.specs.Prelude.{◌≡◌, ℕ, Option, None, List};
+ghost use Rattle.std.specs.Prelude.{◌≡◌, ℕ, Option, List};
 ghost use Rattle.vrp_model.specs.Problem.{Problem};
 ghost use Rattle.vrp_text.specs.Meaning.{MeansProblem, MeansRefusal};
-ghost use Rattle.vrp_text.specs.PlainMeaning.{MeansPlainly};
 ghost use Rattle.vrp_text.specs.declared.error.TextError.{TextError};
 
 use vrp_model::one_distance;
@@ -16,8 +15,3 @@ pub fn one_meaning()
     // Two points have one distance.
     one_distance();
 }
-
-/// A plain file, which is spelled without any freedom but in its numbers and remarks, means just what stands in it.
-pub fn plain_files()
-    ensures { (bytes : List ℕ) (problem : Problem) → MeansPlainly bytes problem → MeansProblem bytes None problem }
-{}

@@ -3,13 +3,15 @@ ghost use Rattle.std.specs.Prelude.{◌≡◌, ◌≢◌, ◌+◌, ◌*◌, ◌�
 ghost use Rattle.std.specs.List.{All};
 ghost use Rattle.vrp_model.specs.Grid.{IsCoordinate};
 ghost use Rattle.vrp_text.specs.Complete.{bad_node, demands_of, is_node, no_node, node_fault, points_of, row_nodes};
-ghost use Rattle.vrp_text.specs.Given.{IsGivenOrNone};
+ghost use Rattle.vrp_text.specs.Inner.PlacedRows.{IsGivenOrNone};
 ghost use Rattle.vrp_text.specs.Section.{AreWithin};
 ghost use Rattle.vrp_text.specs.declared.section.Section.TheVariants.{Coordinates};
 
-use crate::error::{Key, TextError};
+use crate::error::TextError;
 use std::alloc::{AllocError, Global};
 use std::marker::Model;
+use vrp_lexer::Key;
+use vrp_model::MAX_NODES;
 
 // The nodes that were given so far.
 #[derive(Debug, Drop)]
@@ -38,7 +40,7 @@ impl GivenNodes {
 
     // Marks a node as given, and tells its place, from 0. None where the number is no node, or was given before.
     fn give(&mut self, number: i64) -> Option<usize>
-        requires few { length self.old ≤ 1200 }
+        requires few { length self.old ≤ MAX_NODES }
         ensures { MatchOption result
             ((self.new ≡ self.old) × (IsGivenOrNone self.old number))
             (λ place. (place < length self.old) × (number ≡ pos (place + 1)) × (get_or self.old place false ≡ false) × (self.new ≡ set self.old place true)) }
@@ -61,7 +63,7 @@ pub(crate) fn points_of(
     nodes: u16,
     numbers: &[i64],
 ) -> Result<Vec<(i64, i64)>, TextError>
-    requires few { nodes ≤ 1200 }
+    requires few { nodes ≤ MAX_NODES }
     requires rows { length numbers.now ≡ 3 * nodes }
     requires within { AreWithin Coordinates 0 numbers.now }
     ensures sound { IfOk result (λ _. bad_node nodes [] (row_nodes 3 nodes numbers.now) ≡ None) }
@@ -83,7 +85,7 @@ pub(crate) fn points_of(
 
 /// The demands of all nodes, by rising node, from a node and its demand for each.
 pub(crate) fn demands_of(alloc: Global, nodes: u16, numbers: &[i64]) -> Result<Vec<u64>, TextError>
-    requires few { nodes ≤ 1200 }
+    requires few { nodes ≤ MAX_NODES }
     requires rows { length numbers.now ≡ 2 * nodes }
     ensures sound { IfOk result (λ _. bad_node nodes [] (row_nodes 2 nodes numbers.now) ≡ None) }
     ensures value { IfOk result (λ demands. demands.items ≡ demands_of nodes numbers.now) }

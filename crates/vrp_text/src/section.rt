@@ -1,29 +1,18 @@
 //! The sections whose numbers are used.
 ghost use Rattle.std.specs.Prelude.{◌≡◌, ◌≢◌, ◌+◌, ◌++◌, IfOk, IfErr, Some, None, length};
-ghost use Rattle.vrp_text.specs.Line.{tokens_of};
+ghost use Rattle.vrp_lexer.specs.Line.{tokens_of};
 ghost use Rattle.vrp_text.specs.Section.{lowest, highest, token_number, tokens_fault, numbers_from, data_fault, data_numbers, on_line, outside_fault, content_of, content_fault, content_numbers, AreWithin, FitContent};
-ghost use Rattle.vrp_text.specs.Unread.{parts_left, data_left};
+ghost use Rattle.vrp_lexer.specs.Inner.LinesLeft.{parts_left, data_left};
 
-use crate::error::{Key, TextError};
-use crate::fault::LineFault;
-use crate::keyword::Keyword;
-use crate::lines::Lines;
-use crate::numeral::number;
-use crate::tokens::Tokens;
+use crate::error::TextError;
+use crate::fault::at_line;
 use std::alloc::Global;
-
-// How far a node's number lies from 0 at most. Whether there is such a node is looked at later.
-const MAX_NODE: i64 = 1_000_000_000;
-// How far a coordinate lies from 0 at most.
-const MAX_COORDINATE: i64 = 100_000_000;
-// The highest weight.
-const MAX_WEIGHT: i64 = 1_000_000_000;
-// The highest demand.
-const MAX_DEMAND: i64 = 1_000_000_000;
+use vrp_lexer::{Key, Keyword, LineFault, Lines, MAX_DEMAND, MAX_NODE, Tokens, number};
+use vrp_model::{MAX_COORDINATE, MAX_WEIGHT};
 
 /// A section whose tokens are numbers that are used.
 #[derive(Clone, Copy, Debug, PartialEq, Eq)]
-pub(crate) enum Section {
+pub enum Section {
     /// A node and its two coordinates, for each node.
     Coordinates,
     /// Weights.
@@ -83,9 +72,9 @@ impl Section {
         match self {
             Section::Coordinates if place % 3 == 0 => MAX_NODE,
             Section::Coordinates => MAX_COORDINATE,
-            Section::Weights => MAX_WEIGHT,
+            Section::Weights => MAX_WEIGHT as i64,
             Section::Demands if place % 2 == 0 => MAX_NODE,
-            Section::Demands => MAX_DEMAND,
+            Section::Demands => MAX_DEMAND as i64,
             Section::Depots => MAX_NODE,
         }
     }
@@ -113,7 +102,7 @@ fn read_line(
     while let Some(token) = tokens.next() {
         match section.number(numbers.len(), token) {
             Ok(value) => numbers.push(value)?,
-            Err(fault) => return Err(fault.at(number)),
+            Err(fault) => return Err(at_line(number, fault)),
         }
     }
     Ok(())

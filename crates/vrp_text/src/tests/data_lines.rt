@@ -1,6 +1,6 @@
 //! Files with a faulty data line, and files with more than one fault.
 use super::{SMALL, refusal_of};
-use crate::error::Key;
+use crate::Key;
 use crate::error::TextError::{
     BadNumber, BadValue, DataOutside, NotWhole, UnknownKeyword, Unsupported, WrongCount,
 };

@@ -1,5 +1,5 @@
 use Rattle.vrp_text.specs.Complete.{row_nodes, row_demands}
-use Rattle.vrp_text.specs.Given.{ArePlaced}
+use Rattle.vrp_text.specs.Inner.PlacedRows.{ArePlaced}
 use Rattle.vrp_text.proofs.nodes.demands_of.Given as goal
 
 abbrev pub invariant-loop-row : goal.invariant-loop-row

@@ -2,7 +2,7 @@ use Rattle.std.proofs.Common.{pos}
 use Rattle.std.specs.List.{All}
 use Rattle.vrp_model.specs.Grid.{IsCoordinate}
 use Rattle.vrp_text.specs.Complete.{row_nodes, row_points}
-use Rattle.vrp_text.specs.Given.{ArePlaced}
+use Rattle.vrp_text.specs.Inner.PlacedRows.{ArePlaced}
 use Rattle.vrp_text.proofs.nodes.points_of.Given as goal
 
 abbrev pub invariant-loop-row : goal.invariant-loop-row

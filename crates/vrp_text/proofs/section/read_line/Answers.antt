@@ -17,4 +17,4 @@ returns-in-Err-clause-refused c = λ _.
     let place : c.len.result ≡ length c.loop-token.numbers.items = search rules in
     rw (token_refused c.args.section _ _ c.loop-token.numbers.items c.loop-token.tokens c.in-Some.token.now c.next.new.self c.in-Err.fault c.loop-token.invariant c.in-Some.ensures
     (sym c.in-Err.is ∙ c.number.ensures ∙ ap (λ at. token_number c.args.section at c.in-Some.token.now) place))
-    (sym (ap Some c.at.ensures))
+    (sym (ap Some c.at_line.ensures))
