@@ -1,7 +1,13 @@
+pub mod FilledSquare
 pub mod InstanceLemmas
+pub mod LeastSearch
+pub mod ListedCells
 pub mod NodeLemmas
 pub mod OneGrid
 pub mod OneProblem
 pub mod OneRefusal
 pub mod ReadingLemmas
 pub mod SectionLemmas
+pub mod SomeDistance
+pub mod SomeGrid
+pub mod SomeMeaning

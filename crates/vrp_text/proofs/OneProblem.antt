@@ -16,7 +16,8 @@ use Rattle.vrp_lexer.specs.Part.{before_end}
 use Rattle.vrp_lexer.specs.declared.key.Key.{Key}
 use Rattle.vrp_text.specs.declared.error.TextError.{TextError}
 use Rattle.vrp_text.specs.declared.error.TextError.TheVariants as error
-use Rattle.vrp_text.proofs.OneGrid.{OneDistance, IsNode, AreAlike, AreAlike-of_source}
+use Rattle.vrp_text.proofs.ListedCells.{IsNode}
+use Rattle.vrp_text.proofs.OneGrid.{OneDistance, AreAlike, AreAlike-of_source}
 
 -- ---- what is known of a complete file
 

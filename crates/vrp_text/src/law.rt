@@ -1,5 +1,5 @@
 //! What is true of CVRP files, whatever reads them.
-ghost use Rattle.std.specs.Prelude.{◌≡◌, ℕ, Option, List};
+ghost use Rattle.std.specs.Prelude.{◌≡◌, ◌⊎◌, ℕ, Option, List};
 ghost use Rattle.vrp_model.specs.Problem.{Problem};
 ghost use Rattle.vrp_text.specs.Meaning.{MeansProblem, MeansRefusal};
 ghost use Rattle.vrp_text.specs.declared.error.TextError.{TextError};
@@ -15,3 +15,8 @@ pub fn one_meaning()
     // Two points have one distance.
     one_distance();
 }
+
+/// With a node chosen as its depot, or none, a file means something, whatever its bytes are: a problem, or a refusal.
+pub fn some_meaning()
+    ensures { (bytes : List ℕ) (chosen : Option ℕ) → ((p : Problem) × MeansProblem bytes chosen p) ⊎ ((e : TextError) × MeansRefusal bytes chosen e) }
+{}

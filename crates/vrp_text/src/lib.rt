@@ -16,6 +16,6 @@ mod tests;
 
 pub use error::TextError;
 pub use instance::read;
-pub use law::one_meaning;
+pub use law::{one_meaning, some_meaning};
 pub use section::Section;
 pub use vrp_lexer::{Key, MAX_BYTES};
