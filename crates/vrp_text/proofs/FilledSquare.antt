@@ -93,11 +93,11 @@ past_cell layout n entries line across small line_one line_in across_one across_
             filled = IsFilled-write layout n entries so_far.square new.square so_far.next line across cell.0 cell.1 across_in same here new.is (small so_far.next) so_far.filled;
           }
       | inr unlisted ↦ record {
-          square = so_far.square;
-          next = so_far.next;
-          room = so_far.room;
-          filled = IsFilled-skip layout n entries so_far.square so_far.next line across across_in unlisted so_far.filled;
-        }
+        square = so_far.square;
+        next = so_far.next;
+        room = so_far.room;
+        filled = IsFilled-skip layout n entries so_far.square so_far.next line across across_in unlisted so_far.filled;
+      }
     ]
 
 past_line : (layout : Layout) (n : ℕ) (entries : List ℕ) (line cells_left across : ℕ) → AreSmall entries → 1 ≤ line → line ≤ n → 1 ≤ across → across + cells_left ≡ n + 1 → Walked layout n entries line across → Walked layout n entries line (n + 1)

@@ -34,14 +34,16 @@ IsNotBelow s k = 4 * s < (2 * k + 1) * (2 * k + 1)
 some_euclidean : (s : ℕ) → (k : ℕ) × IsEuclidean s k
 some_euclidean s =
     let found = least_with (IsNotBelow s) (λ k. decide_le (suc (4 * s)) ((2 * k + 1) * (2 * k + 1))) s (omega (arith, square_reaches s)) in
-    let k : ℕ = found.0 in
-    (k, record {
-      below = found.1.has;
-      above = λ some. elim (cases_lt (4 * s) ((2 * (k - 1) + 1) * (2 * (k - 1) + 1))) [
-        | inl less ↦ absurd (omega (arith, found.1.least (k - 1) less))
-        | inr more ↦ let odd : 2 * k - 1 ≡ 2 * (k - 1) + 1 = omega arith in rw odd more
-      ];
-    })
+    let k : ℕ = found.0 in (
+      k,
+      record {
+        below = found.1.has;
+        above = λ some. elim (cases_lt (4 * s) ((2 * (k - 1) + 1) * (2 * (k - 1) + 1))) [
+          | inl less ↦ absurd (omega (arith, found.1.least (k - 1) less))
+          | inr more ↦ let odd : 2 * k - 1 ≡ 2 * (k - 1) + 1 = omega arith in rw odd more
+        ];
+      },
+    )
 
 pub some_distance : (metric : Metric) (a b : ℤ × ℤ) → (k : ℕ) × IsDistance metric a b k
 some_distance Euc2d a b = some_euclidean (square_between a b)

@@ -39,17 +39,19 @@ point_at points i = get_or points i (pos 0, pos 0)
 
 some_distances : (metric : Metric) (points : List (ℤ × ℤ)) → (grid : Grid) × HasDistances metric points grid
 some_distances metric points =
-    let weight : ℕ → ℕ → ℕ = λ i j. (some_distance metric (point_at points i) (point_at points j)).0 in
-    (grid_of (length points) weight, record {
-      count = refl;
-      each = λ i j from to here there.
-          let first : point_at points i ≡ from = get_or_from_slice_get points i from (pos 0, pos 0) here in
-          let second : point_at points j ≡ to = get_or_from_slice_get points j to (pos 0, pos 0) there in
-          let entry = entry_of (length points) weight i j (slice_get_within points i from here) (slice_get_within points j to there) in
-          let distance : IsDistance metric (point_at points i) (point_at points j) (weight i j) = (some_distance metric (point_at points i) (point_at points j)).1 in
-          let shown : IsDistance metric from to (weight i j) = subst (λ p. IsDistance metric from p (weight i j)) second (subst (λ p. IsDistance metric p (point_at points j) (weight i j)) first distance) in
-          subst (IsDistance metric from to) (sym entry) shown;
-    })
+    let weight : ℕ → ℕ → ℕ = λ i j. (some_distance metric (point_at points i) (point_at points j)).0 in (
+      grid_of (length points) weight,
+      record {
+        count = refl;
+        each = λ i j from to here there.
+            let first : point_at points i ≡ from = get_or_from_slice_get points i from (pos 0, pos 0) here in
+            let second : point_at points j ≡ to = get_or_from_slice_get points j to (pos 0, pos 0) there in
+            let entry = entry_of (length points) weight i j (slice_get_within points i from here) (slice_get_within points j to there) in
+            let distance : IsDistance metric (point_at points i) (point_at points j) (weight i j) = (some_distance metric (point_at points i) (point_at points j)).1 in
+            let shown : IsDistance metric from to (weight i j) = subst (λ p. IsDistance metric from p (weight i j)) second (subst (λ p. IsDistance metric p (point_at points j) (weight i j)) first distance) in
+            subst (IsDistance metric from to) (sym entry) shown;
+      },
+    )
 
 -- ---- the weights of a matrix
 
@@ -61,25 +63,31 @@ record IsEntryAt (layout : Layout) (n : ℕ) (entries : List ℕ) (row column we
 
 entry_where : (layout : Layout) (n : ℕ) (entries : List ℕ) (row column : ℕ) → IsNode n row → IsNode n column → Stands layout row column → (weight : ℕ) × IsEntryAt layout n entries row column weight
 entry_where layout n entries row column here there (Listed listed) =
-    let at = listed_occurs layout n row column here there listed in
-    (slice_index entries at.0, record {
-      there = λ k e. ap (slice_index entries) (listed_once layout n at.0 k row column at.1 e);
-      back = λ triangle k e. ap (slice_index entries) (mirrored_once layout n at.0 k row column triangle at.1 e);
-      diagonal = λ same none. absurd (none at.0 (at.1 ∙ ap (λ c. Some (row, c)) (sym same)));
-    })
+    let at = listed_occurs layout n row column here there listed in (
+      slice_index entries at.0,
+      record {
+        there = λ k e. ap (slice_index entries) (listed_once layout n at.0 k row column at.1 e);
+        back = λ triangle k e. ap (slice_index entries) (mirrored_once layout n at.0 k row column triangle at.1 e);
+        diagonal = λ same none. absurd (none at.0 (at.1 ∙ ap (λ c. Some (row, c)) (sym same)));
+      },
+    )
 entry_where layout n entries row column here there (Mirrored triangle listed) =
-    let at = listed_occurs layout n column row there here listed in
-    (slice_index entries at.0, record {
-      there = λ k e. ap (slice_index entries) (mirrored_once layout n at.0 k column row triangle at.1 e);
-      back = λ _ k e. ap (slice_index entries) (listed_once layout n at.0 k column row at.1 e);
-      diagonal = λ same none. absurd (none at.0 (at.1 ∙ ap (λ c. Some (c, row)) (sym same)));
-    })
-entry_where layout n entries row column here there (Diagonal same unlisted) =
-    (0, record {
-      there = λ k e. absurd (unlisted_absent layout n row row unlisted k (e ∙ ap (λ c. Some (row, c)) (sym same)));
-      back = λ _ k e. absurd (unlisted_absent layout n row row unlisted k (e ∙ ap (λ c. Some (c, row)) (sym same)));
-      diagonal = λ _ _. refl;
-    })
+    let at = listed_occurs layout n column row there here listed in (
+      slice_index entries at.0,
+      record {
+        there = λ k e. ap (slice_index entries) (mirrored_once layout n at.0 k column row triangle at.1 e);
+        back = λ _ k e. ap (slice_index entries) (listed_once layout n at.0 k column row at.1 e);
+        diagonal = λ same none. absurd (none at.0 (at.1 ∙ ap (λ c. Some (c, row)) (sym same)));
+      },
+    )
+entry_where layout n entries row column here there (Diagonal same unlisted) = (
+  0,
+  record {
+    there = λ k e. absurd (unlisted_absent layout n row row unlisted k (e ∙ ap (λ c. Some (row, c)) (sym same)));
+    back = λ _ k e. absurd (unlisted_absent layout n row row unlisted k (e ∙ ap (λ c. Some (c, row)) (sym same)));
+    diagonal = λ _ _. refl;
+  },
+)
 
 -- the weight of two nodes, counted from 0; whatever it is where they are none
 some_entry : (layout : Layout) (n : ℕ) (entries : List ℕ) (i j : ℕ) → (weight : ℕ) × (i < n → j < n → IsEntryAt layout n entries (i + 1) (j + 1) weight)
@@ -108,16 +116,19 @@ entry_on layout n entries row column here there =
     subst (At row) second (subst (λ r. At r (j + 1)) first shown)
 
 some_matrix : (layout : Layout) (n : ℕ) (entries : List ℕ) → (grid : Grid) × (grid.nodes ≡ n) × HasEntries layout entries grid
-some_matrix layout n entries =
-    (grid_of n (λ i j. (some_entry layout n entries i j).0), refl, record {
-      there = λ k row column e.
-          let cell = cell_is_listed layout n k row column e in
-          (entry_on layout n entries row column (cell.row_from_one, cell.row_within) (cell.column_from_one, cell.column_within)).there k e;
-      back = λ triangle k row column e.
-          let cell = cell_is_listed layout n k row column e in
-          (entry_on layout n entries column row (cell.column_from_one, cell.column_within) (cell.row_from_one, cell.row_within)).back triangle k e;
-      diagonal = λ node from_one within none. (entry_on layout n entries node node (from_one, within) (from_one, within)).diagonal refl none;
-    })
+some_matrix layout n entries = (
+  grid_of n (λ i j. (some_entry layout n entries i j).0),
+  refl,
+  record {
+    there = λ k row column e.
+        let cell = cell_is_listed layout n k row column e in
+        (entry_on layout n entries row column (cell.row_from_one, cell.row_within) (cell.column_from_one, cell.column_within)).there k e;
+    back = λ triangle k row column e.
+        let cell = cell_is_listed layout n k row column e in
+        (entry_on layout n entries column row (cell.column_from_one, cell.column_within) (cell.row_from_one, cell.row_within)).back triangle k e;
+    diagonal = λ node from_one within none. (entry_on layout n entries node node (from_one, within) (from_one, within)).diagonal refl none;
+  },
+)
 
 -- what a file states of the weights leaves a grid
 pub some_weights : (nodes : ℕ) (source : Source) → (grid : Grid) × HasWeights nodes source grid

@@ -67,36 +67,60 @@ complete_means : (bytes : List ℕ) (chosen : Option ℕ) (complete : Complete) 
 complete_means bytes chosen complete read =
     let request = request_from complete chosen no_grid in
     elim (lowest_depot request.depots request.demands) [
-      | inl depot ↦ inr (error.Instance (refusal.DepotDemand depot.0), inr (refusal.DepotDemand depot.0, refl, record {
-          complete = complete;
-          read = read;
-          refused = λ grid. depot.1;
-          of_file = λ e. cc;
-        }))
-      | inr empty ↦ elim (cases_Bool (is_listed request.depots request.chosen)) [
-        | inr unlisted ↦ inr (error.Instance (refusal.NotADepot request.chosen), inr (refusal.NotADepot request.chosen, refl, record {
+      | inl depot ↦ inr (
+        error.Instance (refusal.DepotDemand depot.0),
+        inr (
+          refusal.DepotDemand depot.0,
+          refl,
+          record {
             complete = complete;
             read = read;
-            refused = λ grid. (empty, refl, unlisted);
+            refused = λ grid. depot.1;
             of_file = λ e. cc;
-          }))
-        | inl listed ↦ elim (lowest_heavy request.depots request.demands request.capacity) [
-          | inl heavy ↦ inr (error.Instance (refusal.DemandOverCapacity heavy.0), inr (refusal.DemandOverCapacity heavy.0, refl, record {
+          },
+        ),
+      )
+      | inr empty ↦ elim (cases_Bool (is_listed request.depots request.chosen)) [
+        | inr unlisted ↦ inr (
+          error.Instance (refusal.NotADepot request.chosen),
+          inr (
+            refusal.NotADepot request.chosen,
+            refl,
+            record {
               complete = complete;
               read = read;
-              refused = λ grid. (empty, listed, heavy.1);
+              refused = λ grid. (empty, refl, unlisted);
               of_file = λ e. cc;
-            }))
-          | inr fit ↦
-              let weights = some_weights complete.nodes complete.source in
-              inl (problem_of (request_from complete chosen weights.0), record {
+            },
+          ),
+        )
+        | inl listed ↦ elim (lowest_heavy request.depots request.demands request.capacity) [
+          | inl heavy ↦ inr (
+            error.Instance (refusal.DemandOverCapacity heavy.0),
+            inr (
+              refusal.DemandOverCapacity heavy.0,
+              refl,
+              record {
                 complete = complete;
                 read = read;
-                grid = weights.0;
-                weights = weights.1;
-                acceptable = record { depots_empty = empty; chosen_listed = listed; customers_fit = fit };
-                meant = refl;
-              })
+                refused = λ grid. (empty, listed, heavy.1);
+                of_file = λ e. cc;
+              },
+            ),
+          )
+          | inr fit ↦
+              let weights = some_weights complete.nodes complete.source in
+              inl (
+                problem_of (request_from complete chosen weights.0),
+                record {
+                  complete = complete;
+                  read = read;
+                  grid = weights.0;
+                  weights = weights.1;
+                  acceptable = record { depots_empty = empty; chosen_listed = listed; customers_fit = fit };
+                  meant = refl;
+                },
+              )
         ]
       ]
     ]

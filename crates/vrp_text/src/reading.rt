@@ -4,7 +4,7 @@ ghost use Rattle.vrp_text.specs.Inner.MarkedKeys.{is_marked};
 ghost use Rattle.vrp_lexer.specs.Line.{lines_of, tokens_of};
 ghost use Rattle.vrp_text.specs.Meaning.{all_stated, line_fault, reading_of};
 ghost use Rattle.vrp_lexer.specs.Part.{before_end, parts_from};
-ghost use Rattle.vrp_text.specs.Section.{content_of, content_numbers};
+ghost use Rattle.vrp_text.specs.Section.{content_of, content_numbers, on_line};
 ghost use Rattle.vrp_text.specs.Stated.{is_explicit, is_same_key, keyword_fault, parts_fault, stated_by};
 ghost use Rattle.vrp_text.specs.Inner.StatedSoFar.{fault_of_part, with_part, with_keyword};
 ghost use Rattle.vrp_lexer.specs.Inner.LinesLeft.{parts_left, data_left};
@@ -13,7 +13,7 @@ ghost use Rattle.vrp_lexer.specs.declared.key.Key.{Key};
 use crate::error::TextError;
 use crate::fault::at_line;
 use crate::keys::Keys;
-use crate::section::{Content, content_of, read_content};
+use crate::section::{content_of, pass_no_data, read_content};
 use crate::statements::{Statements, no_value, value};
 use std::alloc::Global;
 use vrp_lexer::{Heading, Key, Keyword, LineFault, Lines, MAX_BYTES};
@@ -58,6 +58,24 @@ fn read_keyword(
     }
 }
 
+// Reads the line of a keyword. With no allocator, so that no fault of it is answered as want of memory.
+fn read_heading(
+    explicit: bool,
+    heading: &Heading<'_>,
+    keys: &mut Keys,
+    statements: &mut Statements,
+) -> Result<(), TextError>
+    ensures sound { IfOk result (λ _. keyword_fault explicit (is_marked keys.old) heading.now.keyword (tokens_of heading.now.behind.now) ≡ None) }
+    ensures marked { IfOk result (λ _. (key : Key) → is_marked keys.new key ≡ (is_marked keys.old key || is_same_key key heading.now.keyword)) }
+    ensures read { IfOk result (λ _. statements.new ≡ with_keyword explicit heading.now.keyword (tokens_of heading.now.behind.now) statements.old) }
+    ensures refused { IfErr result (λ error. on_line heading.now.number (keyword_fault explicit (is_marked keys.old) heading.now.keyword (tokens_of heading.now.behind.now)) ≡ Some error) }
+{
+    match read_keyword(explicit, heading.keyword, heading.behind, keys, statements) {
+        Ok(()) => Ok(()),
+        Err(fault) => Err(at_line(heading.number, fault)),
+    }
+}
+
 // Reads a part behind its keyword: what stands on the keyword's line, and the data lines.
 fn read_part(
     alloc: Global,
@@ -73,9 +91,7 @@ fn read_part(
     ensures passed { IfOk result (λ _. parts_left lines.new ≡ parts_left lines.old) }
     ensures refused { IfErr result (λ error. error ≢ TextError.OutOfMemory → fault_of_part explicit (is_marked keys.old) heading.now.number heading.now.keyword (tokens_of heading.now.behind.now) lines.old.number (data_left lines.old) ≡ Some error) }
 {
-    if let Err(fault) = read_keyword(explicit, heading.keyword, heading.behind, keys, statements) {
-        return Err(at_line(heading.number, fault));
-    }
+    read_heading(explicit, heading, keys, statements)?;
     let numbers = read_content(alloc, lines, content_of(explicit, heading.keyword))?;
     if let Some(Keyword::Key(key)) = heading.keyword {
         statements.put_numbers(key, numbers);
@@ -97,6 +113,17 @@ fn read_parts(alloc: Global, explicit: bool, lines: &mut Lines<'_>) -> Result<St
     Ok(statements)
 }
 
+// Whether a file is short enough to be read.
+fn check_length(bytes: &[u8]) -> Result<(), TextError>
+    ensures short { IfOk result (λ _. length bytes.now ≤ MAX_BYTES) }
+    ensures refused { IfErr result (λ error. reading_of bytes.now ≡ Err error) }
+{
+    if bytes.len() > MAX_BYTES {
+        return Err(TextError::TooLong);
+    }
+    Ok(())
+}
+
 /// Reads what the lines of a file state.
 pub(crate) fn read_statements(alloc: Global, bytes: &[u8]) -> Result<Statements, TextError>
     ensures short { IfOk result (λ _. length bytes.now ≤ MAX_BYTES) }
@@ -104,11 +131,9 @@ pub(crate) fn read_statements(alloc: Global, bytes: &[u8]) -> Result<Statements,
     ensures read { IfOk result (λ statements. statements ≡ all_stated (before_end (lines_of bytes.now))) }
     ensures refused { IfErr result (λ error. error ≢ TextError.OutOfMemory → reading_of bytes.now ≡ Err error) }
 {
-    if bytes.len() > MAX_BYTES {
-        return Err(TextError::TooLong);
-    }
+    check_length(bytes)?;
     let explicit = is_explicit(&mut Lines::of(bytes));
     let mut lines = Lines::of(bytes);
-    read_content(alloc, &mut lines, Content::Nothing)?;
+    pass_no_data(&mut lines)?;
     read_parts(alloc, explicit, &mut lines)
 }

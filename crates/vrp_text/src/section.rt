@@ -127,8 +127,8 @@ fn read_numbers(
     Ok(numbers)
 }
 
-// Passes over the lines up to the next keyword, where no section is: none has a token.
-fn pass_no_data(lines: &mut Lines<'_>) -> Result<(), TextError>
+/// Passes over the lines up to the next keyword, where no section is: none has a token.
+pub(crate) fn pass_no_data(lines: &mut Lines<'_>) -> Result<(), TextError>
     ensures none { IfOk result (λ _. outside_fault lines.old.number (data_left lines.old) ≡ None) }
     ensures passed { IfOk result (λ _. parts_left lines.new ≡ parts_left lines.old) }
     ensures refused { IfErr result (λ error. outside_fault lines.old.number (data_left lines.old) ≡ Some error) }
