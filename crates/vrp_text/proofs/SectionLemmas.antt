@@ -31,9 +31,17 @@ one_more section all old numbers left token rest value so_far is good =
       read = so_far.read ∙ (rw is (rw (← good) (rw count (sym (append_assoc numbers (value ∷ []) (numbers_from section (length numbers + 1) rest))))));
     }
 
-pub token_refused : (section : Section) (all : List (List ℕ)) (old numbers : List ℤ) (left : List (List ℕ)) (token : List ℕ) (rest : List (List ℕ)) (fault : LineFault)
-    → ReadsTokens section all old numbers left → left ≡ token ∷ rest → Err fault ≡ token_number section (length numbers) token → tokens_fault section (length old) all ≡ Some fault
-token_refused section all old numbers left token rest fault so_far is bad = so_far.fault ∙ (rw is (rw (← bad) refl))
+-- a fault of a token is the line's, where the tokens before it have none
+fault_first : (number : ℕ) (read : Result ℤ LineFault) (later : Option LineFault) (error : TextError) → on_line number (fault_of read) ≡ Some error → on_line number (option_or (fault_of read) later) ≡ Some error
+fault_first number (Ok value) later error e = absurd cc
+fault_first number (Err fault) later error e = e
+
+pub token_refused : (section : Section) (number : ℕ) (all : List (List ℕ)) (old numbers : List ℤ) (left : List (List ℕ)) (token : List ℕ) (rest : List (List ℕ)) (error : TextError)
+    → ReadsTokens section all old numbers left → left ≡ token ∷ rest → on_line number (fault_of (token_number section (length numbers) token)) ≡ Some error
+    → on_line number (tokens_fault section (length old) all) ≡ Some error
+token_refused section number all old numbers left token rest error so_far is bad =
+    let first : tokens_fault section (length old) all ≡ tokens_fault section (length numbers) (token ∷ rest) = so_far.fault ∙ ap (tokens_fault section (length numbers)) is in
+    ap (on_line number) first ∙ fault_first number (token_number section (length numbers) token) (tokens_fault section (length numbers + 1) rest) error bad
 
 -- the lines of a section that are left, and the numbers that were read
 pub record ReadsLines (section : Section) (all : LinesLeft) (numbers : List ℤ) (left : LinesLeft) : Type 0 where

@@ -1,7 +1,7 @@
 //! The sections whose numbers are used.
-ghost use Rattle.std.specs.Prelude.{◌≡◌, ◌≢◌, ◌+◌, ◌++◌, IfOk, IfErr, Some, None, length};
+ghost use Rattle.std.specs.Prelude.{◌≡◌, ◌≢◌, ◌+◌, ◌++◌, IfOk, IfErr, Ok, Some, None, length};
 ghost use Rattle.vrp_lexer.specs.Line.{tokens_of};
-ghost use Rattle.vrp_text.specs.Section.{lowest, highest, token_number, tokens_fault, numbers_from, data_fault, data_numbers, on_line, outside_fault, content_of, content_fault, content_numbers, AreWithin, FitContent};
+ghost use Rattle.vrp_text.specs.Section.{lowest, highest, token_number, tokens_fault, fault_of, numbers_from, data_fault, data_numbers, on_line, outside_fault, content_of, content_fault, content_numbers, AreWithin, FitContent};
 ghost use Rattle.vrp_lexer.specs.Inner.LinesLeft.{parts_left, data_left};
 
 use crate::error::TextError;
@@ -85,6 +85,18 @@ impl Section {
     {
         number(token, self.lowest(place), self.highest(place))
     }
+
+    // The number that a token on a line writes at this place. With no allocator, so that no bad number is answered as want
+    // of memory.
+    fn number_on(self, line: u32, place: usize, token: &[u8]) -> Result<i64, TextError>
+        ensures value { IfOk result (λ value. token_number self place token.now ≡ Ok value) }
+        ensures refused { IfErr result (λ error. on_line line (fault_of (token_number self place token.now)) ≡ Some error) }
+    {
+        match self.number(place, token) {
+            Ok(value) => Ok(value),
+            Err(fault) => Err(at_line(line, fault)),
+        }
+    }
 }
 
 // Appends the numbers of a line.
@@ -100,10 +112,7 @@ fn read_line(
 {
     let mut tokens = Tokens::of(text);
     while let Some(token) = tokens.next() {
-        match section.number(numbers.len(), token) {
-            Ok(value) => numbers.push(value)?,
-            Err(fault) => return Err(at_line(number, fault)),
-        }
+        numbers.push(section.number_on(number, numbers.len(), token)?)?;
     }
     Ok(())
 }
