@@ -1,7 +1,7 @@
 -- Which bytes of a reader are read.
 use Rattle.std.specs.Prelude.{ℕ, ◌+◌, ◌≤◌, ◌<◌, Option, List, length}
 use Rattle.std.specs.Io.KnownBytes.{Consumes, IsAtEnd}
-use Rattle.vrp_text.specs.declared.reading.TheConstants.{MAX_BYTES}
+use Rattle.vrp_lexer.specs.declared.limits.TheConstants.{MAX_BYTES}
 
 -- All bytes that a reader has left, or one more than a file may have where it has more. Old and new are what is known of the
 -- bytes that it has left before and after.

@@ -12,9 +12,9 @@ use Rattle.vrp_model.specs.Request.{request_of, problem_of, IsAcceptable}
 use Rattle.vrp_model.specs.declared.instance.InstanceError.{InstanceError}
 use Rattle.vrp_model.specs.declared.instance.InstanceError.TheVariants as refusal
 use Rattle.vrp_text.specs.Complete.{Complete, points_of, demands_of, listed_depots, bad_node, no_node, nodes_fault, row_nodes, row_points, row_demands, source_node_fault}
-use Rattle.vrp_text.specs.Given.{beside_node}
+use Rattle.vrp_text.specs.Inner.PlacedRows.{beside_node}
 use Rattle.vrp_text.specs.Meaning.{HasWeights, MeansProblem, MeansRefusal, or_fault, reading_of}
-use Rattle.vrp_text.specs.Meant.{StatesProblem, IsStatedRefusal}
+use Rattle.vrp_text.specs.Inner.Outcome.{StatesProblem, IsStatedRefusal}
 use Rattle.vrp_text.specs.Refusal.{refusal_of}
 use Rattle.vrp_text.specs.Section.{AreWithin}
 use Rattle.vrp_text.specs.declared.error.TextError.{TextError}
@@ -65,20 +65,29 @@ refusal_is (refusal.DepotDemand node) differs = (refl, λ e. cc)
 refusal_is (refusal.NotADepot node) differs = (refl, λ e. cc)
 refusal_is (refusal.DemandOverCapacity node) differs = (refl, λ e. cc)
 
+-- the refusal of a request doesn't depend on its weights
+refused_over : (demands : List ℕ) (capacity : ℕ) (depots : List ℕ) (chosen : Option ℕ) (g h : Grid) (fault : InstanceError) → fault ≢ refusal.OutOfMemory
+    → IsRefusal (request_of g demands capacity depots chosen) fault → IsRefusal (request_of h demands capacity depots chosen) fault
+refused_over demands capacity depots chosen g h refusal.OutOfMemory differs refused = absurd (differs refl)
+refused_over demands capacity depots chosen g h (refusal.DepotDemand node) differs refused = refused
+refused_over demands capacity depots chosen g h (refusal.NotADepot node) differs refused = refused
+refused_over demands capacity depots chosen g h (refusal.DemandOverCapacity node) differs refused = refused
+
 -- a refused request is one that the file states
 pub states_refusal : (complete : Complete) (chosen : Option ℕ) (demands depots : List ℕ) (grid : Grid) (fault : InstanceError)
     → demands ≡ demands_of complete.nodes complete.demands → depots ≡ map unsigned_abs (listed_depots complete.depots) → nodes_fault complete ≡ None
     → IsRefusal (request_of grid demands complete.capacity depots chosen) fault → refusal_of fault ≢ error.OutOfMemory → IsStatedRefusal complete chosen (refusal_of fault)
 states_refusal complete chosen demands depots grid fault same_demands same_depots sound refused differs =
-    let Refused : List ℕ → List ℕ → Type 0 = λ ds ps. IsRefusal (request_of grid ds complete.capacity ps chosen) fault in
     let stated : List ℕ = demands_of complete.nodes complete.demands in
     let is = refusal_is fault differs in
     inr (record {
       sound = sound;
       of_instance = fault;
       is = is.0;
-      grid = grid;
-      refused = subst (Refused stated) same_depots (subst (λ ds. Refused ds depots) same_demands refused);
+      refused = λ other.
+          let Refused : List ℕ → List ℕ → Type 0 = λ ds ps. IsRefusal (request_of other ds complete.capacity ps chosen) fault in
+          let here = refused_over demands complete.capacity depots chosen grid other fault is.1 refused in
+          subst (Refused stated) same_depots (subst (λ ds. Refused ds depots) same_demands here);
       of_file = is.1;
     })
 
@@ -92,7 +101,7 @@ pub means_refusal : (bytes : List ℕ) (chosen : Option ℕ) (complete : Complet
     → IsStatedRefusal complete chosen fault → MeansRefusal bytes chosen fault
 means_refusal bytes chosen complete fault read (inl node) = inl (read ∙ (rw node refl))
 means_refusal bytes chosen complete fault read (inr states) =
-    inr (states.of_instance, states.is, record { complete = complete; read = read ∙ (rw states.sound refl); grid = states.grid; refused = states.refused; of_file = states.of_file })
+    inr (states.of_instance, states.is, record { complete = complete; read = read ∙ (rw states.sound refl); refused = states.refused; of_file = states.of_file })
 
 pub if_meant : (bytes : List ℕ) (chosen : Option ℕ) (complete : Complete) (result : Result Problem TextError) → reading_of bytes ≡ or_fault (nodes_fault complete) (Ok complete)
     → IfOk result (λ problem. nodes_fault complete ≡ None) → IfOk result (StatesProblem complete chosen) → IfOk result (MeansProblem bytes chosen)

@@ -17,7 +17,7 @@ use Rattle.vrp_model.specs.Grid.{IsCoordinate}
 use Rattle.vrp_text.specs.Section.{AreWithin}
 use Rattle.vrp_text.specs.declared.section.Section.TheVariants.{Coordinates}
 use Rattle.vrp_text.specs.Complete.{is_node, no_node, bad_node, by_node}
-use Rattle.vrp_text.specs.Given.{ArePlaced, IsGivenOrNone, beside_node}
+use Rattle.vrp_text.specs.Inner.PlacedRows.{ArePlaced, IsGivenOrNone, beside_node}
 
 -- the first depots
 pub record ReadsDepots (nodes : ℕ) (numbers : List ℤ) (next : ℕ) (depots : List ℕ) : Type 0 where

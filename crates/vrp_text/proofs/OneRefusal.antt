@@ -1,5 +1,5 @@
 -- A CVRP file is refused for one reason, and then it means no problem.
-use Rattle.std.proofs.Common.{◌≡◌, ◌≢◌, ℕ, true, false, Option, Result, Ok, Err, List, inl, inr, refl, ap, sym, ◌∙◌, subst, arith}
+use Rattle.std.proofs.Common.{◌≡◌, ◌≢◌, ℕ, true, false, Option, Result, Ok, Err, List, [], inl, inr, refl, ap, sym, ◌∙◌, subst, arith}
 use Rattle.vrp_model.specs.Grid.{Grid}
 use Rattle.vrp_model.specs.Problem.{Problem}
 use Rattle.vrp_model.specs.Refusal.{IsRefusal}
@@ -18,48 +18,52 @@ one_err answer e f p q = cc
 ok_or_err : (answer : Result Complete TextError) (complete : Complete) (e : TextError) → answer ≡ Ok complete → answer ≡ Err e → ⊥
 ok_or_err answer complete e p q = cc
 
--- ---- refusals of a request, whatever its grid
+-- ---- refusals of a request
 
 listed_or_not : (depots : List ℕ) (node chosen : ℕ) → node ≡ chosen → is_listed depots node ≡ false → is_listed depots chosen ≡ true → ⊥
 listed_or_not depots node chosen same unlisted listed =
     let never : true ≡ false = sym listed ∙ ap (is_listed depots) (sym same) ∙ unlisted in
     cc
 
-one_fault : (r : Request) (g : Grid) (e f : InstanceError) → e ≢ refusal.OutOfMemory → f ≢ refusal.OutOfMemory → IsRefusal r e → IsRefusal (record r { grid = g }) f → e ≡ f
-one_fault r g refusal.OutOfMemory f p q a b = absurd (p refl)
-one_fault r g (refusal.DepotDemand n) refusal.OutOfMemory p q a b = absurd (q refl)
-one_fault r g (refusal.DepotDemand n) (refusal.DepotDemand m) p q a b =
+one_fault : (r : Request) (e f : InstanceError) → e ≢ refusal.OutOfMemory → f ≢ refusal.OutOfMemory → IsRefusal r e → IsRefusal r f → e ≡ f
+one_fault r refusal.OutOfMemory f p q a b = absurd (p refl)
+one_fault r (refusal.DepotDemand n) refusal.OutOfMemory p q a b = absurd (q refl)
+one_fault r (refusal.DepotDemand n) (refusal.DepotDemand m) p q a b =
     let low = a.lowest m b.has in
     let high = b.lowest n a.has in
     ap refusal.DepotDemand (omega (arith, low, high))
-one_fault r g (refusal.DepotDemand n) (refusal.NotADepot m) p q a b = absurd (b.0 n a.has)
-one_fault r g (refusal.DepotDemand n) (refusal.DemandOverCapacity m) p q a b = absurd (b.0 n a.has)
-one_fault r g (refusal.NotADepot n) refusal.OutOfMemory p q a b = absurd (q refl)
-one_fault r g (refusal.NotADepot n) (refusal.DepotDemand m) p q a b = absurd (a.0 m b.has)
-one_fault r g (refusal.NotADepot n) (refusal.NotADepot m) p q a b = ap refusal.NotADepot (a.1 ∙ sym b.1)
-one_fault r g (refusal.NotADepot n) (refusal.DemandOverCapacity m) p q a b = absurd (listed_or_not r.depots n r.chosen a.1 a.2 b.1)
-one_fault r g (refusal.DemandOverCapacity n) refusal.OutOfMemory p q a b = absurd (q refl)
-one_fault r g (refusal.DemandOverCapacity n) (refusal.DepotDemand m) p q a b = absurd (a.0 m b.has)
-one_fault r g (refusal.DemandOverCapacity n) (refusal.NotADepot m) p q a b = absurd (listed_or_not r.depots m r.chosen b.1 b.2 a.1)
-one_fault r g (refusal.DemandOverCapacity n) (refusal.DemandOverCapacity m) p q a b =
+one_fault r (refusal.DepotDemand n) (refusal.NotADepot m) p q a b = absurd (b.0 n a.has)
+one_fault r (refusal.DepotDemand n) (refusal.DemandOverCapacity m) p q a b = absurd (b.0 n a.has)
+one_fault r (refusal.NotADepot n) refusal.OutOfMemory p q a b = absurd (q refl)
+one_fault r (refusal.NotADepot n) (refusal.DepotDemand m) p q a b = absurd (a.0 m b.has)
+one_fault r (refusal.NotADepot n) (refusal.NotADepot m) p q a b = ap refusal.NotADepot (a.1 ∙ sym b.1)
+one_fault r (refusal.NotADepot n) (refusal.DemandOverCapacity m) p q a b = absurd (listed_or_not r.depots n r.chosen a.1 a.2 b.1)
+one_fault r (refusal.DemandOverCapacity n) refusal.OutOfMemory p q a b = absurd (q refl)
+one_fault r (refusal.DemandOverCapacity n) (refusal.DepotDemand m) p q a b = absurd (a.0 m b.has)
+one_fault r (refusal.DemandOverCapacity n) (refusal.NotADepot m) p q a b = absurd (listed_or_not r.depots m r.chosen b.1 b.2 a.1)
+one_fault r (refusal.DemandOverCapacity n) (refusal.DemandOverCapacity m) p q a b =
     let low = a.2.lowest m b.2.has in
     let high = b.2.lowest n a.2.has in
     ap refusal.DemandOverCapacity (omega (arith, low, high))
 
-not_refused : (r : Request) (g : Grid) (e : InstanceError) → e ≢ refusal.OutOfMemory → IsAcceptable r → IsRefusal (record r { grid = g }) e → ⊥
-not_refused r g refusal.OutOfMemory p a b = p refl
-not_refused r g (refusal.DepotDemand n) p a b = a.depots_empty n b.has
-not_refused r g (refusal.NotADepot n) p a b = listed_or_not r.depots n r.chosen b.1 b.2 a.chosen_listed
-not_refused r g (refusal.DemandOverCapacity n) p a b = a.customers_fit n b.2.has
+not_refused : (r : Request) (e : InstanceError) → e ≢ refusal.OutOfMemory → IsAcceptable r → IsRefusal r e → ⊥
+not_refused r refusal.OutOfMemory p a b = p refl
+not_refused r (refusal.DepotDemand n) p a b = a.depots_empty n b.has
+not_refused r (refusal.NotADepot n) p a b = listed_or_not r.depots n r.chosen b.1 b.2 a.chosen_listed
+not_refused r (refusal.DemandOverCapacity n) p a b = a.customers_fit n b.2.has
 
 -- ---- refusals of a file
+
+-- a grid of no weights, for what holds whatever the weights are
+abbrev no_grid : Grid
+no_grid = record { nodes = 0; entries = [] }
 
 no_instance_once : (bytes : List ℕ) (chosen : Option ℕ) (e f : InstanceError) → MeansNoInstance bytes chosen e → MeansNoInstance bytes chosen f → e ≡ f
 no_instance_once bytes chosen e f a b =
     let same : a.complete ≡ b.complete = one_ok (reading_of bytes) a.complete b.complete a.read b.read in
-    let Over : Complete → Type 0 = λ c. IsRefusal (request_from c chosen b.grid) f in
-    let other = subst Over (sym same) b.refused in
-    one_fault (request_from a.complete chosen a.grid) b.grid e f a.of_file b.of_file a.refused other
+    let Over : Complete → Type 0 = λ c. IsRefusal (request_from c chosen no_grid) f in
+    let other = subst Over (sym same) (b.refused no_grid) in
+    one_fault (request_from a.complete chosen no_grid) e f a.of_file b.of_file (a.refused no_grid) other
 
 pub MeansRefusal-one : (bytes : List ℕ) (chosen : Option ℕ) (e f : TextError) → MeansRefusal bytes chosen e → MeansRefusal bytes chosen f → e ≡ f
 MeansRefusal-one bytes chosen e f (inl a) (inl b) = one_err (reading_of bytes) e f a b
@@ -72,6 +76,6 @@ not_both bytes chosen p e a (inl b) = ok_or_err (reading_of bytes) a.complete e 
 not_both bytes chosen p e a (inr b) =
     let none = b.2 in
     let same : a.complete ≡ none.complete = one_ok (reading_of bytes) a.complete none.complete a.read none.read in
-    let Over : Complete → Type 0 = λ c. IsRefusal (request_from c chosen none.grid) b.0 in
-    let other = subst Over (sym same) none.refused in
-    not_refused (request_from a.complete chosen a.grid) none.grid b.0 none.of_file a.acceptable other
+    let Over : Complete → Type 0 = λ c. IsRefusal (request_from c chosen a.grid) b.0 in
+    let other = subst Over (sym same) (none.refused a.grid) in
+    not_refused (request_from a.complete chosen a.grid) b.0 none.of_file a.acceptable other

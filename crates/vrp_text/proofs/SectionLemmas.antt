@@ -4,17 +4,17 @@ use Rattle.std.specs.Prelude.{Result, Ok, Err}
 use Rattle.std.specs.Int.Signed.{◌≤ℤ◌, le_z, le_z_yes}
 use Rattle.std.proofs.lemmas.Bool.{and_parts}
 use Rattle.std.proofs.lemmas.Float.{T_from_true}
-use Rattle.vrp_text.specs.Numeral.{Numeral, in_range, value_in_range, numeral_of, whole_value}
-use Rattle.vrp_text.specs.declared.fault.LineFault.TheVariants.{BadNumber}
+use Rattle.vrp_lexer.specs.Numeral.{Numeral, in_range, value_in_range, numeral_of, whole_value}
+use Rattle.vrp_lexer.specs.declared.fault.LineFault.TheVariants.{BadNumber}
 use Rattle.std.specs.Option.{option_or}
 use Rattle.vrp_text.specs.Section.{AreWithin, lowest, highest, tokens_fault, numbers_from, data_fault, data_numbers, token_number, fault_of, number_or_zero, on_line, outside_fault}
 use Rattle.std.proofs.lemmas.Bool.Decides.{nat_tests}
-use Rattle.vrp_text.specs.Line.{Line, Data}
-use Rattle.vrp_text.specs.Part.{leading_data, parts_from}
-use Rattle.vrp_text.specs.Unread.{Unread, data_left, parts_left}
+use Rattle.vrp_lexer.specs.Line.{Line, Data}
+use Rattle.vrp_lexer.specs.Part.{leading_data, parts_from}
+use Rattle.vrp_lexer.specs.Inner.LinesLeft.{LinesLeft, data_left, parts_left}
 use Rattle.vrp_text.specs.declared.error.TextError.{TextError}
 use Rattle.vrp_text.specs.declared.error.TextError.TheVariants.{DataOutside}
-use Rattle.vrp_text.specs.declared.fault.LineFault.{LineFault}
+use Rattle.vrp_lexer.specs.declared.fault.LineFault.{LineFault}
 use Rattle.vrp_text.specs.declared.section.Section.{Section}
 
 -- the tokens of a line that are left, and the numbers that were read
@@ -31,12 +31,20 @@ one_more section all old numbers left token rest value so_far is good =
       read = so_far.read ∙ (rw is (rw (← good) (rw count (sym (append_assoc numbers (value ∷ []) (numbers_from section (length numbers + 1) rest))))));
     }
 
-pub token_refused : (section : Section) (all : List (List ℕ)) (old numbers : List ℤ) (left : List (List ℕ)) (token : List ℕ) (rest : List (List ℕ)) (fault : LineFault)
-    → ReadsTokens section all old numbers left → left ≡ token ∷ rest → Err fault ≡ token_number section (length numbers) token → tokens_fault section (length old) all ≡ Some fault
-token_refused section all old numbers left token rest fault so_far is bad = so_far.fault ∙ (rw is (rw (← bad) refl))
+-- a fault of a token is the line's, where the tokens before it have none
+fault_first : (number : ℕ) (read : Result ℤ LineFault) (later : Option LineFault) (error : TextError) → on_line number (fault_of read) ≡ Some error → on_line number (option_or (fault_of read) later) ≡ Some error
+fault_first number (Ok value) later error e = absurd cc
+fault_first number (Err fault) later error e = e
+
+pub token_refused : (section : Section) (number : ℕ) (all : List (List ℕ)) (old numbers : List ℤ) (left : List (List ℕ)) (token : List ℕ) (rest : List (List ℕ)) (error : TextError)
+    → ReadsTokens section all old numbers left → left ≡ token ∷ rest → on_line number (fault_of (token_number section (length numbers) token)) ≡ Some error
+    → on_line number (tokens_fault section (length old) all) ≡ Some error
+token_refused section number all old numbers left token rest error so_far is bad =
+    let first : tokens_fault section (length old) all ≡ tokens_fault section (length numbers) (token ∷ rest) = so_far.fault ∙ ap (tokens_fault section (length numbers)) is in
+    ap (on_line number) first ∙ fault_first number (token_number section (length numbers) token) (tokens_fault section (length numbers + 1) rest) error bad
 
 -- the lines of a section that are left, and the numbers that were read
-pub record ReadsLines (section : Section) (all : Unread) (numbers : List ℤ) (left : Unread) : Type 0 where
+pub record ReadsLines (section : Section) (all : LinesLeft) (numbers : List ℤ) (left : LinesLeft) : Type 0 where
   pub fault : data_fault section all.number 0 (data_left all) ≡ data_fault section left.number (length numbers) (data_left left)
   pub read : data_numbers section 0 (data_left all) ≡ numbers ++ data_numbers section (length numbers) (data_left left)
   pub passed : parts_left left ≡ parts_left all
@@ -51,7 +59,7 @@ data_after : (section : Section) (number place : ℕ) (lines : List Line) (token
     × (parts_from number lines ≡ parts_from (number + 1) rest)
 data_after section number place lines tokens rest is = (rw is refl, rw is refl, rw is refl)
 
-pub one_line_more : (section : Section) (all left rest : Unread) (tokens : List (List ℕ)) (numbers more : List ℤ)
+pub one_line_more : (section : Section) (all left rest : LinesLeft) (tokens : List (List ℕ)) (numbers more : List ℤ)
     → ReadsLines section all numbers left → left.lines ≡ Data tokens ∷ rest.lines → rest.number ≡ left.number + 1
     → tokens_fault section (length numbers) tokens ≡ None → more ≡ numbers ++ numbers_from section (length numbers) tokens → ReadsLines section all more rest
 one_line_more section all left rest tokens numbers more so_far is next good read =
@@ -63,18 +71,18 @@ one_line_more section all left rest tokens numbers more so_far is next good read
       passed = rw next (sym after.2) ∙ so_far.passed;
     }
 
-pub line_refused : (section : Section) (all left : Unread) (tokens : List (List ℕ)) (rest : List Line) (numbers : List ℤ) (error : TextError)
+pub line_refused : (section : Section) (all left : LinesLeft) (tokens : List (List ℕ)) (rest : List Line) (numbers : List ℤ) (error : TextError)
     → ReadsLines section all numbers left → left.lines ≡ Data tokens ∷ rest
     → on_line left.number (tokens_fault section (length numbers) tokens) ≡ Some error → data_fault section all.number 0 (data_left all) ≡ Some error
 line_refused section all left tokens rest numbers error so_far is bad =
     so_far.fault ∙ (data_after section left.number (length numbers) left.lines tokens rest is).0 ∙ rw bad refl
 
-pub lines_end : (section : Section) (all left : Unread) (numbers : List ℤ) → ReadsLines section all numbers left → data_left left ≡ []
+pub lines_end : (section : Section) (all left : LinesLeft) (numbers : List ℤ) → ReadsLines section all numbers left → data_left left ≡ []
     → (data_fault section all.number 0 (data_left all) ≡ None) × (numbers ≡ data_numbers section 0 (data_left all))
 lines_end section all left numbers so_far none = (so_far.fault ∙ rw none refl, sym (so_far.read ∙ rw none (append-nil numbers)))
 
 -- blank lines where no section is
-pub record PassesLines (all left : Unread) : Type 0 where
+pub record PassesLines (all left : LinesLeft) : Type 0 where
   pub fault : outside_fault all.number (data_left all) ≡ outside_fault left.number (data_left left)
   pub passed : parts_left left ≡ parts_left all
 
@@ -82,7 +90,7 @@ outside_after : (number : ℕ) (lines : List Line) (tokens : List (List ℕ)) (r
     → outside_fault number (leading_data lines) ≡ outside_fault number (tokens ∷ leading_data rest)
 outside_after number lines tokens rest is = rw is refl
 
-pub one_blank_more : (all left rest : Unread) (tokens : List (List ℕ)) → PassesLines all left → left.lines ≡ Data tokens ∷ rest.lines → rest.number ≡ left.number + 1
+pub one_blank_more : (all left rest : LinesLeft) (tokens : List (List ℕ)) → PassesLines all left → left.lines ≡ Data tokens ∷ rest.lines → rest.number ≡ left.number + 1
     → tokens ≡ [] → PassesLines all rest
 one_blank_more all left rest tokens so_far is next blank =
     record {
@@ -96,7 +104,7 @@ some_tokens (token ∷ tokens) number lines some =
     let yes : nat_lt 0 (length (token ∷ tokens)) ≡ true = grind (arith, nat_tests) in
     rw yes refl
 
-pub data_outside : (all left : Unread) (tokens : List (List ℕ)) (rest : List Line) → PassesLines all left → left.lines ≡ Data tokens ∷ rest → (tokens ≡ [] → ⊥)
+pub data_outside : (all left : LinesLeft) (tokens : List (List ℕ)) (rest : List Line) → PassesLines all left → left.lines ≡ Data tokens ∷ rest → (tokens ≡ [] → ⊥)
     → outside_fault all.number (data_left all) ≡ Some (DataOutside left.number)
 data_outside all left tokens rest so_far is some = so_far.fault ∙ outside_after left.number left.lines tokens rest is ∙ some_tokens tokens left.number (leading_data rest) some
 

@@ -9,12 +9,13 @@ use Rattle.vrp_model.specs.Request.{Request, request_of, problem_of, IsAcceptabl
 use Rattle.vrp_model.specs.declared.instance.InstanceError.{InstanceError}
 use Rattle.vrp_model.specs.declared.instance.InstanceError.TheVariants as refusal
 use Rattle.vrp_text.specs.Complete.{Complete, Source, Points, Matrix, complete_of, count_fault, nodes_fault, listed_depots, points_of, demands_of}
-use Rattle.vrp_text.specs.Line.{Line, lines_of}
-use Rattle.vrp_text.specs.Part.{before_end, leading_data, parts_from}
+use Rattle.vrp_lexer.specs.Line.{Line, lines_of}
+use Rattle.vrp_lexer.specs.Part.{before_end, leading_data, parts_from}
 use Rattle.vrp_text.specs.Section.{outside_fault}
 use Rattle.vrp_text.specs.Stated.{Stated, is_explicit, parts_fault, stated_by}
 use Rattle.vrp_text.specs.declared.error.TextError.{TextError}
 use Rattle.vrp_text.specs.declared.error.TextError.TheVariants as error
+use Rattle.vrp_lexer.specs.declared.limits.TheConstants.{MAX_BYTES}
 
 -- the fault of the first line that has one
 abbrev pub line_fault : List Line → Option TextError
@@ -37,9 +38,9 @@ all_stated lines = stated_by (is_explicit (parts_from 1 lines)) (parts_from 1 li
 abbrev pub reading_of_lines : List Line → Result Complete TextError
 reading_of_lines lines = or_fault (line_fault lines) (checked (complete_of (all_stated lines)))
 
--- A file has at most 16,777,216 bytes, and its lines are those before EOF.
+-- A file has at most `MAX_BYTES` bytes, and its lines are those before EOF.
 abbrev pub reading_of : List ℕ → Result Complete TextError
-reading_of bytes = if nat_lt 16777216 (length bytes) then Err error.TooLong else reading_of_lines (before_end (lines_of bytes))
+reading_of bytes = if nat_lt MAX_BYTES (length bytes) then Err error.TooLong else reading_of_lines (before_end (lines_of bytes))
 
 -- the weights between all nodes
 abbrev pub HasWeights : ℕ → Source → Grid → Type 0
@@ -60,12 +61,11 @@ pub record MeansProblem (bytes : List ℕ) (chosen : Option ℕ) (problem : Prob
   pub acceptable : IsAcceptable (request_from complete chosen grid)
   pub meant : problem ≡ problem_of (request_from complete chosen grid)
 
--- The file can be read, but no instance can be made from it. Want of memory is no such fault.
+-- The file can be read, but no instance can be made from it, whatever its weights. Want of memory is no such fault.
 pub record MeansNoInstance (bytes : List ℕ) (chosen : Option ℕ) (fault : InstanceError) : Type 0 where
   pub complete : Complete
   pub read : reading_of bytes ≡ Ok complete
-  pub grid : Grid
-  pub refused : IsRefusal (request_from complete chosen grid) fault
+  pub refused : (grid : Grid) → IsRefusal (request_from complete chosen grid) fault
   pub of_file : fault ≢ refusal.OutOfMemory
 
 -- The bytes are refused for this: they can't be read, or no instance can be made from what they state.

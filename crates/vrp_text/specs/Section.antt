@@ -2,18 +2,20 @@
 use Rattle.std.specs.Int.Signed.{◌≤ℤ◌}
 use Rattle.std.specs.Prelude.{◌≡◌, ◌<◌, get_or, ℕ, ◌+◌, ◌%◌, ℤ, pos, neg_ℤ, Bool, ◌==◌, nat_lt, if◌then◌else◌, Option, Some, None, Result, Ok, Err, List, [], ◌∷◌, ◌++◌, length}
 use Rattle.std.specs.Option.{option_or}
-use Rattle.vrp_text.specs.Numeral.{number_of}
-use Rattle.vrp_text.specs.declared.fault.LineFault.{LineFault}
-use Rattle.vrp_text.specs.declared.error.Key.TheVariants as key
+use Rattle.vrp_lexer.specs.Numeral.{number_of}
+use Rattle.vrp_lexer.specs.declared.fault.LineFault.{LineFault}
+use Rattle.vrp_lexer.specs.declared.key.Key.TheVariants as key
 use Rattle.vrp_text.specs.declared.error.TextError.{TextError}
 use Rattle.vrp_text.specs.declared.error.TextError.TheVariants as error
-use Rattle.vrp_text.specs.declared.fault.LineFault.TheVariants as fault
-use Rattle.vrp_text.specs.declared.keyword.Keyword.{Keyword}
-use Rattle.vrp_text.specs.declared.keyword.Keyword.TheVariants as keyword
+use Rattle.vrp_lexer.specs.declared.fault.LineFault.TheVariants as fault
+use Rattle.vrp_lexer.specs.declared.keyword.Keyword.{Keyword}
+use Rattle.vrp_lexer.specs.declared.keyword.Keyword.TheVariants as keyword
 use Rattle.vrp_text.specs.declared.section.Content.{Content}
 use Rattle.vrp_text.specs.declared.section.Content.TheVariants.{Nothing, Anything, Numbers}
 use Rattle.vrp_text.specs.declared.section.Section.{Section}
 use Rattle.vrp_text.specs.declared.section.Section.TheVariants as section
+use Rattle.vrp_lexer.specs.declared.limits.TheConstants.{MAX_DEMAND, MAX_NODE}
+use Rattle.vrp_model.specs.declared.limits.TheConstants.{MAX_COORDINATE, MAX_WEIGHT}
 
 -- a fault on this line
 abbrev pub at_line : ℕ → LineFault → TextError
@@ -27,16 +29,16 @@ at_line line fault.NotWhole = error.NotWhole line
 
 -- from 0, the lowest and the highest number that may stand at a place of a section
 abbrev pub lowest : Section → ℕ → ℤ
-lowest section.Coordinates place = if place % 3 == 0 then neg_ℤ (pos 1000000000) else neg_ℤ (pos 100000000)
+lowest section.Coordinates place = if place % 3 == 0 then neg_ℤ MAX_NODE else neg_ℤ MAX_COORDINATE
 lowest section.Weights place = pos 0
-lowest section.Demands place = if place % 2 == 0 then neg_ℤ (pos 1000000000) else pos 0
-lowest section.Depots place = neg_ℤ (pos 1000000000)
+lowest section.Demands place = if place % 2 == 0 then neg_ℤ MAX_NODE else pos 0
+lowest section.Depots place = neg_ℤ MAX_NODE
 
 abbrev pub highest : Section → ℕ → ℤ
-highest section.Coordinates place = if place % 3 == 0 then pos 1000000000 else pos 100000000
-highest section.Weights place = pos 1000000000
-highest section.Demands place = pos 1000000000
-highest section.Depots place = pos 1000000000
+highest section.Coordinates place = if place % 3 == 0 then MAX_NODE else MAX_COORDINATE
+highest section.Weights place = pos MAX_WEIGHT
+highest section.Demands place = if place % 2 == 0 then MAX_NODE else pos MAX_DEMAND
+highest section.Depots place = MAX_NODE
 
 abbrev pub token_number : Section → ℕ → List ℕ → Result ℤ LineFault
 token_number section place token = number_of (lowest section place) (highest section place) token

@@ -1,10 +1,11 @@
 //! A file in which nothing is missing, and whether its sections have the numbers that they need.
 ghost use Rattle.std.specs.Prelude.{◌≡◌, ◌≤◌, IfOk, IfErr, Some, None};
 ghost use Rattle.vrp_text.specs.Complete.{count_fault, listed_depots};
-ghost use Rattle.vrp_text.specs.Sources.{complete_in};
+ghost use Rattle.vrp_text.specs.Inner.InMemory.{complete_in};
 
-use crate::error::{Key, TextError};
-use vrp_model::{Layout, Metric};
+use crate::error::TextError;
+use vrp_lexer::Key;
+use vrp_model::{Layout, MAX_NODES, Metric};
 
 // What ends a list of depots.
 const LAST_DEPOT: i64 = -1;
@@ -33,7 +34,7 @@ pub(crate) struct Complete {
 impl Complete {
     /// Whether each section has as many numbers as it needs: the first in the order of `Key` that has not is refused.
     pub(crate) fn check_counts(&self) -> Result<(), TextError>
-        requires { self.now.nodes ≤ 1200 }
+        requires { self.now.nodes ≤ MAX_NODES }
         ensures sound { IfOk result (λ _. count_fault (complete_in self.now) ≡ None) }
         ensures refused { IfErr result (λ error. count_fault (complete_in self.now) ≡ Some error) }
     {

@@ -1,54 +1,12 @@
 //! Why a file is refused.
-ghost use Rattle.std.specs.Prelude.{◌≡◌, Some};
-ghost use Rattle.vrp_text.specs.Keyword.{key_text};
+ghost use Rattle.std.specs.Prelude.{◌≡◌};
 ghost use Rattle.vrp_text.specs.Refusal.{refusal_of};
 ghost use Rattle.vrp_text.specs.declared.error.TextError.TheVariants.{OutOfMemory};
 
 use std::alloc::{AllocError, AllocFailed};
-use std::fmt;
 use thiserror::Error;
+use vrp_lexer::Key;
 use vrp_model::{InstanceError, NoMemory};
-
-/// What a file states once, in the order in which it is looked for.
-#[derive(Clone, Copy, Debug, PartialEq, Eq)]
-pub enum Key {
-    /// TYPE
-    Problem,
-    /// DIMENSION
-    Dimension,
-    /// CAPACITY
-    Capacity,
-    /// EDGE_WEIGHT_TYPE
-    WeightKind,
-    /// EDGE_WEIGHT_FORMAT
-    WeightFormat,
-    /// NODE_COORD_SECTION
-    NodeCoord,
-    /// EDGE_WEIGHT_SECTION
-    EdgeWeight,
-    /// DEMAND_SECTION
-    Demand,
-    /// DEPOT_SECTION
-    Depot,
-}
-
-impl fmt::Display for Key {
-    ghost output = { λ key. Some (key_text key) };
-
-    fn fmt<W: fmt::Write>(&self, f: &mut fmt::Formatter<W>) -> fmt::Result {
-        f.write_str(match self {
-            Key::Problem => "TYPE",
-            Key::Dimension => "DIMENSION",
-            Key::Capacity => "CAPACITY",
-            Key::WeightKind => "EDGE_WEIGHT_TYPE",
-            Key::WeightFormat => "EDGE_WEIGHT_FORMAT",
-            Key::NodeCoord => "NODE_COORD_SECTION",
-            Key::EdgeWeight => "EDGE_WEIGHT_SECTION",
-            Key::Demand => "DEMAND_SECTION",
-            Key::Depot => "DEPOT_SECTION",
-        })
-    }
-}
 
 /// Why a file is refused. Lines are numbered from 1.
 #[derive(Clone, Copy, Debug, PartialEq, Eq, Error)]
@@ -86,7 +44,7 @@ pub enum TextError {
     /// The file can be read, but no instance can be made from it. Never with `InstanceError::OutOfMemory`.
     #[error("{0}")]
     Instance(InstanceError),
-    /// More than 16,777,216 bytes.
+    /// More than `MAX_BYTES` bytes.
     #[error("input too long")]
     TooLong,
     /// A growth was refused.

@@ -1,17 +1,18 @@
 //! From the bytes of a file to the instance that they mean.
 ghost use Rattle.std.specs.Prelude.{◌≡◌, ◌≢◌, ◌≤◌, Ok, Err, Some, None, IfOk, IfErr};
-ghost use Rattle.vrp_text.specs.Complete.{count_fault, nodes_fault, source_count_fault, source_node_fault};
-ghost use Rattle.vrp_text.specs.Meaning.{HasWeights, MeansProblem, MeansRefusal, or_fault, reading_of};
-ghost use Rattle.vrp_text.specs.Sources.{complete_in, source_in};
-ghost use Rattle.vrp_text.specs.Step.{IsInRange, IsSourceInRange};
-ghost use Rattle.vrp_text.specs.Meant.{StatesProblem, IsStatedRefusal};
+ghost use Rattle.vrp_text.specs.Complete.{complete_of, count_fault, nodes_fault, source_count_fault, source_node_fault};
+ghost use Rattle.vrp_text.specs.Meaning.{HasWeights, MeansProblem, MeansRefusal, checked, or_fault, reading_of};
+ghost use Rattle.vrp_text.specs.Inner.InMemory.{complete_in, source_in};
+ghost use Rattle.vrp_text.specs.Inner.StatedSoFar.{IsInRange, IsSourceInRange};
+ghost use Rattle.vrp_text.specs.Inner.Outcome.{StatesProblem, IsStatedRefusal};
 
 use crate::complete::{Complete, Source, listed_depots};
 use crate::error::TextError;
 use crate::nodes::{demands_of, depots_of, entries_of, points_of};
 use crate::reading::read_statements;
+use crate::statements::Statements;
 use std::alloc::Global;
-use vrp_model::{Instance, Weights};
+use vrp_model::{Instance, MAX_NODES, Weights};
 
 /// The instance that a CVRP file means (TSPLIB 95, section 1), with the chosen node as its depot, or the first listed
 /// depot where none is chosen. The refusal is the first that the file means, in this order: too long; the fault of the
@@ -32,7 +33,17 @@ fn read_complete(alloc: Global, bytes: &[u8]) -> Result<Complete, TextError>
     ensures in_range { IfOk result (λ complete. IsInRange (complete_in complete)) }
     ensures refused { IfErr result (λ error. error ≢ TextError.OutOfMemory → reading_of bytes.now ≡ Err error) }
 {
-    let statements = read_statements(alloc, bytes)?;
+    counted(read_statements(alloc, bytes)?)
+}
+
+// What is stated, where nothing is missing and the counts are right. With no allocator, so that no refusal is answered as
+// want of memory.
+fn counted(statements: Statements) -> Result<Complete, TextError>
+    ensures read { IfOk result (λ complete. checked (complete_of statements) ≡ or_fault (nodes_fault (complete_in complete)) (Ok (complete_in complete))) }
+    ensures counted { IfOk result (λ complete. count_fault (complete_in complete) ≡ None) }
+    ensures in_range { IfOk result (λ complete. IsInRange (complete_in complete)) }
+    ensures refused { IfErr result (λ error. checked (complete_of statements) ≡ Err error) }
+{
     let complete = statements.complete()?;
     complete.check_counts()?;
     Ok(complete)
@@ -59,7 +70,7 @@ fn instance_of(
 // The weights between all nodes.
 fn weights_of(alloc: Global, nodes: u16, source: &Source) -> Result<Weights, TextError>
     requires some { 1 ≤ nodes }
-    requires few { nodes ≤ 1200 }
+    requires few { nodes ≤ MAX_NODES }
     requires count { source_count_fault nodes (source_in source.now) ≡ None }
     requires within { IsSourceInRange (source_in source.now) }
     ensures sound { IfOk result (λ _. source_node_fault nodes (source_in source.now) ≡ None) }

@@ -1,9 +1,9 @@
 //! The keys that the lines of a file bear.
 ghost use Rattle.std.specs.Prelude.{◌≡◌, ◌<◌};
-ghost use Rattle.vrp_text.specs.Keyword.{rank};
+ghost use Rattle.vrp_lexer.specs.Keyword.{rank};
 
-use crate::error::Key;
 use std::marker::Model;
+use vrp_lexer::Key;
 
 // How many keys there are.
 const KEYS: usize = 9;
@@ -25,8 +25,9 @@ impl Model for Keys {
 
 impl Keys {
     ghost use Rattle.std.specs.Prelude.{◌≡◌, ◌||◌, ◌==◌, false, not};
-    ghost use Rattle.vrp_text.specs.Keyword.{is_marked, rank};
-    ghost use Rattle.vrp_text.specs.declared.error.Key.{Key};
+    ghost use Rattle.vrp_lexer.specs.Keyword.{rank};
+    ghost use Rattle.vrp_text.specs.Inner.MarkedKeys.{is_marked};
+    ghost use Rattle.vrp_lexer.specs.declared.key.Key.{Key};
 
     /// No key.
     pub(crate) fn new() -> Self

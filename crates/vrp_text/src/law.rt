@@ -1,8 +1,7 @@
 //! What is true of CVRP files, whatever reads them.
-ghost use Rattle.std.specs.Prelude.{◌≡◌, ℕ, Option, None, List};
+ghost use Rattle.std.specs.Prelude.{◌≡◌, ◌⊎◌, ℕ, Option, List};
 ghost use Rattle.vrp_model.specs.Problem.{Problem};
 ghost use Rattle.vrp_text.specs.Meaning.{MeansProblem, MeansRefusal};
-ghost use Rattle.vrp_text.specs.PlainMeaning.{MeansPlainly};
 ghost use Rattle.vrp_text.specs.declared.error.TextError.{TextError};
 
 use vrp_model::one_distance;
@@ -17,7 +16,7 @@ pub fn one_meaning()
     one_distance();
 }
 
-/// A plain file, which is spelled without any freedom but in its numbers and remarks, means just what stands in it.
-pub fn plain_files()
-    ensures { (bytes : List ℕ) (problem : Problem) → MeansPlainly bytes problem → MeansProblem bytes None problem }
+/// With a node chosen as its depot, or none, a file means something, whatever its bytes are: a problem, or a refusal.
+pub fn some_meaning()
+    ensures { (bytes : List ℕ) (chosen : Option ℕ) → ((p : Problem) × MeansProblem bytes chosen p) ⊎ ((e : TextError) × MeansRefusal bytes chosen e) }
 {}

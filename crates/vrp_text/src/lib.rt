@@ -6,20 +6,16 @@ mod error;
 mod fault;
 mod instance;
 mod keys;
-mod keyword;
 mod law;
-mod lines;
 mod nodes;
-mod numeral;
 mod reading;
 mod section;
 mod statements;
 #[cfg(test)]
 mod tests;
-mod tokens;
-mod value;
 
-pub use error::{Key, TextError};
+pub use error::TextError;
 pub use instance::read;
-pub use law::{one_meaning, plain_files};
-pub use reading::MAX_BYTES;
+pub use law::{one_meaning, some_meaning};
+pub use section::Section;
+pub use vrp_lexer::{Key, MAX_BYTES};

@@ -3,13 +3,15 @@ ghost use Rattle.std.specs.Prelude.{◌≡◌, ◌≢◌, ◌+◌, ◌*◌, ◌�
 ghost use Rattle.std.specs.List.{All};
 ghost use Rattle.vrp_model.specs.Grid.{IsCoordinate};
 ghost use Rattle.vrp_text.specs.Complete.{bad_node, demands_of, is_node, no_node, node_fault, points_of, row_nodes};
-ghost use Rattle.vrp_text.specs.Given.{IsGivenOrNone};
+ghost use Rattle.vrp_text.specs.Inner.PlacedRows.{IsGivenOrNone};
 ghost use Rattle.vrp_text.specs.Section.{AreWithin};
 ghost use Rattle.vrp_text.specs.declared.section.Section.TheVariants.{Coordinates};
 
-use crate::error::{Key, TextError};
+use crate::error::TextError;
 use std::alloc::{AllocError, Global};
 use std::marker::Model;
+use vrp_lexer::Key;
+use vrp_model::MAX_NODES;
 
 // The nodes that were given so far.
 #[derive(Debug, Drop)]
@@ -38,7 +40,7 @@ impl GivenNodes {
 
     // Marks a node as given, and tells its place, from 0. None where the number is no node, or was given before.
     fn give(&mut self, number: i64) -> Option<usize>
-        requires few { length self.old ≤ 1200 }
+        requires few { length self.old ≤ MAX_NODES }
         ensures { MatchOption result
             ((self.new ≡ self.old) × (IsGivenOrNone self.old number))
             (λ place. (place < length self.old) × (number ≡ pos (place + 1)) × (get_or self.old place false ≡ false) × (self.new ≡ set self.old place true)) }
@@ -61,7 +63,7 @@ pub(crate) fn points_of(
     nodes: u16,
     numbers: &[i64],
 ) -> Result<Vec<(i64, i64)>, TextError>
-    requires few { nodes ≤ 1200 }
+    requires few { nodes ≤ MAX_NODES }
     requires rows { length numbers.now ≡ 3 * nodes }
     requires within { AreWithin Coordinates 0 numbers.now }
     ensures sound { IfOk result (λ _. bad_node nodes [] (row_nodes 3 nodes numbers.now) ≡ None) }
@@ -71,6 +73,27 @@ pub(crate) fn points_of(
 {
     let mut given = GivenNodes::none(alloc, nodes)?;
     let mut points = vec![in alloc; (0i64, 0i64); usize::from(nodes)]?;
+    place_points(nodes, numbers, &mut given, &mut points)?;
+    Ok(points)
+}
+
+// Puts each point in the place of its node. With no allocator, so that no bad node is answered as want of memory.
+fn place_points(
+    nodes: u16,
+    numbers: &[i64],
+    given: &mut GivenNodes,
+    points: &mut [(i64, i64)],
+) -> Result<(), TextError>
+    requires few { nodes ≤ MAX_NODES }
+    requires rows { length numbers.now ≡ 3 * nodes }
+    requires within { AreWithin Coordinates 0 numbers.now }
+    requires none_given { given.old ≡ replicate nodes false }
+    requires none_placed { points.old ≡ replicate nodes (pos 0, pos 0) }
+    ensures sound { IfOk result (λ _. bad_node nodes [] (row_nodes 3 nodes numbers.now) ≡ None) }
+    ensures value { IfOk result (λ _. points.new ≡ points_of nodes numbers.now) }
+    ensures small { IfOk result (λ _. All (λ point. IsCoordinate point.0 × IsCoordinate point.1) points.new) }
+    ensures refused { IfErr result (λ error. node_fault Key.NodeCoord (bad_node nodes [] (row_nodes 3 nodes numbers.now)) ≡ Some error) }
+{
     for row in 0..usize::from(nodes) {
         let number = numbers[3 * row];
         let Some(place) = given.give(number) else {
@@ -78,12 +101,12 @@ pub(crate) fn points_of(
         };
         points[place] = (numbers[3 * row + 1], numbers[3 * row + 2]);
     }
-    Ok(points)
+    Ok(())
 }
 
 /// The demands of all nodes, by rising node, from a node and its demand for each.
 pub(crate) fn demands_of(alloc: Global, nodes: u16, numbers: &[i64]) -> Result<Vec<u64>, TextError>
-    requires few { nodes ≤ 1200 }
+    requires few { nodes ≤ MAX_NODES }
     requires rows { length numbers.now ≡ 2 * nodes }
     ensures sound { IfOk result (λ _. bad_node nodes [] (row_nodes 2 nodes numbers.now) ≡ None) }
     ensures value { IfOk result (λ demands. demands.items ≡ demands_of nodes numbers.now) }
@@ -91,6 +114,25 @@ pub(crate) fn demands_of(alloc: Global, nodes: u16, numbers: &[i64]) -> Result<V
 {
     let mut given = GivenNodes::none(alloc, nodes)?;
     let mut demands = vec![in alloc; 0u64; usize::from(nodes)]?;
+    place_demands(nodes, numbers, &mut given, &mut demands)?;
+    Ok(demands)
+}
+
+// Puts each demand in the place of its node. With no allocator, so that no bad node is answered as want of memory.
+fn place_demands(
+    nodes: u16,
+    numbers: &[i64],
+    given: &mut GivenNodes,
+    demands: &mut [u64],
+) -> Result<(), TextError>
+    requires few { nodes ≤ MAX_NODES }
+    requires rows { length numbers.now ≡ 2 * nodes }
+    requires none_given { given.old ≡ replicate nodes false }
+    requires none_placed { demands.old ≡ replicate nodes 0 }
+    ensures sound { IfOk result (λ _. bad_node nodes [] (row_nodes 2 nodes numbers.now) ≡ None) }
+    ensures value { IfOk result (λ _. demands.new ≡ demands_of nodes numbers.now) }
+    ensures refused { IfErr result (λ error. node_fault Key.Demand (bad_node nodes [] (row_nodes 2 nodes numbers.now)) ≡ Some error) }
+{
     for row in 0..usize::from(nodes) {
         let number = numbers[2 * row];
         let Some(place) = given.give(number) else {
@@ -98,7 +140,7 @@ pub(crate) fn demands_of(alloc: Global, nodes: u16, numbers: &[i64]) -> Result<V
         };
         demands[place] = numbers[2 * row + 1].unsigned_abs();
     }
-    Ok(demands)
+    Ok(())
 }
 
 /// The nodes of the depots.
@@ -111,12 +153,21 @@ pub(crate) fn depots_of(alloc: Global, nodes: u16, numbers: &[i64]) -> Result<Ve
 {
     let mut depots = Vec::with_capacity(alloc, numbers.len())?;
     for number in numbers {
-        if *number < 1 || *number > i64::from(nodes) {
-            return Err(TextError::BadNode(Key::Depot, *number));
-        }
-        depots.push(*number as u16)?;
+        depots.push(depot_of(nodes, *number)?)?;
     }
     Ok(depots)
+}
+
+// The node of one depot.
+fn depot_of(nodes: u16, number: i64) -> Result<u16, TextError>
+    ensures node { IfOk result (λ depot. (is_node nodes number ≡ true) × (depot ≡ unsigned_abs number)) }
+    ensures within { IfOk result (λ depot. (1 ≤ depot) × (depot ≤ nodes)) }
+    ensures refused { IfErr result (λ error. (is_node nodes number ≡ false) × (error ≡ TextError.BadNode Key.Depot number)) }
+{
+    if number < 1 || number > i64::from(nodes) {
+        return Err(TextError::BadNode(Key::Depot, number));
+    }
+    Ok(number as u16)
 }
 
 /// The weights that a matrix lists.

@@ -1,26 +1,22 @@
 //! One pass over the lines of a file, each of which states something or is at fault.
 ghost use Rattle.std.specs.Prelude.{◌≡◌, ◌≢◌, ◌≤◌, ◌||◌, IfOk, IfErr, Err, Some, None, [], length};
-ghost use Rattle.vrp_text.specs.Keyword.{is_marked};
-ghost use Rattle.vrp_text.specs.Line.{lines_of, tokens_of};
+ghost use Rattle.vrp_text.specs.Inner.MarkedKeys.{is_marked};
+ghost use Rattle.vrp_lexer.specs.Line.{lines_of, tokens_of};
 ghost use Rattle.vrp_text.specs.Meaning.{all_stated, line_fault, reading_of};
-ghost use Rattle.vrp_text.specs.Part.{before_end, parts_from};
-ghost use Rattle.vrp_text.specs.Section.{content_of, content_numbers};
+ghost use Rattle.vrp_lexer.specs.Part.{before_end, parts_from};
+ghost use Rattle.vrp_text.specs.Section.{content_of, content_numbers, on_line};
 ghost use Rattle.vrp_text.specs.Stated.{is_explicit, is_same_key, keyword_fault, parts_fault, stated_by};
-ghost use Rattle.vrp_text.specs.Step.{fault_of_part, with_part, with_keyword};
-ghost use Rattle.vrp_text.specs.Unread.{parts_left, data_left};
-ghost use Rattle.vrp_text.specs.declared.error.Key.{Key};
+ghost use Rattle.vrp_text.specs.Inner.StatedSoFar.{fault_of_part, with_part, with_keyword};
+ghost use Rattle.vrp_lexer.specs.Inner.LinesLeft.{parts_left, data_left};
+ghost use Rattle.vrp_lexer.specs.declared.key.Key.{Key};
 
-use crate::error::{Key, TextError};
-use crate::fault::LineFault;
+use crate::error::TextError;
+use crate::fault::at_line;
 use crate::keys::Keys;
-use crate::keyword::Keyword;
-use crate::lines::{Heading, Lines};
-use crate::section::{Content, content_of, read_content};
+use crate::section::{content_of, pass_no_data, read_content};
 use crate::statements::{Statements, no_value, value};
 use std::alloc::Global;
-
-/// The most bytes that a file may have.
-pub const MAX_BYTES: usize = 16_777_216;
+use vrp_lexer::{Heading, Key, Keyword, LineFault, Lines, MAX_BYTES};
 
 // Whether the first EDGE_WEIGHT_TYPE of the lines is EXPLICIT.
 fn is_explicit(lines: &mut Lines<'_>) -> bool
@@ -62,6 +58,24 @@ fn read_keyword(
     }
 }
 
+// Reads the line of a keyword. With no allocator, so that no fault of it is answered as want of memory.
+fn read_heading(
+    explicit: bool,
+    heading: &Heading<'_>,
+    keys: &mut Keys,
+    statements: &mut Statements,
+) -> Result<(), TextError>
+    ensures sound { IfOk result (λ _. keyword_fault explicit (is_marked keys.old) heading.now.keyword (tokens_of heading.now.behind.now) ≡ None) }
+    ensures marked { IfOk result (λ _. (key : Key) → is_marked keys.new key ≡ (is_marked keys.old key || is_same_key key heading.now.keyword)) }
+    ensures read { IfOk result (λ _. statements.new ≡ with_keyword explicit heading.now.keyword (tokens_of heading.now.behind.now) statements.old) }
+    ensures refused { IfErr result (λ error. on_line heading.now.number (keyword_fault explicit (is_marked keys.old) heading.now.keyword (tokens_of heading.now.behind.now)) ≡ Some error) }
+{
+    match read_keyword(explicit, heading.keyword, heading.behind, keys, statements) {
+        Ok(()) => Ok(()),
+        Err(fault) => Err(at_line(heading.number, fault)),
+    }
+}
+
 // Reads a part behind its keyword: what stands on the keyword's line, and the data lines.
 fn read_part(
     alloc: Global,
@@ -77,9 +91,7 @@ fn read_part(
     ensures passed { IfOk result (λ _. parts_left lines.new ≡ parts_left lines.old) }
     ensures refused { IfErr result (λ error. error ≢ TextError.OutOfMemory → fault_of_part explicit (is_marked keys.old) heading.now.number heading.now.keyword (tokens_of heading.now.behind.now) lines.old.number (data_left lines.old) ≡ Some error) }
 {
-    if let Err(fault) = read_keyword(explicit, heading.keyword, heading.behind, keys, statements) {
-        return Err(fault.at(heading.number));
-    }
+    read_heading(explicit, heading, keys, statements)?;
     let numbers = read_content(alloc, lines, content_of(explicit, heading.keyword))?;
     if let Some(Keyword::Key(key)) = heading.keyword {
         statements.put_numbers(key, numbers);
@@ -101,18 +113,27 @@ fn read_parts(alloc: Global, explicit: bool, lines: &mut Lines<'_>) -> Result<St
     Ok(statements)
 }
 
-/// Reads what the lines of a file state.
-pub(crate) fn read_statements(alloc: Global, bytes: &[u8]) -> Result<Statements, TextError>
-    ensures short { IfOk result (λ _. length bytes.now ≤ 16777216) }
-    ensures sound { IfOk result (λ _. line_fault (before_end (lines_of bytes.now)) ≡ None) }
-    ensures read { IfOk result (λ statements. statements ≡ all_stated (before_end (lines_of bytes.now))) }
-    ensures refused { IfErr result (λ error. error ≢ TextError.OutOfMemory → reading_of bytes.now ≡ Err error) }
+// Whether a file is short enough to be read.
+fn check_length(bytes: &[u8]) -> Result<(), TextError>
+    ensures short { IfOk result (λ _. length bytes.now ≤ MAX_BYTES) }
+    ensures refused { IfErr result (λ error. reading_of bytes.now ≡ Err error) }
 {
     if bytes.len() > MAX_BYTES {
         return Err(TextError::TooLong);
     }
+    Ok(())
+}
+
+/// Reads what the lines of a file state.
+pub(crate) fn read_statements(alloc: Global, bytes: &[u8]) -> Result<Statements, TextError>
+    ensures short { IfOk result (λ _. length bytes.now ≤ MAX_BYTES) }
+    ensures sound { IfOk result (λ _. line_fault (before_end (lines_of bytes.now)) ≡ None) }
+    ensures read { IfOk result (λ statements. statements ≡ all_stated (before_end (lines_of bytes.now))) }
+    ensures refused { IfErr result (λ error. error ≢ TextError.OutOfMemory → reading_of bytes.now ≡ Err error) }
+{
+    check_length(bytes)?;
     let explicit = is_explicit(&mut Lines::of(bytes));
     let mut lines = Lines::of(bytes);
-    read_content(alloc, &mut lines, Content::Nothing)?;
+    pass_no_data(&mut lines)?;
     read_parts(alloc, explicit, &mut lines)
 }

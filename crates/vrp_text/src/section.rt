@@ -1,29 +1,18 @@
 //! The sections whose numbers are used.
-ghost use Rattle.std.specs.Prelude.{◌≡◌, ◌≢◌, ◌+◌, ◌++◌, IfOk, IfErr, Some, None, length};
-ghost use Rattle.vrp_text.specs.Line.{tokens_of};
-ghost use Rattle.vrp_text.specs.Section.{lowest, highest, token_number, tokens_fault, numbers_from, data_fault, data_numbers, on_line, outside_fault, content_of, content_fault, content_numbers, AreWithin, FitContent};
-ghost use Rattle.vrp_text.specs.Unread.{parts_left, data_left};
+ghost use Rattle.std.specs.Prelude.{◌≡◌, ◌≢◌, ◌+◌, ◌++◌, IfOk, IfErr, Ok, Some, None, length};
+ghost use Rattle.vrp_lexer.specs.Line.{tokens_of};
+ghost use Rattle.vrp_text.specs.Section.{lowest, highest, token_number, tokens_fault, fault_of, numbers_from, data_fault, data_numbers, on_line, outside_fault, content_of, content_fault, content_numbers, AreWithin, FitContent};
+ghost use Rattle.vrp_lexer.specs.Inner.LinesLeft.{parts_left, data_left};
 
-use crate::error::{Key, TextError};
-use crate::fault::LineFault;
-use crate::keyword::Keyword;
-use crate::lines::Lines;
-use crate::numeral::number;
-use crate::tokens::Tokens;
+use crate::error::TextError;
+use crate::fault::at_line;
 use std::alloc::Global;
-
-// How far a node's number lies from 0 at most. Whether there is such a node is looked at later.
-const MAX_NODE: i64 = 1_000_000_000;
-// How far a coordinate lies from 0 at most.
-const MAX_COORDINATE: i64 = 100_000_000;
-// The highest weight.
-const MAX_WEIGHT: i64 = 1_000_000_000;
-// The highest demand.
-const MAX_DEMAND: i64 = 1_000_000_000;
+use vrp_lexer::{Key, Keyword, LineFault, Lines, MAX_DEMAND, MAX_NODE, Tokens, number};
+use vrp_model::{MAX_COORDINATE, MAX_WEIGHT};
 
 /// A section whose tokens are numbers that are used.
 #[derive(Clone, Copy, Debug, PartialEq, Eq)]
-pub(crate) enum Section {
+pub enum Section {
     /// A node and its two coordinates, for each node.
     Coordinates,
     /// Weights.
@@ -83,9 +72,9 @@ impl Section {
         match self {
             Section::Coordinates if place % 3 == 0 => MAX_NODE,
             Section::Coordinates => MAX_COORDINATE,
-            Section::Weights => MAX_WEIGHT,
+            Section::Weights => MAX_WEIGHT as i64,
             Section::Demands if place % 2 == 0 => MAX_NODE,
-            Section::Demands => MAX_DEMAND,
+            Section::Demands => MAX_DEMAND as i64,
             Section::Depots => MAX_NODE,
         }
     }
@@ -95,6 +84,18 @@ impl Section {
         ensures { result ≡ token_number self place token.now }
     {
         number(token, self.lowest(place), self.highest(place))
+    }
+
+    // The number that a token on a line writes at this place. With no allocator, so that no bad number is answered as want
+    // of memory.
+    fn number_on(self, line: u32, place: usize, token: &[u8]) -> Result<i64, TextError>
+        ensures value { IfOk result (λ value. token_number self place token.now ≡ Ok value) }
+        ensures refused { IfErr result (λ error. on_line line (fault_of (token_number self place token.now)) ≡ Some error) }
+    {
+        match self.number(place, token) {
+            Ok(value) => Ok(value),
+            Err(fault) => Err(at_line(line, fault)),
+        }
     }
 }
 
@@ -111,10 +112,7 @@ fn read_line(
 {
     let mut tokens = Tokens::of(text);
     while let Some(token) = tokens.next() {
-        match section.number(numbers.len(), token) {
-            Ok(value) => numbers.push(value)?,
-            Err(fault) => return Err(fault.at(number)),
-        }
+        numbers.push(section.number_on(number, numbers.len(), token)?)?;
     }
     Ok(())
 }
@@ -138,8 +136,8 @@ fn read_numbers(
     Ok(numbers)
 }
 
-// Passes over the lines up to the next keyword, where no section is: none has a token.
-fn pass_no_data(lines: &mut Lines<'_>) -> Result<(), TextError>
+/// Passes over the lines up to the next keyword, where no section is: none has a token.
+pub(crate) fn pass_no_data(lines: &mut Lines<'_>) -> Result<(), TextError>
     ensures none { IfOk result (λ _. outside_fault lines.old.number (data_left lines.old) ≡ None) }
     ensures passed { IfOk result (λ _. parts_left lines.new ≡ parts_left lines.old) }
     ensures refused { IfErr result (λ error. outside_fault lines.old.number (data_left lines.old) ≡ Some error) }

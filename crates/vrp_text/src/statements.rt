@@ -1,20 +1,19 @@
 //! What the keywords and sections of a file have stated so far.
 ghost use Rattle.std.specs.Prelude.{◌≡◌, Ok, Err, IfOk, IfErr, Some, None, option_map};
-ghost use Rattle.vrp_text.specs.Line.{tokens_of};
+ghost use Rattle.vrp_lexer.specs.Line.{tokens_of};
 ghost use Rattle.vrp_text.specs.Stated.{value_fault};
-ghost use Rattle.vrp_text.specs.Value.{value_of, no_value};
+ghost use Rattle.vrp_lexer.specs.Value.{value_of, no_value};
 ghost use Rattle.vrp_text.specs.Complete.{complete_of, matrix_of};
-ghost use Rattle.vrp_text.specs.Sources.{complete_in, source_in};
-ghost use Rattle.vrp_text.specs.Step.{IsInRange, nothing_stated, with_value, with_numbers, FitKey};
+ghost use Rattle.vrp_text.specs.Inner.InMemory.{complete_in, source_in};
+ghost use Rattle.vrp_text.specs.Inner.StatedSoFar.{IsInRange, nothing_stated, with_value, with_numbers, FitKey};
 
 use crate::complete::{Complete, Source};
-use crate::error::{Key, TextError};
-use crate::fault::LineFault;
-use crate::tokens::Tokens;
-use crate::value::{
-    WeightFormat, WeightKind, capacity, dimension, problem_type, weight_format, weight_kind,
-};
+use crate::error::TextError;
 use std::marker::Model;
+use vrp_lexer::{
+    Key, LineFault, Tokens, WeightFormat, WeightKind, capacity, dimension, problem_type,
+    weight_format, weight_kind,
+};
 
 /// What is stated, each where it is.
 #[derive(Debug, Drop)]
@@ -50,7 +49,7 @@ impl Model for Statements {
       depots = option_map (λ numbers. numbers.items) s.depots;
     } };
 
-    ghost use Rattle.vrp_text.specs.Step.{AreInRange};
+    ghost use Rattle.vrp_text.specs.Inner.StatedSoFar.{AreInRange};
 
     ghost invariant = { λ s. AreInRange (record {
       problem = s.problem;

@@ -1,7 +1,7 @@
 //! Files that are cut off.
 use super::{SMALL, refusal_of};
 use crate::error::TextError::{BadNumber, BadValue, Missing, UnknownKeyword, WrongCount};
-use crate::error::{Key, TextError};
+use crate::{Key, TextError};
 use std::test::*;
 
 // Why the small file is refused when it is cut off after so many bytes, where it is.

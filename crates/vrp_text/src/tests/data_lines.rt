@@ -1,6 +1,6 @@
 //! Files with a faulty data line, and files with more than one fault.
 use super::{SMALL, refusal_of};
-use crate::error::Key;
+use crate::Key;
 use crate::error::TextError::{
     BadNumber, BadValue, DataOutside, NotWhole, UnknownKeyword, Unsupported, WrongCount,
 };
@@ -12,6 +12,8 @@ fn data_lines(rt: HostRuntime) -> Result<(), Fail> {
     for (old, new, refusal) in [
         // No section.
         ("NAME : A", "5\nNAME : A", DataOutside(1)),
+        // A byte order mark is no blank: with what stands beside it, it is a token.
+        ("NAME : A", "\u{feff}NAME : A", DataOutside(1)),
         ("NAME : A", "\n \t\r\n: NAME", DataOutside(3)),
         ("CAPACITY : 2\n", "CAPACITY : 2\n5\n", DataOutside(7)),
         ("EOF", "COMMENT\n1\nEOF", DataOutside(19)),
@@ -24,6 +26,8 @@ fn data_lines(rt: HostRuntime) -> Result<(), Fail> {
         ("2 3 4", "2 1.2.3 4", BadNumber(9)),
         ("2 3 4", "2 0x1 4", BadNumber(9)),
         ("2 3 4", "2 3, 4", BadNumber(9)),
+        ("2 3 4", "2 3,5 4", BadNumber(9)),
+        ("\n2 1\n", "\n2 1,0\n", BadNumber(13)),
         ("\n-1\n", "\n-\n", BadNumber(17)),
         ("\n-1\n", "\n-1 x\n", BadNumber(17)),
         ("\n-1\n", "\n-1\n\n--\n", BadNumber(19)),

@@ -1,6 +1,6 @@
 //! Files that are explicit or not.
 use super::{MATRIX, SMALL, refusal_of};
-use crate::error::Key;
+use crate::Key;
 use crate::error::TextError::{BadNumber, BadValue, Missing, NotWhole, Repeated, Unsupported};
 use std::test::*;
 

@@ -3,8 +3,7 @@ use super::{SMALL, places_of, refusal_of, small_places};
 use crate::error::TextError::{
     BadNumber, BadValue, DataOutside, Missing, Repeated, TooLong, UnknownKeyword,
 };
-use crate::error::{Key, TextError};
-use crate::{MAX_BYTES, read};
+use crate::{Key, MAX_BYTES, TextError, read};
 use std::alloc::Global;
 use std::test::*;
 

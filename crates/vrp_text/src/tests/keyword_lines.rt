@@ -56,6 +56,7 @@ fn keyword_lines(rt: HostRuntime) -> Result<(), Fail> {
         // A bad value.
         ("CVRP", "", BadValue(3)),
         ("CVRP", "CVRP,", BadValue(3)),
+        ("CAPACITY : 2", "CAPACITY : 3,5", BadValue(6)),
         ("DIMENSION : 3", "DIMENSION : 0", BadValue(4)),
         ("DIMENSION : 3", "DIMENSION : 1201", BadValue(4)),
         ("DIMENSION : 3", "DIMENSION : 3.5", BadValue(4)),

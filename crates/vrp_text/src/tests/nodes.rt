@@ -1,6 +1,6 @@
 //! Numbers that are no nodes, and files of which no instance can be made.
 use super::{MATRIX, SMALL, refusal_of};
-use crate::error::{Key, TextError};
+use crate::{Key, TextError};
 use std::test::*;
 use vrp_model::InstanceError::{DemandOverCapacity, DepotDemand, NotADepot};
 

@@ -1,6 +1,6 @@
 //! Files in which something is missing, and sections of the wrong length.
 use super::{MATRIX, SMALL, refusal_of};
-use crate::error::{Key, TextError};
+use crate::{Key, TextError};
 use std::test::*;
 
 // The rows of the small file's sections.

@@ -1,6 +1,6 @@
 use Rattle.std.proofs.Common.{◌+◌, ◌-◌, ◌≤◌, ◌<◌, vec_len}
 use Rattle.std.specs.Io.KnownBytes.{Consumes}
-use Rattle.vrp_text.specs.declared.reading.TheConstants.{MAX_BYTES}
+use Rattle.vrp_lexer.specs.declared.limits.TheConstants.{MAX_BYTES}
 use Rattle.vrp_command.proofs.input.read_input.Given as goal
 
 abbrev pub invariant-loop-buffer : goal.invariant-loop-buffer

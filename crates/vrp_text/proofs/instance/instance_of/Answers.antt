@@ -2,7 +2,7 @@ use Rattle.std.proofs.Common.{◌≡◌, map, length, sym, ap, ◌∙◌}
 use Rattle.std.specs.Prelude.{unsigned_abs}
 use Rattle.std.proofs.lemmas.Result.{err_from_is_err_and}
 use Rattle.vrp_text.specs.Complete.{demands_of, listed_depots}
-use Rattle.vrp_text.specs.Sources.{complete_in}
+use Rattle.vrp_text.specs.Inner.InMemory.{complete_in}
 use Rattle.vrp_text.proofs.InstanceLemmas.{length-demands, nodes_are_sound, states_made, states_refusal}
 use Rattle.vrp_text.proofs.instance.instance_of.Goals as goal
 

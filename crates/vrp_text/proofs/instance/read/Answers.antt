@@ -1,4 +1,4 @@
-use Rattle.vrp_text.specs.Sources.{complete_in}
+use Rattle.vrp_text.specs.Inner.InMemory.{complete_in}
 use Rattle.vrp_text.proofs.InstanceLemmas.{if_meant, if_refused}
 use Rattle.vrp_text.proofs.instance.read.Goals as goal
 

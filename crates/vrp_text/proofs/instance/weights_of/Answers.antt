@@ -3,8 +3,8 @@ use Rattle.std.specs.Prelude.{slice_index, unsigned_abs}
 use Rattle.vrp_model.specs.Grid.{HasDistances}
 use Rattle.vrp_text.specs.Complete.{points_of}
 use Rattle.vrp_text.specs.Meaning.{HasWeights}
-use Rattle.vrp_text.specs.Sources.{source_in}
-use Rattle.vrp_text.specs.Step.{IsSourceInRange}
+use Rattle.vrp_text.specs.Inner.InMemory.{source_in}
+use Rattle.vrp_text.specs.Inner.StatedSoFar.{IsSourceInRange}
 use Rattle.vrp_text.specs.declared.complete.Source.{Source}
 use Rattle.vrp_text.proofs.InstanceLemmas.{small_weights, length-points}
 use Rattle.vrp_text.proofs.instance.weights_of.Goals as goal

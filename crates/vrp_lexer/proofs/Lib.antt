@@ -1,0 +1,4 @@
+pub mod LineLemmas
+pub mod LongNumerals
+pub mod NumeralLemmas
+pub mod TokenLemmas

@@ -1,0 +1,7 @@
+mod PlainFile
+mod PlainLaw
+mod PlainLines
+mod PlainNumbers
+mod PlainOrder
+mod PlainParts
+mod PlainRows

@@ -1,0 +1,6 @@
+//! A second, short definition of plain CVRP files, and the law that they mean what stands in them.
+#![tactic(auto)]
+
+mod law;
+
+pub use law::plain_files;

@@ -1,6 +1,0 @@
-use Rattle.vrp_text.specs.Complete.{row_nodes, row_demands}
-use Rattle.vrp_text.specs.Given.{ArePlaced}
-use Rattle.vrp_text.proofs.nodes.demands_of.Given as goal
-
-abbrev pub invariant-loop-row : goal.invariant-loop-row
-invariant-loop-row l = ArePlaced 0 l.nodes (row_nodes 2 l.nodes l.numbers) (row_demands l.nodes l.numbers) l.row l.given l.demands.items
