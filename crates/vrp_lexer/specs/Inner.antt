@@ -1,4 +1,4 @@
--- What only the contracts between the crates' own functions cite.
+-- What a reader of the meaning of a file need not believe: no definition outside cites it, only contracts.
 pub mod KeptNumeral
 pub mod LinesLeft
 pub mod WordTable

@@ -60,7 +60,7 @@ fn lookup(table: &[(&[u8], Keyword)], word: &[u8]) -> Option<Keyword>
 }
 
 /// What a keyword is, where it is one.
-pub fn keyword_of(text: &[u8]) -> Option<Keyword>
+pub(crate) fn keyword_of(text: &[u8]) -> Option<Keyword>
     ensures { result ≡ keyword_of text.now }
 {
     lookup(&KEYWORDS, text)

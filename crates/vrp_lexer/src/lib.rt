@@ -12,11 +12,11 @@ mod value;
 
 pub use fault::LineFault;
 pub use key::Key;
-pub use keyword::{Keyword, keyword_of};
+pub use keyword::Keyword;
 pub use limits::{MAX_BYTES, MAX_DEMAND, MAX_DIGITS, MAX_NODE, MAX_POWER, MAX_POWER_DIGITS};
 pub use lines::{DataLine, Heading, Lines};
 pub use numeral::number;
-pub use tokens::{Tokens, skip_blanks};
+pub use tokens::Tokens;
 pub use value::{
     WeightFormat, WeightKind, capacity, dimension, problem_type, weight_format, weight_kind,
 };

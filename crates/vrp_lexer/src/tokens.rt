@@ -33,7 +33,7 @@ fn token_len(text: &[u8]) -> usize
 }
 
 /// What stands behind the blanks at the front.
-pub fn skip_blanks(text: &[u8]) -> &[u8]
+pub(crate) fn skip_blanks(text: &[u8]) -> &[u8]
     ensures { result.now ≡ skip_while is_blank text.now }
 {
     &text[blanks_len(text)..]

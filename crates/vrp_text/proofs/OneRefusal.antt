@@ -55,7 +55,7 @@ not_refused r (refusal.DemandOverCapacity n) p a b = a.customers_fit n b.2.has
 -- ---- refusals of a file
 
 -- a grid of no weights, for what holds whatever the weights are
-abbrev no_grid : Grid
+abbrev pub no_grid : Grid
 no_grid = record { nodes = 0; entries = [] }
 
 no_instance_once : (bytes : List ℕ) (chosen : Option ℕ) (e f : InstanceError) → MeansNoInstance bytes chosen e → MeansNoInstance bytes chosen f → e ≡ f

@@ -1,8 +1,7 @@
 -- A CVRP file means a problem or a refusal.
-use Rattle.std.proofs.Common.{◌≡◌, ◌⊎◌, ℕ, ◌+◌, ◌-◌, ◌<◌, Option, Result, Ok, Err, List, [], length, inl, inr, refl, arith}
+use Rattle.std.proofs.Common.{◌≡◌, ◌⊎◌, ℕ, ◌+◌, ◌-◌, ◌<◌, Option, Result, Ok, Err, List, length, inl, inr, refl, arith}
 use Rattle.std.proofs.lemmas.Bool.{cases_Bool, cases_lt}
 use Rattle.std.proofs.lemmas.List.{get_or_past}
-use Rattle.vrp_model.specs.Grid.{Grid}
 use Rattle.vrp_model.specs.Problem.{Problem}
 use Rattle.vrp_model.specs.Request.{IsDepotWithDemand, IsLowestDepotWithDemand, IsLowestTooHeavy, IsTooHeavy, NoDepotHasDemand, NoneIsTooHeavy, is_listed, node_demand, problem_of}
 use Rattle.vrp_model.specs.declared.instance.InstanceError.TheVariants as refusal
@@ -11,6 +10,7 @@ use Rattle.vrp_text.specs.Meaning.{MeansProblem, MeansRefusal, reading_of, reque
 use Rattle.vrp_text.specs.declared.error.TextError.{TextError}
 use Rattle.vrp_text.specs.declared.error.TextError.TheVariants as error
 use Rattle.vrp_text.proofs.LeastSearch.{IsDecided, least_or_none}
+use Rattle.vrp_text.proofs.OneRefusal.{no_grid}
 use Rattle.vrp_text.proofs.SomeGrid.{some_weights}
 
 -- ---- the lowest node at fault, or none
@@ -60,9 +60,7 @@ lowest_heavy depots demands capacity = elim (least_or_none (IsTooHeavy depots de
 abbrev pub MeansSomething : List ℕ → Option ℕ → Type 0
 MeansSomething bytes chosen = ((p : Problem) × MeansProblem bytes chosen p) ⊎ ((e : TextError) × MeansRefusal bytes chosen e)
 
-abbrev no_grid : Grid
-no_grid = record { nodes = 0; entries = [] }
-
+-- a complete file, by what is wrong with its request
 complete_means : (bytes : List ℕ) (chosen : Option ℕ) (complete : Complete) → reading_of bytes ≡ Ok complete → MeansSomething bytes chosen
 complete_means bytes chosen complete read =
     let request = request_from complete chosen no_grid in

@@ -1,4 +1,4 @@
--- What only the contracts of private functions cite.
+-- What a reader of the meaning of a file need not believe: only contracts of private functions cite it.
 pub mod InMemory
 pub mod MarkedKeys
 pub mod Outcome
