@@ -6,10 +6,10 @@ use Rattle.std.specs.List.Sorted.{IsStrictlyIncreasing}
 use Rattle.vrp_model.specs.Problem.{Problem, customers}
 use Rattle.vrp_model.specs.Route.{load_of}
 use Rattle.vrp_bound.specs.declared.tables.Cells.{Cells}
-use Rattle.vrp_bound.specs.Cells.{HasRelaxed, HasTours, IsLeastCell, mark}
-use Rattle.vrp_bound.specs.Filled.{AreCells, AreFilled}
+use Rattle.vrp_bound.specs.Inner.Cells.{HasRelaxed, HasTours, IsLeastCell, mark}
+use Rattle.vrp_bound.specs.Inner.Filled.{AreCells, AreFilled}
 use Rattle.vrp_bound.specs.Tables.{AreMade, IsBound, TablesOf}
-use Rattle.vrp_bound.specs.Units.{IsUnit, in_units}
+use Rattle.vrp_bound.specs.Inner.Units.{IsUnit, in_units}
 use Rattle.vrp_bound.proofs.FirstTour.{bound_of_cell, least_at_depot, none_of_cell}
 use Rattle.vrp_bound.proofs.InUnits.{IsLoadIn, least_in_units, load_floored, none_in_units}
 use Rattle.vrp_bound.proofs.WholeUnits.{same_units, units_rise, whole_load}

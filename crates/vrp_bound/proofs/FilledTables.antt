@@ -4,7 +4,7 @@ use Rattle.std.proofs.lemmas.Bool.{cases_lt}
 use Rattle.std.proofs.lemmas.List.{get_or_append_left, get_or_past, get_or_push, length_push}
 use Rattle.std.proofs.lemmas.Nat.{div-mul-add, mod-mul-add}
 use Rattle.vrp_model.specs.Problem.{Problem, place_count}
-use Rattle.vrp_bound.specs.Cells.{AreToursSoFar, AreWalksSoFar, HasTours, HasWalk, IsLeastCell, mark}
+use Rattle.vrp_bound.specs.Inner.Cells.{AreToursSoFar, AreWalksSoFar, HasTours, HasWalk, IsLeastCell, mark}
 use Rattle.vrp_model.proofs.BoundedLists.{bounded_push}
 
 pub each_push : (P : ℕ → ℕ → Type 0) (cells : List ℕ) (cell : ℕ) → ((k : ℕ) → k < length cells → P k (slice_index cells k)) → P (length cells) cell → (k : ℕ) → k < length (cells ++ cell ∷ []) → P k (slice_index (cells ++ cell ∷ []) k)

@@ -6,8 +6,8 @@ use Rattle.std.proofs.lemmas.List.Elements.{All-cons, All-contains, All-tail, Co
 use Rattle.std.proofs.lemmas.List.Sums.{sum_by-cons}
 use Rattle.vrp_model.specs.Problem.{IsProblem, Problem, demand_of, place_count, weight_of}
 use Rattle.vrp_model.specs.Route.{load_of}
-use Rattle.vrp_bound.specs.Cells.{HasWalk, IsLeastCell}
-use Rattle.vrp_bound.specs.Scope.{IsScope}
+use Rattle.vrp_bound.specs.Inner.Cells.{HasWalk, IsLeastCell}
+use Rattle.vrp_bound.specs.Inner.Scope.{IsScope}
 use Rattle.vrp_bound.specs.Walk.{IsWalk, walk_cost}
 use Rattle.vrp_bound.proofs.LeastOfCosts.{IsCostBelow, IsSum, least_same, least_one, least_sum}
 

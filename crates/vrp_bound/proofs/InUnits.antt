@@ -3,8 +3,8 @@ use Rattle.std.proofs.Common.{◌≡◌, ◌≢◌, ℕ, ◌+◌, ◌-◌, ◌*�
 use Rattle.std.specs.List.{All, Contains, sum_by}
 use Rattle.vrp_model.specs.Problem.{Problem}
 use Rattle.vrp_model.specs.Route.{load_of}
-use Rattle.vrp_bound.specs.Cells.{HasRelaxed, IsLeastCell, mark}
-use Rattle.vrp_bound.specs.Units.{IsUnit, in_units}
+use Rattle.vrp_bound.specs.Inner.Cells.{HasRelaxed, IsLeastCell, mark}
+use Rattle.vrp_bound.specs.Inner.Units.{IsUnit, in_units}
 use Rattle.vrp_bound.specs.Walk.{IsTour, IsWalk}
 use Rattle.vrp_bound.proofs.LeastOfCosts.{least_same}
 use Rattle.vrp_bound.proofs.WholeUnits.{load_in, loads_in, units_of_whole, units_rise, units_within, within_of_units}

@@ -8,7 +8,7 @@ use Rattle.std.proofs.lemmas.List.Sums.{sum_by-cons}
 use Rattle.std.proofs.lemmas.Nat.{mul-le}
 use Rattle.vrp_model.specs.Problem.{IsProblem, Problem, customers, demand_of, place_count}
 use Rattle.vrp_model.specs.Route.{load_of}
-use Rattle.vrp_bound.specs.Scope.{IsScope}
+use Rattle.vrp_bound.specs.Inner.Scope.{IsScope}
 use Rattle.vrp_bound.specs.Tables.{AreMade, room_of}
 
 -- each element of a rising list is at least its index

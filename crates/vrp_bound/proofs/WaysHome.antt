@@ -5,8 +5,8 @@ use Rattle.std.proofs.lemmas.List.{get_or_default}
 use Rattle.std.proofs.lemmas.Nat.{div-mul-add, mod-mul-add, mul-add-lt}
 use Rattle.vrp_model.specs.Problem.{Problem, place_count}
 use Rattle.vrp_model.specs.Route.{load_of}
-use Rattle.vrp_bound.specs.Cells.{AreHomes, AreHomesSoFar, AreTours, HasRelaxed, HasWayHome, IsLeastCell, IsSmallLeastCell, mark, small_mark}
-use Rattle.vrp_bound.specs.Scope.{IsScope}
+use Rattle.vrp_bound.specs.Inner.Cells.{AreHomes, AreHomesSoFar, AreTours, HasRelaxed, HasWayHome, IsLeastCell, IsSmallLeastCell, mark, small_mark}
+use Rattle.vrp_bound.specs.Inner.Scope.{IsScope}
 use Rattle.vrp_bound.specs.Tables.{room_of}
 use Rattle.vrp_bound.proofs.FilledTables.{each_push}
 use Rattle.vrp_bound.proofs.FirstTour.{IsWayHome, home_is_relaxed, relaxed_is_home, small_way_home}

@@ -3,8 +3,8 @@ use Rattle.std.proofs.Common.{◌≡◌, ◌≢◌, ℕ, ◌+◌, ◌-◌, ◌*�
 use Rattle.std.proofs.lemmas.Nat.{mul-le}
 use Rattle.vrp_model.specs.Problem.{Problem, demand_of, place_count, weight_of}
 use Rattle.vrp_model.specs.Route.{load_of}
-use Rattle.vrp_bound.specs.Cells.{AreTours, AreToursSoFar, AreWalks, AreWalksSoFar, HasRelaxed, HasTours, HasWalk, IsLeastCell}
-use Rattle.vrp_bound.specs.Scope.{IsScope}
+use Rattle.vrp_bound.specs.Inner.Cells.{AreTours, AreToursSoFar, AreWalks, AreWalksSoFar, HasRelaxed, HasTours, HasWalk, IsLeastCell}
+use Rattle.vrp_bound.specs.Inner.Scope.{IsScope}
 use Rattle.vrp_bound.specs.Tables.{room_of}
 use Rattle.vrp_bound.proofs.FilledTables.{walk_cell}
 use Rattle.vrp_bound.proofs.FirstStep.{IsStep, least_step, step_is_walk, walk_is_step}

@@ -12,9 +12,9 @@ use Rattle.std.proofs.lemmas.Nat.{div-add-mod', div-mul-add, le-div, mod_below, 
 use Rattle.std.proofs.lemmas.Nat.Gcd.{dvd_of_mod-eq-zero, dvd_trans, le_of_dvd, mod-eq-zero_of_dvd}
 use Rattle.vrp_model.specs.Problem.{IsProblem, Problem, demand_of}
 use Rattle.vrp_model.specs.Route.{load_of}
-use Rattle.vrp_bound.specs.Scope.{IsScope}
+use Rattle.vrp_bound.specs.Inner.Scope.{IsScope}
 use Rattle.vrp_bound.specs.Tables.{room_of}
-use Rattle.vrp_bound.specs.Units.{IsGreatestUnit, IsUnit, in_units}
+use Rattle.vrp_bound.specs.Inner.Units.{IsGreatestUnit, IsUnit, in_units}
 
 -- ---- amounts
 

@@ -1,8 +1,5 @@
 pub mod Bound
 pub mod Capacity
-pub mod Cells
-pub mod Filled
-pub mod Scope
+pub mod Inner
 pub mod Tables
-pub mod Units
 pub mod Walk

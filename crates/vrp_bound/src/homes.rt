@@ -2,9 +2,9 @@
 ghost use Rattle.std.specs.Prelude.{◌≡◌, ◌≢◌, ◌+◌, ◌-◌, ◌*◌, ◌≤◌, ◌<◌, min, length, IfOk, IfSome, IsTrue, vec_len, vec_capacity};
 ghost use Rattle.vrp_model.specs.Problem.{place_count};
 ghost use Rattle.vrp_model.specs.Route.{load_of};
-ghost use Rattle.vrp_bound.specs.Cells.{AreHomes, AreHomesSoFar, AreTours, AreWalks, HasRelaxed, IsLeastCell, mark, small_mark};
+ghost use Rattle.vrp_bound.specs.Inner.Cells.{AreHomes, AreHomesSoFar, AreTours, AreWalks, HasRelaxed, IsLeastCell, mark, small_mark};
 ghost use Rattle.vrp_bound.specs.Tables.{room_of};
-ghost use Rattle.vrp_bound.specs.Units.{in_units};
+ghost use Rattle.vrp_bound.specs.Inner.Units.{in_units};
 
 use crate::units::UnitScope;
 use crate::walks::MARK;

@@ -3,9 +3,9 @@ ghost use Rattle.std.specs.Prelude.{◌≡◌, ◌≤◌, ◌<◌, All, Contains
 ghost use Rattle.std.specs.List.Sorted.{IsStrictlyIncreasing};
 ghost use Rattle.vrp_model.specs.Problem.{customers, place_count};
 ghost use Rattle.vrp_model.specs.Route.{load_of};
-ghost use Rattle.vrp_bound.specs.Cells.{HasRelaxed, IsLeastCell};
+ghost use Rattle.vrp_bound.specs.Inner.Cells.{HasRelaxed, IsLeastCell};
 ghost use Rattle.vrp_bound.specs.Tables.{AreMade, IsBound, TablesOf};
-ghost use Rattle.vrp_bound.specs.Scope.{IsScope};
+ghost use Rattle.vrp_bound.specs.Inner.Scope.{IsScope};
 
 use crate::homes::{homes, least_way_home, looked_up};
 use crate::quotients::Quotients;
@@ -45,7 +45,7 @@ struct Cells {
 
 impl<'a> Model for Tables<'a> {
     ghost use Rattle.vrp_bound.specs.Tables.{TablesOf};
-    ghost use Rattle.vrp_bound.specs.Filled.{AreFilled};
+    ghost use Rattle.vrp_bound.specs.Inner.Filled.{AreFilled};
 
     ghost Value = { TablesOf };
 
@@ -107,7 +107,7 @@ impl<'a> Tables<'a> {
 }
 
 impl Cells {
-    ghost use Rattle.vrp_bound.specs.Filled.{AreCells};
+    ghost use Rattle.vrp_bound.specs.Inner.Filled.{AreCells};
 
     // The cells over customers for whom tables are made.
     fn fill(alloc: Global, scope: Scope<'_>) -> Result<Cells, NoMemory>

@@ -1,9 +1,9 @@
 //! The table of the tours: the least cost of closed walks of one truck each, by what they carry together.
 ghost use Rattle.std.specs.Prelude.{◌≡◌, ◌≤◌, IfOk, length};
 ghost use Rattle.vrp_model.specs.Route.{load_of};
-ghost use Rattle.vrp_bound.specs.Cells.{AreTours, AreToursSoFar, AreWalks, HasTours, IsLeastCell, mark};
+ghost use Rattle.vrp_bound.specs.Inner.Cells.{AreTours, AreToursSoFar, AreWalks, HasTours, IsLeastCell, mark};
 ghost use Rattle.vrp_bound.specs.Tables.{room_of};
-ghost use Rattle.vrp_bound.specs.Units.{in_units};
+ghost use Rattle.vrp_bound.specs.Inner.Units.{in_units};
 
 use crate::units::UnitScope;
 use crate::walks::MARK;

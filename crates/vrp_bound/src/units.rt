@@ -1,8 +1,8 @@
 //! Demands counted in a unit: the greater it is, the smaller the tables are.
 ghost use Rattle.std.specs.Prelude.{◌≡◌, ◌≤◌, ◌/◌, IfOk};
 ghost use Rattle.vrp_model.specs.Problem.{place_count};
-ghost use Rattle.vrp_bound.specs.Scope.{IsScope};
-ghost use Rattle.vrp_bound.specs.Units.{IsGreatestUnit, IsUnit, in_units};
+ghost use Rattle.vrp_bound.specs.Inner.Scope.{IsScope};
+ghost use Rattle.vrp_bound.specs.Inner.Units.{IsGreatestUnit, IsUnit, in_units};
 
 use crate::divisor::gcd;
 use crate::scope::Scope;

@@ -1,9 +1,9 @@
 //! The table of the walks: the least cost of a walk from each place to the depot, by the load that it takes up.
 ghost use Rattle.std.specs.Prelude.{◌≡◌, ◌+◌, ◌*◌, ◌≤◌, ◌<◌, IfOk, length, vec_len, vec_capacity};
 ghost use Rattle.vrp_model.specs.Problem.{place_count};
-ghost use Rattle.vrp_bound.specs.Cells.{AreWalks, AreWalksSoFar, HasWalk, IsLeastCell, mark};
+ghost use Rattle.vrp_bound.specs.Inner.Cells.{AreWalks, AreWalksSoFar, HasWalk, IsLeastCell, mark};
 ghost use Rattle.vrp_bound.specs.Tables.{room_of};
-ghost use Rattle.vrp_bound.specs.Units.{in_units};
+ghost use Rattle.vrp_bound.specs.Inner.Units.{in_units};
 
 use crate::units::UnitScope;
 use std::alloc::Global;

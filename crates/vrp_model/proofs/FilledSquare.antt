@@ -7,7 +7,7 @@ use Rattle.std.proofs.lemmas.Option.{slice_get_within, same_Some}
 use Rattle.vrp_model.specs.declared.layout.Layout.{Layout}
 use Rattle.vrp_model.specs.declared.layout.Layout.TheVariants.{FullMatrix, UpperRow, LowerRow, UpperDiagRow, LowerDiagRow, UpperCol, LowerCol, UpperDiagCol, LowerDiagCol}
 use Rattle.vrp_model.specs.Layout.{cells, goes_by_rows, is_full, lists, HasEntries}
-use Rattle.vrp_model.specs.Listing.{cell_on, cells_in_lines, cells_left, weight_in, IsListed, IsWritten, IsFilled}
+use Rattle.vrp_model.specs.Inner.Listing.{cell_on, cells_in_lines, cells_left, weight_in, IsListed, IsWritten, IsFilled}
 
 -- one walk over the square passes all cells of a layout in its order
 pub cells_by_lines : (layout : Layout) (n : ℕ) → cells layout n ≡ filter (lists layout) (cells_in_lines layout n 1 n)

@@ -5,7 +5,7 @@ use Rattle.std.proofs.lemmas.List.{get_or-map, get_or_past, length-map}
 use Rattle.std.proofs.lemmas.Bool.{cases_lt}
 use Rattle.vrp_model.specs.Problem.{IsProblem}
 use Rattle.vrp_model.specs.Request.{is_listed, node_demand, NoDepotHasDemand, NoneIsTooHeavy}
-use Rattle.vrp_model.specs.Places.{ArePlaces}
+use Rattle.vrp_model.specs.Inner.Places.{ArePlaces}
 
 -- a listed depot has no demand
 pub node_demand_depot : (depots demands : List ℕ) (node : ℕ) → NoDepotHasDemand depots demands → is_listed depots node ≡ true → node_demand demands node ≡ 0

@@ -3,7 +3,7 @@ use Rattle.std.proofs.Common.{◌≡◌, ℕ, ◌+◌, ◌*◌, ◌<◌, ◌≤�
 use Rattle.std.proofs.lemmas.Bool.{cases_lt}
 use Rattle.std.specs.Prelude.{slice_index}
 use Rattle.vrp_model.specs.LeastWay.{IsLeastHome, IsLeastIn}
-use Rattle.vrp_model.specs.LeastWays.{AreLeastWays, IsLeastBefore, IsLeastWay}
+use Rattle.vrp_model.specs.Inner.LeastWays.{AreLeastWays, IsLeastBefore, IsLeastWay}
 use Rattle.vrp_model.specs.Problem.{IsProblem, Problem, place_count}
 
 least_in_is : (p : Problem) (to weight : ℕ) → IsLeastBefore p.weights (place_count p) to (place_count p) weight → IsLeastIn p to weight

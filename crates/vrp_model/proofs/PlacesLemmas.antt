@@ -4,7 +4,7 @@ use Rattle.std.specs.List.{range_with_len}
 use Rattle.std.proofs.lemmas.Grind.{common_steps}
 use Rattle.std.proofs.lemmas.List.Elements.{filter-append}
 use Rattle.vrp_model.specs.Request.{is_listed}
-use Rattle.vrp_model.specs.Places.{ArePlaces}
+use Rattle.vrp_model.specs.Inner.Places.{ArePlaces}
 
 pub range_with_len_more : (a n j : ℕ) → a + n ≡ j → range_with_len a (n + 1) ≡ range_with_len a n ++ j ∷ []
 range_with_len_more a zero j h = grind (arith, common_steps)

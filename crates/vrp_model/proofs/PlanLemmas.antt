@@ -12,7 +12,7 @@ use Rattle.vrp_model.proofs.DistinctLists.{range_rises}
 use Rattle.vrp_model.proofs.PlacesLemmas.{range_with_len_more}
 use Rattle.vrp_model.specs.Problem.{Problem, IsProblem, customers}
 use Rattle.vrp_model.specs.Route.{IsLawful, load_of, plan_cost, route_cost}
-use Rattle.vrp_model.specs.Stops.{routes_in, AreWithin, IsKept, IsWithin}
+use Rattle.vrp_model.specs.Inner.Stops.{routes_in, AreWithin, IsKept, IsWithin}
 use Rattle.vrp_model.specs.Word.{first_stops, word_of}
 use Rattle.vrp_model.specs.declared.plan.Span.{Span}
 

@@ -7,7 +7,7 @@ use Rattle.std.proofs.lemmas.Option.{get_or_from_slice_get, slice_get_within}
 use Rattle.vrp_model.specs.declared.metric.Metric.{Metric}
 use Rattle.vrp_model.specs.Distance.{IsDistance}
 use Rattle.vrp_model.specs.Grid.{HasDistances}
-use Rattle.vrp_model.specs.Rows.{AreDistances, IsDistanceAt}
+use Rattle.vrp_model.specs.Inner.Rows.{AreDistances, IsDistanceAt}
 use Rattle.vrp_model.proofs.Distances.{IsDistance-both_ways}
 use Rattle.vrp_model.proofs.BoundedLists.{bounded_push}
 

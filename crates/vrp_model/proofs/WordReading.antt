@@ -12,7 +12,7 @@ use Rattle.std.proofs.lemmas.List.Sorted.{length_permutation}
 use Rattle.std.proofs.lemmas.List.FromFn.{get_or-range_with_len, length-range_with_len}
 use Rattle.vrp_model.specs.Problem.{Problem, IsProblem, customers, place_count, weight_of}
 use Rattle.vrp_model.specs.Route.{cost_along, plan_cost, route_cost}
-use Rattle.vrp_model.specs.Stops.{IsWordEnd}
+use Rattle.vrp_model.specs.Inner.Stops.{IsWordEnd}
 use Rattle.vrp_model.specs.Word.{HasStops, IsLawfulWord, first_stops, routes_of, served_in, word_of}
 use Rattle.vrp_model.proofs.FrontsBefore.{rising_left}
 use Rattle.vrp_model.proofs.Words.{AreClosed, AreClosed-append, IsStops, is_stop, last_behind, last_behind-append, last_is, open_routes, routes_are, shape_of, word_of-append}

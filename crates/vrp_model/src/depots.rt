@@ -17,7 +17,7 @@ pub(crate) struct Depots<'a> {
 
 impl<'a> Model for Depots<'a> {
     ghost use Rattle.std.specs.Prelude.{List, ℕ};
-    ghost use Rattle.vrp_model.specs.Marks.{AreMarks};
+    ghost use Rattle.vrp_model.specs.Inner.Marks.{AreMarks};
 
     ghost Value = { List ℕ };
 

@@ -46,7 +46,7 @@ pub struct Instance {
 
 impl Model for Instance {
     ghost use Rattle.vrp_model.specs.Problem.{Problem};
-    ghost use Rattle.vrp_model.specs.Kept.{IsKeptProblem};
+    ghost use Rattle.vrp_model.specs.Inner.Kept.{IsKeptProblem};
 
     ghost Value = { Problem };
 

@@ -1,7 +1,7 @@
 //! The layouts of a matrix of weights in a file.
 ghost use Rattle.std.specs.Prelude.{◌≡◌, length};
 ghost use Rattle.vrp_model.specs.Layout.{cells, goes_by_rows, is_full, lists};
-ghost use Rattle.vrp_model.specs.Listing.{cell_on};
+ghost use Rattle.vrp_model.specs.Inner.Listing.{cell_on};
 
 /// Which weights of a matrix a file lists, and in which order (TSPLIB 95, EDGE_WEIGHT_FORMAT).
 #[derive(Clone, Copy, Debug, PartialEq, Eq)]

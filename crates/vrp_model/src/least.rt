@@ -1,6 +1,6 @@
 //! The least weight of a way into each place.
 ghost use Rattle.std.specs.Prelude.{◌≡◌, ◌*◌, ◌≤◌, ◌<◌, ◌+◌, ℕ, IfOk, length, slice_index, vec_len};
-ghost use Rattle.vrp_model.specs.LeastWays.{IsLeastWay};
+ghost use Rattle.vrp_model.specs.Inner.LeastWays.{IsLeastWay};
 
 use crate::limits::MAX_NODES;
 use std::alloc::{AllocError, Global};

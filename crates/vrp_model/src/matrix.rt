@@ -1,7 +1,7 @@
 //! The square of weights that a matrix in a file means.
 ghost use Rattle.std.specs.Prelude.{◌≡◌, ℕ, ◌+◌, ◌-◌, ◌*◌, ◌≤◌, IfOk, length, slice_index, vec_len};
 ghost use Rattle.vrp_model.specs.Layout.{cells, HasEntries};
-ghost use Rattle.vrp_model.specs.Listing.{IsListed, IsWritten, IsFilled};
+ghost use Rattle.vrp_model.specs.Inner.Listing.{IsListed, IsWritten, IsFilled};
 
 use crate::layout::Layout;
 use crate::limits::{MAX_NODES, MAX_WEIGHT};

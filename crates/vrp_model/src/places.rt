@@ -3,7 +3,7 @@ ghost use Rattle.std.specs.Prelude.{◌≡◌, ℕ, ◌*◌, ◌≤◌, ◌<◌,
 ghost use Rattle.std.specs.List.{flat_map};
 ghost use Rattle.vrp_model.specs.Grid.{entry_at};
 ghost use Rattle.vrp_model.specs.Request.{is_listed, node_demand};
-ghost use Rattle.vrp_model.specs.Places.{ArePlaces};
+ghost use Rattle.vrp_model.specs.Inner.Places.{ArePlaces};
 
 use crate::depots::Depots;
 use crate::limits::{MAX_NODES, MAX_WEIGHT};

@@ -4,7 +4,7 @@ ghost use Rattle.std.specs.List.{All, position_or_len};
 ghost use Rattle.std.specs.List.Sorted.{IsStrictlyIncreasing};
 ghost use Rattle.vrp_model.specs.Problem.{Problem, customers, place_count};
 ghost use Rattle.vrp_model.specs.Route.{IsPlanOf, plan_cost, route_cost};
-ghost use Rattle.vrp_model.specs.Stops.{routes_in, IsWordEnd};
+ghost use Rattle.vrp_model.specs.Inner.Stops.{routes_in, IsWordEnd};
 ghost use Rattle.vrp_model.specs.Word.{IsLawfulWord, first_stops, word_cost, word_of};
 
 use crate::instance::Instance;
@@ -31,7 +31,7 @@ pub struct Plan {
 
 impl Model for Plan {
     ghost use Rattle.vrp_model.specs.Route.{PricedPlan};
-    ghost use Rattle.vrp_model.specs.Stops.{routes_in, IsKept};
+    ghost use Rattle.vrp_model.specs.Inner.Stops.{routes_in, IsKept};
 
     ghost Value = { PricedPlan };
 
@@ -280,8 +280,12 @@ mod tests {
         let instance = Instance::new(rt.alloc(), weights, &[0], 2, &[1], None)?;
         assert_eq!(rt; instance.customers(), 0);
         let plan = Plan::singles(rt.alloc(), &instance)?;
-        assert_eq!(rt; plan.routes(), 0);
-        assert_eq!(rt; plan.cost(), 0);
+        let copy = plan.copy(rt.alloc())?;
+        for plan in [&plan, &copy] {
+            assert_eq!(rt; plan.routes(), 0);
+            assert!(rt; plan.word().is_empty());
+            assert_eq!(rt; plan.cost(), 0);
+        }
         Ok(())
     }
 

@@ -1,7 +1,7 @@
 //! The weights between the nodes of a file.
 ghost use Rattle.std.specs.Prelude.{◌≡◌, ℕ, ◌+◌, ◌*◌, ◌≤◌, ◌<◌, All, IfOk, length, slice_index, vec_len, vec_capacity};
 ghost use Rattle.vrp_model.specs.Grid.{entry_at, IsCoordinate};
-ghost use Rattle.vrp_model.specs.Rows.{AreDistances, IsDistanceAt};
+ghost use Rattle.vrp_model.specs.Inner.Rows.{AreDistances, IsDistanceAt};
 
 use crate::layout::Layout;
 use crate::limits::{MAX_NODES, MAX_WEIGHT};

@@ -6,7 +6,7 @@ use Rattle.std.proofs.lemmas.Nat.{mul-add-lt}
 use Rattle.std.proofs.lemmas.Option.{slice_get_within}
 use Rattle.vrp_model.proofs.FilledSquare.{HasEntries-from_filled, IsFilled-line, IsFilled-skip, IsFilled-start, IsFilled-write, IsListed-on}
 use Rattle.vrp_model.specs.Layout.{HasEntries, cells, is_full, lists}
-use Rattle.vrp_model.specs.Listing.{IsFilled, IsListed, IsWritten, cell_on, cells_left}
+use Rattle.vrp_model.specs.Inner.Listing.{IsFilled, IsListed, IsWritten, cell_on, cells_left}
 use Rattle.vrp_model.specs.declared.layout.Layout.{Layout}
 use Rattle.vrp_model.specs.declared.limits.TheConstants.{MAX_WEIGHT}
 

@@ -9,7 +9,7 @@ use Rattle.std.proofs.lemmas.List.FromFn.{length-range_with_len, get_or-range_wi
 use Rattle.std.proofs.lemmas.Option.{slice_get-get_or, get_or_from_slice_get, slice_get-map, slice_get_within, same_Some}
 use Rattle.vrp_model.proofs.FilledSquare.{cells_by_lines}
 use Rattle.vrp_model.specs.Layout.{cells, is_full, lists}
-use Rattle.vrp_model.specs.Listing.{cell_on, cells_in_lines}
+use Rattle.vrp_model.specs.Inner.Listing.{cell_on, cells_in_lines}
 use Rattle.vrp_model.specs.declared.layout.Layout.{Layout}
 use Rattle.vrp_model.specs.declared.layout.Layout.TheVariants.{FullMatrix, UpperRow, LowerRow, UpperDiagRow, LowerDiagRow, UpperCol, LowerCol, UpperDiagCol, LowerDiagCol}
 

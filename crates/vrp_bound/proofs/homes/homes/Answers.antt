@@ -1,7 +1,7 @@
 use Rattle.std.proofs.Common.{◌≡◌, ◌+◌, ◌*◌, ◌/◌, ◌%◌, length, ap, ◌∙◌, sym, arith}
 use Rattle.std.proofs.lemmas.Nat.{div-add-mod'}
 use Rattle.vrp_bound.specs.Tables.{room_of}
-use Rattle.vrp_bound.specs.Units.{in_units}
+use Rattle.vrp_bound.specs.Inner.Units.{in_units}
 use Rattle.vrp_bound.proofs.WaysLookedAt.{row_before}
 use Rattle.vrp_bound.proofs.homes.homes.Goals as goal
 

@@ -1,7 +1,7 @@
 use Rattle.std.proofs.Common.{◌≡◌, ◌≤◌, ◌*◌, length}
 use Rattle.std.specs.Vec.{vec_capacity}
-use Rattle.vrp_bound.specs.Cells.{AreHomesSoFar}
-use Rattle.vrp_bound.specs.Units.{in_units}
+use Rattle.vrp_bound.specs.Inner.Cells.{AreHomesSoFar}
+use Rattle.vrp_bound.specs.Inner.Units.{in_units}
 use Rattle.vrp_bound.proofs.homes.homes.Given as goal
 
 abbrev pub invariant-loop-row : goal.invariant-loop-row

@@ -1,6 +1,6 @@
 use Rattle.std.proofs.Common.{◌≡◌, ◌+◌, ◌*◌, ◌-◌, arith}
 use Rattle.vrp_model.specs.Problem.{place_count}
-use Rattle.vrp_bound.specs.Units.{in_units}
+use Rattle.vrp_bound.specs.Inner.Units.{in_units}
 use Rattle.vrp_bound.proofs.WaysLookedAt.{home_looked, homes_looked}
 use Rattle.vrp_bound.proofs.homes.least_way_home.Goals as goal
 

@@ -1,6 +1,6 @@
 use Rattle.std.proofs.Common.{◌+◌, ◌*◌, ◌-◌, length, get_or, subst, sym, arith}
-use Rattle.vrp_bound.specs.Cells.{HasRelaxed, IsLeastCell}
-use Rattle.vrp_bound.specs.Units.{in_units}
+use Rattle.vrp_bound.specs.Inner.Cells.{HasRelaxed, IsLeastCell}
+use Rattle.vrp_bound.specs.Inner.Units.{in_units}
 use Rattle.vrp_bound.proofs.WaysHome.{cell_none, cell_some, home_cell, look_up}
 use Rattle.vrp_bound.proofs.homes.looked_up.Goals as goal
 

@@ -1,9 +1,9 @@
 use Rattle.std.proofs.Common.{◌≡◌, ◌+◌, ◌-◌, ◌*◌, ◌<◌, ◌≤◌, length, ap, sym, subst, arith}
 use Rattle.vrp_model.specs.Problem.{place_count}
 use Rattle.vrp_model.specs.Route.{load_of}
-use Rattle.vrp_bound.specs.Cells.{AreHomesSoFar, HasWayHome, IsLeastCell, IsSmallLeastCell, mark, small_mark}
+use Rattle.vrp_bound.specs.Inner.Cells.{AreHomesSoFar, HasWayHome, IsLeastCell, IsSmallLeastCell, mark, small_mark}
 use Rattle.vrp_bound.specs.Tables.{room_of}
-use Rattle.vrp_bound.specs.Units.{in_units}
+use Rattle.vrp_bound.specs.Inner.Units.{in_units}
 use Rattle.vrp_bound.proofs.FirstTour.{IsWayHome}
 use Rattle.vrp_bound.proofs.WaysLookedAt.{least_home_cells, row_before}
 use Rattle.vrp_bound.proofs.WaysHome.{less_cell, more_homes, next_home}

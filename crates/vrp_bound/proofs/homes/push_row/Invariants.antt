@@ -1,7 +1,7 @@
 use Rattle.std.proofs.Common.{◌≡◌, ◌+◌, length}
 use Rattle.std.specs.Vec.{vec_capacity}
-use Rattle.vrp_bound.specs.Cells.{AreHomesSoFar}
-use Rattle.vrp_bound.specs.Units.{in_units}
+use Rattle.vrp_bound.specs.Inner.Cells.{AreHomesSoFar}
+use Rattle.vrp_bound.specs.Inner.Units.{in_units}
 use Rattle.vrp_bound.proofs.homes.push_row.Given as goal
 
 abbrev pub invariant-loop-rest : goal.invariant-loop-rest

@@ -1,6 +1,6 @@
 use Rattle.std.proofs.Common.{◌≡◌, ◌*◌, length, refl, ap, arith}
 use Rattle.vrp_model.specs.Problem.{place_count}
-use Rattle.vrp_bound.specs.Units.{in_units}
+use Rattle.vrp_bound.specs.Inner.Units.{in_units}
 use Rattle.vrp_bound.proofs.WaysLookedAt.{tour_looked, tours_looked}
 use Rattle.vrp_bound.proofs.tours.least_tours.Goals as goal
 

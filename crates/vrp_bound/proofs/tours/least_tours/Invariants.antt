@@ -1,6 +1,6 @@
 use Rattle.std.proofs.Common.{◌≤◌}
-use Rattle.vrp_bound.specs.Cells.{IsLeastCell, mark}
-use Rattle.vrp_bound.specs.Units.{in_units}
+use Rattle.vrp_bound.specs.Inner.Cells.{IsLeastCell, mark}
+use Rattle.vrp_bound.specs.Inner.Units.{in_units}
 use Rattle.vrp_bound.proofs.FirstTour.{IsFirstTour}
 use Rattle.vrp_bound.proofs.LeastOfCosts.{IsCostBelow}
 use Rattle.vrp_bound.proofs.tours.least_tours.Given as goal

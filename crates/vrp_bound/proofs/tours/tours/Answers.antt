@@ -1,6 +1,6 @@
 use Rattle.std.proofs.Common.{length, subst, sym, ap, arith}
-use Rattle.vrp_bound.specs.Cells.{AreToursSoFar, HasTours, IsLeastCell}
-use Rattle.vrp_bound.specs.Units.{in_units}
+use Rattle.vrp_bound.specs.Inner.Cells.{AreToursSoFar, HasTours, IsLeastCell}
+use Rattle.vrp_bound.specs.Inner.Units.{in_units}
 use Rattle.vrp_bound.proofs.FilledTables.{more_tours}
 use Rattle.vrp_bound.proofs.tours.tours.Goals as goal
 

@@ -1,6 +1,6 @@
 use Rattle.std.proofs.Common.{◌≡◌, ◌≤◌, take}
 use Rattle.std.specs.Vec.{vec_capacity}
-use Rattle.vrp_bound.specs.Units.{in_units}
+use Rattle.vrp_bound.specs.Inner.Units.{in_units}
 use Rattle.vrp_bound.proofs.units.demands_in_units.Given as goal
 
 abbrev pub invariant-loop-place : goal.invariant-loop-place

@@ -1,7 +1,7 @@
 use Rattle.std.proofs.Common.{◌≡◌, ℕ, ◌+◌, ◌-◌, ◌*◌, List, get_or, subst, sym, ap, ◌∙◌, arith}
 use Rattle.vrp_model.specs.Problem.{demand_of, place_count}
-use Rattle.vrp_bound.specs.Cells.{HasWalk, IsLeastCell}
-use Rattle.vrp_bound.specs.Units.{in_units}
+use Rattle.vrp_bound.specs.Inner.Cells.{HasWalk, IsLeastCell}
+use Rattle.vrp_bound.specs.Inner.Units.{in_units}
 use Rattle.vrp_bound.proofs.FirstStep.{IsStep, least_at_once}
 use Rattle.vrp_bound.proofs.LeastOfCosts.{IsCostBelow}
 use Rattle.vrp_bound.proofs.WaysLookedAt.{step_looked, step_skipped, steps_looked}

@@ -1,4 +1,4 @@
-use Rattle.vrp_model.specs.LeastWays.{IsLeastSoFar}
+use Rattle.vrp_model.specs.Inner.LeastWays.{IsLeastSoFar}
 use Rattle.vrp_model.proofs.least.least_way.Given as goal
 
 abbrev pub invariant-loop-from : goal.invariant-loop-from

@@ -1,6 +1,6 @@
 use Rattle.std.proofs.Common.{◌≡◌, ℕ, ◌<◌, vec_len}
 use Rattle.std.specs.Prelude.{slice_index}
-use Rattle.vrp_model.specs.LeastWays.{IsLeastWay}
+use Rattle.vrp_model.specs.Inner.LeastWays.{IsLeastWay}
 use Rattle.vrp_model.proofs.least.least_ways.Given as goal
 
 abbrev pub invariant-loop-to : goal.invariant-loop-to

@@ -1,4 +1,4 @@
-use Rattle.vrp_model.specs.Listing.{IsFilled}
+use Rattle.vrp_model.specs.Inner.Listing.{IsFilled}
 use Rattle.vrp_model.proofs.matrix.fill_line.Given as goal
 
 abbrev pub invariant-loop-across : goal.invariant-loop-across

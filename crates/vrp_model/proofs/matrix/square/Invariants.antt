@@ -1,5 +1,5 @@
 use Rattle.std.proofs.Common.{◌≡◌, ◌+◌, ◌-◌, ◌*◌, vec_len}
-use Rattle.vrp_model.specs.Listing.{IsFilled}
+use Rattle.vrp_model.specs.Inner.Listing.{IsFilled}
 use Rattle.vrp_model.proofs.matrix.square.Given as goal
 
 abbrev pub invariant-loop-line : goal.invariant-loop-line

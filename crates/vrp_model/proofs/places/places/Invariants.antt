@@ -1,4 +1,4 @@
-use Rattle.vrp_model.specs.Places.{ArePlaces}
+use Rattle.vrp_model.specs.Inner.Places.{ArePlaces}
 use Rattle.vrp_model.proofs.places.places.Given as goal
 
 abbrev pub invariant-loop-index : goal.invariant-loop-index

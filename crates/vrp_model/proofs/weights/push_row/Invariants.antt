@@ -1,6 +1,6 @@
 use Rattle.std.proofs.Common.{◌≡◌, ◌+◌, ◌*◌, length, vec_len}
 use Rattle.std.specs.Vec.{vec_capacity}
-use Rattle.vrp_model.specs.Rows.{AreDistances}
+use Rattle.vrp_model.specs.Inner.Rows.{AreDistances}
 use Rattle.vrp_model.proofs.weights.push_row.Given as goal
 
 abbrev pub invariant-loop-column : goal.invariant-loop-column

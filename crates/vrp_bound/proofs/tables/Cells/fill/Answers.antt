@@ -1,7 +1,7 @@
 use Rattle.std.proofs.Common.{◌≡◌, ◌/◌, IfSome, ap, sym, subst, arith}
-use Rattle.vrp_bound.specs.Cells.{AreHomes, AreTours, AreWalks}
+use Rattle.vrp_bound.specs.Inner.Cells.{AreHomes, AreTours, AreWalks}
 use Rattle.vrp_bound.specs.Tables.{room_of}
-use Rattle.vrp_bound.specs.Units.{IsUnit, in_units}
+use Rattle.vrp_bound.specs.Inner.Units.{IsUnit, in_units}
 use Rattle.vrp_bound.proofs.WholeUnits.{demand_units, room_units, same_scope}
 use Rattle.vrp_bound.proofs.tables.Cells.fill.Goals as goal
 

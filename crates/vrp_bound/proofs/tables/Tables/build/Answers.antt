@@ -3,7 +3,7 @@ use Rattle.std.specs.List.{All, Contains}
 use Rattle.std.specs.List.Sorted.{IsStrictlyIncreasing}
 use Rattle.vrp_model.specs.Problem.{Problem, customers}
 use Rattle.vrp_bound.specs.declared.tables.Cells.{Cells}
-use Rattle.vrp_bound.specs.Filled.{AreCells}
+use Rattle.vrp_bound.specs.Inner.Filled.{AreCells}
 use Rattle.vrp_bound.specs.Tables.{AreMade}
 use Rattle.vrp_bound.proofs.CellAnswers.{filled_same}
 use Rattle.vrp_bound.proofs.TableSizes.{light_where_made}

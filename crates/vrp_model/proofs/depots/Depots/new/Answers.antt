@@ -1,6 +1,6 @@
 use Rattle.std.proofs.Common.{◌≡◌, ℕ, false, [], replicate, refl, arith}
 use Rattle.std.proofs.lemmas.Grind.{common_steps}
-use Rattle.vrp_model.specs.Marks.{AreMarks}
+use Rattle.vrp_model.specs.Inner.Marks.{AreMarks}
 use Rattle.vrp_model.proofs.depots.Depots.new.Goals as goal
 
 -- with no depot listed no mark is set

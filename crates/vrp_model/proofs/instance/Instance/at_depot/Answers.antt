@@ -1,7 +1,7 @@
 use Rattle.std.proofs.Common.{◌≡◌, ◌*◌, ◌<◌, ℕ, List, length, subst, arith}
 use Rattle.std.specs.Prelude.{slice_index}
 use Rattle.std.proofs.lemmas.Grind.{common_steps}
-use Rattle.vrp_model.specs.LeastWays.{IsLeastWay}
+use Rattle.vrp_model.specs.Inner.LeastWays.{IsLeastWay}
 use Rattle.vrp_model.specs.Problem.{Problem}
 use Rattle.vrp_model.proofs.LeastWayLemmas.{least_ways_are}
 use Rattle.vrp_model.proofs.InstanceLemmas.{IsProblem-made}

@@ -4,10 +4,10 @@ use Rattle.std.specs.List.{All, Contains}
 use Rattle.std.specs.List.Sorted.{IsStrictlyIncreasing}
 use Rattle.vrp_model.specs.Problem.{Problem, customers}
 use Rattle.vrp_bound.specs.declared.tables.Cells.{Cells}
-use Rattle.vrp_bound.specs.Cells.{AreHomes, AreTours, AreWalks}
-use Rattle.vrp_bound.specs.Scope.{IsScope}
+use Rattle.vrp_bound.specs.Inner.Cells.{AreHomes, AreTours, AreWalks}
+use Rattle.vrp_bound.specs.Inner.Scope.{IsScope}
 use Rattle.vrp_bound.specs.Tables.{AreMade, room_of}
-use Rattle.vrp_bound.specs.Units.{IsUnit, in_units}
+use Rattle.vrp_bound.specs.Inner.Units.{IsUnit, in_units}
 
 pub record AreCells (p : Problem) (among : List ℕ) (cells : Cells) : Type 0 where
   pub made : AreMade p among

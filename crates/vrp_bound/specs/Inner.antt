@@ -1,0 +1,5 @@
+-- What inner contracts alone cite: nobody has to believe it.
+pub mod Cells
+pub mod Filled
+pub mod Scope
+pub mod Units
