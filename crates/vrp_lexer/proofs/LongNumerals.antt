@@ -55,6 +55,7 @@ split_length text =
     let behind = length-drop (prefix_len is_ascii_digit text) text in
     omega (arith, front, behind, prefix_len-le-length is_ascii_digit text)
 
+-- a text that is longer than any numeral is none
 pub long_no_numeral : (text : List ℕ) → 26 < length text → numeral_of text ≡ None
 long_no_numeral text long =
     let unsigned = without_sign text in

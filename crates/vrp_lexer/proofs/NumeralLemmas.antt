@@ -22,15 +22,18 @@ pub record CountsDigits (text : List ℕ) (i count : ℕ) : Type 0 where
   pub count_is : count ≡ i
   pub all_so_far : prefix_len is_ascii_digit text ≡ i + prefix_len is_ascii_digit (drop i text)
 
+-- each byte of the digits at the front is a digit
 pub leading_are_digits : (text : List ℕ) (k : ℕ) → k < length (take_while is_ascii_digit text) → IsTrue (is_ascii_digit (get_or (take_while is_ascii_digit text) k 0))
 leading_are_digits text k lt =
     let few : k < prefix_len is_ascii_digit text = omega (arith, length-prefix_len is_ascii_digit text) in
     let same = get_or-take (prefix_len is_ascii_digit text) text k 0 few in
     rw same (prefix_len_passes is_ascii_digit text k 0 few)
 
+-- the value of a digit, from its byte
 pub digit_is : (byte : ℕ) → is_ascii_digit byte ≡ true → (digit_value byte ≡ byte - 48) × (byte - 48 < 10)
 digit_is byte h = grind (arith, nat_tests)
 
+-- the number that digits write goes on with the digits behind them
 pub value_after-append : (radix n : ℕ) (xs ys : List ℕ) → digits_value_after radix n (xs ++ ys) ≡ digits_value_after radix (digits_value_after radix n xs) ys
 value_after-append radix n [] ys = refl
 value_after-append radix n (x ∷ xs) ys = value_after-append radix (n * radix + digit_value x) xs ys
@@ -46,6 +49,7 @@ pub record ReadsOn (start : ℕ) (text : List ℕ) (i number : ℕ) : Type 0 whe
   pub value_is : number ≡ digits_value_after 10 start (take i text)
   pub small : number + 1 ≤ (start + 1) * 10 ^ i
 
+-- one digit more is read
 pub digit_read : (start : ℕ) (text : List ℕ) (i number digit : ℕ) → i < length text → ReadsOn start text i number → is_ascii_digit (get_or text i 0) ≡ true → digit ≡ get_or text i 0 - 48
     → ReadsOn start text (i + 1) (number * 10 + digit)
 digit_read start text i number digit lt so_far here is =
@@ -57,6 +61,7 @@ digit_read start text i number digit lt so_far here is =
       small = omega (arith, so_far.small, d.1, is, power);
     }
 
+-- one digit more leaves the number small
 pub digit_fits : (start number i n : ℕ) → i < n → number + 1 ≤ (start + 1) * 10 ^ i → (start + 1) * 10 ^ n ≤ 10 ^ 18 → number * 10 + 10 ≤ 10 ^ 18
 digit_fits start number i n lt small room =
     let power = power_step (start + 1) i in
@@ -71,17 +76,21 @@ both_fit number whole fraction small few =
     let most : 10 ^ (whole + fraction) ≤ 10 ^ 18 = pow-le-pow_right (omega arith) few in
     omega (arith, grows, sum, most)
 
+-- a text with no byte behind its leading digits is digits alone
 pub all_are_digits : (text : List ℕ) → length text ≤ prefix_len is_ascii_digit text → (k : ℕ) → k < length text → IsTrue (is_ascii_digit (get_or text k 0))
 all_are_digits text all k lt = prefix_len_passes is_ascii_digit text k 0 (omega arith)
 
+-- so many digits leave the number small
 pub one_part_fits : (n : ℕ) → n ≤ 18 → (0 + 1) * 10 ^ n ≤ 10 ^ 18
 one_part_fits n few = power_grows 1 n 18 few
 
+-- the power of ten fits its type
 pub power_fits : (n : ℕ) → n ≤ 36 → 10 ^ n < 2 ^ 128
 power_fits n few =
     let most : 10 ^ n ≤ 10 ^ 36 = pow-le-pow_right (omega arith) few in
     omega (arith, most)
 
+-- a power of ten is not 0
 pub power_positive : (n : ℕ) → 0 < 10 ^ n
 power_positive n = one-le-pow n 10 (omega arith)
 
@@ -109,6 +118,7 @@ pub signed_quotient : (negative whole : Bool) (quotient : ℕ) → cond whole (S
 signed_quotient negative true quotient = refl
 signed_quotient negative false quotient = refl
 
+-- the value that the program computes is that of the numeral it read
 pub whole_value_is : (numeral : Numeral) (digits power quotient : ℕ) → digits ≡ numeral.digits → power ≡ 10 ^ numeral.power.up
     → Some quotient ≡ (if (digits * power) % 10 ^ (numeral.places + numeral.power.down) == 0 then Some ((digits * power) / 10 ^ (numeral.places + numeral.power.down)) else None)
     → Some (signed numeral.negative quotient) ≡ read_value numeral
@@ -118,12 +128,15 @@ whole_value_is numeral digits power quotient digits_is power_is whole =
     let here = rw (digits_is, power_is) at whole in
     ap (option_map (signed numeral.negative)) here ∙ sym (signed_quotient numeral.negative (size % unit == 0) (size / unit))
 
+-- a number behind a minus sign, in its type
 pub minus_sign : (negative : Bool) (size : ℕ) → negative ≡ true → size ≤ 10 ^ 36 → to_z w128 (of_z w128 (pos 0 -ℤ to_z w128 size)) ≡ signed negative size
 minus_sign negative size is small = rw is (omega (arith, ints))
 
+-- a number without a minus sign, in its type
 pub no_sign : (negative : Bool) (size : ℕ) → negative ≡ false → size ≤ 10 ^ 36 → to_z w128 size ≡ signed negative size
 no_sign negative size is small = rw is (omega (arith, ints))
 
+-- what the program answers to a numeral that it read
 pub number_read : (low high : ℤ) (written : Option Written) (numeral : Numeral) (value : ℤ) → Some numeral ≡ option_map read_numeral written → Some value ≡ read_value numeral
     → in_range low high (Some value) ≡ value_in_range low high written
 number_read low high None numeral value is value_is = let wrong : ⊥ = cc in absurd wrong

@@ -104,17 +104,21 @@ next_part p text (x ∷ xs) e some =
 pub no_part : (p : ℕ → Bool) (text bare : List ℕ) → bare ≡ drop (prefix_len p text) text → length bare ≡ 0 → parts_of p text ≡ []
 no_part p text bare e none = sym (ap (parts_of p) (sym (nil_from_length bare none) ∙ e) ∙ parts_skipped p text)
 
+-- where no part is left, all bytes pass
 pub all_pass : (p : ℕ → Bool) (text bare : List ℕ) → bare ≡ drop (prefix_len p text) text → parts_of p text ≡ [] → length bare ≡ 0
 all_pass p text [] e none = refl
 all_pass p text (x ∷ xs) e none = absurd (let one = next_part p text (x ∷ xs) e (omega arith) in cc)
 
+-- a test that a length is 0 holds: it is 0
 pub none_from_test : (b : Bool) (n : ℕ) → b ≡ (n == 0) → b ≡ true → n ≡ 0
 none_from_test b n e h = eqb-true n 0 (sym e ∙ h)
 
+-- a test that a length is 0 fails: it is more
 pub some_from_test : (b : Bool) (n : ℕ) → b ≡ (n == 0) → b ≡ false → 0 < n
 some_from_test b zero e h = absurd cc
 some_from_test b (suc n) e h = omega arith
 
+-- a length is 0: the test that it is holds
 pub test_from_none : (b : Bool) (n : ℕ) → b ≡ (n == 0) → n ≡ 0 → b ≡ true
 test_from_none b n e none = e ∙ eq-eqb n 0 none
 

@@ -19,6 +19,7 @@ pub record SplitsRemarks (lines : List (List ℕ)) : Type 0 where
   pub remarks : List (List (List ℕ))
   pub are : map line_of lines ≡ remarks_before remarks (map line_of (without_remarks lines))
 
+-- the remarks of a file stand before its other lines
 pub split_remarks : (lines : List (List ℕ)) → SplitsRemarks lines
 split_remarks [] = record { remarks = []; are = refl }
 split_remarks (text ∷ lines) =
@@ -145,6 +146,7 @@ all_lines : (tokens : Tokens) (last all points demand : List Line)
     → points ≡ heading key.NodeCoord [] ∷ data_before tokens.points demand → demand ≡ demand_lines tokens (to_end last) → all ≡ plain_lines tokens (to_end last)
 all_lines tokens last all points demand is points_are demand_is = rw (points_are, demand_is) at is
 
+-- the lines of a body are those of a plain file
 pub body_lines : (lines : List (List ℕ)) (statement : Statement) → IsBody lines statement → BodyLines lines statement
 body_lines lines statement is =
     let nodes = length statement.points in

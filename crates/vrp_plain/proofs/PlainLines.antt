@@ -122,6 +122,7 @@ pub record ThreeNumbers (tokens : List (List ℕ)) (x y z : ℤ) : Type 0 where
   pub y_is : Writes second y
   pub z_is : Writes third z
 
+-- two tokens, which write these numbers
 pub record TwoNumbers (tokens : List (List ℕ)) (x y : ℤ) : Type 0 where
   pub first : List ℕ
   pub second : List ℕ
@@ -155,6 +156,7 @@ three_line text x y z e =
       row,
     )
 
+-- a line of two numbers
 pub two_line : (text : List ℕ) (x y : ℤ) → map number_of (plain_tokens text) ≡ Some x ∷ Some y ∷ [] → (line_of text ≡ Data (plain_tokens text)) × TwoNumbers (plain_tokens text) x y
 two_line text x y e =
     let row = two_of (plain_tokens text) x y e in
@@ -206,16 +208,19 @@ name_heading more = refl
 comment_heading : (more : List ℕ) → line_of (codes "COMMENT :" ++ more) ≡ Heading (Some keyword.Remark) (tokens_of more)
 comment_heading more = refl
 
+-- the line of the dimension
 pub dimension_line : (text : List ℕ) (z : ℤ) → number_after (codes "DIMENSION : ") text ≡ Some z → (token : List ℕ) × (line_of text ≡ Heading (Some (keyword.Key key.Dimension)) (token ∷ [])) × Writes token z
 dimension_line text z e =
     let is = after_is text (codes "DIMENSION : ") z e in
     (is.token, ap line_of is.spelled ∙ dimension_heading is.token ∙ ap (Heading (Some (keyword.Key key.Dimension))) (behind_space is.token z is.writes), is.writes)
 
+-- the line of the capacity
 pub capacity_line : (text : List ℕ) (z : ℤ) → number_after (codes "CAPACITY : ") text ≡ Some z → (token : List ℕ) × (line_of text ≡ Heading (Some (keyword.Key key.Capacity)) (token ∷ [])) × Writes token z
 capacity_line text z e =
     let is = after_is text (codes "CAPACITY : ") z e in
     (is.token, ap line_of is.spelled ∙ capacity_heading is.token ∙ ap (Heading (Some (keyword.Key key.Capacity))) (behind_space is.token z is.writes), is.writes)
 
+-- a line of a remark
 pub remark_line : (text : List ℕ) → is_remark text ≡ true → (tokens : List (List ℕ)) × (line_of text ≡ Heading (Some keyword.Remark) tokens)
 remark_line text e =
     elim (or_cases (starts_with nat_eq text (codes "NAME :")) (starts_with nat_eq text (codes "COMMENT :")) e) [
@@ -227,20 +232,26 @@ remark_line text e =
 pub type_line : line_of (codes "TYPE : CVRP") ≡ Heading (Some (keyword.Key key.Problem)) (codes "CVRP" ∷ [])
 type_line = refl
 
+-- the line of the metric
 pub metric_line : line_of (codes "EDGE_WEIGHT_TYPE : EUC_2D") ≡ Heading (Some (keyword.Key key.WeightKind)) (codes "EUC_2D" ∷ [])
 metric_line = refl
 
+-- the line before the points
 pub points_line : line_of (codes "NODE_COORD_SECTION") ≡ Heading (Some (keyword.Key key.NodeCoord)) []
 points_line = refl
 
+-- the line before the demands
 pub demands_line : line_of (codes "DEMAND_SECTION") ≡ Heading (Some (keyword.Key key.Demand)) []
 demands_line = refl
 
+-- the line before the depot
 pub depots_line : line_of (codes "DEPOT_SECTION") ≡ Heading (Some (keyword.Key key.Depot)) []
 depots_line = refl
 
+-- the line behind the depot
 pub depots_end : line_of (codes "-1") ≡ Data (codes "-1" ∷ [])
 depots_end = refl
 
+-- the last line
 pub end_line : line_of (codes "EOF") ≡ Heading (Some keyword.End) []
 end_line = refl

@@ -38,6 +38,7 @@ pub record IsNumber (text : List ℕ) (minus : Bool) (digits : List ℕ) : Type 
   pub spelled : text ≡ cond minus (45 ∷ digits) digits
   pub are : IsDigits digits
 
+-- a text is a numeral, and this is its value
 pub record Writes (text : List ℕ) (z : ℤ) : Type 0 where
   pub minus : Bool
   pub digits : List ℕ
@@ -52,6 +53,7 @@ minus_first : (text : List ℕ) → (slice_index text 0 == 45) ≡ true → text
 minus_first [] e = absurd cc
 minus_first (x ∷ text) e = let same : x ≡ 45 = eqb-true x 45 e in rw same refl
 
+-- a number of a plain file is a numeral of the standard
 pub number_is : (text : List ℕ) (z : ℤ) → number_of text ≡ Some z → Writes text z
 number_is text z e =
     elim (cases_Bool (slice_index text 0 == 45)) [

@@ -31,6 +31,7 @@ pub length-points : (node : ℕ) (points : List (ℤ × ℤ)) → length (point_
 length-points node [] = refl
 length-points node (point ∷ points) = omega (arith, length-points (node + 1) points)
 
+-- the demands have two numbers for each node
 pub length-demands : (node : ℕ) (demands : List ℕ) → length (demand_numbers node demands) ≡ 2 * length demands
 length-demands node [] = refl
 length-demands node (n ∷ demands) = omega (arith, length-demands (node + 1) demands)
@@ -81,9 +82,11 @@ nodes_same width count numbers each =
     (λ i lt. let below : i < count = omega (arith, left, lt) in
     get_or-map-range_with_len at 0 count i i (pos 0) below (omega arith) ∙ each i below ∙ sym (get_or-map-range_with_len pos 1 count i (1 + i) (pos 0) below refl))
 
+-- the nodes of the points rise from 1
 pub point_nodes : (points : List (ℤ × ℤ)) → row_nodes 3 (length points) (point_numbers 1 points) ≡ nodes_from 1 (length points)
 point_nodes points = nodes_same 3 (length points) (point_numbers 1 points) (point_node_at 1 points)
 
+-- the nodes of the demands rise from 1
 pub demand_nodes : (demands : List ℕ) → row_nodes 2 (length demands) (demand_numbers 1 demands) ≡ nodes_from 1 (length demands)
 demand_nodes demands = nodes_same 2 (length demands) (demand_numbers 1 demands) (demand_node_at 1 demands)
 
@@ -136,12 +139,14 @@ points_back points =
     ∙ ap (by_node (pos 0, pos 0) (length points) (nodes_from 1 (length points))) (rows_same points)
     ∙ beside_same (pos 0, pos 0) points
 
+-- rows by rising node give back their demands
 pub demands_back : (demands : List ℕ) → demands_of (length demands) (demand_numbers 1 demands) ≡ demands
 demands_back demands =
     ap (λ (given : List ℤ). by_node 0 (length demands) given (row_demands (length demands) (demand_numbers 1 demands))) (demand_nodes demands)
     ∙ ap (by_node 0 (length demands) (nodes_from 1 (length demands))) (demand_rows_same demands)
     ∙ beside_same 0 demands
 
+-- a number from 1 to the count of nodes is a node
 pub node_is : (nodes node : ℕ) → 1 ≤ node → node ≤ nodes → is_node nodes (pos node) ≡ true
 node_is nodes node some few = grind (arith, nat_tests)
 

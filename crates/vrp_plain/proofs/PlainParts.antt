@@ -25,6 +25,7 @@ abbrev pub remarks_before : List (List (List ℕ)) → List Line → List Line
 remarks_before [] lines = lines
 remarks_before (tokens ∷ remarks) lines = Heading (Some keyword.Remark) tokens ∷ remarks_before remarks lines
 
+-- a line with a keyword of this key
 abbrev pub heading : Key → List (List ℕ) → Line
 heading key tokens = Heading (Some (keyword.Key key)) tokens
 
@@ -36,9 +37,11 @@ pub record Tokens : Type 0 where
   pub demands : List (List (List ℕ))
   pub depot : List ℕ
 
+-- the data lines of the depots
 abbrev pub depot_rows : Tokens → List (List (List ℕ))
 depot_rows tokens = (tokens.depot ∷ []) ∷ (codes "-1" ∷ []) ∷ []
 
+-- the lines of the demands, before others
 abbrev pub demand_lines : Tokens → List Line → List Line
 demand_lines tokens behind = heading key.Demand [] ∷ data_before tokens.demands (heading key.Depot [] ∷ data_before (depot_rows tokens) behind)
 
@@ -81,6 +84,7 @@ leading_remarks : (remarks : List (List (List ℕ))) (lines : List Line) → lea
 leading_remarks [] lines none = none
 leading_remarks (tokens ∷ remarks) lines none = refl
 
+-- no data stand before the first keyword
 pub leading_plain : (remarks : List (List (List ℕ))) (tokens : Tokens) → leading_data (remarks_before remarks (plain_lines tokens [])) ≡ []
 leading_plain remarks tokens = leading_remarks remarks (plain_lines tokens []) refl
 
@@ -167,6 +171,7 @@ pub record Reads (tokens : Tokens) (nodes truck : ℕ) (coordinates demands depo
   pub depots_fine : (line : ℕ) → data_fault section.Depots line 0 (depot_rows tokens) ≡ None
   pub depots_are : data_numbers section.Depots 0 (depot_rows tokens) ≡ depots
 
+-- what a plain file states
 abbrev pub plain_stated : ℕ → ℕ → List ℤ → List ℤ → List ℤ → Stated
 plain_stated nodes truck coordinates demands depots = record {
   problem = Some tt;
@@ -266,6 +271,7 @@ pub record ReadsFile (lines : List Line) (stated : Stated) : Type 0 where
   pub fine : parts_fault false [] (parts_from 1 lines) ≡ None
   pub states : stated_by false (parts_from 1 lines) ≡ stated
 
+-- the lines of a plain file have no fault, and state this
 pub reads_file : (remarks : List (List (List ℕ))) (tokens : Tokens) (nodes truck : ℕ) (coordinates demands depots : List ℤ) → Reads tokens nodes truck coordinates demands depots
     → ReadsFile (remarks_before remarks (plain_lines tokens [])) (plain_stated nodes truck coordinates demands depots)
 reads_file remarks tokens nodes truck coordinates demands depots reads =

@@ -12,11 +12,13 @@ use Rattle.vrp_text.specs.declared.section.Section.TheVariants as section
 use Rattle.vrp_plain.proofs.PlainNumbers.{Writes, number_in_is}
 use Rattle.vrp_plain.proofs.PlainLines.{ThreeNumbers, TwoNumbers}
 
+-- three tokens: a node and its coordinates
 pub record IsPointRow (tokens : List (List ℕ)) (node : ℕ) (point : ℤ × ℤ) : Type 0 where
   pub numbers : ThreeNumbers tokens (pos node) point.0 point.1
   pub east : IsCoordinate point.0
   pub north : IsCoordinate point.1
 
+-- two tokens: a node and its demand
 pub record IsDemandRow (tokens : List (List ℕ)) (node demand : ℕ) : Type 0 where
   pub numbers : TwoNumbers tokens (pos node) (pos demand)
   pub small : demand ≤ 1000000000
@@ -28,10 +30,12 @@ EachRow IsRow node [] (x ∷ xs) = ⊥
 EachRow IsRow node (tokens ∷ rows) [] = ⊥
 EachRow IsRow node (tokens ∷ rows) (x ∷ xs) = IsRow tokens node x × EachRow IsRow (node + 1) rows xs
 
+-- the numbers of rows of points, by rising node
 abbrev pub point_numbers : ℕ → List (ℤ × ℤ) → List ℤ
 point_numbers node [] = []
 point_numbers node (point ∷ points) = pos node ∷ point.0 ∷ point.1 ∷ point_numbers (node + 1) points
 
+-- the numbers of rows of demands, by rising node
 abbrev pub demand_numbers : ℕ → List ℕ → List ℤ
 demand_numbers node [] = []
 demand_numbers node (demand ∷ demands) = pos node ∷ pos demand ∷ demand_numbers (node + 1) demands
@@ -95,6 +99,7 @@ row_before section line place tokens width numbers rows more row later =
       are = rw row.are (rw row.long (ap (λ (rest : List ℤ). numbers ++ rest) later.are));
     }
 
+-- the rows of points have no fault, and give these numbers
 pub points_read : (line place node : ℕ) (rows : List (List (List ℕ))) (points : List (ℤ × ℤ)) → place % 3 ≡ 0 → node + length points ≤ 1000000000 → EachRow IsPointRow node rows points
     → RowsRead section.Coordinates line place rows (point_numbers node points)
 points_read line place node [] [] here small each = record { fine = refl; are = refl }
@@ -105,6 +110,7 @@ points_read line place node (tokens ∷ rows) (point ∷ points) here small each
     (point_row place tokens node point here (omega arith) each.0)
     (points_read (line + 1) (place + 3) (node + 1) rows points (omega arith) (omega arith) each.1)
 
+-- the rows of demands have no fault, and give these numbers
 pub demands_read : (line place node : ℕ) (rows : List (List (List ℕ))) (demands : List ℕ) → place % 2 ≡ 0 → node + length demands ≤ 1000000000 → EachRow IsDemandRow node rows demands
     → RowsRead section.Demands line place rows (demand_numbers node demands)
 demands_read line place node [] [] here small each = record { fine = refl; are = refl }
@@ -125,8 +131,10 @@ depot_read line text depot writes small =
     let here : token_number section.Depots 0 text ≡ Ok (pos depot) = number_in_is (neg_ℤ (pos 1000000000)) (pos 1000000000) text (pos depot) writes (le_z_yes tt) (omega (arith, ints)) in
     record { fine = rw here refl; are = rw here refl }
 
+-- a number of nodes is a dimension
 pub dimension_is : (text : List ℕ) (nodes : ℕ) → Writes text (pos nodes) → 1 ≤ nodes → nodes ≤ 1200 → dimension text ≡ Ok nodes
 dimension_is text nodes writes some few = ap stated_number (number_in_is (pos 1) (pos 1200) text (pos nodes) writes (omega (arith, ints)) (omega (arith, ints)))
 
+-- a small number from 1 on is a capacity
 pub capacity_is : (text : List ℕ) (truck : ℕ) → Writes text (pos truck) → 1 ≤ truck → truck ≤ 1000000000 → capacity text ≡ Ok truck
 capacity_is text truck writes some small = ap stated_number (number_in_is (pos 1) (pos 1000000000) text (pos truck) writes (omega (arith, ints)) (omega (arith, ints)))

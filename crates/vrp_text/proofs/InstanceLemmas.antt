@@ -34,9 +34,11 @@ small_weights numbers within k =
           omega (arith, value)
     ]
 
+-- each node has a point
 pub length-points : (nodes : ℕ) (numbers : List ℤ) → length (points_of nodes numbers) ≡ nodes
 length-points nodes numbers = length-map-range_with_len (beside_node (pos 0, pos 0) (row_nodes 3 nodes numbers) (row_points nodes numbers)) 1 nodes
 
+-- each node has a demand
 pub length-demands : (nodes : ℕ) (numbers : List ℤ) → length (demands_of nodes numbers) ≡ nodes
 length-demands nodes numbers = length-map-range_with_len (beside_node 0 (row_nodes 2 nodes numbers) (row_demands nodes numbers)) 1 nodes
 
@@ -55,6 +57,7 @@ states_made complete chosen demands depots grid problem same_demands same_depots
       meant = subst (Made stated) same_depots (subst (λ ds. Made ds depots) same_demands made);
     }
 
+-- a file whose coordinates, demands and depots name nodes rightly has no fault of nodes
 pub nodes_are_sound : (complete : Complete) → source_node_fault complete.nodes complete.source ≡ None → bad_node complete.nodes [] (row_nodes 2 complete.nodes complete.demands) ≡ None
     → no_node complete.nodes (listed_depots complete.depots) ≡ None → nodes_fault complete ≡ None
 nodes_are_sound complete source demands depots = rw source (rw demands (rw depots refl))
@@ -97,17 +100,20 @@ pub means_problem : (bytes : List ℕ) (chosen : Option ℕ) (complete : Complet
 means_problem bytes chosen complete problem read sound states =
     record { complete = complete; read = read ∙ (rw sound refl); grid = states.grid; weights = states.weights; acceptable = states.acceptable; meant = states.meant }
 
+-- a refusal of what a complete file states is one of the file
 pub means_refusal : (bytes : List ℕ) (chosen : Option ℕ) (complete : Complete) (fault : TextError) → reading_of bytes ≡ or_fault (nodes_fault complete) (Ok complete)
     → IsStatedRefusal complete chosen fault → MeansRefusal bytes chosen fault
 means_refusal bytes chosen complete fault read (inl node) = inl (read ∙ (rw node refl))
 means_refusal bytes chosen complete fault read (inr states) =
     inr (states.of_instance, states.is, record { complete = complete; read = read ∙ (rw states.sound refl); refused = states.refused; of_file = states.of_file })
 
+-- an answer that is the problem stated is the problem meant
 pub if_meant : (bytes : List ℕ) (chosen : Option ℕ) (complete : Complete) (result : Result Problem TextError) → reading_of bytes ≡ or_fault (nodes_fault complete) (Ok complete)
     → IfOk result (λ problem. nodes_fault complete ≡ None) → IfOk result (StatesProblem complete chosen) → IfOk result (MeansProblem bytes chosen)
 if_meant bytes chosen complete (Ok problem) read sound states = means_problem bytes chosen complete problem read sound states
 if_meant bytes chosen complete (Err fault) read sound states = tt
 
+-- an answer that is a refusal of what is stated is the refusal meant
 pub if_refused : (bytes : List ℕ) (chosen : Option ℕ) (complete : Complete) (result : Result Problem TextError) → reading_of bytes ≡ or_fault (nodes_fault complete) (Ok complete)
     → IfErr result (λ fault. fault ≢ error.OutOfMemory → IsStatedRefusal complete chosen fault) → IfErr result (λ fault. fault ≢ error.OutOfMemory → MeansRefusal bytes chosen fault)
 if_refused bytes chosen complete (Ok problem) read states = tt

@@ -2,13 +2,16 @@
 use Rattle.std.proofs.Common.{◌≡◌, ◌⊎◌, ℕ, zero, suc, ◌<◌, ◌≤◌, inl, inr, subst, arith}
 use Rattle.std.proofs.lemmas.Bool.{cases_lt}
 
+-- a number has the property, and no lower one has it
 pub record IsLeastWith (P : ℕ → Type 0) (k : ℕ) : Type 0 where
   pub has : P k
   pub least : (j : ℕ) → P j → k ≤ j
 
+-- a fact holds or does not
 abbrev pub IsDecided : Type 0 → Type 0
 IsDecided P = P ⊎ (P → ⊥)
 
+-- no number below n has the property
 abbrev pub NoneBelow : (ℕ → Type 0) → ℕ → Type 0
 NoneBelow P n = (j : ℕ) → j < n → P j → ⊥
 

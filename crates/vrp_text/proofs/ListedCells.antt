@@ -13,6 +13,7 @@ use Rattle.vrp_model.specs.Inner.Listing.{cell_on, cells_in_lines}
 use Rattle.vrp_model.specs.declared.layout.Layout.{Layout}
 use Rattle.vrp_model.specs.declared.layout.Layout.TheVariants.{FullMatrix, UpperRow, LowerRow, UpperDiagRow, LowerDiagRow, UpperCol, LowerCol, UpperDiagCol, LowerDiagCol}
 
+-- a number from 1 to the count of nodes
 abbrev pub IsNode : ℕ → ℕ → Type 0
 IsNode nodes node = (1 ≤ node) × (node ≤ nodes)
 
@@ -142,6 +143,7 @@ stands_from_below layout row column triangle test =
       | inr rest ↦ Mirrored triangle (test column row ∙ le_is row column rest)
     ]
 
+-- each cell of the square stands in one of the three ways
 pub stands : (layout : Layout) (row column : ℕ) → Stands layout row column
 stands FullMatrix row column = Listed refl
 stands UpperRow row column = stands_above UpperRow row column refl (λ r c. refl)

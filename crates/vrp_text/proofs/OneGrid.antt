@@ -13,6 +13,7 @@ use Rattle.vrp_text.specs.Inner.PlacedRows.{beside_node}
 use Rattle.vrp_text.specs.Meaning.{HasWeights}
 use Rattle.vrp_text.proofs.ListedCells.{IsNode, Stands, Listed, Mirrored, Diagonal, stands, listed_occurs, unlisted_absent}
 
+-- two points have one distance
 abbrev pub OneDistance : Type 0
 OneDistance = (metric : Metric) (a b : ℤ × ℤ) (j k : ℕ) → IsDistance metric a b j → IsDistance metric a b k → j ≡ k
 

@@ -17,10 +17,12 @@ use Rattle.vrp_lexer.specs.declared.key.Key.{Key}
 use Rattle.vrp_text.specs.declared.error.TextError.{TextError}
 use Rattle.vrp_text.specs.declared.error.TextError.TheVariants as error
 use Rattle.vrp_text.proofs.ListedCells.{IsNode}
+use Rattle.vrp_text.proofs.SectionLemmas.{both_none}
 use Rattle.vrp_text.proofs.OneGrid.{OneDistance, AreAlike, AreAlike-of_source}
 
 -- ---- what is known of a complete file
 
+-- an answer is one value
 pub one_ok : (answer : Result Complete TextError) (a b : Complete) → answer ≡ Ok a → answer ≡ Ok b → a ≡ b
 one_ok answer a b p q = cc
 
@@ -40,10 +42,6 @@ good_answer : (long : Bool) (fault : Option TextError) (read : Result Complete T
 good_answer true fault read complete e = absurd cc
 good_answer false fault read complete e = good_nodes read complete (good_or_fault fault (checked read) complete e).1
 
-no_second : {X : Type 0} (a b : Option X) → option_or a b ≡ None → b ≡ None
-no_second None b e = e
-no_second (Some x) b e = absurd cc
-
 no_fault : (key : Key) (bad : Option ℤ) → node_fault key bad ≡ None → bad ≡ None
 no_fault key None e = refl
 no_fault key (Some number) e = absurd cc
@@ -52,7 +50,7 @@ no_fault key (Some number) e = absurd cc
 good_depots : (bytes : List ℕ) (complete : Complete) → reading_of bytes ≡ Ok complete → no_node complete.nodes (listed_depots complete.depots) ≡ None
 good_depots bytes complete e =
     let good = good_answer (nat_lt 16777216 (length bytes)) (line_fault (before_end (lines_of bytes))) (complete_of (all_stated (before_end (lines_of bytes)))) complete e in
-    no_fault _ _ (no_second _ _ (no_second _ _ good))
+    no_fault _ _ (both_none _ _ (both_none _ _ good).1).1
 
 number_within : (nodes : ℕ) (number : ℤ) → is_node nodes number ≡ true → IsNode nodes (unsigned_abs number)
 number_within nodes (pos zero) e = absurd cc
@@ -131,6 +129,7 @@ problem_of-one nodes g h demands capacity depots chosen alike here =
     ∙ ap (problem_with demands capacity (places_over nodes depots chosen)) weights
     ∙ ap (λ n. Over n h) (sym alike.second)
 
+-- a file means one problem
 pub MeansProblem-one : OneDistance → (bytes : List ℕ) (chosen : Option ℕ) (p q : Problem) → MeansProblem bytes chosen p → MeansProblem bytes chosen q → p ≡ q
 MeansProblem-one one bytes chosen p q a b =
     let same : a.complete ≡ b.complete = one_ok (reading_of bytes) a.complete b.complete a.read b.read in

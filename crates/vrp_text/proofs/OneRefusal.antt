@@ -65,12 +65,14 @@ no_instance_once bytes chosen e f a b =
     let other = subst Over (sym same) (b.refused no_grid) in
     one_fault (request_from a.complete chosen no_grid) e f a.of_file b.of_file (a.refused no_grid) other
 
+-- a file is refused for one reason
 pub MeansRefusal-one : (bytes : List ℕ) (chosen : Option ℕ) (e f : TextError) → MeansRefusal bytes chosen e → MeansRefusal bytes chosen f → e ≡ f
 MeansRefusal-one bytes chosen e f (inl a) (inl b) = one_err (reading_of bytes) e f a b
 MeansRefusal-one bytes chosen e f (inl a) (inr b) = absurd (ok_or_err (reading_of bytes) b.2.complete e b.2.read a)
 MeansRefusal-one bytes chosen e f (inr a) (inl b) = absurd (ok_or_err (reading_of bytes) a.2.complete f a.2.read b)
 MeansRefusal-one bytes chosen e f (inr a) (inr b) = a.1 ∙ ap error.Instance (no_instance_once bytes chosen a.0 b.0 a.2 b.2) ∙ sym b.1
 
+-- a file that means a problem is not refused
 pub not_both : (bytes : List ℕ) (chosen : Option ℕ) (p : Problem) (e : TextError) → MeansProblem bytes chosen p → MeansRefusal bytes chosen e → ⊥
 not_both bytes chosen p e a (inl b) = ok_or_err (reading_of bytes) a.complete e a.read b
 not_both bytes chosen p e a (inr b) =

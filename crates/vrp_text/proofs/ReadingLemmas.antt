@@ -28,9 +28,11 @@ pub record HasRead (explicit : Bool) (all : List Part) (marks : List Bool) (stat
   pub marked : (key : Key) → is_marked marks key ≡ is_borne done key
   pub read : stated ≡ stated_by explicit done
 
+-- before the first part nothing is read
 pub none_read : (explicit : Bool) (all : List Part) (marks : List Bool) → ((key : Key) → is_marked marks key ≡ false) → HasRead explicit all marks nothing_stated all
 none_read explicit all marks none = record { done = []; fault = refl; whole = refl; marked = none; read = refl }
 
+-- after the last part all is read
 pub all_read : (explicit : Bool) (all : List Part) (marks : List Bool) (stated : Stated) (left : List Part) → HasRead explicit all marks stated left → left ≡ []
     → (parts_fault explicit [] all ≡ None) × (stated ≡ stated_by explicit all)
 all_read explicit all marks stated left so_far none =
@@ -164,6 +166,7 @@ pub part_fault_is : (explicit : Bool) (all : List Part) (marks : List Bool) (sta
 part_fault_is explicit all marks stated left line word behind data_lines so_far =
     ap (λ fault. option_or (on_line line fault) (content_fault (content_of explicit word) (line + 1) data_lines)) (same_fault explicit (is_marked marks) (is_borne so_far.done) word behind so_far.marked)
 
+-- one part more is read
 pub one_part_more : (explicit : Bool) (all : List Part) (marks : List Bool) (stated : Stated) (left : List Part) (line : ℕ) (word : Option Keyword) (behind : List (List ℕ)) (data_lines : List (List (List ℕ))) (rest : List Part) (new_marks : List Bool) (new_stated : Stated)
     → HasRead explicit all marks stated left → left ≡ record { line = line; keyword = word; behind = behind; data_lines = data_lines } ∷ rest
     → fault_of_part explicit (is_marked marks) line word behind (line + 1) data_lines ≡ None
@@ -182,6 +185,7 @@ one_part_more explicit all marks stated left line word behind data_lines rest ne
       read = read ∙ (rw so_far.read (sym (stated_more explicit so_far.done line word behind data_lines keyword_fine)));
     }
 
+-- the fault of the part that is read is the first of all
 pub part_refused : (explicit : Bool) (all : List Part) (marks : List Bool) (stated : Stated) (left : List Part) (line : ℕ) (word : Option Keyword) (behind : List (List ℕ)) (data_lines : List (List (List ℕ))) (rest : List Part) (error : TextError)
     → HasRead explicit all marks stated left → left ≡ record { line = line; keyword = word; behind = behind; data_lines = data_lines } ∷ rest
     → fault_of_part explicit (is_marked marks) line word behind (line + 1) data_lines ≡ Some error → parts_fault explicit [] all ≡ Some error

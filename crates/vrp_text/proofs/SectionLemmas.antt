@@ -22,6 +22,7 @@ pub record ReadsTokens (section : Section) (all : List (List ℕ)) (old numbers 
   pub fault : tokens_fault section (length old) all ≡ tokens_fault section (length numbers) left
   pub read : old ++ numbers_from section (length old) all ≡ numbers ++ numbers_from section (length numbers) left
 
+-- one token more is read
 pub one_more : (section : Section) (all : List (List ℕ)) (old numbers : List ℤ) (left : List (List ℕ)) (token : List ℕ) (rest : List (List ℕ)) (value : ℤ)
     → ReadsTokens section all old numbers left → left ≡ token ∷ rest → Ok value ≡ token_number section (length numbers) token → ReadsTokens section all old (numbers ++ value ∷ []) rest
 one_more section all old numbers left token rest value so_far is good =
@@ -36,6 +37,7 @@ fault_first : (number : ℕ) (read : Result ℤ LineFault) (later : Option LineF
 fault_first number (Ok value) later error e = absurd cc
 fault_first number (Err fault) later error e = e
 
+-- the fault of the token that is read is the first of its line
 pub token_refused : (section : Section) (number : ℕ) (all : List (List ℕ)) (old numbers : List ℤ) (left : List (List ℕ)) (token : List ℕ) (rest : List (List ℕ)) (error : TextError)
     → ReadsTokens section all old numbers left → left ≡ token ∷ rest → on_line number (fault_of (token_number section (length numbers) token)) ≡ Some error
     → on_line number (tokens_fault section (length old) all) ≡ Some error
@@ -59,6 +61,7 @@ data_after : (section : Section) (number place : ℕ) (lines : List Line) (token
     × (parts_from number lines ≡ parts_from (number + 1) rest)
 data_after section number place lines tokens rest is = (rw is refl, rw is refl, rw is refl)
 
+-- one line more is read
 pub one_line_more : (section : Section) (all left rest : LinesLeft) (tokens : List (List ℕ)) (numbers more : List ℤ)
     → ReadsLines section all numbers left → left.lines ≡ Data tokens ∷ rest.lines → rest.number ≡ left.number + 1
     → tokens_fault section (length numbers) tokens ≡ None → more ≡ numbers ++ numbers_from section (length numbers) tokens → ReadsLines section all more rest
@@ -71,12 +74,14 @@ one_line_more section all left rest tokens numbers more so_far is next good read
       passed = rw next (sym after.2) ∙ so_far.passed;
     }
 
+-- the fault of the line that is read is the first of all
 pub line_refused : (section : Section) (all left : LinesLeft) (tokens : List (List ℕ)) (rest : List Line) (numbers : List ℤ) (error : TextError)
     → ReadsLines section all numbers left → left.lines ≡ Data tokens ∷ rest
     → on_line left.number (tokens_fault section (length numbers) tokens) ≡ Some error → data_fault section all.number 0 (data_left all) ≡ Some error
 line_refused section all left tokens rest numbers error so_far is bad =
     so_far.fault ∙ (data_after section left.number (length numbers) left.lines tokens rest is).0 ∙ rw bad refl
 
+-- after the last line all numbers are read
 pub lines_end : (section : Section) (all left : LinesLeft) (numbers : List ℤ) → ReadsLines section all numbers left → data_left left ≡ []
     → (data_fault section all.number 0 (data_left all) ≡ None) × (numbers ≡ data_numbers section 0 (data_left all))
 lines_end section all left numbers so_far none = (so_far.fault ∙ rw none refl, sym (so_far.read ∙ rw none (append-nil numbers)))
@@ -90,6 +95,7 @@ outside_after : (number : ℕ) (lines : List Line) (tokens : List (List ℕ)) (r
     → outside_fault number (leading_data lines) ≡ outside_fault number (tokens ∷ leading_data rest)
 outside_after number lines tokens rest is = rw is refl
 
+-- one blank line more is passed over
 pub one_blank_more : (all left rest : LinesLeft) (tokens : List (List ℕ)) → PassesLines all left → left.lines ≡ Data tokens ∷ rest.lines → rest.number ≡ left.number + 1
     → tokens ≡ [] → PassesLines all rest
 one_blank_more all left rest tokens so_far is next blank =
@@ -104,6 +110,7 @@ some_tokens (token ∷ tokens) number lines some =
     let yes : nat_lt 0 (length (token ∷ tokens)) ≡ true = grind (arith, nat_tests) in
     rw yes refl
 
+-- the first line that is not blank is the fault
 pub data_outside : (all left : LinesLeft) (tokens : List (List ℕ)) (rest : List Line) → PassesLines all left → left.lines ≡ Data tokens ∷ rest → (tokens ≡ [] → ⊥)
     → outside_fault all.number (data_left all) ≡ Some (DataOutside left.number)
 data_outside all left tokens rest so_far is some = so_far.fault ∙ outside_after left.number left.lines tokens rest is ∙ some_tokens tokens left.number (leading_data rest) some
@@ -142,10 +149,12 @@ within_append section place (x ∷ xs) ys left right =
     (λ k lt. let e : (place + 1) + k ≡ place + suc k = omega arith in rw e (left (suc k) (omega arith)))
     (let e : (place + 1) + length xs ≡ place + suc (length xs) = omega arith in rw e right))
 
+-- where the first that is there of two is none, both are none
 pub both_none : {X : Type 0} (a b : Option X) → option_or a b ≡ None → (a ≡ None) × (b ≡ None)
 both_none None b e = (refl, e)
 both_none (Some x) b e = absurd cc
 
+-- no fault on a line is no fault
 pub on_line_none : (line : ℕ) (fault : Option LineFault) → on_line line fault ≡ None → fault ≡ None
 on_line_none line None e = refl
 on_line_none line (Some fault) e = absurd cc

@@ -45,6 +45,7 @@ some_euclidean s =
       },
     )
 
+-- each metric gives two points a distance
 pub some_distance : (metric : Metric) (a b : ℤ × ℤ) → (k : ℕ) × IsDistance metric a b k
 some_distance Euc2d a b = some_euclidean (square_between a b)
 some_distance Ceil2d a b = some_ceiling (square_between a b)

@@ -57,6 +57,7 @@ lowest_heavy depots demands capacity = elim (least_or_none (IsTooHeavy depots de
 
 -- ---- what the file means
 
+-- the file means a problem or a refusal
 abbrev pub MeansSomething : List ℕ → Option ℕ → Type 0
 MeansSomething bytes chosen = ((p : Problem) × MeansProblem bytes chosen p) ⊎ ((e : TextError) × MeansRefusal bytes chosen e)
 
