@@ -3,6 +3,7 @@ ghost use Rattle.vrp_command.specs.Options.{AreInRange};
 
 mod faults;
 mod files;
+mod limits;
 mod outcomes;
 mod plans;
 

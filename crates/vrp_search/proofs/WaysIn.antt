@@ -47,8 +47,8 @@ ins_with p word k ins least some front after is is_least =
     let behind = sum_of_unserved f p (word ++ k ∷ []) after in
     let left : least ≤ ins = omega (arith, before, behind, served, same, is.whole) in
     let still : All Into (unserved_in p (word ++ k ∷ [])) = λ i d lt.
-        All-contains Into (unserved_in p word) (get_or (unserved_in p (word ++ k ∷ [])) i d) is.each
-        (unserved_before p word k (get_or (unserved_in p (word ++ k ∷ [])) i d) (Contains-get_or (unserved_in p (word ++ k ∷ [])) i d lt)) in
+    All-contains Into (unserved_in p word) (get_or (unserved_in p (word ++ k ∷ [])) i d) is.each
+    (unserved_before p word k (get_or (unserved_in p (word ++ k ∷ [])) i d) (Contains-get_or (unserved_in p (word ++ k ∷ [])) i d lt)) in
     record { left = left; is = record { least_in = f; each = still; whole = omega (arith, left, before, behind, served, same, is.whole) } }
 
 -- ---- all customers
@@ -107,9 +107,9 @@ pub all_ways : (p : Problem) (count ins : ℕ) → count + 1 ≡ place_count p �
 all_ways p count ins all so_far =
     let everyone : customers p ≡ unserved_in p [] = sym (all_unserved p) in
     let ways : All (λ customer. IsLeastIn p customer (so_far.least_in customer)) (customers p) = λ i d lt.
-      let bound : i < place_count p - 1 = rw (length-range_with_len 1 (place_count p - 1)) at lt in
-      let value : get_or (customers p) i d ≡ 1 + i = get_or-range_with_len 1 (place_count p - 1) i d bound in
-      so_far.each (get_or (customers p) i d) (omega (arith, value)) (omega (arith, value, bound, all)) in
+    let bound : i < place_count p - 1 = rw (length-range_with_len 1 (place_count p - 1)) at lt in
+    let value : get_or (customers p) i d ≡ 1 + i = get_or-range_with_len 1 (place_count p - 1) i d bound in
+    so_far.each (get_or (customers p) i d) (omega (arith, value)) (omega (arith, value, bound, all)) in
     record {
       least_in = so_far.least_in;
       each = subst (All (λ customer. IsLeastIn p customer (so_far.least_in customer))) everyone ways;

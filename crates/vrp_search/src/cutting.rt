@@ -273,6 +273,9 @@ mod tests {
         assert_eq!(rt; cutting.pieces().len(), 3);
         assert!(rt; !cutting.refine(rt.alloc(), &instance, 1)?);
         assert_words(&rt, &cutting, &[&[1], &[2, 0], &[2, 1]]);
+        // more pieces than are asked for stay as they are
+        cutting.at_least(rt.alloc(), &instance, 1)?;
+        assert_words(&rt, &cutting, &[&[1], &[2, 0], &[2, 1]]);
         Ok(())
     }
 

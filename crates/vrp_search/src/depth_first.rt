@@ -95,47 +95,4 @@ fn offer_complete<B: Board>(
 }
 
 #[cfg(test)]
-mod tests {
-    use super::*;
-    use crate::cutting::Cutting;
-    use crate::local::Local;
-    use std::test::Fail;
-    use vrp_model::{Metric, Plan, Weights};
-
-    #[test]
-    fn three_nodes_on_a_line(rt: HostRuntime) -> Result<(), Fail> {
-        let open = |spent| Ended::Unfinished { spent, low: 20 };
-        // a capacity and a budget, how the search ends, and the cost of the plan
-        let table = [
-            (2, 1, open(1), 30),
-            (2, 5, open(5), 30),
-            (2, 6, open(6), 20),
-            (2, 7, Ended::Finished { spent: 7 }, 20),
-            (2, 1_000, Ended::Finished { spent: 7 }, 20),
-            (1, 4, open(4), 30),
-            (1, 5, Ended::Finished { spent: 5 }, 30),
-        ];
-        for (capacity, budget, ended, cost) in table {
-            assert!(rt; capacity <= 2);
-            assert!(rt; budget >= 1);
-            let points = [(0, 0), (3, 4), (6, 8)];
-            let weights = Weights::points(rt.alloc(), Metric::Euc2d, &points)?;
-            let instance = Instance::new(rt.alloc(), weights, &[0, 1, 1], capacity, &[1], None)?;
-            let found = searched(rt.alloc(), &instance, budget)?;
-            assert_eq!(rt; found, (ended, cost), "{capacity} {budget}");
-        }
-        Ok(())
-    }
-
-    // How the search of the whole tree ends, and the cost of its plan.
-    fn searched(alloc: Global, instance: &Instance, budget: u64) -> Result<(Ended, u64), NoMemory>
-        requires { 1 ≤ budget }
-    {
-        let cutting = Cutting::whole(alloc, instance)?;
-        let tables = Tables::over_all(alloc, instance)?;
-        let mut board = Local::open(Plan::singles(alloc, instance)?);
-        let piece = &cutting.pieces()[0];
-        let ended = search(alloc, instance, &tables, piece, budget, &mut board)?;
-        Ok((ended, board.plan().cost()))
-    }
-}
+mod tests;

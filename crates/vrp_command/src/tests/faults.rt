@@ -41,16 +41,18 @@ fn small_in_parts(most: usize, failing: usize, kind: ErrorKind) -> Flaky<'static
     }
 }
 
-// Gives line feeds for ever, and counts them.
+// Gives line feeds for ever, and counts them and its reads.
 #[derive(Drop)]
 struct Endless {
     given: usize,
+    reads: usize,
 }
 
 impl Read for Endless {
     fn read(&mut self, buffer: &mut [u8]) -> io::Result<usize> {
         buffer.fill(b'\n');
         self.given = self.given.saturating_add(buffer.len());
+        self.reads = self.reads.saturating_add(1);
         Ok(buffer.len())
     }
 }
@@ -99,11 +101,13 @@ fn room_for(alloc: Global, most: usize, room: usize) -> Narrow {
 
 #[test]
 fn little_at_a_time(rt: HostRuntime) {
-    for most in [1, 7, 70_000] {
+    // The small file has 183 bytes. Behind them the end is read once.
+    for (most, reads) in [(1, 184), (7, 28), (70_000, 2)] {
         let mut input = small_in_parts(most, 0, ErrorKind::Other);
         let mut output = room_for(rt.alloc(), most, usize::MAX);
         let outcome = run(rt.alloc(), Options::default(), &mut input, &mut output);
         assert_eq!(rt; outcome, Ok(Status::Proven));
+        assert_eq!(rt; input.reads, reads, "{most} at a time");
         assert_eq!(rt; output.taken.as_slice(), REPORT.as_bytes());
         assert_eq!(rt; output.flushes, 1);
     }
@@ -129,11 +133,13 @@ fn failed_reads(rt: HostRuntime) {
 
 #[test]
 fn endless_input(rt: HostRuntime) {
-    let mut input = Endless { given: 0 };
+    let mut input = Endless { given: 0, reads: 0 };
     let mut output = room_for(rt.alloc(), 70_000, usize::MAX);
     let outcome = run(rt.alloc(), Options::default(), &mut input, &mut output);
     assert_eq!(rt; outcome, Err(RunError::Text(TextError::TooLong)));
     assert_eq!(rt; input.given, 16_777_217);
+    // 256 buffers of 65,536 bytes, and one byte more
+    assert_eq!(rt; input.reads, 257);
     assert!(rt; output.taken.is_empty());
 }
 

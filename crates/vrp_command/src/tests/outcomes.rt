@@ -97,6 +97,7 @@ fn refusal_lines(rt: HostRuntime) -> Result<(), Fail> {
             "node 2: demand above capacity",
         ),
         (TextError::TooLong, "input too long"),
+        (TextError::OutOfMemory, "out of memory"),
     ] {
         assert_eq!(rt;
             fault_line(rt.alloc(), &RunError::Text(refusal))?.as_str(),

@@ -1,6 +1,6 @@
 //! The plans of small files, and the verdicts on them, as the options ask for them.
 use super::{SMALL, run_as, run_on};
-use crate::{Options, Status};
+use crate::{MAX_BUDGET, MAX_PIECES, Options, Status};
 use std::test::*;
 
 // Three nodes, where it matters which way a road is taken.
@@ -14,6 +14,10 @@ const SECOND_FIRST: &str =
 // The small file with a fourth node, which has no demand and lies a step from the depot.
 const FOUR: &str =
     "TYPE : CVRP\nDIMENSION : 4\nEDGE_WEIGHT_TYPE : EUC_2D\nCAPACITY : 2\nNODE_COORD_SECTION\n1 0 0\n2 3 4\n3 6 8\n4 0 1\nDEMAND_SECTION\n1 0\n2 1\n3 1\n4 0\nDEPOT_SECTION\n1\n-1\nEOF\n";
+
+// The small file with such demands that the table of ways home would be too large: a bound looks through the walks and tours.
+const LARGE: &str =
+    "TYPE : CVRP\nDIMENSION : 3\nEDGE_WEIGHT_TYPE : EUC_2D\nCAPACITY : 14000\nNODE_COORD_SECTION\n1 0 0\n2 3 4\n3 6 8\nDEMAND_SECTION\n1 0\n2 7001\n3 6999\nDEPOT_SECTION\n1\n-1\nEOF\n";
 
 // All nodes at one point: every plan costs nothing.
 const SAME_POINT: &str =
@@ -30,10 +34,11 @@ fn proven_costs(rt: HostRuntime) -> Result<(), Fail> {
         (SMALL, SECOND_FIRST, "Route #1: 3 2\nCost 3\nProven\n"),
         (SMALL, FOUR, "Cost 20\nProven\n"),
         (SMALL, SAME_POINT, "Cost 0\nProven\n"),
+        (SMALL, LARGE, "Cost 20\nProven\n"),
     ] {
         let text = SMALL.replacen(rt.alloc(), old, new, 1)?;
-        for pieces in [1, 2, 3, 64, 65_536] {
-            assert!(rt; 1 <= pieces && pieces <= 65_536);
+        for pieces in [1, 2, 3, 64, MAX_PIECES] {
+            assert!(rt; 1 <= pieces && pieces <= MAX_PIECES);
             let options = Options {
                 pieces,
                 ..Options::default()
@@ -63,11 +68,20 @@ fn small_budgets(rt: HostRuntime) -> Result<(), Fail> {
             "Route #1: 2\nRoute #2: 3\nCost 30\nOpen 20\n",
         ),
         ("EOF", "EOF", 1, 2, Status::Open, "Cost 30\nOpen 20\n"),
+        // the sixth is the complete word of the cheaper plan
+        ("EOF", "EOF", 1, 6, Status::Open, "Cost 20\nOpen 20\n"),
         ("EOF", "EOF", 1, 7, Status::Proven, "Cost 20\nProven\n"),
         ("EOF", "EOF", 1, 11, Status::Proven, "Cost 20\nProven\n"),
         // the pieces are the first customers: 5 paid and 15 to pay, 10 paid and 10 to pay
         ("EOF", "EOF", 2, 1, Status::Open, "Cost 30\nOpen 20\n"),
-        ("EOF", "EOF", 65_536, 1, Status::Proven, "Cost 20\nProven\n"),
+        (
+            "EOF",
+            "EOF",
+            MAX_PIECES,
+            1,
+            Status::Proven,
+            "Cost 20\nProven\n",
+        ),
         // twice to the nearer customer: a walk may come to it again
         (
             "CAPACITY : 2",
@@ -95,8 +109,8 @@ fn small_budgets(rt: HostRuntime) -> Result<(), Fail> {
         (SMALL, SECOND_FIRST, 2, 1, Status::Open, "Cost 31\nOpen 3\n"),
         (SMALL, SECOND_FIRST, 2, 4, Status::Open, "Cost 3\nOpen 3\n"),
     ] {
-        assert!(rt; 1 <= pieces && pieces <= 65_536);
-        assert!(rt; 1 <= budget && budget <= 1_000_000_000_000);
+        assert!(rt; 1 <= pieces && pieces <= MAX_PIECES);
+        assert!(rt; 1 <= budget && budget <= MAX_BUDGET);
         let options = Options {
             pieces,
             budget,

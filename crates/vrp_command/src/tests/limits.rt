@@ -1,0 +1,78 @@
+//! Files of as many nodes as there may be.
+use super::run_as;
+use crate::{MAX_BUDGET, Options, Status};
+use itoa::Buffer;
+use std::alloc::{AllocError, Global};
+use std::test::*;
+use vrp_model::MAX_NODES;
+
+// The nodes stand on a line, a step apart, the depot first. Each customer demands 1, and a truck carries 2. One truck for each
+// costs 2 + 4 + .. + 2,398 = 1,438,800. The search goes below 1, 1 0, 1 0 2 and so on to 1 0 .. 1198 0: with the root 2,397 partial
+// plans. The next, with 1199 alone in a truck, costs no less than the first plan. The next two share the last truck, 1198 1199
+// and 1198 1199 0: that saves 2 * 1,198. Each unit can be carried to the first customer and back: no less than 2,398.
+#[test]
+fn most_nodes(rt: HostRuntime) -> Result<(), Fail> {
+    let points = points_file(rt.alloc())?;
+    let matrix = matrix_file(rt.alloc())?;
+    for (text, budget, end) in [
+        (points.as_str(), 2_399, "Cost 1438800\nOpen 2398\n"),
+        (points.as_str(), 2_400, "Cost 1436404\nOpen 2398\n"),
+        (matrix.as_str(), 2_400, "Cost 1436404\nOpen 2398\n"),
+    ] {
+        assert!(rt; 1 <= budget && budget <= MAX_BUDGET);
+        let options = Options {
+            pieces: 1,
+            budget,
+            ..Options::default()
+        };
+        let (outcome, written) = run_as(rt.alloc(), text.as_bytes(), options);
+        assert_eq!(rt; outcome, Ok(Status::Open), "budget {budget}");
+        assert!(rt; written.ends_with(end.as_bytes()), "budget {budget}");
+    }
+    Ok(())
+}
+
+// With their points.
+fn points_file(alloc: Global) -> Result<String, AllocError> {
+    let mut text = String::new(alloc);
+    text.push_str("TYPE : CVRP\nDIMENSION : 1200\nEDGE_WEIGHT_TYPE : EUC_2D\nCAPACITY : 2\n")?;
+    text.push_str("NODE_COORD_SECTION\n")?;
+    for place in 0..MAX_NODES {
+        push_row(&mut text, &[place + 1, place, 0])?;
+    }
+    push_demands(&mut text)?;
+    Ok(text)
+}
+
+// With the way from each to each.
+fn matrix_file(alloc: Global) -> Result<String, AllocError> {
+    let mut text = String::new(alloc);
+    text.push_str("TYPE : CVRP\nDIMENSION : 1200\nEDGE_WEIGHT_TYPE : EXPLICIT\n")?;
+    text.push_str("EDGE_WEIGHT_FORMAT : FULL_MATRIX\nCAPACITY : 2\nEDGE_WEIGHT_SECTION\n")?;
+    for from in 0..MAX_NODES {
+        for to in 0..MAX_NODES {
+            push_row(&mut text, &[from.abs_diff(to)])?;
+        }
+    }
+    push_demands(&mut text)?;
+    Ok(text)
+}
+
+// Appends the demands, the depot and the end of the file.
+fn push_demands(text: &mut String) -> Result<(), AllocError> {
+    text.push_str("DEMAND_SECTION\n")?;
+    for place in 0..MAX_NODES {
+        push_row(text, &[place + 1, place.min(1)])?;
+    }
+    text.push_str("DEPOT_SECTION\n1\n-1\nEOF\n")
+}
+
+// Appends a line of numbers.
+fn push_row(text: &mut String, numbers: &[u16]) -> Result<(), AllocError> {
+    for number in numbers {
+        let mut buffer = Buffer::new();
+        text.push_str(buffer.format(*number))?;
+        text.push_str(" ")?;
+    }
+    text.push_str("\n")
+}

@@ -1,0 +1,169 @@
+//! Searches of small trees, and of a piece at the limits of an instance.
+ghost use Rattle.std.specs.Prelude.{◌≡◌, ◌≤◌, IfOk};
+ghost use Rattle.vrp_model.specs.Route.{IsPlanOf};
+ghost use Rattle.vrp_model.specs.Word.{IsFront};
+
+use super::*;
+use crate::cutting::Cutting;
+use crate::local::Local;
+use std::process::Abort;
+use std::test::Fail;
+use vrp_model::{Layout, MAX_NODES, Metric, Plan, Weights};
+
+#[test]
+fn three_nodes_on_a_line(rt: HostRuntime) -> Result<(), Fail> {
+    let open = |spent| Ended::Unfinished { spent, low: 20 };
+    // a capacity and a budget, how the search ends, and the cost of the plan
+    let table = [
+        (2, 1, open(1), 30),
+        (2, 5, open(5), 30),
+        (2, 6, open(6), 20),
+        (2, 7, Ended::Finished { spent: 7 }, 20),
+        (2, 1_000, Ended::Finished { spent: 7 }, 20),
+        (1, 4, open(4), 30),
+        (1, 5, Ended::Finished { spent: 5 }, 30),
+    ];
+    for (capacity, budget, ended, cost) in table {
+        assert!(rt; capacity <= 2);
+        assert!(rt; budget >= 1);
+        let points = [(0, 0), (3, 4), (6, 8)];
+        let weights = Weights::points(rt.alloc(), Metric::Euc2d, &points)?;
+        let instance = Instance::new(rt.alloc(), weights, &[0, 1, 1], capacity, &[1], None)?;
+        let mut board = Local::open(Plan::singles(rt.alloc(), &instance)?);
+        let found = search_all(rt.alloc(), &instance, budget, &mut board)?;
+        assert_eq!(rt;
+            (found, board.plan().cost()),
+            (ended, cost),
+            "{capacity} {budget}"
+        );
+    }
+    Ok(())
+}
+
+// Both customers are a step from the depot and nine steps from one another: a truck for both costs 11, and two trucks cost 4.
+// The dear plan stays until a cheaper one is looked at, the fifth.
+#[test]
+fn opened_with_a_dear_plan(rt: HostRuntime) -> Result<(), Fail> {
+    let open = |spent| Ended::Unfinished { spent, low: 4 };
+    // a budget, how the search ends, and the cost of the plan
+    let table = [
+        (1, open(1), 11),
+        (4, open(4), 11),
+        (5, open(5), 4),
+        (6, open(6), 4),
+        (7, Ended::Finished { spent: 7 }, 4),
+    ];
+    for (budget, ended, cost) in table {
+        assert!(rt; budget >= 1);
+        let ways = [0, 1, 1, 1, 0, 9, 1, 9, 0];
+        assert!(rt; ways.len() == Layout::FullMatrix.entries(3));
+        assert!(rt; ways.iter().all(|&way| way <= 9));
+        let weights = Weights::matrix(rt.alloc(), Layout::FullMatrix, &ways, 3)?;
+        let instance = Instance::new(rt.alloc(), weights, &[0, 1, 1], 2, &[1], None)?;
+        let mut partial = Partial::root(rt.alloc(), &instance)?;
+        push(&rt, &mut partial, 1);
+        push(&rt, &mut partial, 2);
+        push(&rt, &mut partial, 0);
+        assert!(rt; partial.complete());
+        let mut board = Local::open(partial.plan(rt.alloc())?);
+        assert_eq!(rt; board.plan().cost(), 11);
+        let found = search_all(rt.alloc(), &instance, budget, &mut board)?;
+        assert_eq!(rt;
+            (found, board.plan().cost()),
+            (ended, cost),
+            "budget {budget}"
+        );
+    }
+    Ok(())
+}
+
+// Of 1,199 customers at the places 1 to 1,199 of a line all but the last two have a truck, there and back. The last two are
+// still to be carried: in the tables that costs no more than twice to the first customer and back.
+#[test]
+fn deep_piece_at_the_limits(rt: HostRuntime) -> Result<(), Fail> {
+    let instance = on_a_line(&rt, rt.alloc(), MAX_NODES)?;
+    let piece = singles_front(&rt, rt.alloc(), &instance, MAX_NODES - 3)?;
+    assert_eq!(rt; piece.word().len(), 2_394);
+    let mut board = Local::open(Plan::singles(rt.alloc(), &instance)?);
+    let found = search_piece(rt.alloc(), &instance, &piece, 1, &mut board)?;
+    let paid = 1_197 * 1_198;
+    let ended = Ended::Unfinished {
+        spent: 1,
+        low: paid + 4,
+    };
+    assert_eq!(rt; found, ended);
+    assert_eq!(rt; board.plan().cost(), 1_199 * 1_200);
+    Ok(())
+}
+
+// So many nodes on a line, a step apart, the depot first. Each truck carries two customers.
+fn on_a_line(rt: &impl Abort, alloc: Global, nodes: u16) -> Result<Instance, Fail> {
+    assert!(rt; 1 <= nodes && nodes <= MAX_NODES);
+    let mut ways = Vec::new(alloc);
+    for from in 0..nodes {
+        for to in 0..nodes {
+            ways.push(u64::from(from.abs_diff(to)))?;
+        }
+    }
+    assert!(rt; ways.len() == Layout::FullMatrix.entries(nodes));
+    assert!(rt; ways.iter().all(|&way| way <= 1_200));
+    let weights = Weights::matrix(alloc, Layout::FullMatrix, &ways, nodes)?;
+    let mut demands = vec![in alloc; 1u64; usize::from(nodes)]?;
+    demands[0] = 0;
+    assert!(rt; demands.len() == usize::from(weights.nodes()));
+    Ok(Instance::new(alloc, weights, &demands, 2, &[1], None)?)
+}
+
+// The piece by which each of the first customers has a truck of its own.
+fn singles_front(
+    rt: &impl Abort,
+    alloc: Global,
+    instance: &Instance,
+    customers: u16,
+) -> Result<Piece, NoMemory>
+    ensures { IfOk result (λ piece. IsFront instance.now piece.word) }
+{
+    let mut partial = Partial::root(alloc, instance)?;
+    for index in 0..customers.min(MAX_NODES) {
+        push(rt, &mut partial, index + 1);
+        push(rt, &mut partial, 0);
+    }
+    Ok(Piece::new(0, Vec::from_slice(alloc, partial.word())?))
+}
+
+fn push(rt: &impl Abort, partial: &mut Partial<'_>, symbol: u16)
+    ensures { partial.new.problem ≡ partial.old.problem }
+{
+    assert!(rt; partial.child(symbol));
+    partial.push(symbol);
+}
+
+// Searches the whole tree.
+fn search_all(
+    alloc: Global,
+    instance: &Instance,
+    budget: u64,
+    board: &mut Local,
+) -> Result<Ended, NoMemory>
+    requires board { IsPlanOf instance.now board.old }
+    requires budget { 1 ≤ budget }
+{
+    let cutting = Cutting::whole(alloc, instance)?;
+    search_piece(alloc, instance, &cutting.pieces()[0], budget, board)
+}
+
+// Searches a piece with tables over all customers.
+fn search_piece(
+    alloc: Global,
+    instance: &Instance,
+    piece: &Piece,
+    budget: u64,
+    board: &mut Local,
+) -> Result<Ended, NoMemory>
+    requires piece { IsFront instance.now piece.now.word }
+    requires board { IsPlanOf instance.now board.old }
+    requires budget { 1 ≤ budget }
+{
+    let tables = Tables::over_all(alloc, instance)?;
+    search(alloc, instance, &tables, piece, budget, board)
+}
