@@ -1,4 +1,4 @@
-pub mod Pieces
 pub mod PlaceLemmas
 pub mod RefusalLemmas
 pub mod ReportLemmas
+pub mod SearchedPieces

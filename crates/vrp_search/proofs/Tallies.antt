@@ -21,13 +21,13 @@ use Rattle.vrp_model.proofs.FrontsBefore.{fronts_before}
 use Rattle.vrp_model.proofs.PlanWords.{cost_parts}
 use Rattle.vrp_model.proofs.DistinctLists.{customers_distinct}
 use Rattle.vrp_model.proofs.UnservedCustomers.{all_unserved, nat_same, stands_in-append, stands_last, sum_of_unserved, unserved_at_depot, unserved_if_not_standing, unserved_stands_not}
-use Rattle.vrp_search.specs.Tallied.{AreBefore, AreFlags, AreTallied, IsTally}
+use Rattle.vrp_search.specs.Inner.Tallied.{AreBefore, AreFlags, AreTallied, IsTally}
 use Rattle.vrp_search.specs.declared.tally.Tally.{Tally}
 use Rattle.vrp_bound.specs.Capacity.{IsInsOf}
 use Rattle.vrp_model.specs.LeastWay.{IsLeastIn}
 use Rattle.vrp_search.proofs.WaysIn.{ins_at_depot, ins_with}
 use Rattle.vrp_model.proofs.DistinctWithin.{all_among, length_among, sum_among}
-use Rattle.vrp_search.proofs.Short.{fronts_are_short, length_customers, served_are_few}
+use Rattle.vrp_search.proofs.FrontLength.{fronts_are_short, length_customers, served_are_few}
 use Rattle.vrp_model.proofs.LastRoute.{last_route_closed, last_route_with, last_symbol_with, load_at_customer, load_at_depot}
 
 pub cost_with : (p : Problem) (word : List ℕ) (k : ℕ) → word_cost p (word ++ k ∷ []) ≡ word_cost p word + weight_of p (last_symbol word) k

@@ -1,6 +1,5 @@
 pub mod Child
 pub mod Cutting
+pub mod Inner
 pub mod Partial
-pub mod Pass
 pub mod Search
-pub mod Tallied

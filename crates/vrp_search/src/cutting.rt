@@ -5,7 +5,7 @@ ghost use Rattle.vrp_model.specs.Word.{IsFront};
 ghost use Rattle.vrp_model.specs.declared.limits.TheConstants.{MAX_NODES};
 ghost use Rattle.vrp_search.specs.declared.cutting.TheConstants.{MAX_PIECES, MAX_REFINED};
 ghost use Rattle.vrp_search.specs.Cutting.{AreNumbered, BeginsAmong, HasNoChild, IsCutting, IsRefined};
-ghost use Rattle.vrp_search.specs.Pass.{AreAdded, IsPass, IsStep};
+ghost use Rattle.vrp_search.specs.Inner.Pass.{AreAdded, IsPass, IsStep};
 
 use crate::partial::Partial;
 use crate::piece::Piece;

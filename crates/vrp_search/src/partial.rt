@@ -8,7 +8,7 @@ ghost use Rattle.vrp_search.specs.Partial.{PartialPlan};
 ghost use Rattle.vrp_model.specs.Front.{open_load};
 ghost use Rattle.vrp_search.specs.Child.{IsNextChild, NoChildFrom};
 ghost use Rattle.vrp_search.specs.Search.{AreCovered, IsLow};
-ghost use Rattle.vrp_search.specs.Tallied.{IsTally};
+ghost use Rattle.vrp_search.specs.Inner.Tallied.{IsTally};
 
 use crate::tally::Tally;
 use smallvec::SmallVec;
@@ -32,7 +32,7 @@ pub struct Partial<'a> {
 
 impl<'a> Model for Partial<'a> {
     ghost use Rattle.vrp_search.specs.Partial.{PartialPlan};
-    ghost use Rattle.vrp_search.specs.Tallied.{AreTallied, HasRoom};
+    ghost use Rattle.vrp_search.specs.Inner.Tallied.{AreTallied, HasRoom};
 
     ghost Value = { PartialPlan };
 

@@ -4,7 +4,7 @@ ghost use Rattle.vrp_bound.specs.Capacity.{IsInsOf};
 ghost use Rattle.vrp_model.specs.Problem.{customers, place_count};
 ghost use Rattle.vrp_model.specs.Route.{load_of};
 ghost use Rattle.vrp_model.specs.declared.limits.TheConstants.{MAX_WAYS};
-ghost use Rattle.vrp_search.specs.Tallied.{IsLowOf, IsTally};
+ghost use Rattle.vrp_search.specs.Inner.Tallied.{IsLowOf, IsTally};
 
 use vrp_bound::{Tables, bound};
 use vrp_model::Instance;

@@ -5,7 +5,7 @@ use Rattle.vrp_model.specs.Word.{IsFront}
 use Rattle.vrp_model.proofs.UnservedCustomers.{unserved_are_customers}
 use Rattle.vrp_search.specs.Search.{AreCovered, EndsSearch}
 use Rattle.vrp_command.specs.Searched.{AreSearched}
-use Rattle.vrp_command.proofs.Pieces.{contains_at, none_searched, one_more, piece_at, piece_finished, piece_left, with_one}
+use Rattle.vrp_command.proofs.SearchedPieces.{contains_at, none_searched, one_more, piece_at, piece_finished, piece_left, with_one}
 use Rattle.vrp_command.proofs.answer.search_all.Goals.{in-Unfinished, in_default}
 use Rattle.vrp_command.proofs.answer.search_all.Goals as goal
 

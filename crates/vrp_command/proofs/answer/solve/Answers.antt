@@ -3,7 +3,7 @@ use Rattle.vrp_model.specs.Route.{IsPlanOf, PricedPlan}
 use Rattle.vrp_model.specs.declared.limits.TheConstants.{MAX_NODES}
 use Rattle.vrp_command.specs.Answer.{IsLeftOpen}
 use Rattle.vrp_command.specs.Searched.{AreSearched}
-use Rattle.vrp_command.proofs.Pieces.{left_open, proven}
+use Rattle.vrp_command.proofs.SearchedPieces.{left_open, proven}
 use Rattle.vrp_command.proofs.answer.solve.Goals.{in-None, in-Some}
 use Rattle.vrp_command.proofs.answer.solve.Goals as goal
 

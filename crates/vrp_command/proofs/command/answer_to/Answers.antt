@@ -1,4 +1,4 @@
-use Rattle.vrp_command.proofs.Pieces.{answer_lawful}
+use Rattle.vrp_command.proofs.SearchedPieces.{answer_lawful}
 use Rattle.vrp_command.proofs.PlaceLemmas.{stops_within}
 use Rattle.vrp_command.proofs.command.answer_to.Goals as goal
 

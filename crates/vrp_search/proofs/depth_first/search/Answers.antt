@@ -4,8 +4,8 @@ use Rattle.vrp_model.specs.Word.{IsLawfulWord, TreeHasAtLeast, word_cost}
 use Rattle.vrp_search.specs.Child.{IsNextChild, NoChildFrom}
 use Rattle.vrp_search.specs.Partial.{PartialPlan}
 use Rattle.vrp_search.specs.Search.{AreCovered, IsLow}
-use Rattle.vrp_search.proofs.Lows.{NoneUnder, covered_more, covered_under, none_cheaper, none_left, none_under}
-use Rattle.vrp_search.proofs.Progress.{Progress, descended, finished, opened, pruned, returned, tree_of_seen, unfinished}
+use Rattle.vrp_search.proofs.LowBounds.{NoneUnder, covered_more, covered_under, none_cheaper, none_left, none_under}
+use Rattle.vrp_search.proofs.SearchProgress.{Progress, descended, finished, opened, pruned, returned, tree_of_seen, unfinished}
 use Rattle.vrp_search.proofs.depth_first.search.Goals as goal
 
 pub low-requires-clause-covered : goal.low-requires-clause-covered

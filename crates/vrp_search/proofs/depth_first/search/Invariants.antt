@@ -1,5 +1,5 @@
 use Rattle.std.proofs.Common.{◌≡◌, ◌≤◌, ◌+◌, ◌*◌, ◌-◌, length}
-use Rattle.vrp_search.proofs.Progress.{Progress}
+use Rattle.vrp_search.proofs.SearchProgress.{Progress}
 use Rattle.vrp_search.proofs.depth_first.search.Given as goal
 
 abbrev pub invariant-loop-partial : goal.invariant-loop-partial

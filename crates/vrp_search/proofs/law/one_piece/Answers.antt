@@ -1,4 +1,4 @@
-use Rattle.vrp_search.proofs.Exactly.{piece_of_word}
+use Rattle.vrp_search.proofs.OnePlace.{piece_of_word}
 use Rattle.vrp_search.proofs.law.one_piece.Goals as goal
 
 pub returns : goal.returns

@@ -1,5 +1,5 @@
 use Rattle.std.proofs.Common.{arith}
-use Rattle.vrp_search.proofs.Passes.{begin_further, enough_at_last, refined_more, refined_none}
+use Rattle.vrp_search.proofs.CuttingPasses.{begin_further, enough_at_last, refined_more, refined_none}
 use Rattle.vrp_search.proofs.cutting.Cutting.at_least.Goals as goal
 
 pub loop-depth-init : goal.loop-depth-init

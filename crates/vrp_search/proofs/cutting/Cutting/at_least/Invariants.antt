@@ -1,4 +1,4 @@
-use Rattle.vrp_search.proofs.Passes.{AreRefined}
+use Rattle.vrp_search.proofs.CuttingPasses.{AreRefined}
 use Rattle.vrp_search.proofs.cutting.Cutting.at_least.Given as goal
 
 abbrev pub invariant-loop-depth : goal.invariant-loop-depth

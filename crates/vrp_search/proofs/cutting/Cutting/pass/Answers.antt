@@ -1,5 +1,5 @@
 use Rattle.std.proofs.Common.{arith}
-use Rattle.vrp_search.proofs.Passes.{pass_all, pass_count, pass_none, pass_piece, piece_is_front}
+use Rattle.vrp_search.proofs.CuttingPasses.{pass_all, pass_count, pass_none, pass_piece, piece_is_front}
 use Rattle.vrp_search.proofs.cutting.Cutting.pass.Goals as goal
 
 pub loop-index-init : goal.loop-index-init

@@ -1,5 +1,5 @@
 use Rattle.std.proofs.Common.{drop}
-use Rattle.vrp_search.specs.Pass.{IsPass}
+use Rattle.vrp_search.specs.Inner.Pass.{IsPass}
 use Rattle.vrp_search.proofs.cutting.Cutting.pass.Given as goal
 
 abbrev pub invariant-loop-index : goal.invariant-loop-index

@@ -1,6 +1,6 @@
 use Rattle.std.proofs.Common.{◌≡◌, ◌+◌, ◌∷◌, [], ◌++◌, subst, sym, arith}
-use Rattle.vrp_search.proofs.Added.{AddedBelow, added_all, added_below_few, added_child, added_not}
-use Rattle.vrp_search.proofs.Views.{child_inside, child_outside}
+use Rattle.vrp_search.proofs.ChildrenListed.{AddedBelow, added_all, added_below_few, added_child, added_not}
+use Rattle.vrp_search.proofs.PartialViews.{child_inside, child_outside}
 use Rattle.vrp_search.proofs.cutting.Cutting.push_children.Goals as goal
 use Rattle.vrp_search.proofs.cutting.Cutting.push_children.Goals.{then-child+in_ok-child_word+in_ok-push, else-child}
 

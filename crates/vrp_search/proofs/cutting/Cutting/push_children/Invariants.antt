@@ -1,4 +1,4 @@
-use Rattle.vrp_search.proofs.Added.{AddedBelow}
+use Rattle.vrp_search.proofs.ChildrenListed.{AddedBelow}
 use Rattle.vrp_search.proofs.cutting.Cutting.push_children.Given as goal
 
 abbrev pub invariant-loop-symbol : goal.invariant-loop-symbol

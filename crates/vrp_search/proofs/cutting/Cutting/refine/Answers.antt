@@ -1,6 +1,6 @@
 use Rattle.std.proofs.Common.{true}
 use Rattle.vrp_search.specs.Cutting.{IsCutting, IsRefined}
-use Rattle.vrp_search.proofs.Refined.{piece_front, piece_refined}
+use Rattle.vrp_search.proofs.PieceRefined.{piece_front, piece_refined}
 use Rattle.vrp_search.proofs.cutting.Cutting.refine.Goals as goal
 
 pub push_children-requires-clause-front : goal.push_children-requires-clause-front

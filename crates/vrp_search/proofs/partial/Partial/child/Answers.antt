@@ -5,7 +5,7 @@ use Rattle.vrp_model.specs.Word.{IsFront, last_symbol}
 use Rattle.vrp_model.proofs.FrontPlaces.{symbol_is_place}
 use Rattle.vrp_search.specs.Partial.{PartialPlan}
 use Rattle.vrp_search.proofs.Tallies.{depot_child, first_child, next_child, no_served_child}
-use Rattle.vrp_search.proofs.Views.{at_inside, child_inside, child_outside}
+use Rattle.vrp_search.proofs.PartialViews.{at_inside, child_inside, child_outside}
 use Rattle.vrp_search.proofs.partial.Partial.child.Goals.{then-symbol-customers-via-then-symbol-customers, then-symbol-customers-via-else-symbol-customers+then-index}
 use Rattle.vrp_search.proofs.partial.Partial.child.Goals as goal
 

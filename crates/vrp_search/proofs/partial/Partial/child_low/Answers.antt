@@ -4,8 +4,8 @@ use Rattle.vrp_model.specs.Route.{load_of}
 use Rattle.vrp_model.proofs.UnservedCustomers.{sum_of_unserved_fits}
 use Rattle.vrp_model.proofs.LastRoute.{last_symbol_with}
 use Rattle.vrp_search.specs.Partial.{PartialPlan}
-use Rattle.vrp_search.specs.Tallied.{IsLowOf}
-use Rattle.vrp_search.proofs.Lows.{covered_more, low_is, rest_within}
+use Rattle.vrp_search.specs.Inner.Tallied.{IsLowOf}
+use Rattle.vrp_search.proofs.LowBounds.{covered_more, low_is, rest_within}
 use Rattle.vrp_search.proofs.partial.Partial.child_low.Goals as goal
 
 pub low-requires-clause-rest : goal.low-requires-clause-rest

@@ -3,7 +3,7 @@ use Rattle.std.proofs.lemmas.Bool.Decides.{nat_tests}
 use Rattle.vrp_model.specs.Word.{IsLawfulWord}
 use Rattle.vrp_search.specs.Partial.{PartialPlan}
 use Rattle.vrp_search.proofs.Tallies.{lawful_word, none_unserved}
-use Rattle.vrp_search.proofs.Views.{at_inside}
+use Rattle.vrp_search.proofs.PartialViews.{at_inside}
 use Rattle.vrp_search.proofs.partial.Partial.complete.Goals as goal
 
 pub returns-then-self-eq0 : goal.returns-then-self-eq0

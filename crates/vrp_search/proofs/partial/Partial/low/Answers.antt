@@ -4,10 +4,10 @@ use Rattle.vrp_model.proofs.UnservedCustomers.{sum_of_unserved_fits}
 use Rattle.vrp_model.proofs.FrontPlaces.{last_is_place}
 use Rattle.vrp_search.specs.Partial.{PartialPlan}
 use Rattle.vrp_search.specs.Search.{AreCovered, IsLow}
-use Rattle.vrp_search.specs.Tallied.{IsLowOf}
-use Rattle.vrp_search.proofs.Lows.{low_is, rest_within}
-use Rattle.vrp_search.proofs.Short.{fronts_are_short}
-use Rattle.vrp_search.proofs.Views.{at_inside}
+use Rattle.vrp_search.specs.Inner.Tallied.{IsLowOf}
+use Rattle.vrp_search.proofs.LowBounds.{low_is, rest_within}
+use Rattle.vrp_search.proofs.FrontLength.{fronts_are_short}
+use Rattle.vrp_search.proofs.PartialViews.{at_inside}
 use Rattle.vrp_search.proofs.partial.Partial.low.Goals as goal
 
 pub low-requires-clause-place : goal.low-requires-clause-place

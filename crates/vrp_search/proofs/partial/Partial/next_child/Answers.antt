@@ -1,7 +1,7 @@
 use Rattle.std.proofs.Common.{inl, inr, arith}
 use Rattle.std.proofs.lemmas.Bool.{cases_lt}
 use Rattle.vrp_model.proofs.FrontPlaces.{symbol_is_place}
-use Rattle.vrp_search.proofs.Views.{child_inside}
+use Rattle.vrp_search.proofs.PartialViews.{child_inside}
 use Rattle.vrp_search.proofs.partial.Partial.next_child.Goals as goal
 
 pub returns-clause-next : goal.returns-clause-next

@@ -1,7 +1,7 @@
 use Rattle.std.proofs.Common.{◌≡◌, ◌∙◌, subst, ap, [], ◌∷◌, ◌++◌, ℕ, List, arith}
 use Rattle.vrp_model.specs.Word.{IsFront}
 use Rattle.vrp_model.proofs.FrontPlaces.{symbol_is_place}
-use Rattle.vrp_search.specs.Tallied.{AreTallied}
+use Rattle.vrp_search.specs.Inner.Tallied.{AreTallied}
 use Rattle.std.specs.Option.{option_to_list}
 use Rattle.vrp_search.proofs.Tallies.{popped}
 use Rattle.vrp_search.proofs.partial.Partial.pop.Goals as goal

@@ -1,8 +1,8 @@
 use Rattle.std.proofs.Common.{sym, subst, [], ◌∷◌, ◌++◌, arith}
 use Rattle.vrp_search.specs.Partial.{PartialPlan}
-use Rattle.vrp_search.specs.Tallied.{IsTally}
+use Rattle.vrp_search.specs.Inner.Tallied.{IsTally}
 use Rattle.vrp_search.proofs.Tallies.{pushed}
-use Rattle.vrp_search.proofs.Views.{child_inside}
+use Rattle.vrp_search.proofs.PartialViews.{child_inside}
 use Rattle.vrp_search.proofs.partial.Partial.push.Goals as goal
 
 pub invariant_of-self : goal.invariant_of-self

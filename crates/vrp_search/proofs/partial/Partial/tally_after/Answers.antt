@@ -4,11 +4,11 @@ use Rattle.vrp_model.specs.Word.{IsFront, last_symbol}
 use Rattle.vrp_model.proofs.FrontPlaces.{last_is_place, symbol_is_place}
 use Rattle.vrp_search.specs.Partial.{PartialPlan}
 use Rattle.vrp_search.specs.declared.tally.Tally.{Tally}
-use Rattle.vrp_search.specs.Tallied.{IsTally}
+use Rattle.vrp_search.specs.Inner.Tallied.{IsTally}
 use Rattle.vrp_search.proofs.Tallies.{added, cost_fits, room_left, tally_at_customer, tally_at_depot}
 use Rattle.vrp_model.proofs.FrontWithSymbol.{closed_is_open}
 use Rattle.vrp_search.proofs.WaysIn.{ins_with}
-use Rattle.vrp_search.proofs.Views.{at_inside, child_inside}
+use Rattle.vrp_search.proofs.PartialViews.{at_inside, child_inside}
 use Rattle.vrp_search.proofs.partial.Partial.tally_after.Goals.{then-at-eq0, else-at-eq0}
 use Rattle.vrp_search.proofs.partial.Partial.tally_after.Goals as goal
 

@@ -6,9 +6,9 @@ use Rattle.vrp_model.specs.Problem.{Problem}
 use Rattle.vrp_model.specs.Word.{IsFront}
 use Rattle.vrp_search.specs.Child.{AreChildren}
 use Rattle.vrp_search.specs.Cutting.{IsCutting, IsRefined, NumberedWord}
-use Rattle.vrp_search.specs.Pass.{AreAdded}
-use Rattle.vrp_search.proofs.Cut.{children_instead, front_between}
-use Rattle.vrp_search.proofs.Added.{some_added}
+use Rattle.vrp_search.specs.Inner.Pass.{AreAdded}
+use Rattle.vrp_search.proofs.CuttingReplaced.{children_instead, front_between}
+use Rattle.vrp_search.proofs.ChildrenListed.{some_added}
 
 -- the piece at an index, in front of those behind it
 pub pieces_from : (pieces : List NumberedWord) (fronts : List (List ℕ)) (i : ℕ) (piece : NumberedWord) → map (λ x. x.word) pieces ≡ fronts → i < length pieces → piece ≡ get_or pieces i piece

@@ -10,11 +10,11 @@ use Rattle.vrp_model.specs.Problem.{IsProblem, Problem, place_count}
 use Rattle.vrp_model.specs.Word.{BeginsWith, IsFront}
 use Rattle.vrp_model.specs.declared.limits.TheConstants.{MAX_NODES}
 use Rattle.vrp_search.specs.Cutting.{BeginsAmong, HasNoChild, IsCutting, NumberedWord}
-use Rattle.vrp_search.specs.Pass.{AreDeep, IsPass, IsStep, StandsFor}
-use Rattle.vrp_search.proofs.Begins.{either}
-use Rattle.vrp_search.proofs.Short.{fronts_are_short}
-use Rattle.vrp_search.proofs.Cut.{front_between, stands_instead}
-use Rattle.vrp_search.proofs.Refined.{pieces_from}
+use Rattle.vrp_search.specs.Inner.Pass.{AreDeep, IsPass, IsStep, StandsFor}
+use Rattle.vrp_search.proofs.BeginsCounted.{either}
+use Rattle.vrp_search.proofs.FrontLength.{fronts_are_short}
+use Rattle.vrp_search.proofs.CuttingReplaced.{front_between, stands_instead}
+use Rattle.vrp_search.proofs.PieceRefined.{pieces_from}
 
 -- ---- what a word begins with
 

@@ -10,7 +10,7 @@ use Rattle.std.proofs.lemmas.List.Elements.{All-contains_itself, Contains-append
 use Rattle.vrp_model.specs.Problem.{IsProblem, Problem, place_count}
 use Rattle.vrp_model.specs.Word.{IsFront}
 use Rattle.vrp_model.proofs.FrontPlaces.{symbol_is_place}
-use Rattle.vrp_search.specs.Pass.{AreAdded}
+use Rattle.vrp_search.specs.Inner.Pass.{AreAdded}
 
 -- the children by symbols below a bound stand behind a list
 pub record AddedBelow (p : Problem) (front : List ℕ) (bound : ℕ) (old new : List (List ℕ)) : Type 0 where

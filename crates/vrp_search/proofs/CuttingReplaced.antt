@@ -8,8 +8,8 @@ use Rattle.vrp_model.specs.Word.{IsFront}
 use Rattle.vrp_model.proofs.FrontWithSymbol.{All-left}
 use Rattle.vrp_search.specs.Child.{AreChildren}
 use Rattle.vrp_search.specs.Cutting.{IsCutting, begins_with}
-use Rattle.vrp_search.specs.Pass.{StandsFor}
-use Rattle.vrp_search.proofs.Begins.{count-append, count-cons, count_children}
+use Rattle.vrp_search.specs.Inner.Pass.{StandsFor}
+use Rattle.vrp_search.proofs.BeginsCounted.{count-append, count-cons, count_children}
 
 All-right : {X : Type 0} (P : X → Type 0) (xs ys : List X) → All P (xs ++ ys) → All P ys
 All-right P xs ys all = λ k d lt. subst P (get_or-append-add xs ys k d) (all (length xs + k) d (omega (arith, lt, length-append xs ys)))

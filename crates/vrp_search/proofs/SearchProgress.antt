@@ -7,7 +7,7 @@ use Rattle.vrp_model.specs.Problem.{Problem}
 use Rattle.vrp_model.specs.Word.{BeginsWith, IsFront, IsLawfulWord, NoneCheaperUnder, TreeHasAtLeast, word_cost}
 use Rattle.vrp_model.proofs.FrontsBefore.{fronts_before}
 use Rattle.vrp_search.specs.Child.{IsNextChild, NoChildFrom}
-use Rattle.vrp_search.proofs.Order.{IsFrom, child_of_front, child_or_behind, from_itself, from_next, from_shorter, from_sibling, front_or_behind, not_from_longer, sibling_or_behind}
+use Rattle.vrp_search.proofs.WordOrder.{IsFrom, child_of_front, child_or_behind, from_itself, from_next, from_shorter, from_sibling, front_or_behind, not_from_longer, sibling_or_behind}
 
 -- so many fronts under the root, all of which come before the candidate
 pub record Seen (p : Problem) (root candidate : List ℕ) (count : ℕ) : Type 0 where

@@ -12,7 +12,7 @@ use Rattle.vrp_model.specs.Route.{load_of}
 use Rattle.vrp_model.specs.Word.{BeginsWith, IsLawfulWord, NoneCheaperUnder, last_symbol, unserved_in, word_cost}
 use Rattle.vrp_model.proofs.UnservedCustomers.{unserved_before, unserved_distinct}
 use Rattle.vrp_search.specs.Search.{AreCovered, IsLow}
-use Rattle.vrp_search.specs.Tallied.{IsLowOf, IsTally}
+use Rattle.vrp_search.specs.Inner.Tallied.{IsLowOf, IsTally}
 use Rattle.vrp_search.specs.declared.tally.Tally.{Tally}
 use Rattle.vrp_model.proofs.DistinctWithin.{sum_among}
 

@@ -5,7 +5,7 @@ use Rattle.std.proofs.lemmas.List.Sums.{sum_by-cons}
 use Rattle.vrp_model.specs.Problem.{Problem}
 use Rattle.vrp_model.specs.Word.{BeginsWith, IsLawfulWord}
 use Rattle.vrp_search.specs.Cutting.{IsCutting, begins_with}
-use Rattle.vrp_search.proofs.Begins.{begins_if, begins_only, either, one_if}
+use Rattle.vrp_search.proofs.BeginsCounted.{begins_if, begins_only, either, one_if}
 
 pub record IsOnly {X : Type 0} (test : X → Bool) (xs : List X) (d : X) : Type 0 where
   pub at : ℕ
