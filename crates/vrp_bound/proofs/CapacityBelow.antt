@@ -1,5 +1,5 @@
 -- What a lawful word adds to a front is no less than the capacity bound.
-use Rattle.std.proofs.Common.{◌≡◌, ◌≢◌, ℕ, zero, suc, ◌+◌, ◌-◌, ◌*◌, ◌≤◌, ◌==◌, if◌then◌else◌, false, List, [], ◌∷◌, ◌++◌, refl, sym, ap, ◌∙◌, arith}
+use Rattle.std.proofs.Common.{◌≡◌, ℕ, suc, ◌+◌, ◌-◌, ◌*◌, ◌≤◌, ◌==◌, if◌then◌else◌, false, List, [], ◌∷◌, ◌++◌, refl, sym, ap, ◌∙◌, arith}
 use Rattle.std.specs.List.{All, sum_by}
 use Rattle.std.proofs.lemmas.Bool.Decides.{nat_tests}
 use Rattle.std.proofs.lemmas.Nat.{mul-le}
@@ -82,11 +82,11 @@ pays_by_symbol p least_in home problem way_home =
       nothing = λ _. nothing_more p least_in home;
       home = λ j load more place light rest ins. then_home p least_in home j load more ((way_home.some (omega (arith, place))).least (suc j) place (λ same. omega (arith, same))) (rest ins);
       leaves = λ k more fits rest ins. (
-        let both = first_and_rest Into k more ins in
-        then_out p least_in home k more (both.0.least 0 (omega (arith, problem.some_places)) (λ same. omega (arith, same))) fits (rest both.1));
+          let both = first_and_rest Into k more ins in
+          then_out p least_in home k more (both.0.least 0 (omega (arith, problem.some_places)) (λ same. omega (arith, same))) fits (rest both.1));
       goes_on = λ j load k more place differs fits rest ins. (
-        let both = first_and_rest Into k more ins in
-        then_on p least_in home j load k more (both.0.least (suc j) place differs) fits (rest both.1));
+          let both = first_and_rest Into k more ins in
+          then_on p least_in home j load k more (both.0.least (suc j) place differs) fits (rest both.1));
     }
 
 pub none_adds_less : (p : Problem) (front more : List ℕ) (ins bound : ℕ) → IsProblem p → IsLawfulWord p (front ++ more) → IsInsOf p front ins

@@ -15,7 +15,7 @@ mod tests;
 pub enum Keyword {
     /// States something, once.
     Key(Key),
-    /// Is read over, with its value.
+    /// Is ignored, with its value.
     Remark,
     /// Begins data that are not looked at.
     Display,

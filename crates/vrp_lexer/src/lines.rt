@@ -152,7 +152,7 @@ impl<'a> Lines<'a> {
         Some(DataLine { number, text })
     }
 
-    /// The next line that begins with a keyword. The data lines before it are passed over. None where no such line is left.
+    /// The next line that begins with a keyword. The data lines before it are skipped. None where no such line is left.
     pub fn next_heading(&mut self) -> Option<Heading<'a>>
         ensures value { MatchOption result
             (parts_left self.old ≡ [])

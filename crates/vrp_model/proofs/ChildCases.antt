@@ -13,6 +13,7 @@ use Rattle.vrp_model.proofs.FrontWithSymbol.{All-last, All-left, closed_is_open,
 use Rattle.vrp_model.proofs.CustomerPlaces.{customer_is_some, load_with}
 use Rattle.vrp_model.proofs.UnservedCustomers.{unserved_is_customer}
 
+-- the first customers of some routes and one more
 pub firsts_with : (closed : List (List ℕ)) (route : List ℕ) → first_stops (closed ++ route ∷ []) ≡ first_stops closed ++ slice_index route 0 ∷ []
 firsts_with closed route = map-append (λ r. slice_index r 0) closed (route ∷ [])
 
@@ -85,6 +86,7 @@ by_shape : (p : Problem) (front : List ℕ) (k : ℕ) (closed : List (List ℕ))
 by_shape p front k closed [] is are free problem is_front some = closed_cases p front k closed is are problem is_front some
 by_shape p front k closed (stop ∷ stops) is are free problem is_front some = open_cases p front k closed stop stops is are free is_front some
 
+-- a symbol makes a child in three cases, and in no other
 pub cases_of_child : (p : Problem) (front : List ℕ) (k : ℕ) → IsProblem p → IsFront p front → IsFront p (front ++ k ∷ []) ↔ MakesChild p front k
 cases_of_child p front zero problem is_front = (
   λ child. inl (refl, closed_is_open p front child),

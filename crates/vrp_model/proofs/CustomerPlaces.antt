@@ -41,6 +41,7 @@ up_to p i lt =
     let same : get_or (customers p) i 0 ≡ i + 1 = omega (arith, value) in
     take_more (customers p) i 0 within ∙ ap (λ k. take i (customers p) ++ k ∷ []) same
 
+-- so many taken are all
 pub all_taken : (p : Problem) (count : ℕ) → count + 1 ≡ place_count p → take count (customers p) ≡ customers p
 all_taken p count all = take_all count (customers p) (omega (arith, all, length-range_with_len 1 (place_count p - 1)))
 
@@ -48,5 +49,6 @@ all_taken p count all = take_all count (customers p) (omega (arith, all, length-
 pub demand_more : (p : Problem) (i : ℕ) → i + 1 < place_count p → load_of p (take (i + 1) (customers p)) ≡ load_of p (take i (customers p)) + demand_of p (i + 1)
 demand_more p i lt = ap (load_of p) (up_to p i lt) ∙ load_with p (take i (customers p)) (i + 1)
 
+-- and demand what all do
 pub demand_all : (p : Problem) (count : ℕ) → count + 1 ≡ place_count p → load_of p (take count (customers p)) ≡ load_of p (customers p)
 demand_all p count all = ap (load_of p) (all_taken p count all)

@@ -19,6 +19,7 @@ AreDistinct xs = AllPairs (λ a b. a ≢ b) xs
 flips : (x y : ℕ) → (x == y) ≡ (y == x)
 flips x y = grind (arith, nat_tests)
 
+-- a rearrangement repeats nothing either
 pub AreDistinct-permutation : (xs ys : List ℕ) → IsPermutation xs ys → AreDistinct xs → AreDistinct ys
 AreDistinct-permutation xs ys moved distinct = AllPairs-from_IsDistinct Decides-eqb ys (IsDistinct-IsPermutation (λ x y. x == y) flips xs ys moved (IsDistinct-from_AllPairs Decides-eqb xs distinct))
 
@@ -35,6 +36,7 @@ pub in_tail : {X : Type 0} (x y : X) (xs : List X) → Contains (x ∷ xs) y →
 in_tail x y xs (zero, lt, is) differs = absurd (differs is)
 in_tail x y xs (suc k, lt, is) differs = (k, omega (arith, lt), is)
 
+-- what holds of each element holds of one that is contained
 pub member_at : (P : ℕ → Type 0) (xs : List ℕ) (x : ℕ) → All P xs → Contains xs x → P x
 member_at P xs x all (k, lt, is) = subst P is (all k x lt)
 
@@ -68,6 +70,7 @@ range_rises count = λ k lt.
 pub customers_rise : (p : Problem) → IsStrictlyIncreasing (customers p)
 customers_rise p = range_rises (place_count p - 1)
 
+-- no customer stands twice among all
 pub customers_distinct : (p : Problem) → AreDistinct (customers p)
 customers_distinct p =
     let below = AllPairs-from_increasing (customers p) (customers_rise p) in

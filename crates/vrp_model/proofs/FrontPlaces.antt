@@ -8,6 +8,7 @@ use Rattle.vrp_model.proofs.CustomerPlaces.{customer_below}
 use Rattle.vrp_model.proofs.FrontWithSymbol.{added_is_customer}
 use Rattle.vrp_model.proofs.Words.{last_behind, last_is, serves_customer}
 
+-- the symbol that a front ends with is a place
 pub symbol_is_place : (p : Problem) (word : List ℕ) (k : ℕ) → IsProblem p → IsFront p (word ++ k ∷ []) → k < place_count p
 symbol_is_place p word zero problem front = omega (arith, problem.some_places)
 symbol_is_place p word (suc k) problem front = customer_below p (suc k) (added_is_customer p word (suc k) (omega arith) front)
@@ -19,5 +20,6 @@ last_below p before (suc k ∷ word) below some known =
     let here = subst (All (Contains (customers p))) (serves_customer k word) known in
     last_below p (suc k) word (customer_below p (suc k) (here 0 (suc k) (omega arith))) some (λ i d lt. here (suc i) d (omega (arith, lt)))
 
+-- so is the last symbol of a front, 0 where it is empty
 pub last_is_place : (p : Problem) (word : List ℕ) → IsProblem p → IsFront p word → last_symbol word < place_count p
 last_is_place p word problem front = rw (last_is word) (last_below p 0 word (omega (arith, problem.some_places)) (omega (arith, problem.some_places)) front.known)

@@ -64,18 +64,22 @@ routes_with_stop closed stops k are free some =
     ap routes_of (append_assoc (word_of closed) stops (k ∷ []))
     ∙ routes_are closed (stops ++ k ∷ []) are (All-append (λ n. (n == 0) ≡ false) stops (k ∷ []) free (one_stop k some))
 
+-- a customer behind a word is served last
 pub served_with : (word : List ℕ) (k : ℕ) → 0 < k → served_in (word ++ k ∷ []) ≡ served_in word ++ k ∷ []
 served_with word k some = filter-append (λ n. not (n == 0)) word (k ∷ []) ∙ (let e : not (k == 0) ≡ true = grind (arith, nat_tests) in rw e refl)
 
+-- the depot behind a word serves nobody
 pub served_at_depot : (word : List ℕ) → served_in (word ++ 0 ∷ []) ≡ served_in word
 served_at_depot word = filter-append (λ n. not (n == 0)) word (0 ∷ []) ∙ append-nil (served_in word)
 
 -- ---- the depot
 
+-- an open route has a stop
 pub open_is_some : (closed : List (List ℕ)) (stops : List ℕ) → 0 < last_symbol (word_of closed ++ stops) → 0 < length stops
 open_is_some closed [] is_open = let e : last_symbol (word_of closed ++ []) ≡ 0 = last_of_shape closed [] in absurd (omega (arith, e, is_open))
 open_is_some closed (stop ∷ stops) is_open = omega arith
 
+-- a front with an open route may be closed
 pub front_closed : (p : Problem) (front : List ℕ) → IsFront p front → IsOpen front → IsFront p (front ++ 0 ∷ [])
 front_closed p front is_front is_open =
     let s = shape_of front is_front.stops in
@@ -89,11 +93,13 @@ front_closed p front is_front is_open =
       rising = subst (λ (rs : List (List ℕ)). IsStrictlyIncreasing (first_stops rs)) (sym routes) is_front.rising;
     }
 
+-- a front that ends with the depot had an open route before
 pub closed_is_open : (p : Problem) (front : List ℕ) → IsFront p (front ++ 0 ∷ []) → IsOpen front
 closed_is_open p front is_front = rw (last_is front) ((HasStops-parts 0 front (0 ∷ []) is_front.stops).1.0 refl)
 
 -- ---- a customer
 
+-- the last of some rising numbers is above the one before
 pub rising_last : (xs : List ℕ) (k : ℕ) → IsStrictlyIncreasing (xs ++ k ∷ []) → 0 < length xs → slice_index xs (length xs - 1) < k
 rising_last xs k rising some =
     let long : length (xs ++ k ∷ []) ≡ length xs + 1 = length-append xs (k ∷ []) in
@@ -103,6 +109,7 @@ rising_last xs k rising some =
     let high : slice_index (xs ++ k ∷ []) (length xs - 1 + 1) ≡ k = rw next (get_or-append_seam xs k [] 0) in
     omega (arith, step, low, high)
 
+-- rising numbers, and one above the last
 pub rising_more : (xs : List ℕ) (k : ℕ) → IsStrictlyIncreasing xs → (0 < length xs → slice_index xs (length xs - 1) < k) → IsStrictlyIncreasing (xs ++ k ∷ [])
 rising_more xs k rising above = λ i lt.
     let long : length (xs ++ k ∷ []) ≡ length xs + 1 = length-append xs (k ∷ []) in
@@ -122,18 +129,22 @@ rising_more xs k rising above = λ i lt.
 first_with : (stop : ℕ) (stops : List ℕ) (k : ℕ) → slice_index ((stop ∷ stops) ++ k ∷ []) 0 ≡ slice_index (stop ∷ stops) 0
 first_with stop stops k = refl
 
+-- the last element, by index
 pub last_of : {X : Type 0} (xs : List X) (x d : X) → slice_index_or (xs ++ x ∷ []) (length (xs ++ x ∷ []) - 1) d ≡ x
 last_of xs x d =
     let e : length (xs ++ x ∷ []) - 1 ≡ length xs = omega (arith, length-append xs (x ∷ [])) in
     rw e (get_or-append_seam xs x [] d)
 
+-- what holds of all of two parts holds of the first
 pub All-left : {X : Type 0} (P : X → Type 0) (xs ys : List X) → All P (xs ++ ys) → All P xs
 All-left P [] ys all = All-nil P
 All-left P (x ∷ xs) ys all = All-cons P x xs (all 0 x (omega arith)) (All-left P xs ys (λ i d lt. all (suc i) d (omega arith)))
 
+-- and of the last element
 pub All-last : {X : Type 0} (P : X → Type 0) (xs : List X) (x : X) → All P (xs ++ x ∷ []) → P x
 All-last P xs x all = subst P (get_or-append_seam xs x [] x) (all (length xs) x (omega (arith, length-append xs (x ∷ []))))
 
+-- what holds of all pairs of two parts holds of those of the first
 pub pairs_left : (R : ℕ → ℕ → Type 0) (xs ys : List ℕ) → AllPairs R (xs ++ ys) → AllPairs R xs
 pairs_left R xs ys pairs = λ i j d lt within.
     let a : get_or (xs ++ ys) i d ≡ get_or xs i d = get_or-append xs ys d i (omega arith) in
@@ -161,6 +172,7 @@ customer_added p front k routes is_front unserved is fits rising =
       rising = subst (λ (rs : List (List ℕ)). IsStrictlyIncreasing (first_stops rs)) (sym is) rising;
     }
 
+-- a customer that a front ends with was unserved before
 pub unserved_if_added : (p : Problem) (front : List ℕ) (k : ℕ) → 0 < k → IsFront p (front ++ k ∷ []) → Contains (unserved_in p front) k
 unserved_if_added p front k some is_front =
     unserved_if_not_served p front k

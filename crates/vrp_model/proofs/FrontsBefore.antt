@@ -102,6 +102,7 @@ child_behind p front word (k ∷ rest) lawful is longer =
           cc,
     )
 
+-- a lawful word that goes on behind a front is under one of its children
 pub one_child_behind : (p : Problem) (front word : List ℕ) → IsFront p front → IsLawfulWord p word → BeginsWith word front → word ≢ front
     → (k : ℕ) × IsFront p (front ++ k ∷ []) × BeginsWith word (front ++ k ∷ []) × ((j : ℕ) → BeginsWith word (front ++ j ∷ []) → j ≡ k)
 one_child_behind p front word is_front lawful begins longer = child_behind p front word begins.0 lawful begins.1 longer
@@ -110,6 +111,7 @@ begins_too : (front longer word : List ℕ) → BeginsWith longer front → Begi
 begins_too front longer word first second =
     (first.0 ++ second.0, second.1 ∙ ap (λ (xs : List ℕ). xs ++ second.0) first.1 ∙ append_assoc front first.0 second.0)
 
+-- the tree of a longer front is no larger
 pub longer_tree : (p : Problem) (front longer : List ℕ) (n : ℕ) → BeginsWith longer front → TreeHasAtLeast p longer n → TreeHasAtLeast p front n
 longer_tree p front longer n begins tree =
     (tree.0, tree.1, λ i d lt. (let one = tree.2 i d lt in (one.0, begins_too front longer _ begins one.1)), tree.3)

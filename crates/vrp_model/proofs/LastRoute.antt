@@ -11,6 +11,7 @@ use Rattle.vrp_model.proofs.Words.{AreClosed, IsStops, last_behind-append, last_
 use Rattle.vrp_model.proofs.FrontWithSymbol.{last_of, last_of_shape, last_stop, open_is_some, routes_when_closed, routes_with_stop}
 use Rattle.vrp_model.proofs.CustomerPlaces.{load_with}
 
+-- the last symbol of a word with one more
 pub last_symbol_with : (word : List ℕ) (k : ℕ) → last_symbol (word ++ k ∷ []) ≡ k
 last_symbol_with word k = last_is (word ++ k ∷ []) ∙ last_behind-append 0 word (k ∷ [])
 
@@ -49,6 +50,7 @@ by_shape word k closed (stop ∷ stops) is are free some =
       first = λ _. ap (λ (xs : List ℕ). slice_index xs 0) longer ∙ ap (λ (xs : List ℕ). slice_index xs 0) (sym last);
     }
 
+-- the last route of a word with a customer more
 pub last_route_with : (word : List ℕ) (k : ℕ) → HasStops 0 word → 0 < k → LastRouteWith word k
 last_route_with word k has some =
     let s = shape_of word has in
@@ -56,9 +58,11 @@ last_route_with word k has some =
 
 -- ---- what is on the truck of the open route
 
+-- no load where no route is open
 pub load_at_depot : (p : Problem) (word : List ℕ) → last_symbol word ≡ 0 → open_load p word ≡ 0
 load_at_depot p word at_depot = rw at_depot refl
 
+-- the load of the open route
 pub load_at_customer : (p : Problem) (word : List ℕ) → 0 < last_symbol word → open_load p word ≡ load_of p (last_route word)
 load_at_customer p word is_open = let test : (last_symbol word == 0) ≡ false = grind (arith, nat_tests) in rw test refl
 
@@ -86,5 +90,6 @@ load_by_case p word k problem front some made =
       ];
     }
 
+-- the load with a customer more
 pub load_with_customer : (p : Problem) (word : List ℕ) (k : ℕ) → IsProblem p → IsFront p word → 0 < k → IsFront p (word ++ k ∷ []) → LoadWith p word k
 load_with_customer p word k problem front some after = load_by_case p word k problem front some ((cases_of_child p word k problem front).0 after)

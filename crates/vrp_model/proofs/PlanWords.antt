@@ -30,6 +30,7 @@ served_by (route ∷ routes) are =
     ∙ ap (λ (xs : List ℕ). xs ++ served_in (word_of routes)) (filter-append (λ k. not (k == 0)) route (0 ∷ []) ∙ append-nil (served_in route) ∙ all_stops_kept route are.0)
     ∙ ap (λ (xs : List ℕ). route ++ xs) (served_by routes are.2)
 
+-- what is paid along two parts of a way
 pub cost_parts : (p : Problem) (at : ℕ) (xs ys : List ℕ) → cost_along p at (xs ++ ys) ≡ cost_along p at xs + cost_along p (last_behind at xs) ys
 cost_parts p at [] ys = omega arith
 cost_parts p at (x ∷ xs) ys = omega (arith, cost_parts p x xs ys)
@@ -78,6 +79,7 @@ by_open p word closed (stop ∷ stops) lawful is are free =
     let ends : last_symbol word ≡ last_behind 0 (stop ∷ stops) = ap last_symbol is ∙ last_of_shape closed (stop ∷ stops) in
     absurd (omega (arith, ends, lawful.closed, last_stop 0 (stop ∷ stops) free (omega arith)))
 
+-- a lawful word is the word of a lawful plan
 pub plan_of_word : (p : Problem) (word : List ℕ) → IsLawfulWord p word
     → (others : List (List ℕ)) × (word ≡ word_of others) × IsLawful p others × IsStrictlyIncreasing (first_stops others) × (plan_cost p others ≡ word_cost p word)
 plan_of_word p word lawful =
@@ -92,6 +94,7 @@ read_left xs ys i d lt = get_or-append xs ys d i lt
 read_right : (xs ys : List ℕ) (i d : ℕ) → get_or (xs ++ ys) (length xs + i) d ≡ get_or ys i d
 read_right xs ys i d = get_or-append-add xs ys i d
 
+-- a route that is not empty has a stop
 pub has_length : (route : List ℕ) → route ≢ [] → 0 < length route
 has_length [] differs = absurd (differs refl)
 has_length (k ∷ route) differs = omega arith
@@ -126,6 +129,7 @@ pub lawful_of_closed : (p : Problem) (word : List ℕ) (routes : List (List ℕ)
 unfolding plan_of_closed
 lawful_of_closed p word routes lawful is are = (plan_of_closed p word routes lawful is are).2
 
+-- the word of a lawful plan whose routes rise is lawful
 pub word_of_plan : (p : Problem) (routes : List (List ℕ)) → IsLawful p routes → IsStrictlyIncreasing (first_stops routes)
     → IsLawfulWord p (word_of routes) × (word_cost p (word_of routes) ≡ plan_cost p routes)
 word_of_plan p routes lawful rising =

@@ -35,12 +35,12 @@ contains_kept : (test : ℕ → Bool) (xs : List ℕ) (x : ℕ) → Contains xs 
 contains_kept test [] x (i, lt, is) passes = absurd (omega (arith, lt))
 contains_kept test (y ∷ ys) x (zero, lt, is) passes = let here : test y ≡ true = ap test is ∙ passes in rw here (0, omega arith, is)
 contains_kept test (y ∷ ys) x (suc i, lt, is) passes = (
-  let rest = contains_kept test ys x (i, omega (arith, lt), is) passes in
-  elim (both (test y)) [
-    | inl kept ↦ rw kept (behind_head y x (filter test ys) rest)
-    | inr dropped ↦ rw dropped rest
-  ]
-)
+    let rest = contains_kept test ys x (i, omega (arith, lt), is) passes in
+    elim (both (test y)) [
+      | inl kept ↦ rw kept (behind_head y x (filter test ys) rest)
+      | inr dropped ↦ rw dropped rest
+    ]
+    )
 
 kept_is_contained : (test : ℕ → Bool) (xs : List ℕ) (x : ℕ) → Contains (filter test xs) x → Contains xs x
 kept_is_contained test xs x kept = All-contains (Contains xs) (filter test xs) x (All-filter test (Contains xs) xs (All-contains_itself xs)) kept
@@ -61,6 +61,7 @@ pub stands_in-append : (word : List ℕ) (k j : ℕ) → j ≢ k → stands_in (
 stands_in-append [] k j differs = stands_behind k j [] (λ same. differs (sym same))
 stands_in-append (symbol ∷ word) k j differs = rw (stands_in-append word k j differs) refl
 
+-- the symbol behind a word stands in it
 pub stands_last : (word : List ℕ) (k : ℕ) → stands_in (word ++ k ∷ []) k ≡ true
 stands_last [] k = stands_here k []
 stands_last (symbol ∷ word) k = elim (nat_same symbol k) [

@@ -16,6 +16,7 @@ abbrev pub AreClosed : List (List ℕ) → Type 0
 AreClosed [] = Unit {0}
 AreClosed (route ∷ routes) = IsStops route × (0 < length route) × AreClosed routes
 
+-- the open route as a list of routes: none, where it has no stop
 abbrev pub open_routes : List ℕ → List (List ℕ)
 open_routes [] = []
 open_routes (stop ∷ stops) = (stop ∷ stops) ∷ []
@@ -28,9 +29,11 @@ pub record Shape (word : List ℕ) : Type 0 where
   pub are_closed : AreClosed closed
   pub are_stops : IsStops open_stops
 
+-- a number above 0 is no depot
 pub is_stop : (k : ℕ) → 0 < k → (k == 0) ≡ false
 is_stop k some = grind (arith, nat_tests)
 
+-- one customer is a list of stops
 pub one_stop : (k : ℕ) → 0 < k → IsStops (k ∷ [])
 one_stop k some = All-cons (λ n. (n == 0) ≡ false) k [] (is_stop k some) (All-nil (λ n. (n == 0) ≡ false))
 
@@ -52,13 +55,16 @@ kept_routes [] [] closed = refl
 kept_routes [] (stop ∷ stops) closed = let e : not (length (stop ∷ stops) == 0) ≡ true = not_empty (stop ∷ stops) (omega arith) in rw e refl
 kept_routes (route ∷ routes) stops closed = rw (not_empty route closed.1) (ap (λ rest. route ∷ rest) (kept_routes routes stops closed.2))
 
+-- the routes of a word are its closed ones and the open one
 pub routes_are : (closed : List (List ℕ)) (stops : List ℕ) → AreClosed closed → IsStops stops → routes_of (word_of closed ++ stops) ≡ closed ++ open_routes stops
 routes_are closed stops are free = ap (filter (λ r. not (length r == 0))) (pieces_are closed stops are free) ∙ kept_routes closed stops are
 
+-- the word of some routes and then of others
 pub word_of-append : (routes others : List (List ℕ)) → word_of (routes ++ others) ≡ word_of routes ++ word_of others
 word_of-append [] others = refl
 word_of-append (route ∷ routes) others = ap (λ rest. (route ++ 0 ∷ []) ++ rest) (word_of-append routes others) ∙ sym (append_assoc (route ++ 0 ∷ []) (word_of routes) (word_of others))
 
+-- closed routes, and closed routes behind them
 pub AreClosed-append : (routes others : List (List ℕ)) → AreClosed routes → AreClosed others → AreClosed (routes ++ others)
 AreClosed-append [] others are more = more
 AreClosed-append (route ∷ routes) others are more = (are.0, are.1, AreClosed-append routes others are.2 more)
@@ -88,14 +94,17 @@ abbrev pub last_behind : ℕ → List ℕ → ℕ
 last_behind before [] = before
 last_behind before (symbol ∷ word) = last_behind symbol word
 
+-- a word whose zeros stand behind customers, made of two parts
 pub HasStops-append : (before : ℕ) (word more : List ℕ) → HasStops before word → HasStops (last_behind before word) more → HasStops before (word ++ more)
 HasStops-append before [] more has behind = behind
 HasStops-append before (symbol ∷ word) more has behind = (has.0, HasStops-append symbol word more has.1 behind)
 
+-- and taken apart
 pub HasStops-parts : (before : ℕ) (word more : List ℕ) → HasStops before (word ++ more) → HasStops before word × HasStops (last_behind before word) more
 HasStops-parts before [] more has = (tt, has)
 HasStops-parts before (symbol ∷ word) more has = let rest = HasStops-parts symbol word more has.1 in ((has.0, rest.0), rest.1)
 
+-- the last symbol of two parts
 pub last_behind-append : (before : ℕ) (word more : List ℕ) → last_behind before (word ++ more) ≡ last_behind (last_behind before word) more
 last_behind-append before [] more = refl
 last_behind-append before (symbol ∷ word) more = last_behind-append symbol word more
@@ -104,6 +113,7 @@ last_at : (symbol : ℕ) (word : List ℕ) → slice_index (symbol ∷ word) (le
 last_at symbol [] = refl
 last_at symbol (next ∷ word) = last_at next word
 
+-- the last symbol, by index and by recursion
 pub last_is : (word : List ℕ) → last_symbol word ≡ last_behind 0 word
 last_is [] = refl
 last_is (symbol ∷ word) = let e : length (symbol ∷ word) - 1 ≡ length word = omega arith in rw e (last_at symbol word)

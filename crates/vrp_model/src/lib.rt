@@ -24,9 +24,7 @@ pub use law::{
     tree_sizes, trees_of_children, words_are_plans,
 };
 pub use layout::Layout;
-pub use limits::{
-    MAX_CAPACITY, MAX_COORDINATE, MAX_NODES, MAX_WAYS, MAX_WEIGHT, MAX_WHOLE_DEMAND,
-};
+pub use limits::{MAX_CAPACITY, MAX_COORDINATE, MAX_NODES, MAX_WAYS, MAX_WEIGHT, MAX_WHOLE_DEMAND};
 pub use memory::NoMemory;
 pub use metric::Metric;
 pub use plan::Plan;

@@ -29,7 +29,10 @@ mod tests {
 
     #[test]
     fn text(rt: HostRuntime) -> Result<(), Fail> {
-        assert_eq!(rt; NoMemory(()).to_string(rt.alloc())?.as_str(), "out of memory");
+        assert_eq!(rt;
+            NoMemory(()).to_string(rt.alloc())?.as_str(),
+            "out of memory"
+        );
         Ok(())
     }
 }

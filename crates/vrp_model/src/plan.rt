@@ -208,7 +208,6 @@ fn route_cost(instance: &Instance, stops: &[u16]) -> u64
 mod tests {
     use super::*;
     use crate::fixture::{Case, three_nodes};
-    use crate::law::plans_are_words;
     use crate::metric::Metric;
     use crate::weights::Weights;
     use std::test::Fail;
@@ -232,7 +231,7 @@ mod tests {
         Ok(())
     }
 
-    // The word of a lawful plan whose routes rise is read back.
+    // The word of a lawful plan is read back.
     #[test]
     fn words(rt: HostRuntime) -> Result<(), Fail> {
         let case = Case {
@@ -242,7 +241,6 @@ mod tests {
         };
         let instance = three_nodes(&rt, rt.alloc(), case)?;
         let singles = Plan::singles(rt.alloc(), &instance)?;
-        plans_are_words();
         let plan = Plan::of_word(rt.alloc(), &instance, singles.word())?;
         assert_eq!(rt; plan.word(), [1, 0, 2, 0].as_slice());
         assert_eq!(rt; plan.routes(), 2);
