@@ -1,6 +1,6 @@
 -- A list in which no element stands twice, and whose elements are all among those of another: it is no longer than the other,
 -- and has no greater sum.
-use Rattle.std.proofs.Common.{◌≡◌, ◌≢◌, ℕ, zero, suc, ◌≤◌, List, [], ◌∷◌, ◌++◌, length, length-append, get_or, sym, subst, ap, ◌∙◌, append-nil, arith}
+use Rattle.std.proofs.Common.{◌≡◌, ℕ, suc, ◌≤◌, List, [], ◌∷◌, ◌++◌, length, length-append, get_or, sym, subst, ap, ◌∙◌, append-nil, arith}
 use Rattle.std.specs.List.{All, Contains, remove, sum_by}
 use Rattle.std.specs.List.Sorted.{IsPermutation}
 use Rattle.std.proofs.lemmas.List.Elements.{All-contains_itself}

@@ -7,13 +7,11 @@ use Rattle.std.proofs.Math.ListN.{get_or-append}
 use Rattle.std.proofs.Math.Seq.{get_or-append_seam}
 use Rattle.std.proofs.lemmas.Bool.Decides.{nat_tests, leb_tells}
 use Rattle.std.proofs.lemmas.List.Elements.{All-cons, All-nil, All-append, filter-append}
-use Rattle.std.proofs.lemmas.List.FromFn.{get_or-range_with_len, length-range_with_len}
 use Rattle.std.proofs.lemmas.List.Quantifiers.{all_pairs_push}
-use Rattle.std.proofs.lemmas.List.Sums.{sum_by-append}
-use Rattle.vrp_model.specs.Problem.{Problem, customers, demand_of, place_count}
+use Rattle.vrp_model.specs.Problem.{Problem, customers}
 use Rattle.vrp_model.specs.Route.{load_of}
 use Rattle.vrp_model.specs.Word.{IsFront, IsOpen, first_stops, last_symbol, routes_of, served_in, unserved_in, word_of}
-use Rattle.vrp_model.proofs.CustomerPlaces.{customer_is_some, load_with}
+use Rattle.vrp_model.proofs.CustomerPlaces.{customer_is_some}
 use Rattle.vrp_model.proofs.UnservedCustomers.{unserved_differs, unserved_if_not_served, unserved_is_customer}
 use Rattle.vrp_model.proofs.Words.{AreClosed, AreClosed-append, HasStops-append, HasStops-parts, IsStops, last_behind, last_behind-append, last_is, one_stop, open_routes, routes_are, shape_of, word_of-append}
 

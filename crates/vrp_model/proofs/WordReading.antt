@@ -9,7 +9,7 @@ use Rattle.std.proofs.lemmas.Bool.Decides.{nat_tests}
 use Rattle.std.proofs.lemmas.List.{get_or-append-add, map-append, take_more, take_rest, nil_from_length}
 use Rattle.std.proofs.lemmas.List.Elements.{All-cons, All-nil}
 use Rattle.std.proofs.lemmas.List.Sorted.{length_permutation}
-use Rattle.std.proofs.lemmas.List.FromFn.{get_or-range_with_len, length-range_with_len}
+use Rattle.std.proofs.lemmas.List.FromFn.{length-range_with_len}
 use Rattle.vrp_model.specs.Problem.{Problem, IsProblem, customers, place_count, weight_of}
 use Rattle.vrp_model.specs.Route.{cost_along, plan_cost, route_cost}
 use Rattle.vrp_model.specs.Inner.Stops.{IsWordEnd}

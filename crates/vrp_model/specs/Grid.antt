@@ -1,5 +1,5 @@
 -- The weights between the nodes of a file, and what makes them the distances of the nodes' points.
-use Rattle.std.specs.Prelude.{◌≡◌, ℕ, ◌+◌, ◌-◌, ◌*◌, ◌≤◌, ℤ, pos, neg_ℤ, ◌≤ℤ◌, Some, List, length, slice_get, slice_index}
+use Rattle.std.specs.Prelude.{◌≡◌, ℕ, ◌+◌, ◌-◌, ◌*◌, ◌≤◌, ℤ, neg_ℤ, ◌≤ℤ◌, Some, List, length, slice_get, slice_index}
 use Rattle.vrp_model.specs.declared.metric.Metric.{Metric}
 use Rattle.vrp_model.specs.Distance.{IsDistance}
 use Rattle.vrp_model.specs.declared.limits.TheConstants.{MAX_COORDINATE, MAX_NODES, MAX_WEIGHT}

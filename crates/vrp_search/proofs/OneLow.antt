@@ -1,5 +1,5 @@
 -- What a word under a front costs at least is one number: two answers that fit the definition are equal.
-use Rattle.std.proofs.Common.{◌≡◌, ◌∙◌, ℕ, ◌+◌, ◌*◌, ◌≤◌, ◌<◌, ◌⊎◌, inl, inr, Option, Some, None, List, [], ◌∷◌, max, refl, sym, ap, subst, arith}
+use Rattle.std.proofs.Common.{◌≡◌, ◌∙◌, ℕ, ◌+◌, ◌⊎◌, inl, inr, Option, Some, None, List, [], ◌∷◌, max, refl, sym, ap, subst, arith}
 use Rattle.std.specs.Prelude.{MatchOption}
 use Rattle.std.specs.List.{All, sum_by}
 use Rattle.std.specs.Option.{option_map}
@@ -7,7 +7,7 @@ use Rattle.std.proofs.lemmas.Bool.{cases_eq, cases_lt}
 use Rattle.std.proofs.lemmas.List.Elements.{All-tail}
 use Rattle.std.proofs.lemmas.List.Sums.{sum_by-cons}
 use Rattle.vrp_bound.specs.Bound.{IsGreater}
-use Rattle.vrp_bound.specs.Capacity.{IsCapacityBound, IsInsOf, IsReturns, IsTrucks}
+use Rattle.vrp_bound.specs.Capacity.{IsCapacityBound, IsInsOf, IsReturns}
 use Rattle.vrp_bound.specs.Tables.{AreMade, IsBound}
 use Rattle.vrp_bound.specs.Walk.{IsLeastRelaxed, NoneRelaxed}
 use Rattle.vrp_model.specs.LeastWay.{IsLeastHome, IsLeastIn}

@@ -1,18 +1,16 @@
 -- A tally with one more symbol, and what is kept beside a word when a symbol is added or taken off.
-use Rattle.std.proofs.Common.{◌≡◌, ◌≢◌, ℕ, zero, suc, ◌+◌, ◌-◌, ◌*◌, ◌≤◌, ◌<◌, ◌==◌, Bool, true, false, if◌then◌else◌, List, [], ◌∷◌, ◌++◌, length, length-append, take, refl, sym, ap, subst, ◌∙◌, inl, inr, ◌⊎◌, arith}
-use Rattle.std.specs.List.{All, Contains}
+use Rattle.std.proofs.Common.{◌≡◌, ℕ, ◌+◌, ◌-◌, ◌*◌, ◌≤◌, ◌<◌, Bool, true, false, List, [], ◌∷◌, ◌++◌, length, length-append, take, refl, sym, ap, subst, ◌∙◌, inl, inr, arith}
+use Rattle.std.specs.List.{Contains}
 use Rattle.std.specs.Prelude.{slice_index, slice_index_or, slice_set, ◌↔◌}
 use Rattle.std.proofs.Math.ListN.{get_or-append}
 use Rattle.std.proofs.Math.Seq.{get_or-append_seam, take-append_seam}
-use Rattle.std.proofs.lemmas.Bool.Decides.{nat_tests}
 use Rattle.std.proofs.lemmas.Bool.{cases_lt}
 use Rattle.std.proofs.lemmas.List.{get_or_default, get_or-set_same, get_or-set_other, length-set, take-append-le}
-use Rattle.std.proofs.lemmas.List.Elements.{All-cons, All-nil}
 use Rattle.vrp_model.specs.declared.limits.TheConstants.{MAX_WAYS}
 use Rattle.vrp_model.specs.Problem.{IsProblem, Problem, customers, demand_of, place_count, weight_of}
 use Rattle.vrp_model.specs.Route.{load_of}
 use Rattle.vrp_model.specs.Word.{IsFront, IsLawfulWord, IsOpen, MakesChild, last_route, last_symbol, served_in, stands_in, unserved_in, word_cost}
-use Rattle.vrp_model.proofs.Words.{last_is, serves_customer}
+use Rattle.vrp_model.proofs.Words.{last_is}
 use Rattle.vrp_model.proofs.CustomerPlaces.{is_customer, load_with}
 use Rattle.vrp_model.proofs.FrontWithSymbol.{closed_is_open, served_at_depot, served_with, unserved_if_added}
 use Rattle.vrp_model.proofs.ChildCases.{cases_of_child}
@@ -26,7 +24,7 @@ use Rattle.vrp_search.specs.declared.tally.Tally.{Tally}
 use Rattle.vrp_bound.specs.Capacity.{IsInsOf}
 use Rattle.vrp_model.specs.LeastWay.{IsLeastIn}
 use Rattle.vrp_search.proofs.WaysIn.{ins_at_depot, ins_with}
-use Rattle.vrp_model.proofs.DistinctWithin.{all_among, length_among, sum_among}
+use Rattle.vrp_model.proofs.DistinctWithin.{all_among, length_among}
 use Rattle.vrp_search.proofs.FrontLength.{fronts_are_short, length_customers, served_are_few}
 use Rattle.vrp_model.proofs.LastRoute.{last_route_closed, last_route_with, last_symbol_with, load_at_customer, load_at_depot}
 

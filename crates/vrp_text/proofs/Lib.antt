@@ -1,4 +1,4 @@
-pub mod FilledSquare
+pub mod FilledToTheEnd
 pub mod InstanceLemmas
 pub mod LeastSearch
 pub mod ListedCells

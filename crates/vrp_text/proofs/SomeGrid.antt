@@ -13,7 +13,7 @@ use Rattle.vrp_model.specs.declared.layout.Layout.{Layout}
 use Rattle.vrp_model.specs.declared.metric.Metric.{Metric}
 use Rattle.vrp_text.specs.Complete.{Source, Points, Matrix, points_of}
 use Rattle.vrp_text.specs.Meaning.{HasWeights}
-use Rattle.vrp_text.proofs.FilledSquare.{cell_is_listed, listed_once, mirrored_once}
+use Rattle.vrp_text.proofs.FilledToTheEnd.{cell_is_listed, listed_once, mirrored_once}
 use Rattle.vrp_text.proofs.ListedCells.{IsNode, Stands, Listed, Mirrored, Diagonal, stands, listed_occurs, unlisted_absent}
 use Rattle.vrp_text.proofs.SomeDistance.{some_distance}
 

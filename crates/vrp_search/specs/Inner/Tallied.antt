@@ -1,5 +1,5 @@
 -- What a partial plan keeps beside its word: counters that are what they are called, and what they were before each symbol.
-use Rattle.std.specs.Prelude.{◌≡◌, ℕ, ◌+◌, ◌*◌, ◌≤◌, ◌<◌, Bool, false, Option, List, [], ◌∷◌, length, slice_index, slice_index_or, take}
+use Rattle.std.specs.Prelude.{◌≡◌, ℕ, ◌+◌, ◌*◌, ◌≤◌, ◌<◌, Bool, false, Option, List, length, slice_index, slice_index_or, take}
 use Rattle.std.specs.Option.{option_map}
 use Rattle.vrp_bound.specs.Bound.{IsGreater}
 use Rattle.vrp_bound.specs.Capacity.{IsInsOf}

@@ -1,4 +1,3 @@
-use Rattle.std.proofs.Common.{arith}
 use Rattle.vrp_search.proofs.Tallies.{tally_of_nothing}
 use Rattle.vrp_search.proofs.tally.Tally.root.Goals as goal
 
