@@ -9,7 +9,7 @@ use Rattle.vrp_model.specs.Problem.{Problem, IsProblem, demand_of}
 use Rattle.vrp_model.specs.Route.{load_of}
 use Rattle.vrp_model.specs.Word.{IsFront, IsOpen, MakesChild, first_stops, last_route, last_symbol, routes_of, word_of}
 use Rattle.vrp_model.proofs.Words.{AreClosed, IsStops, routes_are, shape_of}
-use Rattle.vrp_model.proofs.FrontWithSymbol.{All-last, All-left, closed_is_open, customer_added, front_closed, last_of, last_of_shape, last_stop, rising_last, rising_more, routes_with_stop, unserved_if_added}
+use Rattle.vrp_model.proofs.FrontWithSymbol.{All-last, All-left, closed_is_open, closed_runs_forward, customer_added, front_closed, last_of, last_of_shape, last_stop, rising_last, rising_more, routes_with_stop, unserved_if_added}
 use Rattle.vrp_model.proofs.CustomerPlaces.{customer_is_some, load_with}
 use Rattle.vrp_model.proofs.UnservedCustomers.{unserved_is_customer}
 
@@ -89,9 +89,9 @@ by_shape p front k closed (stop ∷ stops) is are free problem is_front some = o
 -- a symbol makes a child in three cases, and in no other
 pub cases_of_child : (p : Problem) (front : List ℕ) (k : ℕ) → IsProblem p → IsFront p front → IsFront p (front ++ k ∷ []) ↔ MakesChild p front k
 cases_of_child p front zero problem is_front = (
-  λ child. inl (refl, closed_is_open p front child),
+  λ child. inl (refl, closed_is_open p front child, closed_runs_forward p front child),
   λ made. elim made [
-    | inl depot ↦ front_closed p front is_front depot.1
+    | inl depot ↦ front_closed p front is_front depot.1 depot.2
     | inr (inl inside) ↦ absurd (omega (arith, customer_is_some p 0 (unserved_is_customer p front 0 inside.0)))
     | inr (inr behind) ↦ absurd (omega (arith, behind.2))
   ],

@@ -8,12 +8,12 @@ use Rattle.std.proofs.Math.Seq.{get_or-append_seam}
 use Rattle.std.proofs.lemmas.Bool.Decides.{nat_tests, leb_tells}
 use Rattle.std.proofs.lemmas.List.Elements.{All-cons, All-nil, All-append, filter-append}
 use Rattle.std.proofs.lemmas.List.Quantifiers.{all_pairs_push}
-use Rattle.vrp_model.specs.Problem.{Problem, customers}
+use Rattle.vrp_model.specs.Problem.{IsSymmetric, Problem, customers}
 use Rattle.vrp_model.specs.Route.{load_of}
-use Rattle.vrp_model.specs.Word.{IsFront, IsOpen, first_stops, last_symbol, routes_of, served_in, unserved_in, word_of}
+use Rattle.vrp_model.specs.Word.{HasStops, IsFront, IsOpen, RunsForward, closed_routes, first_stops, last_route, last_symbol, routes_of, served_in, unserved_in, word_of}
 use Rattle.vrp_model.proofs.CustomerPlaces.{customer_is_some}
 use Rattle.vrp_model.proofs.UnservedCustomers.{unserved_differs, unserved_if_not_served, unserved_is_customer}
-use Rattle.vrp_model.proofs.Words.{AreClosed, AreClosed-append, HasStops-append, HasStops-parts, IsStops, last_behind, last_behind-append, last_is, one_stop, open_routes, routes_are, shape_of, word_of-append}
+use Rattle.vrp_model.proofs.Words.{AreClosed, AreClosed-append, HasStops-append, HasStops-parts, IsStops, last_behind, last_behind-append, last_is, one_stop, open_routes, closed_routes_are, routes_are, shape_of, word_of-append}
 
 -- the last of some stops is a stop
 pub last_stop : (before : ℕ) (stops : List ℕ) → IsStops stops → 0 < length stops → 0 < last_behind before stops
@@ -42,16 +42,39 @@ last_of_closed closed =
 pub last_of_shape : (closed : List (List ℕ)) (stops : List ℕ) → last_symbol (word_of closed ++ stops) ≡ last_behind 0 stops
 last_of_shape closed stops = last_is (word_of closed ++ stops) ∙ last_behind-append 0 (word_of closed) stops ∙ ap (λ n. last_behind n stops) (last_of_closed closed)
 
+-- an open route has a stop
+pub open_is_some : (closed : List (List ℕ)) (stops : List ℕ) → 0 < last_symbol (word_of closed ++ stops) → 0 < length stops
+open_is_some closed [] is_open = let e : last_symbol (word_of closed ++ []) ≡ 0 = last_of_shape closed [] in absurd (omega (arith, e, is_open))
+open_is_some closed (stop ∷ stops) is_open = omega arith
+
+-- the last element, by index
+pub last_of : {X : Type 0} (xs : List X) (x d : X) → slice_index_or (xs ++ x ∷ []) (length (xs ++ x ∷ []) - 1) d ≡ x
+last_of xs x d =
+    let e : length (xs ++ x ∷ []) - 1 ≡ length xs = omega (arith, length-append xs (x ∷ [])) in
+    rw e (get_or-append_seam xs x [] d)
+
+-- what holds of all of two parts holds of the first
+pub All-left : {X : Type 0} (P : X → Type 0) (xs ys : List X) → All P (xs ++ ys) → All P xs
+All-left P [] ys all = All-nil P
+All-left P (x ∷ xs) ys all = All-cons P x xs (all 0 x (omega arith)) (All-left P xs ys (λ i d lt. all (suc i) d (omega arith)))
+
+-- and of the last element
+pub All-last : {X : Type 0} (P : X → Type 0) (xs : List X) (x : X) → All P (xs ++ x ∷ []) → P x
+All-last P xs x all = subst P (get_or-append_seam xs x [] x) (all (length xs) x (omega (arith, length-append xs (x ∷ []))))
+
+-- the word where the open route is closed
+closing : (closed : List (List ℕ)) (stops : List ℕ) → (word_of closed ++ stops) ++ 0 ∷ [] ≡ word_of (closed ++ stops ∷ []) ++ []
+closing closed stops =
+    append_assoc (word_of closed) stops (0 ∷ [])
+    ∙ ap (λ w. word_of closed ++ w) (sym (append-nil (stops ++ 0 ∷ [])))
+    ∙ sym (word_of-append closed (stops ∷ []))
+    ∙ sym (append-nil (word_of (closed ++ stops ∷ [])))
+
 -- the routes where the open one is closed
 pub routes_when_closed : (closed : List (List ℕ)) (stops : List ℕ) → AreClosed closed → IsStops stops → 0 < length stops → routes_of ((word_of closed ++ stops) ++ 0 ∷ []) ≡ routes_of (word_of closed ++ stops)
 routes_when_closed closed [] are free some = absurd (omega arith)
 routes_when_closed closed (stop ∷ stops) are free some =
-    let whole : (word_of closed ++ (stop ∷ stops)) ++ 0 ∷ [] ≡ word_of (closed ++ (stop ∷ stops) ∷ []) ++ [] =
-    append_assoc (word_of closed) (stop ∷ stops) (0 ∷ [])
-    ∙ ap (λ w. word_of closed ++ w) (sym (append-nil ((stop ∷ stops) ++ 0 ∷ [])))
-    ∙ sym (word_of-append closed ((stop ∷ stops) ∷ []))
-    ∙ sym (append-nil (word_of (closed ++ (stop ∷ stops) ∷ []))) in
-    ap routes_of whole
+    ap routes_of (closing closed (stop ∷ stops))
     ∙ routes_are (closed ++ (stop ∷ stops) ∷ []) [] (AreClosed-append closed ((stop ∷ stops) ∷ []) are (free, some, tt)) (All-nil (λ n. (n == 0) ≡ false))
     ∙ append-nil (closed ++ (stop ∷ stops) ∷ [])
     ∙ sym (routes_are closed (stop ∷ stops) are free)
@@ -61,6 +84,41 @@ pub routes_with_stop : (closed : List (List ℕ)) (stops : List ℕ) (k : ℕ) �
 routes_with_stop closed stops k are free some =
     ap routes_of (append_assoc (word_of closed) stops (k ∷ []))
     ∙ routes_are closed (stops ++ k ∷ []) are (All-append (λ n. (n == 0) ≡ false) stops (k ∷ []) free (one_stop k some))
+
+-- the closed routes where one more customer stands last
+closed_with_stop : (closed : List (List ℕ)) (stops : List ℕ) (k : ℕ) → AreClosed closed → IsStops stops → 0 < k → closed_routes ((word_of closed ++ stops) ++ k ∷ []) ≡ closed_routes (word_of closed ++ stops)
+closed_with_stop closed stops k are free some =
+    ap closed_routes (append_assoc (word_of closed) stops (k ∷ []))
+    ∙ closed_routes_are closed (stops ++ k ∷ []) are (All-append (λ n. (n == 0) ≡ false) stops (k ∷ []) free (one_stop k some))
+    ∙ sym (closed_routes_are closed stops are free)
+
+-- a customer behind a word closes no route
+pub closed_with_customer : (word : List ℕ) (k : ℕ) → HasStops 0 word → 0 < k → closed_routes (word ++ k ∷ []) ≡ closed_routes word
+closed_with_customer word k has some =
+    let s = shape_of word has in
+    ap (λ (w : List ℕ). closed_routes (w ++ k ∷ [])) s.is ∙ closed_with_stop s.closed s.open_stops k s.are_closed s.are_stops some ∙ sym (ap closed_routes s.is)
+
+closed_with_home : (closed : List (List ℕ)) (stops : List ℕ) → AreClosed closed → IsStops stops → 0 < length stops → closed_routes ((word_of closed ++ stops) ++ 0 ∷ []) ≡ closed ++ stops ∷ []
+closed_with_home closed stops are free some =
+    ap closed_routes (closing closed stops)
+    ∙ closed_routes_are (closed ++ stops ∷ []) [] (AreClosed-append closed (stops ∷ []) are (free, some, tt)) (All-nil (λ n. (n == 0) ≡ false))
+
+last_of_routes : (closed : List (List ℕ)) (stops : List ℕ) → AreClosed closed → IsStops stops → 0 < length stops → last_route (word_of closed ++ stops) ≡ stops
+last_of_routes closed [] are free some = absurd (omega arith)
+last_of_routes closed (stop ∷ stops) are free some =
+    ap (λ (rs : List (List ℕ)). slice_index_or rs (length rs - 1) []) (routes_are closed (stop ∷ stops) are free) ∙ last_of closed (stop ∷ stops) []
+
+-- the depot behind an open route closes it
+pub closed_at_depot : (word : List ℕ) → HasStops 0 word → IsOpen word → closed_routes (word ++ 0 ∷ []) ≡ closed_routes word ++ last_route word ∷ []
+closed_at_depot word has is_open =
+    let s = shape_of word has in
+    let some : 0 < length s.open_stops = open_is_some s.closed s.open_stops (subst (λ (w : List ℕ). 0 < last_symbol w) s.is is_open) in
+    let before : closed_routes word ≡ s.closed = ap closed_routes s.is ∙ closed_routes_are s.closed s.open_stops s.are_closed s.are_stops in
+    let last : last_route word ≡ s.open_stops = ap last_route s.is ∙ last_of_routes s.closed s.open_stops s.are_closed s.are_stops some in
+    ap (λ (w : List ℕ). closed_routes (w ++ 0 ∷ [])) s.is
+    ∙ closed_with_home s.closed s.open_stops s.are_closed s.are_stops some
+    ∙ ap (λ (r : List ℕ). s.closed ++ r ∷ []) (sym last)
+    ∙ ap (λ (rs : List (List ℕ)). rs ++ last_route word ∷ []) (sym before)
 
 -- a customer behind a word is served last
 pub served_with : (word : List ℕ) (k : ℕ) → 0 < k → served_in (word ++ k ∷ []) ≡ served_in word ++ k ∷ []
@@ -72,14 +130,9 @@ served_at_depot word = filter-append (λ n. not (n == 0)) word (0 ∷ []) ∙ ap
 
 -- ---- the depot
 
--- an open route has a stop
-pub open_is_some : (closed : List (List ℕ)) (stops : List ℕ) → 0 < last_symbol (word_of closed ++ stops) → 0 < length stops
-open_is_some closed [] is_open = let e : last_symbol (word_of closed ++ []) ≡ 0 = last_of_shape closed [] in absurd (omega (arith, e, is_open))
-open_is_some closed (stop ∷ stops) is_open = omega arith
-
 -- a front with an open route may be closed
-pub front_closed : (p : Problem) (front : List ℕ) → IsFront p front → IsOpen front → IsFront p (front ++ 0 ∷ [])
-front_closed p front is_front is_open =
+pub front_closed : (p : Problem) (front : List ℕ) → IsFront p front → IsOpen front → (IsSymmetric p → RunsForward (last_route front)) → IsFront p (front ++ 0 ∷ [])
+front_closed p front is_front is_open forward =
     let s = shape_of front is_front.stops in
     let some : 0 < length s.open_stops = open_is_some s.closed s.open_stops (subst (λ (w : List ℕ). 0 < last_symbol w) s.is is_open) in
     let routes : routes_of (front ++ 0 ∷ []) ≡ routes_of front = ap (λ (w : List ℕ). routes_of (w ++ 0 ∷ [])) s.is ∙ routes_when_closed s.closed s.open_stops s.are_closed s.are_stops some ∙ sym (ap routes_of s.is) in
@@ -89,11 +142,19 @@ front_closed p front is_front is_open =
       stops = HasStops-append 0 front (0 ∷ []) is_front.stops ((λ _. rw (← last_is front) is_open), tt);
       fits = subst (All (λ r. load_of p r ≤ p.capacity)) (sym routes) is_front.fits;
       rising = subst (λ (rs : List (List ℕ)). IsStrictlyIncreasing (first_stops rs)) (sym routes) is_front.rising;
+      forward = λ symmetric. subst (All RunsForward) (sym (closed_at_depot front is_front.stops is_open))
+          (All-append RunsForward (closed_routes front) (last_route front ∷ []) (is_front.forward symmetric) (All-cons RunsForward (last_route front) [] (forward symmetric) (All-nil RunsForward)));
     }
 
 -- a front that ends with the depot had an open route before
 pub closed_is_open : (p : Problem) (front : List ℕ) → IsFront p (front ++ 0 ∷ []) → IsOpen front
 closed_is_open p front is_front = rw (last_is front) ((HasStops-parts 0 front (0 ∷ []) is_front.stops).1.0 refl)
+
+-- and that route runs forward
+pub closed_runs_forward : (p : Problem) (front : List ℕ) → IsFront p (front ++ 0 ∷ []) → IsSymmetric p → RunsForward (last_route front)
+closed_runs_forward p front is_front symmetric =
+    let has = (HasStops-parts 0 front (0 ∷ []) is_front.stops).0 in
+    All-last RunsForward (closed_routes front) (last_route front) (subst (All RunsForward) (closed_at_depot front has (closed_is_open p front is_front)) (is_front.forward symmetric))
 
 -- ---- a customer
 
@@ -127,21 +188,6 @@ rising_more xs k rising above = λ i lt.
 first_with : (stop : ℕ) (stops : List ℕ) (k : ℕ) → slice_index ((stop ∷ stops) ++ k ∷ []) 0 ≡ slice_index (stop ∷ stops) 0
 first_with stop stops k = refl
 
--- the last element, by index
-pub last_of : {X : Type 0} (xs : List X) (x d : X) → slice_index_or (xs ++ x ∷ []) (length (xs ++ x ∷ []) - 1) d ≡ x
-last_of xs x d =
-    let e : length (xs ++ x ∷ []) - 1 ≡ length xs = omega (arith, length-append xs (x ∷ [])) in
-    rw e (get_or-append_seam xs x [] d)
-
--- what holds of all of two parts holds of the first
-pub All-left : {X : Type 0} (P : X → Type 0) (xs ys : List X) → All P (xs ++ ys) → All P xs
-All-left P [] ys all = All-nil P
-All-left P (x ∷ xs) ys all = All-cons P x xs (all 0 x (omega arith)) (All-left P xs ys (λ i d lt. all (suc i) d (omega arith)))
-
--- and of the last element
-pub All-last : {X : Type 0} (P : X → Type 0) (xs : List X) (x : X) → All P (xs ++ x ∷ []) → P x
-All-last P xs x all = subst P (get_or-append_seam xs x [] x) (all (length xs) x (omega (arith, length-append xs (x ∷ []))))
-
 -- what holds of all pairs of two parts holds of those of the first
 pub pairs_left : (R : ℕ → ℕ → Type 0) (xs ys : List ℕ) → AllPairs R (xs ++ ys) → AllPairs R xs
 pairs_left R xs ys pairs = λ i j d lt within.
@@ -168,6 +214,7 @@ customer_added p front k routes is_front unserved is fits rising =
       stops = HasStops-append 0 front (k ∷ []) is_front.stops ((λ zero_is. absurd (omega (arith, some, zero_is))), tt);
       fits = subst (All (λ r. load_of p r ≤ p.capacity)) (sym is) fits;
       rising = subst (λ (rs : List (List ℕ)). IsStrictlyIncreasing (first_stops rs)) (sym is) rising;
+      forward = λ symmetric. subst (All RunsForward) (sym (closed_with_customer front k is_front.stops some)) (is_front.forward symmetric);
     }
 
 -- a customer that a front ends with was unserved before

@@ -5,11 +5,11 @@ use Rattle.std.specs.List.Sorted.{IsStrictlyIncreasing}
 use Rattle.std.specs.Prelude.{slice_index, not, ◌==◌}
 use Rattle.std.proofs.Math.ListN.{get_or-append}
 use Rattle.std.proofs.lemmas.List.Elements.{All-cons, All-nil, All-append, filter-append}
-use Rattle.vrp_model.specs.Problem.{Problem, customers}
+use Rattle.vrp_model.specs.Problem.{IsSymmetric, Problem, customers}
 use Rattle.vrp_model.specs.Route.{load_of}
-use Rattle.vrp_model.specs.Word.{BeginsWith, IsFront, IsLawfulWord, TreeHasAtLeast, first_stops, last_symbol, routes_of, served_in, word_of}
+use Rattle.vrp_model.specs.Word.{BeginsWith, IsFront, IsLawfulWord, RunsForward, TreeHasAtLeast, closed_routes, first_stops, last_route, last_symbol, routes_of, served_in, word_of}
 use Rattle.vrp_model.proofs.Words.{AreClosed, HasStops-parts, IsStops, last_is, routes_are, shape_of}
-use Rattle.vrp_model.proofs.FrontWithSymbol.{All-last, All-left, open_is_some, pairs_left, routes_when_closed, routes_with_stop}
+use Rattle.vrp_model.proofs.FrontWithSymbol.{All-last, All-left, closed_at_depot, closed_is_open, closed_with_customer, open_is_some, pairs_left, routes_when_closed, routes_with_stop}
 use Rattle.vrp_model.proofs.ChildCases.{firsts_with}
 use Rattle.vrp_model.proofs.CustomerPlaces.{load_with}
 
@@ -66,6 +66,14 @@ routes_fit p front (suc k) after =
     let s = shape_of front (HasStops-parts 0 front (suc k ∷ []) after.stops).0 in
     routes_before p front (suc k) s.closed s.open_stops s.is s.are_closed s.are_stops (omega arith) after
 
+-- the closed routes of a front were closed before its last symbol, or it closes the last of them
+forward_before : (p : Problem) (front : List ℕ) (k : ℕ) → IsFront p (front ++ k ∷ []) → IsSymmetric p → All RunsForward (closed_routes front)
+forward_before p front zero after symmetric =
+    let has = (HasStops-parts 0 front (0 ∷ []) after.stops).0 in
+    All-left RunsForward (closed_routes front) (last_route front ∷ []) (subst (All RunsForward) (closed_at_depot front has (closed_is_open p front after)) (after.forward symmetric))
+forward_before p front (suc k) after symmetric =
+    subst (All RunsForward) (closed_with_customer front (suc k) (HasStops-parts 0 front (suc k ∷ []) after.stops).0 (omega arith)) (after.forward symmetric)
+
 front_before : (p : Problem) (front : List ℕ) (k : ℕ) → IsFront p (front ++ k ∷ []) → IsFront p front
 front_before p front k after =
     let routes = routes_fit p front k after in
@@ -76,6 +84,7 @@ front_before p front k after =
       stops = (HasStops-parts 0 front (k ∷ []) after.stops).0;
       fits = routes.fits;
       rising = routes.rising;
+      forward = forward_before p front k after;
     }
 
 -- what a front begins with is a front

@@ -3,6 +3,7 @@ pub mod Ceilings
 pub mod CellCounts
 pub mod ChildCases
 pub mod CustomerPlaces
+pub mod DeadFronts
 pub mod Distances
 pub mod DistinctLists
 pub mod DistinctWithin
@@ -19,7 +20,9 @@ pub mod PlanLemmas
 pub mod PlanWords
 pub mod Rising
 pub mod Rows
+pub mod SinglesWord
 pub mod Trees
+pub mod TurnedRoutes
 pub mod UnservedCustomers
 pub mod WordReading
 pub mod Words

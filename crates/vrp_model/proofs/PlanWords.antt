@@ -1,4 +1,4 @@
--- Lawful words are the words of lawful plans whose routes rise by first customer.
+-- Lawful words are the words of lawful plans whose routes rise by first customer and run forward.
 use Rattle.std.proofs.Common.{◌≡◌, ◌≢◌, ℕ, zero, suc, ◌+◌, ◌≤◌, ◌<◌, true, not, ◌==◌, false, List, [], ◌∷◌, ◌++◌, length, length-append, get_or, refl, sym, ap, subst, ◌∙◌, append-nil, arith}
 use Rattle.std.specs.List.{All, Contains, concat, filter}
 use Rattle.std.specs.List.Sorted.{IsPermutation, IsStrictlyIncreasing}
@@ -7,10 +7,10 @@ use Rattle.std.proofs.Math.ListN.{get_or-append}
 use Rattle.std.proofs.lemmas.List.{get_or-append-add}
 use Rattle.std.proofs.lemmas.List.Sums.{sum_by-cons}
 use Rattle.std.proofs.lemmas.List.Sorted.{IsPermutation-sym, Contains-permutation}
-use Rattle.vrp_model.specs.Problem.{Problem, customers}
+use Rattle.vrp_model.specs.Problem.{IsSymmetric, Problem, customers}
 use Rattle.vrp_model.specs.Route.{IsLawful, IsPlanOf, PricedPlan, cost_along, load_of, plan_cost, route_cost}
-use Rattle.vrp_model.specs.Word.{HasStops, IsLawfulWord, first_stops, last_symbol, routes_of, served_in, word_cost, word_of}
-use Rattle.vrp_model.proofs.Words.{AreClosed, HasStops-append, IsStops, is_stop, last_behind, last_behind-append, routes_are, shape_of}
+use Rattle.vrp_model.specs.Word.{HasStops, IsLawfulWord, RunsForward, closed_routes, first_stops, last_symbol, routes_of, served_in, word_cost, word_of}
+use Rattle.vrp_model.proofs.Words.{AreClosed, HasStops-append, IsStops, closed_routes_are, is_stop, last_behind, last_behind-append, routes_are, shape_of}
 use Rattle.vrp_model.proofs.FrontWithSymbol.{last_of_shape, last_stop}
 use Rattle.vrp_model.proofs.DistinctLists.{AreDistinct, AreDistinct-permutation, customers_distinct, same_elements}
 use Rattle.vrp_model.proofs.CustomerPlaces.{customer_is_some}
@@ -53,10 +53,11 @@ some_stops (route ∷ routes) are =
 -- ---- from a word to its plan
 
 plan_of_closed : (p : Problem) (word : List ℕ) (routes : List (List ℕ)) → IsLawfulWord p word → word ≡ word_of routes → AreClosed routes
-    → (others : List (List ℕ)) × (word ≡ word_of others) × IsLawful p others × IsStrictlyIncreasing (first_stops others) × (plan_cost p others ≡ word_cost p word)
+    → (others : List (List ℕ)) × (word ≡ word_of others) × IsLawful p others × IsStrictlyIncreasing (first_stops others) × (IsSymmetric p → All RunsForward others) × (plan_cost p others ≡ word_cost p word)
 plan_of_closed p word routes lawful is are =
     let served : served_in word ≡ concat routes = ap served_in is ∙ served_by routes are in
     let same : routes_of word ≡ routes = ap routes_of (is ∙ sym (append-nil (word_of routes))) ∙ routes_are routes [] are (All-nil _) ∙ append-nil routes in
+    let closed : closed_routes word ≡ routes = ap closed_routes (is ∙ sym (append-nil (word_of routes))) ∙ closed_routes_are routes [] are (All-nil _) in
     let distinct : AreDistinct (concat routes) = subst AreDistinct served lawful.front.once in (
       routes,
       is,
@@ -68,11 +69,12 @@ plan_of_closed p word routes lawful is are =
         fits = subst (All (λ r. load_of p r ≤ p.capacity)) same lawful.front.fits;
       },
       subst (λ (rs : List (List ℕ)). IsStrictlyIncreasing (first_stops rs)) same lawful.front.rising,
+      λ symmetric. subst (All RunsForward) closed (lawful.front.forward symmetric),
       sym (cost_of_word p routes) ∙ ap (word_cost p) (sym is),
     )
 
 by_open : (p : Problem) (word : List ℕ) (closed : List (List ℕ)) (stops : List ℕ) → IsLawfulWord p word → word ≡ word_of closed ++ stops → AreClosed closed → IsStops stops
-    → (others : List (List ℕ)) × (word ≡ word_of others) × IsLawful p others × IsStrictlyIncreasing (first_stops others) × (plan_cost p others ≡ word_cost p word)
+    → (others : List (List ℕ)) × (word ≡ word_of others) × IsLawful p others × IsStrictlyIncreasing (first_stops others) × (IsSymmetric p → All RunsForward others) × (plan_cost p others ≡ word_cost p word)
 by_open p word closed [] lawful is are free = plan_of_closed p word closed lawful (is ∙ append-nil (word_of closed)) are
 by_open p word closed (stop ∷ stops) lawful is are free =
     let ends : last_symbol word ≡ last_behind 0 (stop ∷ stops) = ap last_symbol is ∙ last_of_shape closed (stop ∷ stops) in
@@ -80,7 +82,7 @@ by_open p word closed (stop ∷ stops) lawful is are free =
 
 -- a lawful word is the word of a lawful plan
 pub plan_of_word : (p : Problem) (word : List ℕ) → IsLawfulWord p word
-    → (others : List (List ℕ)) × (word ≡ word_of others) × IsLawful p others × IsStrictlyIncreasing (first_stops others) × (plan_cost p others ≡ word_cost p word)
+    → (others : List (List ℕ)) × (word ≡ word_of others) × IsLawful p others × IsStrictlyIncreasing (first_stops others) × (IsSymmetric p → All RunsForward others) × (plan_cost p others ≡ word_cost p word)
 plan_of_word p word lawful =
     let s = shape_of word lawful.front.stops in
     by_open p word s.closed s.open_stops lawful s.is s.are_closed s.are_stops
@@ -128,10 +130,11 @@ pub lawful_of_closed : (p : Problem) (word : List ℕ) (routes : List (List ℕ)
 unfolding plan_of_closed
 lawful_of_closed p word routes lawful is are = (plan_of_closed p word routes lawful is are).2
 
--- the word of a lawful plan whose routes rise is lawful
-pub word_of_plan : (p : Problem) (routes : List (List ℕ)) → IsLawful p routes → IsStrictlyIncreasing (first_stops routes)
+-- the word of a lawful plan is lawful, where its routes rise and run forward
+pub word_of_plan : (p : Problem) (routes : List (List ℕ)) → IsLawful p routes → IsStrictlyIncreasing (first_stops routes) → (IsSymmetric p → All RunsForward routes)
     → IsLawfulWord p (word_of routes) × (word_cost p (word_of routes) ≡ plan_cost p routes)
-word_of_plan p routes lawful rising =
+word_of_plan p routes lawful rising forward =
+    let closed_are : AreClosed routes → closed_routes (word_of routes) ≡ routes = λ are. ap closed_routes (sym (append-nil (word_of routes))) ∙ closed_routes_are routes [] are (All-nil _) in
     let back : IsPermutation (customers p) (concat routes) = IsPermutation-sym (concat routes) (customers p) lawful.served in
     let above : All (λ k. 0 < k) (concat routes) = λ i d lt. customer_is_some p (get_or (concat routes) i d) (Contains-permutation (concat routes) (customers p) (get_or (concat routes) i d) lawful.served (All-contains_itself (concat routes) i d lt)) in
     let are : AreClosed routes = closed_from routes lawful.stops above in
@@ -144,6 +147,7 @@ word_of_plan p routes lawful rising =
           stops = stops_of_closed routes 0 are;
           fits = subst (All (λ r. load_of p r ≤ p.capacity)) (sym same) lawful.fits;
           rising = subst (λ (rs : List (List ℕ)). IsStrictlyIncreasing (first_stops rs)) (sym same) rising;
+          forward = λ symmetric. subst (All RunsForward) (sym (closed_are are)) (forward symmetric);
         };
         every = subst (λ (xs : List ℕ). All (Contains xs) (customers p)) (sym served) (λ i d lt. Contains-permutation (customers p) (concat routes) (get_or (customers p) i d) back (All-contains_itself (customers p) i d lt));
         closed = ap last_symbol (sym (append-nil (word_of routes))) ∙ last_of_shape routes [];
@@ -151,8 +155,8 @@ word_of_plan p routes lawful rising =
       cost_of_word p routes,
     )
 
--- the word of a lawful plan whose routes rise, at the plan's cost
-pub lawful_word_of : (p : Problem) (plan : PricedPlan) → IsPlanOf p plan → IsStrictlyIncreasing (first_stops plan.routes) → IsLawfulWord p (word_of plan.routes) × (word_cost p (word_of plan.routes) ≡ plan.cost)
-lawful_word_of p plan plan_of rising =
-    let (lawful, price) = word_of_plan p plan.routes plan_of.lawful rising in
+-- the word of a lawful plan whose routes rise and run forward, at the plan's cost
+pub lawful_word_of : (p : Problem) (plan : PricedPlan) → IsPlanOf p plan → IsStrictlyIncreasing (first_stops plan.routes) → (IsSymmetric p → All RunsForward plan.routes) → IsLawfulWord p (word_of plan.routes) × (word_cost p (word_of plan.routes) ≡ plan.cost)
+lawful_word_of p plan plan_of rising forward =
+    let (lawful, price) = word_of_plan p plan.routes plan_of.lawful rising forward in
     (lawful, price ∙ sym plan_of.priced)

@@ -1,11 +1,12 @@
 -- The routes of a word: closed ones, each followed by 0, and behind them the open one.
-use Rattle.std.proofs.Common.{◌≡◌, ℕ, zero, suc, ◌-◌, ◌<◌, true, false, not, ◌==◌, List, [], ◌∷◌, ◌++◌, length, length-append, refl, sym, ap, ◌∙◌, append_assoc, append-nil, arith}
+use Rattle.std.proofs.Common.{◌≡◌, ℕ, zero, suc, ◌-◌, ◌<◌, true, false, not, ◌==◌, List, [], ◌∷◌, ◌++◌, length, length-append, take, refl, sym, ap, ◌∙◌, append_assoc, append-nil, arith}
 use Rattle.std.specs.List.{All, filter, slice_split}
-use Rattle.std.specs.Prelude.{slice_index}
+use Rattle.std.specs.Prelude.{count_by, slice_index}
+use Rattle.std.proofs.Math.Seq.{take-append_seam}
 use Rattle.std.proofs.lemmas.Bool.Decides.{nat_tests}
 use Rattle.std.proofs.lemmas.List.Elements.{All-cons, All-nil, All-append}
-use Rattle.std.proofs.lemmas.List.Splits.{slice_split_at, slice_split_none}
-use Rattle.vrp_model.specs.Word.{HasStops, last_symbol, routes_of, served_in, word_of}
+use Rattle.std.proofs.lemmas.List.Splits.{length-slice_split, slice_split_at, slice_split_none}
+use Rattle.vrp_model.specs.Word.{HasStops, closed_routes, last_symbol, routes_of, served_in, word_of}
 
 -- stops alone, without the depot
 abbrev pub IsStops : List ℕ → Type 0
@@ -58,6 +59,14 @@ kept_routes (route ∷ routes) stops closed = rw (not_empty route closed.1) (ap 
 -- the routes of a word are its closed ones and the open one
 pub routes_are : (closed : List (List ℕ)) (stops : List ℕ) → AreClosed closed → IsStops stops → routes_of (word_of closed ++ stops) ≡ closed ++ open_routes stops
 routes_are closed stops are free = ap (filter (λ r. not (length r == 0))) (pieces_are closed stops are free) ∙ kept_routes closed stops are
+
+-- the closed routes of a word are those that a 0 follows
+pub closed_routes_are : (closed : List (List ℕ)) (stops : List ℕ) → AreClosed closed → IsStops stops → closed_routes (word_of closed ++ stops) ≡ closed
+closed_routes_are closed stops are free =
+    let word = word_of closed ++ stops in
+    let parts : slice_split (λ k. k == 0) word ≡ closed ++ stops ∷ [] = pieces_are closed stops are free in
+    let zeros : count_by (λ k. k == 0) word ≡ length closed = omega (arith, length-slice_split (λ k. k == 0) word, ap length parts, length-append closed (stops ∷ [])) in
+    ap (λ n. take n (slice_split (λ k. k == 0) word)) zeros ∙ ap (take (length closed)) parts ∙ take-append_seam closed (stops ∷ [])
 
 -- the word of some routes and then of others
 pub word_of-append : (routes others : List (List ℕ)) → word_of (routes ++ others) ≡ word_of routes ++ word_of others

@@ -6,3 +6,4 @@ pub mod Marks
 pub mod Places
 pub mod Rows
 pub mod Stops
+pub mod Symmetry

@@ -1,5 +1,5 @@
 -- The capacitated vehicle routing problem of TSPLIB 95 (section 1, type CVRP): the depot is place 0, and the customers are places 1 to m.
-use Rattle.std.specs.Prelude.{◌≡◌, ℕ, ◌+◌, ◌*◌, ◌-◌, ◌≤◌, List, length, slice_index}
+use Rattle.std.specs.Prelude.{◌≡◌, ℕ, ◌+◌, ◌*◌, ◌-◌, ◌≤◌, ◌<◌, List, length, slice_index}
 use Rattle.std.specs.List.{range_with_len}
 use Rattle.vrp_model.specs.declared.limits.TheConstants.{MAX_CAPACITY, MAX_NODES, MAX_WEIGHT}
 
@@ -27,6 +27,10 @@ demand_of p place = slice_index p.demands place
 
 abbrev pub weight_of : Problem → ℕ → ℕ → ℕ
 weight_of p from to = slice_index p.weights (from * place_count p + to)
+
+-- between any two places there and back cost the same
+abbrev pub IsSymmetric : Problem → Type 0
+IsSymmetric p = (from to : ℕ) → from < place_count p → to < place_count p → weight_of p from to ≡ weight_of p to from
 
 -- what is known of every problem that is made from a file
 pub record IsProblem (p : Problem) : Type 0 where

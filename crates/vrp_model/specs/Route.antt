@@ -1,5 +1,5 @@
 -- Routes and plans of the capacitated vehicle routing problem (TSPLIB 95, section 1, type CVRP).
-use Rattle.std.specs.Prelude.{◌≡◌, ◌≢◌, ℕ, ◌+◌, ◌≤◌, List, [], ◌∷◌, ◌++◌}
+use Rattle.std.specs.Prelude.{◌≡◌, ◌≢◌, ◌⊎◌, ℕ, ◌+◌, ◌≤◌, List, [], ◌∷◌, ◌++◌, reverse}
 use Rattle.std.specs.List.{All, concat, sum_by}
 use Rattle.std.specs.List.Sorted.{IsPermutation}
 use Rattle.vrp_model.specs.Problem.{Problem, customers, demand_of, weight_of}
@@ -35,3 +35,10 @@ pub record PricedPlan : Type 0 where
 pub record IsPlanOf (p : Problem) (plan : PricedPlan) : Type 0 where
   pub lawful : IsLawful p plan.routes
   pub priced : plan.cost ≡ plan_cost p plan.routes
+
+-- each route as it is, or turned round: from its last stop to its first
+abbrev pub AreTurned : List (List ℕ) → List (List ℕ) → Type 0
+AreTurned [] [] = Unit {0}
+AreTurned [] (other ∷ others) = ⊥
+AreTurned (route ∷ routes) [] = ⊥
+AreTurned (route ∷ routes) (other ∷ others) = ((other ≡ route) ⊎ (other ≡ reverse route)) × AreTurned routes others

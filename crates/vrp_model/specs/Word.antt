@@ -1,9 +1,9 @@
 -- A plan as one list, its word: its routes by rising first customer, each followed by 0, the depot. A front is what a word
 -- may begin with: a partial plan.
-use Rattle.std.specs.Prelude.{◌≡◌, ◌≢◌, ◌⊎◌, ℕ, ◌+◌, ◌-◌, ◌≤◌, ◌<◌, ◌==◌, Bool, not, List, [], ◌∷◌, ◌++◌, length, map, slice_index, slice_index_or}
+use Rattle.std.specs.Prelude.{◌≡◌, ◌≢◌, ◌⊎◌, ℕ, ◌+◌, ◌-◌, ◌≤◌, ◌<◌, ◌==◌, Bool, not, List, [], ◌∷◌, ◌++◌, count_by, length, map, slice_index, slice_index_or, take}
 use Rattle.std.specs.List.{All, AllPairs, Contains, filter, flat_map, list_any, slice_split}
 use Rattle.std.specs.List.Sorted.{IsStrictlyIncreasing}
-use Rattle.vrp_model.specs.Problem.{Problem, customers, demand_of}
+use Rattle.vrp_model.specs.Problem.{IsSymmetric, Problem, customers, demand_of}
 use Rattle.vrp_model.specs.Route.{load_of, cost_along}
 
 abbrev pub word_of : List (List ℕ) → List ℕ
@@ -12,6 +12,10 @@ word_of routes = flat_map (λ r. r ++ 0 ∷ []) routes
 -- the stops of each route, those of the open one last where there is one: what stands between the zeros
 abbrev pub routes_of : List ℕ → List (List ℕ)
 routes_of word = filter (λ r. not (length r == 0)) (slice_split (λ k. k == 0) word)
+
+-- the stops of each closed route: what stands before each 0, back to the one before it
+abbrev pub closed_routes : List ℕ → List (List ℕ)
+closed_routes word = take (count_by (λ k. k == 0) word) (slice_split (λ k. k == 0) word)
 
 -- the customers, in the order in which they stand
 abbrev pub served_in : List ℕ → List ℕ
@@ -23,6 +27,10 @@ first_stops routes = map (λ r. slice_index r 0) routes
 
 abbrev pub last_symbol : List ℕ → ℕ
 last_symbol word = slice_index word (length word - 1)
+
+-- a route's first customer is not above its last: of its two directions, the one that starts at the lower end
+abbrev pub RunsForward : List ℕ → Type 0
+RunsForward route = slice_index route 0 ≤ last_symbol route
 
 -- a customer stands last: its route isn't closed by a 0 yet
 abbrev pub IsOpen : List ℕ → Type 0
@@ -40,6 +48,8 @@ pub record IsFront (p : Problem) (word : List ℕ) : Type 0 where
   pub stops : HasStops 0 word
   pub fits : All (λ r. load_of p r ≤ p.capacity) (routes_of word)
   pub rising : IsStrictlyIncreasing (first_stops (routes_of word))
+  -- where both directions of a route cost the same, a closed one runs forward
+  pub forward : IsSymmetric p → All RunsForward (closed_routes word)
 
 -- a front that has every customer and no open route
 pub record IsLawfulWord (p : Problem) (word : List ℕ) : Type 0 where
@@ -85,11 +95,18 @@ stands_in word k = list_any (λ symbol. symbol == k) word
 abbrev pub unserved_in : Problem → List ℕ → List ℕ
 unserved_in p word = filter (λ k. not (stands_in word k)) (customers p)
 
--- the symbols that make a child of a front, in three cases: the depot, where a route is open; an unserved customer, where a
--- route is open that can still carry its demand; an unserved customer, where no route is open and the customer is above the
--- first one of the last route, or there is no route yet
+-- the symbols that make a child of a front, in three cases: the depot, where a route is open that may be closed as it runs; an
+-- unserved customer, where a route is open that can still carry its demand; an unserved customer, where no route is open and the
+-- customer is above the first one of the last route, or there is no route yet
 abbrev pub MakesChild : Problem → List ℕ → ℕ → Type 0
 MakesChild p word k =
-    ((k ≡ 0) × IsOpen word)
+    ((k ≡ 0) × IsOpen word × (IsSymmetric p → RunsForward (last_route word)))
     ⊎ (Contains (unserved_in p word) k × IsOpen word × (load_of p (last_route word) + demand_of p k ≤ p.capacity))
     ⊎ (Contains (unserved_in p word) k × (last_symbol word ≡ 0) × (slice_index (last_route word) 0 < k))
+
+-- No plan is under the front, where both directions of a route cost the same: every unserved customer is below the first one of
+-- the last route, so no route can be opened any more, and the last one would end with one of them, or ends below its first
+pub record IsDead (p : Problem) (front : List ℕ) : Type 0 where
+  pub symmetric : IsSymmetric p
+  pub below : All (λ k. k < slice_index (last_route front) 0) (unserved_in p front)
+  pub ends : (0 < length (unserved_in p front)) ⊎ (IsOpen front × (last_symbol front < slice_index (last_route front) 0))

@@ -1,9 +1,9 @@
 //! An instance of the problem: the depot is place 0, and the customers are places 1 to m by rising node number.
-ghost use Rattle.std.specs.Prelude.{◌≡◌, ℕ, ◌+◌, ◌*◌, ◌-◌, ◌≤◌, ◌<◌, Option, unwrap_or, IfOk, IfErr, OnOk, Bool, not, filter, map, List, ◌∷◌, ◌++◌, length, slice_index, true, false};
+ghost use Rattle.std.specs.Prelude.{◌≡◌, ◌↔◌, ℕ, ◌+◌, ◌*◌, ◌-◌, ◌≤◌, ◌<◌, IsTrue, Option, unwrap_or, IfOk, IfErr, OnOk, Bool, not, filter, map, List, ◌∷◌, ◌++◌, length, slice_index, true, false};
 ghost use Rattle.std.specs.List.{range_with_len, flat_map};
 ghost use Rattle.vrp_model.specs.Grid.{entry_at};
 ghost use Rattle.vrp_model.specs.LeastWay.{IsLeastHome, IsLeastIn};
-ghost use Rattle.vrp_model.specs.Problem.{place_count, customers, node_of, demand_of, weight_of, IsProblem};
+ghost use Rattle.vrp_model.specs.Problem.{place_count, customers, node_of, demand_of, weight_of, IsProblem, IsSymmetric};
 ghost use Rattle.vrp_model.specs.Route.{load_of};
 ghost use Rattle.vrp_model.specs.Request.{is_listed, node_demand, IsAcceptable, problem_of, NoDepotHasDemand, NoneIsTooHeavy};
 
@@ -11,6 +11,7 @@ use crate::depots::Depots;
 use crate::least::least_ways;
 use crate::limits::{MAX_CAPACITY, MAX_NODES, MAX_WEIGHT, MAX_WHOLE_DEMAND};
 use crate::places::{demands_of, places, weights_between};
+use crate::symmetry::is_symmetric;
 use crate::weights::Weights;
 use std::alloc::{AllocError, Global};
 use std::marker::Model;
@@ -42,6 +43,7 @@ pub struct Instance {
     capacity: u64,
     // Into each place; into the depot it is 0 where there is no customer.
     least_in: Vec<u32>,
+    symmetric: bool,
 }
 
 impl Model for Instance {
@@ -52,7 +54,7 @@ impl Model for Instance {
 
     ghost view = { λ a. record { nodes = a.nodes.items; demands = a.demands.items; weights = a.weights.items; capacity = a.capacity } };
 
-    ghost invariant = { λ a. IsKeptProblem (record { nodes = a.nodes.items; demands = a.demands.items; weights = a.weights.items; capacity = a.capacity }) a.least_in.items };
+    ghost invariant = { λ a. IsKeptProblem (record { nodes = a.nodes.items; demands = a.demands.items; weights = a.weights.items; capacity = a.capacity }) a.least_in.items a.symmetric };
 }
 
 impl Instance {
@@ -117,12 +119,14 @@ impl Instance {
         let weights = weights_between(alloc, weights, &nodes)?;
         let demands = demands_of(alloc, &nodes, demands)?;
         let least_in = least_ways(alloc, &weights, nodes.len())?;
+        let symmetric = is_symmetric(&weights, nodes.len());
         Ok(Instance {
             nodes,
             demands,
             weights,
             capacity,
             least_in,
+            symmetric,
         })
     }
 
@@ -181,6 +185,13 @@ impl Instance {
     {
         let row = usize::from(from) * self.nodes.len();
         u64::from(self.weights[row + usize::from(to)])
+    }
+
+    /// Whether there and back cost the same between any two places.
+    pub fn symmetric(&self) -> bool
+        ensures { IsTrue result ↔ IsSymmetric self.now }
+    {
+        self.symmetric
     }
 
     /// The least weight of a way into a customer from any other place.

@@ -3,9 +3,9 @@ ghost use Rattle.std.specs.Prelude.{◌≡◌, ◌≢◌, ◌↔◌, ℕ, ℤ, �
 ghost use Rattle.std.specs.List.{All, Contains, sum_by};
 ghost use Rattle.std.specs.List.Sorted.{IsPermutation, IsStrictlyIncreasing};
 ghost use Rattle.vrp_model.specs.Distance.{IsDistance};
-ghost use Rattle.vrp_model.specs.Problem.{IsProblem, Problem};
-ghost use Rattle.vrp_model.specs.Route.{IsLawful, plan_cost};
-ghost use Rattle.vrp_model.specs.Word.{BeginsWith, IsFront, IsLawfulWord, MakesChild, TreeHas, TreeHasAtLeast, first_stops, word_cost, word_of};
+ghost use Rattle.vrp_model.specs.Problem.{IsProblem, IsSymmetric, Problem};
+ghost use Rattle.vrp_model.specs.Route.{AreTurned, IsLawful, plan_cost};
+ghost use Rattle.vrp_model.specs.Word.{BeginsWith, IsDead, IsFront, IsLawfulWord, MakesChild, RunsForward, TreeHas, TreeHasAtLeast, first_stops, word_cost, word_of};
 ghost use Rattle.vrp_model.specs.declared.metric.Metric.{Metric};
 
 /// Two points have one distance by a metric, and no other.
@@ -13,15 +13,17 @@ pub fn one_distance()
     ensures { (metric : Metric) (a b : ℤ × ℤ) (j k : ℕ) → IsDistance metric a b j → IsDistance metric a b k → j ≡ k }
 {}
 
-/// A lawful word is the word of a lawful plan whose routes rise by first customer, and costs what the plan costs.
+/// A lawful word is the word of a lawful plan whose routes rise by first customer and, in a symmetric problem, run forward. It
+/// costs what the plan costs.
 pub fn words_are_plans()
     ensures { (p : Problem) (word : List ℕ) → IsLawfulWord p word
-        → (routes : List (List ℕ)) × (word ≡ word_of routes) × IsLawful p routes × IsStrictlyIncreasing (first_stops routes) × (plan_cost p routes ≡ word_cost p word) }
+        → (routes : List (List ℕ)) × (word ≡ word_of routes) × IsLawful p routes × IsStrictlyIncreasing (first_stops routes) × (IsSymmetric p → All RunsForward routes) × (plan_cost p routes ≡ word_cost p word) }
 {}
 
-/// The word of a lawful plan whose routes rise by first customer is a lawful word of the same cost.
+/// The word of a lawful plan whose routes rise by first customer and, in a symmetric problem, run forward is a lawful word of the
+/// same cost.
 pub fn plans_are_words()
-    ensures { (p : Problem) (routes : List (List ℕ)) → IsLawful p routes → IsStrictlyIncreasing (first_stops routes)
+    ensures { (p : Problem) (routes : List (List ℕ)) → IsLawful p routes → IsStrictlyIncreasing (first_stops routes) → (IsSymmetric p → All RunsForward routes)
         → IsLawfulWord p (word_of routes) × (word_cost p (word_of routes) ≡ plan_cost p routes) }
 {}
 
@@ -29,6 +31,18 @@ pub fn plans_are_words()
 pub fn plans_can_rise()
     ensures { (p : Problem) (routes : List (List ℕ)) → IsLawful p routes
         → (others : List (List ℕ)) × IsPermutation routes others × IsLawful p others × IsStrictlyIncreasing (first_stops others) × (plan_cost p others ≡ plan_cost p routes) }
+{}
+
+/// The routes of a lawful plan can be turned round so that they run forward in a symmetric problem, which is a lawful plan of the
+/// same cost.
+pub fn plans_can_turn()
+    ensures { (p : Problem) (routes : List (List ℕ)) → IsLawful p routes
+        → (others : List (List ℕ)) × AreTurned routes others × IsLawful p others × (IsSymmetric p → All RunsForward others) × (plan_cost p others ≡ plan_cost p routes) }
+{}
+
+/// So every lawful plan has a lawful word of the same cost.
+pub fn plans_have_words()
+    ensures { (p : Problem) (routes : List (List ℕ)) → IsLawful p routes → (word : List ℕ) × IsLawfulWord p word × (word_cost p word ≡ plan_cost p routes) }
 {}
 
 /// A symbol makes a child of a front in three cases, and in no other.
@@ -57,4 +71,9 @@ pub fn tree_sizes()
 /// The tree of a front is no smaller than that of a longer one.
 pub fn longer_trees()
     ensures { (p : Problem) (front longer : List ℕ) (n : ℕ) → BeginsWith longer front → TreeHasAtLeast p longer n → TreeHasAtLeast p front n }
+{}
+
+/// No lawful word begins with a dead front.
+pub fn dead_fronts()
+    ensures { (p : Problem) (front word : List ℕ) → IsProblem p → IsDead p front → IsLawfulWord p word → BeginsWith word front → ⊥ }
 {}

@@ -16,12 +16,14 @@ mod metric;
 mod places;
 mod plan;
 mod root;
+mod symmetry;
 mod weights;
 
 pub use instance::{Instance, InstanceError};
 pub use law::{
-    child_cases, longer_trees, one_child, one_distance, plans_are_words, plans_can_rise,
-    tree_sizes, trees_of_children, words_are_plans,
+    child_cases, dead_fronts, longer_trees, one_child, one_distance, plans_are_words,
+    plans_can_rise, plans_can_turn, plans_have_words, tree_sizes, trees_of_children,
+    words_are_plans,
 };
 pub use layout::Layout;
 pub use limits::{MAX_CAPACITY, MAX_COORDINATE, MAX_NODES, MAX_WAYS, MAX_WEIGHT, MAX_WHOLE_DEMAND};

@@ -2,10 +2,10 @@
 ghost use Rattle.std.specs.Prelude.{◌≡◌, ℕ, ◌+◌, ◌*◌, ◌<◌, ◌≤◌, ◌==◌, false, Some, IfOk, OnOk, List, [], ◌∷◌, ◌++◌, ◌^◌, length, map, slice_get};
 ghost use Rattle.std.specs.List.{All, position_or_len};
 ghost use Rattle.std.specs.List.Sorted.{IsStrictlyIncreasing};
-ghost use Rattle.vrp_model.specs.Problem.{Problem, customers, place_count};
+ghost use Rattle.vrp_model.specs.Problem.{IsSymmetric, Problem, customers, place_count};
 ghost use Rattle.vrp_model.specs.Route.{IsPlanOf, plan_cost, route_cost};
 ghost use Rattle.vrp_model.specs.Inner.Stops.{routes_in, IsWordEnd};
-ghost use Rattle.vrp_model.specs.Word.{IsLawfulWord, first_stops, word_cost, word_of};
+ghost use Rattle.vrp_model.specs.Word.{IsLawfulWord, RunsForward, first_stops, word_cost, word_of};
 
 use crate::instance::Instance;
 use crate::limits::{MAX_NODES, MAX_WEIGHT};
@@ -45,6 +45,7 @@ impl Plan {
     pub fn singles(alloc: Global, instance: &Instance) -> Result<Plan, NoMemory>
         ensures routes { IfOk result (λ plan. plan.routes ≡ map (λ customer. customer ∷ []) (customers instance.now)) }
         ensures lawful { IfOk result (IsPlanOf instance.now) }
+        ensures word { IfOk result (λ plan. IsLawfulWord instance.now (word_of plan.routes)) }
     {
         let customers = instance.customers();
         let mut plan = Plan::with_room(alloc, usize::from(customers))?;
@@ -125,12 +126,12 @@ impl Plan {
     }
 
     /// The plan as one list: the stops of all routes, one route after the other, each followed by 0. Where the plan is lawful for
-    /// an instance, this is a lawful word of it, of the plan's cost.
+    /// an instance, and its routes run forward if that is symmetric, this is a lawful word of it, of the plan's cost.
     pub fn word(&self) -> &[u16]
         ensures value { result.now ≡ word_of self.now.routes }
         // What is known of every plan.
         ensures rising { IsStrictlyIncreasing (first_stops self.now.routes) }
-        ensures lawful { (p : Problem) → IsPlanOf p self.now → IsLawfulWord p result.now × (word_cost p result.now ≡ self.now.cost) }
+        ensures lawful { (p : Problem) → IsPlanOf p self.now → (IsSymmetric p → All RunsForward self.now.routes) → IsLawfulWord p result.now × (word_cost p result.now ≡ self.now.cost) }
     {
         self.word.as_slice()
     }

@@ -1,8 +1,9 @@
--- What an instance keeps: a problem, and the least ways into its places.
-use Rattle.std.specs.Prelude.{ℕ, List}
+-- What an instance keeps: a problem, the least ways into its places, and whether it is symmetric.
+use Rattle.std.specs.Prelude.{◌↔◌, ℕ, Bool, IsTrue, List}
 use Rattle.vrp_model.specs.Inner.LeastWays.{AreLeastWays}
-use Rattle.vrp_model.specs.Problem.{IsProblem, Problem}
+use Rattle.vrp_model.specs.Problem.{IsProblem, IsSymmetric, Problem}
 
-pub record IsKeptProblem (p : Problem) (least_in : List ℕ) : Type 0 where
+pub record IsKeptProblem (p : Problem) (least_in : List ℕ) (symmetric : Bool) : Type 0 where
   pub problem : IsProblem p
   pub least : AreLeastWays p least_in
+  pub told : IsTrue symmetric ↔ IsSymmetric p

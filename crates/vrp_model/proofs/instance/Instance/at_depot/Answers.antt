@@ -1,7 +1,8 @@
 use Rattle.std.proofs.Common.{◌≡◌, ◌*◌, ◌<◌, ℕ, List, length, subst, arith}
-use Rattle.std.specs.Prelude.{slice_index}
+use Rattle.std.specs.Prelude.{◌↔◌, IsTrue, slice_index}
 use Rattle.std.proofs.lemmas.Grind.{common_steps}
 use Rattle.vrp_model.specs.Inner.LeastWays.{IsLeastWay}
+use Rattle.vrp_model.specs.Inner.Symmetry.{IsSymmetricSquare}
 use Rattle.vrp_model.specs.Problem.{Problem}
 use Rattle.vrp_model.proofs.LeastWayLemmas.{least_ways_are}
 use Rattle.vrp_model.proofs.InstanceLemmas.{IsProblem-made}
@@ -18,7 +19,10 @@ invariant_of-result c =
     let count : c.len.result ≡ length places = grind (arith, common_steps) in
     let one_each : length least ≡ c.len.result = grind (arith, common_steps) in
     let each = subst (λ (ws : List ℕ). (to : ℕ) → to < c.len.result → IsLeastWay ws c.len.result to (slice_index least to)) c.deref-3.ensures.value c.in_ok-least_in.ensures.each in
+    let told = subst (λ (ws : List ℕ). IsTrue c.is_symmetric-symmetric.result ↔ IsSymmetricSquare ws (length places)) c.deref-4.ensures.value
+        (subst (λ n. IsTrue c.is_symmetric-symmetric.result ↔ IsSymmetricSquare c.deref-4.result.now n) (omega arith) c.is_symmetric-symmetric.ensures) in
     record {
       problem = rw (c.in_ok-demands.ensures, c.deref-2.ensures.value) problem;
       least = least_ways_are made least c.len.result count one_each (omega (arith, count, problem.some_places)) each;
+      told = told;
     }

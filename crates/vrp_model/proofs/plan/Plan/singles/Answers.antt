@@ -1,6 +1,7 @@
 use Rattle.std.proofs.Common.{◌≡◌, ◌-◌, arith}
 use Rattle.vrp_model.specs.Problem.{place_count}
 use Rattle.vrp_model.proofs.PlanLemmas.{IsLawful-singles, plan_cost_push, rising_with_single, singles_push}
+use Rattle.vrp_model.proofs.SinglesWord.{lawful_singles}
 use Rattle.vrp_model.proofs.plan.Plan.singles.Goals as goal
 
 pub with_route-requires-clause-rising : goal.with_route-requires-clause-rising
@@ -21,3 +22,9 @@ returns-clause-lawful c =
       lawful = rw (c.loop-index.invariant.0, all) (IsLawful-singles _ c.customers-customers.ensures.problem);
       priced = c.loop-index.invariant.1;
     }
+
+pub returns-clause-word : goal.returns-clause-word
+returns-clause-word c =
+    let p = c.args.instance.now in
+    let all : c.loop-index.index ≡ place_count p - 1 = omega arith in
+    rw (c.loop-index.invariant.0, all) (lawful_singles p c.customers-customers.ensures.problem)

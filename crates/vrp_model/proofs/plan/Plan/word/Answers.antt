@@ -9,7 +9,7 @@ pub returns-clause-rising : goal.returns-clause-rising
 returns-clause-rising c = subst (λ (plan : PricedPlan). IsStrictlyIncreasing (first_stops plan.routes)) c.self.view_is c.self.invariant.rising
 
 pub returns-clause-lawful : goal.returns-clause-lawful
-returns-clause-lawful c p plan_of =
+returns-clause-lawful c p plan_of forward =
     let rising = subst (λ (plan : PricedPlan). IsStrictlyIncreasing (first_stops plan.routes)) c.self.view_is c.self.invariant.rising in
     let is : c.as_slice.result.now ≡ word_of c.args.self.now.routes = c.as_slice.ensures.value ∙ c.self.invariant.is_word ∙ ap (λ (plan : PricedPlan). word_of plan.routes) c.self.view_is in
-    rw is (lawful_word_of p c.args.self.now plan_of rising)
+    rw is (lawful_word_of p c.args.self.now plan_of rising forward)

@@ -1,0 +1,103 @@
+-- No lawful word begins with a dead front.
+use Rattle.std.proofs.Common.{◌≡◌, ◌≢◌, ◌⊎◌, ℕ, zero, suc, ◌+◌, ◌-◌, ◌≤◌, ◌<◌, List, [], ◌∷◌, ◌++◌, length, get_or, refl, sym, ap, subst, ◌∙◌, inl, inr, append_assoc, append-nil, arith}
+use Rattle.std.specs.List.{All, Contains}
+use Rattle.std.specs.Prelude.{slice_index, slice_index_or}
+use Rattle.std.proofs.lemmas.List.Elements.{All-contains, All-contains_itself}
+use Rattle.vrp_model.specs.Problem.{IsProblem, IsSymmetric, Problem, customers}
+use Rattle.vrp_model.specs.Word.{BeginsWith, IsDead, IsFront, IsLawfulWord, IsOpen, RunsForward, last_route, last_symbol, routes_of, served_in, unserved_in, word_of}
+use Rattle.vrp_model.proofs.ChildCases.{cases_of_child}
+use Rattle.vrp_model.proofs.FrontsBefore.{fronts_before}
+use Rattle.vrp_model.proofs.FrontWithSymbol.{closed_is_open, closed_runs_forward, last_of, last_of_shape, open_is_some, unserved_if_added}
+use Rattle.vrp_model.proofs.LastRoute.{last_route_closed, last_route_with, last_symbol_with}
+use Rattle.vrp_model.proofs.UnservedCustomers.{unserved_at_depot, unserved_before, unserved_differs, unserved_is_customer}
+use Rattle.vrp_model.proofs.Words.{AreClosed, IsStops, last_is, routes_are, shape_of}
+
+ends_as : (closed : List (List ℕ)) (stops : List ℕ) → AreClosed closed → IsStops stops → 0 < length stops → last_symbol (last_route (word_of closed ++ stops)) ≡ last_symbol (word_of closed ++ stops)
+ends_as closed [] are free some = absurd (omega arith)
+ends_as closed (stop ∷ stops) are free some =
+    let last : last_route (word_of closed ++ (stop ∷ stops)) ≡ stop ∷ stops = ap (λ (rs : List (List ℕ)). slice_index_or rs (length rs - 1) []) (routes_are closed (stop ∷ stops) are free) ∙ last_of closed (stop ∷ stops) [] in
+    ap last_symbol last ∙ last_is (stop ∷ stops) ∙ sym (last_of_shape closed (stop ∷ stops))
+
+-- an open route ends where the front does
+pub open_route_ends : (p : Problem) (front : List ℕ) → IsFront p front → IsOpen front → last_symbol (last_route front) ≡ last_symbol front
+open_route_ends p front is_front is_open =
+    let s = shape_of front is_front.stops in
+    let some : 0 < length s.open_stops = open_is_some s.closed s.open_stops (subst (λ (w : List ℕ). 0 < last_symbol w) s.is is_open) in
+    ap (λ (w : List ℕ). last_symbol (last_route w)) s.is ∙ ends_as s.closed s.open_stops s.are_closed s.are_stops some ∙ sym (ap last_symbol s.is)
+
+-- the same word, with its next symbol in the front
+moved_on : (p : Problem) (front more : List ℕ) (k : ℕ) → IsLawfulWord p (front ++ k ∷ more) → IsLawfulWord p ((front ++ k ∷ []) ++ more)
+moved_on p front more k lawful = subst (IsLawfulWord p) (sym (append_assoc front (k ∷ []) more)) lawful
+
+next_front : (p : Problem) (front more : List ℕ) (k : ℕ) → IsLawfulWord p (front ++ k ∷ more) → IsFront p (front ++ k ∷ [])
+next_front p front more k lawful = fronts_before p (front ++ k ∷ []) more (moved_on p front more k lawful).front
+
+-- an open route that ends below its first customer, where all unserved customers are below it, is never closed
+runs_back : (p : Problem) (first : ℕ) (front more : List ℕ) → IsSymmetric p → IsOpen front → slice_index (last_route front) 0 ≡ first → last_symbol front < first → All (λ k. k < first) (unserved_in p front) → IsLawfulWord p (front ++ more) → ⊥
+runs_back p first front [] symmetric is_open starts ends below lawful = omega (arith, is_open, lawful.closed, ap last_symbol (append-nil front))
+runs_back p first front (zero ∷ more) symmetric is_open starts ends below lawful =
+    let after = next_front p front more 0 lawful in
+    let forward = closed_runs_forward p front after symmetric in
+    omega (arith, forward, starts, ends, open_route_ends p front (fronts_before p front (0 ∷ []) after) is_open)
+runs_back p first front (suc k ∷ more) symmetric is_open starts ends below lawful =
+    let after = next_front p front more (suc k) lawful in
+    let before = fronts_before p front (suc k ∷ []) after in
+    let longer = last_route_with front (suc k) before.stops (omega arith) in
+    let low : suc k < first = All-contains (λ j. j < first) (unserved_in p front) (suc k) below (unserved_if_added p front (suc k) (omega arith) after) in
+    let last : last_symbol (front ++ suc k ∷ []) ≡ suc k = last_symbol_with front (suc k) in
+    runs_back p first (front ++ suc k ∷ []) more symmetric (omega (arith, last)) (longer.first is_open ∙ starts) (omega (arith, last, low))
+    (λ i d lt. All-contains (λ j. j < first) (unserved_in p front) _ below (unserved_before p front (suc k) _ (All-contains_itself (unserved_in p (front ++ suc k ∷ [])) i d lt)))
+    (moved_on p front more (suc k) lawful)
+
+-- a word that leaves a customer unserved is not lawful
+left_unserved : (p : Problem) (word : List ℕ) → 0 < length (unserved_in p word) → IsLawfulWord p word → ⊥
+left_unserved p word some lawful =
+    let here = All-contains_itself (unserved_in p word) 0 0 some in
+    let served = All-contains (Contains (served_in word)) (customers p) _ lawful.every (unserved_is_customer p word _ here) in
+    All-contains (λ other. other ≢ get_or (unserved_in p word) 0 0) (served_in word) _ (unserved_differs p word _ here) served refl
+
+-- no route can be opened any more, and one must
+none_opens : (p : Problem) (first : ℕ) (front more : List ℕ) → IsProblem p → last_symbol front ≡ 0 → slice_index (last_route front) 0 ≡ first → 0 < length (unserved_in p front) → All (λ k. k < first) (unserved_in p front) → IsLawfulWord p (front ++ more) → ⊥
+none_opens p first front [] problem closed starts some below lawful = left_unserved p front some (subst (IsLawfulWord p) (append-nil front) lawful)
+none_opens p first front (zero ∷ more) problem closed starts some below lawful = omega (arith, closed, closed_is_open p front (next_front p front more 0 lawful))
+none_opens p first front (suc k ∷ more) problem closed starts some below lawful =
+    let after = next_front p front more (suc k) lawful in
+    let low : suc k < first = All-contains (λ j. j < first) (unserved_in p front) (suc k) below (unserved_if_added p front (suc k) (omega arith) after) in
+    elim ((cases_of_child p front (suc k) problem (fronts_before p front (suc k ∷ []) after)).0 after) [
+      | inl depot ↦ omega (arith, depot.0)
+      | inr (inl inside) ↦ omega (arith, inside.1, closed)
+      | inr (inr behind) ↦ omega (arith, behind.2, starts, low)
+    ]
+
+some_left : (p : Problem) (first : ℕ) (front more : List ℕ) → IsProblem p → IsSymmetric p → IsOpen front → slice_index (last_route front) 0 ≡ first → 0 < length (unserved_in p front) → All (λ k. k < first) (unserved_in p front) → IsLawfulWord p (front ++ more) → ⊥
+some_left p first front [] problem symmetric is_open starts some below lawful = left_unserved p front some (subst (IsLawfulWord p) (append-nil front) lawful)
+some_left p first front (zero ∷ more) problem symmetric is_open starts some below lawful =
+    let before = fronts_before p front (0 ∷ []) (next_front p front more 0 lawful) in
+    let same : unserved_in p (front ++ 0 ∷ []) ≡ unserved_in p front = unserved_at_depot p front in
+    none_opens p first (front ++ 0 ∷ []) more problem (last_symbol_with front 0) (ap (λ (r : List ℕ). slice_index r 0) (last_route_closed front before.stops is_open) ∙ starts) (rw same some) (subst (All (λ k. k < first)) (sym same) below) (moved_on p front more 0 lawful)
+some_left p first front (suc k ∷ more) problem symmetric is_open starts some below lawful =
+    let after = next_front p front more (suc k) lawful in
+    let before = fronts_before p front (suc k ∷ []) after in
+    let longer = last_route_with front (suc k) before.stops (omega arith) in
+    let low : suc k < first = All-contains (λ j. j < first) (unserved_in p front) (suc k) below (unserved_if_added p front (suc k) (omega arith) after) in
+    let last : last_symbol (front ++ suc k ∷ []) ≡ suc k = last_symbol_with front (suc k) in
+    runs_back p first (front ++ suc k ∷ []) more symmetric (omega (arith, last)) (longer.first is_open ∙ starts) (omega (arith, last, low))
+    (λ i d lt. All-contains (λ j. j < first) (unserved_in p front) _ below (unserved_before p front (suc k) _ (All-contains_itself (unserved_in p (front ++ suc k ∷ [])) i d lt)))
+    (moved_on p front more (suc k) lawful)
+
+open_or_closed : (n : ℕ) → (n ≡ 0) ⊎ (0 < n)
+open_or_closed zero = inl refl
+open_or_closed (suc n) = inr (omega arith)
+
+-- no lawful word begins with a dead front
+pub none_under_dead : (p : Problem) (front word : List ℕ) → IsProblem p → IsDead p front → IsLawfulWord p word → BeginsWith word front → ⊥
+none_under_dead p front word problem dead lawful (more, is) =
+    let whole = subst (IsLawfulWord p) is lawful in
+    let first = slice_index (last_route front) 0 in
+    elim dead.ends [
+      | inr (is_open, ends) ↦ runs_back p first front more dead.symmetric is_open refl ends dead.below whole
+      | inl some ↦ elim (open_or_closed (last_symbol front)) [
+        | inl closed ↦ none_opens p first front more problem closed refl some dead.below whole
+        | inr is_open ↦ some_left p first front more problem dead.symmetric is_open refl some dead.below whole
+      ]
+    ]
