@@ -2,6 +2,7 @@
 use Rattle.std.proofs.Common.{◌≡◌, ◌≢◌, ◌⊎◌, ℕ, zero, suc, ◌+◌, ◌-◌, ◌≤◌, ◌<◌, List, [], ◌∷◌, ◌++◌, length, get_or, refl, sym, ap, subst, ◌∙◌, inl, inr, append_assoc, append-nil, arith}
 use Rattle.std.specs.List.{All, Contains}
 use Rattle.std.specs.Prelude.{slice_index, slice_index_or}
+use Rattle.std.proofs.lemmas.Bool.{cases_lt}
 use Rattle.std.proofs.lemmas.List.Elements.{All-contains, All-contains_itself}
 use Rattle.vrp_model.specs.Problem.{IsProblem, IsSymmetric, Problem, customers}
 use Rattle.vrp_model.specs.Word.{BeginsWith, IsDead, IsFront, IsLawfulWord, IsOpen, RunsForward, last_route, last_symbol, routes_of, served_in, unserved_in, word_of}
@@ -85,10 +86,6 @@ some_left p first front (suc k ∷ more) problem symmetric is_open starts some b
     (λ i d lt. All-contains (λ j. j < first) (unserved_in p front) _ below (unserved_before p front (suc k) _ (All-contains_itself (unserved_in p (front ++ suc k ∷ [])) i d lt)))
     (moved_on p front more (suc k) lawful)
 
-open_or_closed : (n : ℕ) → (n ≡ 0) ⊎ (0 < n)
-open_or_closed zero = inl refl
-open_or_closed (suc n) = inr (omega arith)
-
 -- no lawful word begins with a dead front
 pub none_under_dead : (p : Problem) (front word : List ℕ) → IsProblem p → IsDead p front → IsLawfulWord p word → BeginsWith word front → ⊥
 none_under_dead p front word problem dead lawful (more, is) =
@@ -96,8 +93,8 @@ none_under_dead p front word problem dead lawful (more, is) =
     let first = slice_index (last_route front) 0 in
     elim dead.ends [
       | inr (is_open, ends) ↦ runs_back p first front more dead.symmetric is_open refl ends dead.below whole
-      | inl some ↦ elim (open_or_closed (last_symbol front)) [
-        | inl closed ↦ none_opens p first front more problem closed refl some dead.below whole
-        | inr is_open ↦ some_left p first front more problem dead.symmetric is_open refl some dead.below whole
+      | inl some ↦ elim (cases_lt 0 (last_symbol front)) [
+        | inr closed ↦ none_opens p first front more problem (omega (arith, closed)) refl some dead.below whole
+        | inl is_open ↦ some_left p first front more problem dead.symmetric is_open refl some dead.below whole
       ]
     ]

@@ -3,6 +3,7 @@ pub mod ChildrenListed
 pub mod CuttingPasses
 pub mod CuttingReplaced
 pub mod FrontLength
+pub mod GreatestUnserved
 pub mod LowBounds
 pub mod OneLow
 pub mod OnePlace

@@ -7,22 +7,24 @@ use Rattle.std.proofs.Math.Seq.{get_or-append_seam, take-append_seam}
 use Rattle.std.proofs.lemmas.Bool.{cases_lt}
 use Rattle.std.proofs.lemmas.List.{get_or_default, get_or-set_same, get_or-set_other, length-set, take-append-le}
 use Rattle.vrp_model.specs.declared.limits.TheConstants.{MAX_WAYS}
-use Rattle.vrp_model.specs.Problem.{IsProblem, Problem, customers, demand_of, place_count, weight_of}
+use Rattle.vrp_model.specs.Problem.{IsProblem, IsSymmetric, Problem, customers, demand_of, place_count, weight_of}
 use Rattle.vrp_model.specs.Route.{load_of}
 use Rattle.vrp_model.specs.Word.{IsFront, IsLawfulWord, IsOpen, MakesChild, last_route, last_symbol, served_in, stands_in, unserved_in, word_cost}
 use Rattle.vrp_model.proofs.Words.{last_is}
 use Rattle.vrp_model.proofs.CustomerPlaces.{is_customer, load_with}
-use Rattle.vrp_model.proofs.FrontWithSymbol.{closed_is_open, served_at_depot, served_with, unserved_if_added}
+use Rattle.vrp_model.proofs.FrontWithSymbol.{closed_is_open, closed_runs_forward, served_at_depot, served_with, unserved_if_added}
 use Rattle.vrp_model.proofs.ChildCases.{cases_of_child}
+use Rattle.vrp_model.proofs.DeadFronts.{open_route_ends}
 use Rattle.vrp_model.proofs.FrontPlaces.{symbol_is_place}
 use Rattle.vrp_model.proofs.FrontsBefore.{fronts_before}
 use Rattle.vrp_model.proofs.PlanWords.{cost_parts}
 use Rattle.vrp_model.proofs.DistinctLists.{customers_distinct}
 use Rattle.vrp_model.proofs.UnservedCustomers.{all_unserved, nat_same, stands_in-append, stands_last, sum_of_unserved, unserved_at_depot, unserved_if_not_standing, unserved_stands_not}
-use Rattle.vrp_search.specs.Inner.Tallied.{AreBefore, AreFlags, AreTallied, IsTally}
+use Rattle.vrp_search.specs.Inner.Tallied.{AreBefore, AreFlags, AreTallied, IsGreatestUnserved, IsTally}
 use Rattle.vrp_search.specs.declared.tally.Tally.{Tally}
 use Rattle.vrp_bound.specs.Capacity.{IsInsOf}
 use Rattle.vrp_model.specs.LeastWay.{IsLeastIn}
+use Rattle.vrp_search.proofs.GreatestUnserved.{greatest_at_depot, greatest_of_all}
 use Rattle.vrp_search.proofs.WaysIn.{ins_at_depot, ins_with}
 use Rattle.vrp_model.proofs.DistinctWithin.{all_among, length_among}
 use Rattle.vrp_search.proofs.FrontLength.{fronts_are_short, length_customers, served_are_few}
@@ -33,7 +35,7 @@ cost_with p word k = let parts = cost_parts p 0 word (k ∷ []) in rw (last_is w
 
 -- the empty word
 pub tally_of_nothing : (p : Problem) (rest ins unserved : ℕ) → rest ≡ load_of p (customers p) → IsInsOf p [] ins → ins ≤ MAX_WAYS → unserved + 1 ≡ place_count p
-    → IsTally p [] (record { cost = 0; load = 0; rest = rest; ins = ins; first = 0; unserved = unserved })
+    → IsTally p [] (record { cost = 0; load = 0; rest = rest; ins = ins; first = 0; unserved = unserved; greatest = unserved })
 tally_of_nothing p rest ins unserved whole is_ins few all = record {
   cost = refl;
   small = omega arith;
@@ -44,11 +46,12 @@ tally_of_nothing p rest ins unserved whole is_ins few all = record {
   small_ins = few;
   first = refl;
   unserved = omega (arith, all);
+  greatest = greatest_of_all p unserved all;
 }
 
 -- the depot
 pub tally_at_depot : (p : Problem) (word : List ℕ) (t : Tally) (cost : ℕ) → IsProblem p → IsFront p word → IsOpen word → IsTally p word t → cost ≡ t.cost + weight_of p (last_symbol word) 0
-    → IsTally p (word ++ 0 ∷ []) (record { cost = cost; load = 0; rest = t.rest; ins = t.ins; first = t.first; unserved = t.unserved })
+    → IsTally p (word ++ 0 ∷ []) (record { cost = cost; load = 0; rest = t.rest; ins = t.ins; first = t.first; unserved = t.unserved; greatest = t.greatest })
 tally_at_depot p word t cost problem front is_open tally is =
     let long : length (word ++ 0 ∷ []) ≡ length word + 1 = length-append word (0 ∷ []) in
     let weight = problem.small_weights (last_symbol word * place_count p + 0) in
@@ -62,6 +65,7 @@ tally_at_depot p word t cost problem front is_open tally is =
       small_ins = tally.small_ins;
       first = tally.first ∙ ap (λ (r : List ℕ). slice_index r 0) (sym (last_route_closed word front.stops is_open));
       unserved = rw (served_at_depot word) tally.unserved;
+      greatest = greatest_at_depot p word t.greatest tally.greatest;
     }
 
 -- what of a customer is known before it is added
@@ -103,9 +107,9 @@ added p word k t problem front some after tally =
 -- a customer
 pub tally_at_customer : (p : Problem) (word : List ℕ) (k least : ℕ) (t new : Tally) → IsLeastIn p k least → new.ins ≡ t.ins - least → IsProblem p → IsFront p word → 0 < k → IsFront p (word ++ k ∷ []) → IsTally p word t
     → new.cost ≡ t.cost + weight_of p (last_symbol word) k → new.load ≡ t.load + demand_of p k → new.rest ≡ t.rest - demand_of p k
-    → (last_symbol word ≡ 0 → new.first ≡ k) → (0 < last_symbol word → new.first ≡ t.first) → new.unserved ≡ t.unserved - 1
+    → (last_symbol word ≡ 0 → new.first ≡ k) → (0 < last_symbol word → new.first ≡ t.first) → new.unserved ≡ t.unserved - 1 → IsGreatestUnserved p (word ++ k ∷ []) new.greatest
     → IsTally p (word ++ k ∷ []) new
-tally_at_customer p word k least t new is_least ins problem front some after tally cost load rest starts goes_on unserved =
+tally_at_customer p word k least t new is_least ins problem front some after tally cost load rest starts goes_on unserved greatest =
     let ways = ins_with p word k t.ins least some front after tally.ins is_least in
     let facts = added p word k t problem front some after tally in
     let with_stop = last_route_with word k front.stops some in
@@ -127,6 +131,7 @@ tally_at_customer p word k least t new is_least ins problem front some after tal
         | inr behind ↦ let at_depot : last_symbol word ≡ 0 = omega (arith, behind) in starts at_depot ∙ ap (λ (r : List ℕ). slice_index r 0) (sym (with_stop.starts at_depot))
       ];
       unserved = omega (arith, unserved, facts.some_left, count, tally.unserved);
+      greatest = greatest;
     }
 
 -- ---- flags
@@ -204,8 +209,14 @@ popped p word k served before tally old are =
 
 -- ---- children
 
-pub depot_child : (p : Problem) (word : List ℕ) → IsProblem p → IsFront p word → (0 < last_symbol word) ↔ IsFront p (word ++ 0 ∷ [])
-depot_child p word problem front = (λ is_open. (cases_of_child p word 0 problem front).1 (inl (refl, is_open)), λ after. closed_is_open p word after)
+-- the depot, where the tally tells that the open route runs forward
+pub depot_child : (p : Problem) (word : List ℕ) (t : Tally) → IsProblem p → IsFront p word → IsTally p word t → ((0 < last_symbol word) × (IsSymmetric p → t.first ≤ last_symbol word)) ↔ IsFront p (word ++ 0 ∷ [])
+depot_child p word t problem front tally = (
+  λ (is_open, forward). (cases_of_child p word 0 problem front).1 (inl (refl, is_open, λ symmetric. omega (arith, forward symmetric, tally.first, open_route_ends p word front is_open))),
+  λ after.
+      let is_open = closed_is_open p word after in
+      (is_open, λ symmetric. omega (arith, closed_runs_forward p word after symmetric, tally.first, open_route_ends p word front is_open)),
+)
 
 pub no_served_child : (p : Problem) (word : List ℕ) (k : ℕ) (served : List Bool) (before : List Tally) (t : Tally) → AreTallied p word served before t → 0 < k → k < place_count p → slice_index_or served k true ≡ true → IsFront p (word ++ k ∷ []) → ⊥
 no_served_child p word k served before t are some below is_served after =

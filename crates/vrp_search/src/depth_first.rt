@@ -8,7 +8,7 @@ use crate::partial::Partial;
 use crate::piece::Piece;
 use std::alloc::Global;
 use vrp_bound::{Tables, bounds_hold};
-use vrp_model::{Instance, NoMemory};
+use vrp_model::{Instance, NoMemory, dead_fronts};
 
 /// How the search of a piece ended.
 #[derive(Clone, Copy, Debug, PartialEq, Eq)]
@@ -22,9 +22,9 @@ pub enum Ended {
 
 /// Searches the plans under a piece, and offers those to the board that may be cheaper than all that it knows. It looks at
 /// no more partial plans than the budget says, at each at most once, and at the piece's own word first. It doesn't go below
-/// one whose cost and bound together are not under what the board answers, or whose bound says that no plan is under it. The
-/// tables are over all customers that the piece leaves unserved, and may be over more. Where memory is refused the board has the
-/// offers that were made before.
+/// one whose cost and bound together are not under what the board answers, or whose bound says that no plan is under it, or that
+/// is dead. The tables are over all customers that the piece leaves unserved, and may be over more. Where memory is refused the
+/// board has the offers that were made before.
 pub fn search<B: Board>(
     alloc: Global,
     instance: &Instance,
@@ -45,8 +45,12 @@ pub fn search<B: Board>(
     let front = piece.word();
     let mut partial = Partial::at_front(alloc, instance, front)?;
     let mut spent = 1;
-    // Below no front is anything cheaper than its cost and bound.
+    // Below no front is anything cheaper than its cost and bound, and below a dead one there is nothing.
     bounds_hold();
+    dead_fronts();
+    if partial.is_dead() {
+        return Ok(Ended::Finished { spent });
+    }
     let Some(low) = partial.low(tables) else {
         return Ok(Ended::Finished { spent });
     };
@@ -61,7 +65,8 @@ pub fn search<B: Board>(
             Some(symbol) => {
                 spent += 1;
                 let least = board.least();
-                if partial.child_low(tables, symbol).unwrap_or(least) < least {
+                let is_dead = partial.child_is_dead(symbol);
+                if !is_dead && partial.child_low(tables, symbol).unwrap_or(least) < least {
                     partial.push(symbol);
                     offer_complete(alloc, &partial, board)?;
                     next = 0;

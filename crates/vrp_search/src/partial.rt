@@ -2,13 +2,13 @@
 ghost use Rattle.std.specs.Prelude.{◌≡◌, ◌<◌, ◌≤◌, ◌+◌, ◌*◌, ◌↔◌, [], ◌∷◌, ◌++◌, length, IsTrue, IfOk, IfSome, MatchOption};
 ghost use Rattle.vrp_model.specs.Problem.{IsProblem, place_count};
 ghost use Rattle.vrp_model.specs.Route.{IsPlanOf, load_of};
-ghost use Rattle.vrp_model.specs.Word.{IsFront, IsLawfulWord, last_symbol, unserved_in, word_cost, word_of};
+ghost use Rattle.vrp_model.specs.Word.{IsDead, IsFront, IsLawfulWord, last_symbol, unserved_in, word_cost, word_of};
 ghost use Rattle.vrp_model.specs.declared.limits.TheConstants.{MAX_NODES};
 ghost use Rattle.vrp_search.specs.Partial.{PartialPlan};
 ghost use Rattle.vrp_model.specs.Front.{open_load};
 ghost use Rattle.vrp_search.specs.Child.{IsNextChild, NoChildFrom};
 ghost use Rattle.vrp_search.specs.Search.{AreCovered, IsLow};
-ghost use Rattle.vrp_search.specs.Inner.Tallied.{IsTally};
+ghost use Rattle.vrp_search.specs.Inner.Tallied.{IsGreatestBelow, IsTally};
 
 use crate::tally::Tally;
 use smallvec::SmallVec;
@@ -84,7 +84,7 @@ impl<'a> Partial<'a> {
         let customers = self.instance.customers();
         let at = self.at();
         if symbol == 0 {
-            return at != 0;
+            return at != 0 && (self.tally.first <= at || !self.instance.symmetric());
         }
         if symbol > customers || self.served[usize::from(symbol)] {
             return false;
@@ -106,6 +106,24 @@ impl<'a> Partial<'a> {
             }
         }
         None
+    }
+
+    /// Whether the word is a dead front: the instance is symmetric, every unserved customer is below the first one of the last
+    /// route, and one is left, or the open route ends below its first. No plan is under it.
+    pub fn is_dead(&self) -> bool
+        ensures dead { IsTrue result ↔ IsDead self.now.problem self.now.word }
+        // What is known of every instance.
+        ensures problem { IsProblem self.now.problem }
+    {
+        self.instance.symmetric() && self.tally.is_dead(self.at())
+    }
+
+    /// The same for a child's word.
+    pub(crate) fn child_is_dead(&self, symbol: u16) -> bool
+        requires { IsFront self.now.problem (self.now.word ++ symbol ∷ []) }
+        ensures { IsTrue result ↔ IsDead self.now.problem (self.now.word ++ symbol ∷ []) }
+    {
+        self.instance.symmetric() && self.tally_after(symbol).is_dead(symbol)
     }
 
     /// What a plan under the word costs at least: what is paid along the word, and the bound on what is still to pay. `None`
@@ -163,10 +181,16 @@ impl<'a> Partial<'a> {
                 ins: tally.ins,
                 first: tally.first,
                 unserved: tally.unserved,
+                greatest: tally.greatest,
             };
         }
         let demand = self.instance.demand(symbol);
         let first = if at == 0 { symbol } else { tally.first };
+        let greatest = if symbol == tally.greatest {
+            self.greatest_below(symbol)
+        } else {
+            tally.greatest
+        };
         Tally {
             cost,
             load: tally.load + demand,
@@ -174,7 +198,21 @@ impl<'a> Partial<'a> {
             ins: tally.ins - self.instance.least_in(symbol),
             first,
             unserved: tally.unserved - 1,
+            greatest,
         }
+    }
+
+    // The greatest unserved customer below this one, 0 where there is none.
+    fn greatest_below(&self, customer: u16) -> u16
+        requires { customer < place_count self.now.problem }
+        ensures { IsGreatestBelow self.now.problem self.now.word customer result }
+    {
+        for lower in (1..customer).rev() {
+            if !self.served[usize::from(lower)] {
+                return lower;
+            }
+        }
+        0
     }
 
     /// Takes off the last symbol, and answers it.

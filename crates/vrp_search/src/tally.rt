@@ -1,5 +1,5 @@
 //! What is counted along a word, and what a plan under it costs at least.
-ghost use Rattle.std.specs.Prelude.{◌≡◌, ◌*◌, ◌≤◌, ◌<◌, []};
+ghost use Rattle.std.specs.Prelude.{◌≡◌, ◌↔◌, ◌⊎◌, ◌*◌, ◌≤◌, ◌<◌, [], IsTrue};
 ghost use Rattle.vrp_bound.specs.Capacity.{IsInsOf};
 ghost use Rattle.vrp_model.specs.Problem.{customers, place_count};
 ghost use Rattle.vrp_model.specs.Route.{load_of};
@@ -23,6 +23,8 @@ pub(crate) struct Tally {
     pub(crate) first: u16,
     /// How many customers are unserved.
     pub(crate) unserved: u16,
+    /// The greatest unserved customer, 0 where there is none.
+    pub(crate) greatest: u16,
 }
 
 impl Tally {
@@ -30,14 +32,25 @@ impl Tally {
     pub(crate) fn root(instance: &Instance) -> Tally
         ensures { IsTally instance.now [] result }
     {
+        let customers = instance.customers();
         Tally {
             cost: 0,
             load: 0,
             rest: instance.whole_demand(),
             ins: whole_ins(instance),
             first: 0,
-            unserved: instance.customers(),
+            unserved: customers,
+            greatest: customers,
         }
+    }
+
+    /// Whether the word that ends at this place is a dead front, where the instance is symmetric: every unserved customer is below
+    /// the first one of the last route, and one is left, or the open route ends below its first.
+    #[inline(always)]
+    pub(crate) fn is_dead(self, at: u16) -> bool
+        ensures { IsTrue result ↔ (self.greatest < self.first) × ((0 < self.greatest) ⊎ ((0 < at) × (at < self.first))) }
+    {
+        self.greatest < self.first && (self.greatest > 0 || (at > 0 && at < self.first))
     }
 
     /// What is paid along the word, and the bound on what is still to pay from its end. `None` where the bound says that there

@@ -1,5 +1,6 @@
 -- What a partial plan keeps beside its word: counters that are what they are called, and what they were before each symbol.
-use Rattle.std.specs.Prelude.{◌≡◌, ℕ, ◌+◌, ◌*◌, ◌≤◌, ◌<◌, Bool, false, Option, List, length, slice_index, slice_index_or, take}
+use Rattle.std.specs.Prelude.{◌≡◌, ◌⊎◌, ℕ, ◌+◌, ◌*◌, ◌≤◌, ◌<◌, Bool, false, Option, List, length, slice_index, slice_index_or, take}
+use Rattle.std.specs.List.{All, Contains}
 use Rattle.std.specs.Option.{option_map}
 use Rattle.vrp_bound.specs.Bound.{IsGreater}
 use Rattle.vrp_bound.specs.Capacity.{IsInsOf}
@@ -9,6 +10,16 @@ use Rattle.vrp_model.specs.Front.{open_load}
 use Rattle.vrp_model.specs.Route.{load_of}
 use Rattle.vrp_model.specs.declared.limits.TheConstants.{MAX_WAYS, MAX_WEIGHT}
 use Rattle.vrp_search.specs.declared.tally.Tally.{Tally}
+
+-- the greatest customer below this one that the word leaves unserved, and 0 where there is none
+pub record IsGreatestBelow (p : Problem) (word : List ℕ) (customer greatest : ℕ) : Type 0 where
+  pub met : (greatest ≡ 0) ⊎ (Contains (unserved_in p word) greatest × (greatest < customer))
+  pub none_above : All (λ k. k < customer → k ≤ greatest) (unserved_in p word)
+
+-- the greatest customer that the word leaves unserved, and 0 where there is none
+pub record IsGreatestUnserved (p : Problem) (word : List ℕ) (greatest : ℕ) : Type 0 where
+  pub met : (greatest ≡ 0) ⊎ Contains (unserved_in p word) greatest
+  pub none_above : All (λ k. k ≤ greatest) (unserved_in p word)
 
 pub record IsTally (p : Problem) (word : List ℕ) (tally : Tally) : Type 0 where
   pub cost : tally.cost ≡ word_cost p word
@@ -21,6 +32,7 @@ pub record IsTally (p : Problem) (word : List ℕ) (tally : Tally) : Type 0 wher
   -- the first customer of the last route, 0 where there is no route yet
   pub first : tally.first ≡ slice_index (last_route word) 0
   pub unserved : tally.unserved + length (served_in word) + 1 ≡ place_count p
+  pub greatest : IsGreatestUnserved p word tally.greatest
 
 -- what is paid, and the bound on what is still to pay from this place, with tables over these customers
 pub record IsLowOf (p : Problem) (among : List ℕ) (at : ℕ) (tally : Tally) (low : Option ℕ) : Type 0 where

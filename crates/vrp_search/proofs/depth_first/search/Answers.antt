@@ -1,11 +1,12 @@
 use Rattle.std.proofs.Common.{◌≡◌, ◌≢◌, ◌∙◌, ℕ, ◌+◌, ◌≤◌, List, [], ◌∷◌, ◌++◌, length, length-append, sym, subst, ap, arith}
 use Rattle.vrp_model.specs.Problem.{IsProblem, Problem}
-use Rattle.vrp_model.specs.Word.{IsLawfulWord, TreeHasAtLeast, word_cost}
+use Rattle.vrp_model.specs.Word.{IsDead, IsLawfulWord, NoneCheaperUnder, TreeHasAtLeast, word_cost}
 use Rattle.vrp_search.specs.Child.{IsNextChild, NoChildFrom}
 use Rattle.vrp_search.specs.Partial.{PartialPlan}
 use Rattle.vrp_search.specs.Search.{AreCovered, IsLow}
 use Rattle.vrp_search.proofs.LowBounds.{NoneUnder, covered_more, covered_under, none_cheaper, none_left, none_under}
 use Rattle.vrp_search.proofs.SearchProgress.{Progress, descended, finished, opened, pruned, returned, tree_of_seen, unfinished}
+use Rattle.vrp_search.proofs.depth_first.search.Goals.{else-not-is_dead-via-then-not-is_dead+else-unwrap_or-least, else-not-is_dead-via-else-not-is_dead}
 use Rattle.vrp_search.proofs.depth_first.search.Goals as goal
 
 pub low-requires-clause-covered : goal.low-requires-clause-covered
@@ -46,6 +47,28 @@ returns-then-least-low-clause-ended g c =
       tree = tree_of_seen p root (root ++ 0 ∷ []) 1 (opened p root 0 c.requires.piece (λ _. omega arith)).seen;
       none_cheaper = λ w lawful begins. omega (arith, under w lawful begins, c.least.ensures.answered, c.if-least-low.true);
     }
+
+pub returns-then-is_dead-clause-ended : goal.returns-then-is_dead-clause-ended
+returns-then-is_dead-clause-ended g c =
+    let p = c.args.instance.now in
+    let root = c.args.piece.now.word in
+    let problem : c.in_ok-partial.partial.problem ≡ p = ap (λ (v : PartialPlan). v.problem) c.in_ok-partial.ensures in
+    let word : c.in_ok-partial.partial.word ≡ root = ap (λ (v : PartialPlan). v.word) c.in_ok-partial.ensures ∙ c.word-front.ensures in
+    let dead = subst (λ (w : List ℕ). IsDead p w) word (subst (λ (q : Problem). IsDead q c.in_ok-partial.partial.word) problem (c.is_dead.ensures.dead.0 c.if-is_dead.true)) in
+    record {
+      some = omega arith;
+      within = c.requires.budget;
+      tree = tree_of_seen p root (root ++ 0 ∷ []) 1 (opened p root 0 c.requires.piece (λ _. omega arith)).seen;
+      none_cheaper = λ w lawful begins. absurd (c.dead_fronts.ensures p root w (subst IsProblem problem c.is_dead.ensures.problem) dead lawful begins);
+    }
+
+pub returns-then-least-low-clause-serves : goal.returns-then-least-low-clause-serves
+returns-then-least-low-clause-serves g c = c.least.ensures.serves c.args.instance.now c.requires.board
+
+pub offer_complete-requires-then-unwrap_or-least : goal.offer_complete-requires-then-unwrap_or-least
+offer_complete-requires-then-unwrap_or-least g c =
+    let problem : c.push.new.self.problem ≡ c.args.instance.now = ap (λ (v : PartialPlan). v.problem) c.push.ensures ∙ c.loop-partial.invariant.problem in
+    subst (λ (q : Problem). g.B.Board.serves c.least-least.new.self q) (sym problem) (c.least-least.ensures.serves c.args.instance.now c.loop-partial.invariant.serves)
 
 pub loop-partial-init : goal.loop-partial-init
 loop-partial-init g c =
@@ -114,9 +137,9 @@ loop-partial-preserved-then-unwrap_or-least g c =
       within = omega (arith, c.if-spent-budget.false, c.loop-partial.invariant.within);
     }
 
-pub loop-partial-preserved-else-unwrap_or-least :
-    goal.loop-partial-preserved-else-unwrap_or-least
-loop-partial-preserved-else-unwrap_or-least g c =
+pub loop-partial-preserved-else-not-is_dead :
+    goal.loop-partial-preserved-else-not-is_dead
+loop-partial-preserved-else-not-is_dead g c =
     let p = c.args.instance.now in
     let root = c.args.piece.now.word in
     let among = c.args.tables.now.among in
@@ -127,9 +150,15 @@ loop-partial-preserved-else-unwrap_or-least g c =
     let child = subst (λ (q : Problem). IsNextChild q word c.loop-partial.next k) c.loop-partial.invariant.problem c.in-Some-next_child.ensures.next in
     let is_problem : IsProblem p = subst IsProblem (ap (λ (v : PartialPlan). v.problem) c.in_ok-partial.ensures) c.low.ensures.problem in
     let covered = covered_more p among word (k ∷ []) (covered_under p among root word c.requires.covered c.loop-partial.invariant.progress.under) in
-    let is_low = subst (λ (q : Problem). IsLow q among (word ++ k ∷ []) c.child_low.result) c.loop-partial.invariant.problem c.child_low.ensures in
-    let under = none_under c.bounds_hold.ensures p among (word ++ k ∷ []) c.child_low.result is_problem covered is_low in
-    let none = none_cheaper p (word ++ k ∷ []) c.child_low.result c.least-least.result under (subst (λ n. c.least-least.result ≤ n) c.unwrap_or.ensures c.if-unwrap_or-least.false) in
+    let none : NoneCheaperUnder p (word ++ k ∷ []) c.least-least.result = elim c.else-not-is_dead.branch [
+      | else-not-is_dead-via-then-not-is_dead+else-unwrap_or-least w ↦
+          let is_low = subst (λ (q : Problem). IsLow q among (word ++ k ∷ []) w.child_low.result) c.loop-partial.invariant.problem w.child_low.ensures in
+          let under = none_under c.bounds_hold.ensures p among (word ++ k ∷ []) w.child_low.result is_problem covered is_low in
+          none_cheaper p (word ++ k ∷ []) w.child_low.result c.least-least.result under (subst (λ n. c.least-least.result ≤ n) w.unwrap_or.ensures w.if-unwrap_or-least.false)
+      | else-not-is_dead-via-else-not-is_dead w ↦
+          let dead = subst (λ (q : Problem). IsDead q (word ++ k ∷ [])) c.loop-partial.invariant.problem (c.child_is_dead-is_dead.ensures.0 w.if-not-is_dead.false) in
+          λ v lawful begins. absurd (c.dead_fronts.ensures p (word ++ k ∷ []) v is_problem dead lawful begins)
+    ] in
     record {
       problem = c.loop-partial.invariant.problem;
       progress = pruned p root word c.loop-partial.next k c.loop-partial.spent old floor c.loop-partial.invariant.progress child c.least-least.ensures.falls (λ w lawful begins. omega (arith, c.least-least.ensures.answered, none w lawful begins));

@@ -1,6 +1,6 @@
-use Rattle.std.proofs.Common.{◌≡◌, ◌∙◌, sym, subst, ap, ◌<◌, ◌≤◌, ◌+◌, [], ◌∷◌, ◌++◌, Bool, true, false, arith}
+use Rattle.std.proofs.Common.{◌≡◌, ◌∙◌, sym, subst, ap, ◌<◌, ◌≤◌, ◌+◌, [], ◌∷◌, ◌++◌, Bool, not, true, false, refl, arith}
 use Rattle.std.proofs.lemmas.Bool.Decides.{nat_tests}
-use Rattle.std.specs.Prelude.{slice_index_or}
+use Rattle.std.specs.Prelude.{IsTrue, slice_index_or}
 use Rattle.vrp_model.specs.Word.{IsFront, last_symbol}
 use Rattle.vrp_model.proofs.FrontPlaces.{symbol_is_place}
 use Rattle.vrp_search.specs.Partial.{PartialPlan}
@@ -9,17 +9,50 @@ use Rattle.vrp_search.proofs.PartialViews.{at_inside, child_inside, child_outsid
 use Rattle.vrp_search.proofs.partial.Partial.child.Goals.{then-symbol-customers-via-then-symbol-customers, then-symbol-customers-via-else-symbol-customers+then-index}
 use Rattle.vrp_search.proofs.partial.Partial.child.Goals as goal
 
-pub returns-then-symbol-eq0 : goal.returns-then-symbol-eq0
-returns-then-symbol-eq0 c =
-    let at = at_inside c.self.inside.instance.now c.self.inside.word.items c.at-at.result c.args.self.now c.self.view_is c.at-at.ensures in
-    let child = depot_child c.self.inside.instance.now c.self.inside.word.items c.self.invariant.0.problem c.self.invariant.0.front in (
-      λ test.
-          let some : 0 < c.at-at.result = grind (arith, nat_tests, test) in
-          child_outside c.self.inside.instance.now c.self.inside.word.items c.args.symbol c.args.self.now c.self.view_is (subst (λ k. IsFront c.self.inside.instance.now (c.self.inside.word.items ++ k ∷ [])) (sym c.if-symbol-eq0.true) (child.0 (omega (arith, some, at)))),
+-- a test that isn't told true is false
+not_told : (b : Bool) → (IsTrue b → ⊥) → IsTrue (not b)
+not_told true isnt = absurd (isnt refl)
+not_told false isnt = refl
+
+told_both : (b : Bool) → IsTrue b → IsTrue (not b) → ⊥
+told_both true is isnt = let never : false ≡ true = isnt in cc
+told_both false is isnt = let never : false ≡ true = is in cc
+
+pub returns-then-self-at : goal.returns-then-self-at
+returns-then-self-at c =
+    let p = c.self.inside.instance.now in
+    let word = c.self.inside.word.items in
+    let at = at_inside p word c.at-at.result c.args.self.now c.self.view_is c.at-at.ensures in
+    let child = depot_child p word c.self.inside.tally c.self.invariant.0.problem c.self.invariant.0.front c.self.invariant.0.now in
+    let some : 0 < last_symbol word = omega (arith, at, c.if-at-ne0.true) in (
+      λ test. child_outside p word c.args.symbol c.args.self.now c.self.view_is (subst (λ k. IsFront p (word ++ k ∷ [])) (sym c.if-symbol-eq0.true) (child.0 (some, λ symmetric. omega (arith, at, c.if-self-at.true)))),
+      λ after. grind (arith, nat_tests, c.if-self-at.true),
+    )
+
+pub returns-else-self-at : goal.returns-else-self-at
+returns-else-self-at c =
+    let p = c.self.inside.instance.now in
+    let word = c.self.inside.word.items in
+    let at = at_inside p word c.at-at.result c.args.self.now c.self.view_is c.at-at.ensures in
+    let child = depot_child p word c.self.inside.tally c.self.invariant.0.problem c.self.invariant.0.front c.self.invariant.0.now in
+    let some : 0 < last_symbol word = omega (arith, at, c.if-at-ne0.true) in (
+      λ test. child_outside p word c.args.symbol c.args.self.now c.self.view_is (subst (λ k. IsFront p (word ++ k ∷ [])) (sym c.if-symbol-eq0.true)
+          (child.0 (some, λ symmetric. absurd (told_both c.symmetric.result (c.symmetric.ensures.1 symmetric) test)))),
       λ after.
-          let inside : IsFront c.self.inside.instance.now (c.self.inside.word.items ++ 0 ∷ []) = subst (λ k. IsFront c.self.inside.instance.now (c.self.inside.word.items ++ k ∷ [])) c.if-symbol-eq0.true (child_inside c.self.inside.instance.now c.self.inside.word.items c.args.symbol c.args.self.now c.self.view_is after) in
-          let some : 0 < c.at-at.result = omega (arith, at, child.1 inside) in
-          grind (arith, nat_tests, some),
+          let inside = subst (λ k. IsFront p (word ++ k ∷ [])) c.if-symbol-eq0.true (child_inside p word c.args.symbol c.args.self.now c.self.view_is after) in
+          not_told c.symmetric.result (λ is. omega (arith, (child.1 inside).1 (c.symmetric.ensures.0 is), at, c.if-self-at.false)),
+    )
+
+pub returns-else-at-ne0 : goal.returns-else-at-ne0
+returns-else-at-ne0 c =
+    let p = c.self.inside.instance.now in
+    let word = c.self.inside.word.items in
+    let at = at_inside p word c.at-at.result c.args.self.now c.self.view_is c.at-at.ensures in
+    let child = depot_child p word c.self.inside.tally c.self.invariant.0.problem c.self.invariant.0.front c.self.invariant.0.now in (
+      λ test. absurd (let some : 0 < c.at-at.result = grind (arith, nat_tests, test) in omega (arith, some, c.if-at-ne0.false)),
+      λ after.
+          let inside = subst (λ k. IsFront p (word ++ k ∷ [])) c.if-symbol-eq0.true (child_inside p word c.args.symbol c.args.self.now c.self.view_is after) in
+          absurd (omega (arith, (child.1 inside).0, at, c.if-at-ne0.false)),
     )
 
 pub returns-then-symbol-customers : goal.returns-then-symbol-customers

@@ -1,0 +1,26 @@
+use Rattle.std.proofs.Common.{◌≡◌, ◌∙◌, [], ◌∷◌, ◌++◌, ap, false, subst, sym, true}
+use Rattle.std.specs.Prelude.{◌↔◌, IsTrue}
+use Rattle.vrp_model.specs.Problem.{IsSymmetric, Problem}
+use Rattle.vrp_model.specs.Word.{IsDead}
+use Rattle.vrp_model.proofs.LastRoute.{last_symbol_with}
+use Rattle.vrp_search.specs.Partial.{PartialPlan}
+use Rattle.vrp_search.proofs.GreatestUnserved.{dead_told, told_dead}
+use Rattle.vrp_search.proofs.partial.Partial.child_is_dead.Goals as goal
+
+pub returns-then-symmetric : goal.returns-then-symmetric
+returns-then-symmetric c =
+    let p = c.args.self.now.problem in
+    let word = c.args.self.now.word in
+    let k = c.args.symbol in
+    let t = c.tally_after.result in
+    let at = sym (last_symbol_with word k) in
+    let symmetric : IsSymmetric p = subst (λ (v : PartialPlan). IsSymmetric v.problem) c.self.view_is (c.symmetric.ensures.0 c.if-symmetric.true) in (
+      λ told. told_dead p (word ++ k ∷ []) t k c.tally_after.ensures.tally at symmetric (c.is_dead.ensures.0 told),
+      λ dead. c.is_dead.ensures.1 (dead_told p (word ++ k ∷ []) t k c.tally_after.ensures.tally at dead),
+    )
+
+pub returns-else-symmetric : goal.returns-else-symmetric
+returns-else-symmetric c = (
+  λ told. absurd (let never : false ≡ true = sym c.if-symmetric.false ∙ told in cc),
+  λ dead. c.symmetric.ensures.1 (subst (λ (v : PartialPlan). IsSymmetric v.problem) (sym c.self.view_is) dead.symmetric),
+)
