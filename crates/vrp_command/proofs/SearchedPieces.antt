@@ -204,20 +204,14 @@ abbrev pub OnePiece : Type 0
 OnePiece = (p : Problem) (fronts : List (List ℕ)) (word : List ℕ) → IsCutting p fronts → IsLawfulWord p word
     → (k : ℕ) × (k < length fronts) × BeginsWith word (slice_index_or fronts k []) × ((j : ℕ) → j < length fronts → BeginsWith word (slice_index_or fronts j []) → j ≡ k)
 
--- the routes of a lawful plan can be put in order
-abbrev pub PlansCanRise : Type 0
-PlansCanRise = (p : Problem) (routes : List (List ℕ)) → IsLawful p routes
-    → (others : List (List ℕ)) × IsPermutation routes others × IsLawful p others × IsStrictlyIncreasing (first_stops others) × (plan_cost p others ≡ plan_cost p routes)
+-- each lawful plan has a lawful word of the same cost
+abbrev pub PlansHaveWords : Type 0
+PlansHaveWords = (p : Problem) (routes : List (List ℕ)) → IsLawful p routes → (word : List ℕ) × IsLawfulWord p word × (word_cost p word ≡ plan_cost p routes)
 
-abbrev pub PlansAreWords : Type 0
-PlansAreWords = (p : Problem) (routes : List (List ℕ)) → IsLawful p routes → IsStrictlyIncreasing (first_stops routes)
-    → IsLawfulWord p (word_of routes) × (word_cost p (word_of routes) ≡ plan_cost p routes)
-
-words_to_plans : PlansCanRise → PlansAreWords → (p : Problem) (cost : ℕ) → ((word : List ℕ) → IsLawfulWord p word → cost ≤ word_cost p word) → NoneCheaper p cost
-words_to_plans rise words p cost none = λ routes lawful.
-    let (others, moved, also, rising, same) = rise p routes lawful in
-    let (word, price) = words p others also rising in
-    omega (arith, none (word_of others) word, price, same)
+words_to_plans : PlansHaveWords → (p : Problem) (cost : ℕ) → ((word : List ℕ) → IsLawfulWord p word → cost ≤ word_cost p word) → NoneCheaper p cost
+words_to_plans have p cost none = λ routes lawful.
+    let (word, lawful_word, price) = have p routes lawful in
+    omega (arith, none word lawful_word, price)
 
 -- no word costs less than the plan and all that is unfinished
 no_word_cheaper : OnePiece → (p : Problem) (cutting : List (List ℕ)) (budget cost : ℕ) (lower : Option ℕ) → IsCutting p cutting → (so_far : AreSearched p cutting budget cost cutting lower)
@@ -229,22 +223,22 @@ no_word_cheaper piece p cutting budget cost lower is_cutting so_far word lawful 
       | inr none ↦ omega (arith, least_is_low cost (map so_far.low so_far.unfinished), none word lawful begins)
     ]
 
-pub proven : OnePiece → PlansCanRise → PlansAreWords → (p : Problem) (cutting : List (List ℕ)) (budget : ℕ) (plan : PricedPlan) → IsCutting p cutting → IsPlanOf p plan
+pub proven : OnePiece → PlansHaveWords → (p : Problem) (cutting : List (List ℕ)) (budget : ℕ) (plan : PricedPlan) → IsCutting p cutting → IsPlanOf p plan
     → AreSearched p cutting budget plan.cost cutting None → IsCheapest p plan
-proven piece rise words p cutting budget plan is_cutting plan_of so_far = record {
+proven piece have p cutting budget plan is_cutting plan_of so_far = record {
   plan_of = plan_of;
-  none_cheaper = words_to_plans rise words p plan.cost (λ word lawful.
+  none_cheaper = words_to_plans have p plan.cost (λ word lawful.
       let none = no_word_cheaper piece p cutting budget plan.cost None is_cutting so_far word lawful in
       subst (λ (costs : List ℕ). least_of plan.cost costs ≤ word_cost p word) so_far.least none);
 }
 
-pub left_open : OnePiece → PlansCanRise → PlansAreWords → (p : Problem) (cutting : List (List ℕ)) (pieces budget : ℕ) (plan : PricedPlan) (lower : ℕ) → IsCutting p cutting
+pub left_open : OnePiece → PlansHaveWords → (p : Problem) (cutting : List (List ℕ)) (pieces budget : ℕ) (plan : PricedPlan) (lower : ℕ) → IsCutting p cutting
     → (pieces ≤ length cutting) ⊎ All (HasNoChild p) cutting → length cutting ≤ pieces + (MAX_NODES - 1) → IsPlanOf p plan → AreSearched p cutting budget plan.cost cutting (Some lower) → IsLeftOpen p pieces budget plan (min lower plan.cost)
-left_open piece rise words p cutting pieces budget plan lower is_cutting enough few plan_of so_far =
+left_open piece have p cutting pieces budget plan lower is_cutting enough few plan_of so_far =
     let least : min lower plan.cost ≡ least_of plan.cost (map so_far.low so_far.unfinished) = omega (arith, so_far.least.1 plan.cost) in
     record {
       plan_of = plan_of;
-      none_cheaper = words_to_plans rise words p (min lower plan.cost) (λ word lawful. omega (arith, least, no_word_cheaper piece p cutting budget plan.cost (Some lower) is_cutting so_far word lawful));
+      none_cheaper = words_to_plans have p (min lower plan.cost) (λ word lawful. omega (arith, least, no_word_cheaper piece p cutting budget plan.cost (Some lower) is_cutting so_far word lawful));
       unfinished = record {
         cutting = cutting;
         is_cutting = is_cutting;

@@ -10,7 +10,7 @@ ghost use Rattle.vrp_command.specs.Searched.{AreSearched};
 use crate::verdict::Verdict;
 use std::alloc::Global;
 use vrp_bound::Tables;
-use vrp_model::{Instance, NoMemory, Plan, plans_are_words, plans_can_rise};
+use vrp_model::{Instance, NoMemory, Plan, plans_have_words};
 use vrp_search::{Cutting, Ended, Local, one_piece, search};
 
 /// A lawful plan, and the verdict on it.
@@ -39,8 +39,7 @@ pub(crate) fn solve(
     let lower = search_all(alloc, instance, &tables, &cutting, budget, &mut board)?;
     // What is known of words holds of plans.
     one_piece();
-    plans_can_rise();
-    plans_are_words();
+    plans_have_words();
     let plan = board.plan().copy(alloc)?;
     let verdict = match lower {
         None => Verdict::Proven,

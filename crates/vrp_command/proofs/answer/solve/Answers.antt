@@ -19,11 +19,11 @@ returns c =
     elim c.match-lower.branch [
       | in-None w ↦
           let all = subst (AreSearched p cutting budget plan.cost cutting) w.in-None.is searched in
-          rw w.verdict-is (proven c.one_piece.ensures c.plans_can_rise.ensures c.plans_are_words.ensures p cutting budget plan c.at_least.ensures.cutting plan_of all)
+          rw w.verdict-is (proven c.one_piece.ensures c.plans_have_words.ensures p cutting budget plan c.at_least.ensures.cutting plan_of all)
       | in-Some w ↦
           let all = subst (AreSearched p cutting budget plan.cost cutting) w.in-Some.is searched in
           let lower : w.min.result ≡ min w.in-Some.lower plan.cost = w.min.ensures ∙ ap (min w.in-Some.lower) w.cost.ensures in
           let few : length cutting ≤ c.args.pieces + (MAX_NODES - 1) = omega (arith, c.at_least.ensures.few, ap length c.in_ok-cutting.ensures.words) in
-          let left = left_open c.one_piece.ensures c.plans_can_rise.ensures c.plans_are_words.ensures p cutting c.args.pieces budget plan w.in-Some.lower c.at_least.ensures.cutting c.in_ok-at_least.ensures.enough few plan_of all in
+          let left = left_open c.one_piece.ensures c.plans_have_words.ensures p cutting c.args.pieces budget plan w.in-Some.lower c.at_least.ensures.cutting c.in_ok-at_least.ensures.enough few plan_of all in
           rw w.verdict-is (subst (IsLeftOpen p c.args.pieces budget plan) (sym lower) left)
     ]
