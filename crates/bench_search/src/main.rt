@@ -2,11 +2,17 @@
 //! Both are named on the command line. What it found goes to standard output, and how long it took to standard error.
 #![tactic(auto)]
 
+ghost use Rattle.std.specs.Prelude.{◌≡◌, ◌≤◌, IfOk};
+ghost use Rattle.vrp_model.specs.Problem.{customers};
+ghost use Rattle.vrp_model.specs.Route.{IsPlanOf};
+
 use anyhow::{Context, Result, ensure};
+use std::alloc::Global;
+use std::rt::{Clock, Files};
 use std::time::{Duration, Instant};
 use std::{env, fs};
 use vrp_bound::Tables;
-use vrp_model::Plan;
+use vrp_model::{Instance, NoMemory, Plan};
 use vrp_search::{Cutting, Ended, Local, search};
 
 fn main(rt: HostRuntime) -> Result<()> {
@@ -14,23 +20,55 @@ fn main(rt: HostRuntime) -> Result<()> {
     let name = words.next().context("no file is named")?;
     let budget = words.next().context("no budget is named")?.parse::<u64>()?;
     ensure!(budget >= 1, "the budget is 0");
-    let bytes = fs::read(&rt, name.as_str())?;
-    let instance = vrp_text::read(rt.alloc(), &bytes, None)?;
-    let cutting = Cutting::whole(rt.alloc(), &instance)?;
-    let mut board = Local::open(Plan::singles(rt.alloc(), &instance)?);
-    let piece = &cutting.pieces()[0];
-    let tables_start = Instant::now(&rt)?;
-    let tables = Tables::over_all(rt.alloc(), &instance)?;
-    let tables_time = tables_start.elapsed(&rt)?;
-    let start = Instant::now(&rt)?;
-    let ended = search(rt.alloc(), &instance, &tables, piece, budget, &mut board)?;
-    let time = start.elapsed(&rt)?;
+    let instance = read(&rt, name.as_str())?;
+    measure(&rt, name.as_str(), &instance, budget)
+}
+
+// The instance in a file.
+fn read<R: Files + AllocGlobal>(rt: &R, name: &str) -> Result<Instance> {
+    let bytes = fs::read(rt, name)?;
+    Ok(vrp_text::read(rt.alloc(), &bytes, None)?)
+}
+
+// Searches an instance, and prints what came of it.
+fn measure<R: Clock + Print + Eprint + AllocGlobal>(
+    rt: &R,
+    name: &str,
+    instance: &Instance,
+    budget: u64,
+) -> Result<()>
+    requires { 1 ≤ budget }
+{
+    let mut board = Local::open(Plan::singles(rt.alloc(), instance)?);
+    let start = Instant::now(rt)?;
+    let tables = Tables::over_all(rt.alloc(), instance)?;
+    let tables_time = start.elapsed(rt)?;
+    let start = Instant::now(rt)?;
+    let ended = search_all(rt.alloc(), instance, &tables, budget, &mut board)?;
+    let time = start.elapsed(rt)?;
     let looked = looked_at(ended);
     let cost = board.plan().cost();
-    println!(&rt; "{name}: {looked} partial plans looked at, cost {cost}")?;
-    print_rate(&rt, looked, time)?;
-    eprintln!(&rt; "tables in {} milliseconds", tables_time.as_millis())?;
+    println!(rt; "{name}: {looked} partial plans looked at, cost {cost}")?;
+    print_rate(rt, looked, time)?;
+    eprintln!(rt; "tables in {} milliseconds", tables_time.as_millis())?;
     Ok(())
+}
+
+// Searches the whole tree as one piece.
+fn search_all(
+    alloc: Global,
+    instance: &Instance,
+    tables: &Tables<'_>,
+    budget: u64,
+    board: &mut Local,
+) -> Result<Ended, NoMemory>
+    requires tables { tables.now.problem ≡ instance.now }
+    requires all { tables.now.among ≡ customers instance.now }
+    requires board { IsPlanOf instance.now board.old }
+    requires budget { 1 ≤ budget }
+{
+    let cutting = Cutting::whole(alloc, instance)?;
+    search(alloc, instance, tables, &cutting.pieces()[0], budget, board)
 }
 
 fn looked_at(ended: Ended) -> u64 {

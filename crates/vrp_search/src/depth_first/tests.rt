@@ -24,18 +24,10 @@ fn three_nodes_on_a_line(rt: HostRuntime) -> Result<(), Fail> {
         (1, 5, Ended::Finished { spent: 5 }, 30),
     ];
     for (capacity, budget, ended, cost) in table {
-        assert!(rt; capacity <= 2);
-        assert!(rt; budget >= 1);
-        let points = [(0, 0), (3, 4), (6, 8)];
-        let weights = Weights::points(rt.alloc(), Metric::Euc2d, &points)?;
-        let instance = Instance::new(rt.alloc(), weights, &[0, 1, 1], capacity, &[1], None)?;
-        let mut board = Local::open(Plan::singles(rt.alloc(), &instance)?);
-        let found = search_all(rt.alloc(), &instance, budget, &mut board)?;
-        assert_eq!(rt;
-            (found, board.plan().cost()),
-            (ended, cost),
-            "{capacity} {budget}"
-        );
+        let instance = three_on_a_line(&rt, rt.alloc(), capacity)?;
+        let plan = Plan::singles(rt.alloc(), &instance)?;
+        let wanted = Wanted { ended, cost };
+        assert_search(&rt, rt.alloc(), &instance, plan, budget, wanted)?;
     }
     Ok(())
 }
@@ -53,26 +45,12 @@ fn opened_with_a_dear_plan(rt: HostRuntime) -> Result<(), Fail> {
         (6, open(6), 4),
         (7, Ended::Finished { spent: 7 }, 4),
     ];
+    let instance = two_far_apart(&rt, rt.alloc())?;
     for (budget, ended, cost) in table {
-        assert!(rt; budget >= 1);
-        let ways = [0, 1, 1, 1, 0, 9, 1, 9, 0];
-        assert!(rt; ways.len() == Layout::FullMatrix.entries(3));
-        assert!(rt; ways.iter().all(|&way| way <= 9));
-        let weights = Weights::matrix(rt.alloc(), Layout::FullMatrix, &ways, 3)?;
-        let instance = Instance::new(rt.alloc(), weights, &[0, 1, 1], 2, &[1], None)?;
-        let mut partial = Partial::root(rt.alloc(), &instance)?;
-        push(&rt, &mut partial, 1);
-        push(&rt, &mut partial, 2);
-        push(&rt, &mut partial, 0);
-        assert!(rt; partial.complete());
-        let mut board = Local::open(partial.plan(rt.alloc())?);
-        assert_eq!(rt; board.plan().cost(), 11);
-        let found = search_all(rt.alloc(), &instance, budget, &mut board)?;
-        assert_eq!(rt;
-            (found, board.plan().cost()),
-            (ended, cost),
-            "budget {budget}"
-        );
+        let plan = one_truck(&rt, rt.alloc(), &instance)?;
+        assert_eq!(rt; plan.cost(), 11);
+        let wanted = Wanted { ended, cost };
+        assert_search(&rt, rt.alloc(), &instance, plan, budget, wanted)?;
     }
     Ok(())
 }
@@ -94,6 +72,61 @@ fn deep_piece_at_the_limits(rt: HostRuntime) -> Result<(), Fail> {
     assert_eq!(rt; found, ended);
     assert_eq!(rt; board.plan().cost(), 1_199 * 1_200);
     Ok(())
+}
+
+// How a search is to end, and what the plan is to cost that the board has then.
+#[derive(Clone, Copy)]
+struct Wanted {
+    ended: Ended,
+    cost: u64,
+}
+
+// Searches the whole tree with a board that has a plan.
+fn assert_search(
+    rt: &impl Abort,
+    alloc: Global,
+    instance: &Instance,
+    plan: Plan,
+    budget: u64,
+    wanted: Wanted,
+) -> Result<(), Fail>
+    requires { IsPlanOf instance.now plan }
+{
+    assert!(rt; budget >= 1);
+    let mut board = Local::open(plan);
+    let ended = search_all(alloc, instance, budget, &mut board)?;
+    assert_eq!(rt; ended, wanted.ended, "budget {budget}");
+    assert_eq!(rt; board.plan().cost(), wanted.cost, "budget {budget}");
+    Ok(())
+}
+
+// The depot and two customers on a line, five apart.
+fn three_on_a_line(rt: &impl Abort, alloc: Global, capacity: u64) -> Result<Instance, Fail> {
+    assert!(rt; capacity <= 2);
+    let points = [(0, 0), (3, 4), (6, 8)];
+    let weights = Weights::points(alloc, Metric::Euc2d, &points)?;
+    Ok(Instance::new(alloc, weights, &[0, 1, 1], capacity, &[1], None)?)
+}
+
+// Two customers, each a step from the depot, and nine steps from one another.
+fn two_far_apart(rt: &impl Abort, alloc: Global) -> Result<Instance, Fail> {
+    let ways = [0, 1, 1, 1, 0, 9, 1, 9, 0];
+    assert!(rt; ways.len() == Layout::FullMatrix.entries(3));
+    assert!(rt; ways.iter().all(|&way| way <= 9));
+    let weights = Weights::matrix(alloc, Layout::FullMatrix, &ways, 3)?;
+    Ok(Instance::new(alloc, weights, &[0, 1, 1], 2, &[1], None)?)
+}
+
+// The plan of one truck for two customers.
+fn one_truck(rt: &impl Abort, alloc: Global, instance: &Instance) -> Result<Plan, NoMemory>
+    ensures { IfOk result (IsPlanOf instance.now) }
+{
+    let mut partial = Partial::root(alloc, instance)?;
+    push(rt, &mut partial, 1);
+    push(rt, &mut partial, 2);
+    push(rt, &mut partial, 0);
+    assert!(rt; partial.complete());
+    partial.plan(alloc)
 }
 
 // So many nodes on a line, a step apart, the depot first. Each truck carries two customers.
