@@ -234,13 +234,14 @@ mod tests {
 
     #[test]
     fn cut_into_so_many(rt: HostRuntime) -> Result<(), Fail> {
-        let plans: [&[u16]; 4] = [&[1, 0, 2, 0], &[1, 2, 0], &[2, 0], &[2, 1, 0]];
+        // The last two have no child and are no plans: a customer is left, and the depot would end a route that runs back.
+        let finest: [&[u16]; 4] = [&[1, 0, 2, 0], &[1, 2, 0], &[2, 0], &[2, 1]];
         // The second has every customer but one, and no child.
         let singles: [&[u16]; 2] = [&[1, 0, 2, 0], &[2, 0]];
         let starts: [&[u16]; 2] = [&[1], &[2]];
         let thirds: [&[u16]; 3] = [&[1, 0], &[1, 2], &[2]];
         let table = [
-            (2, MAX_PIECES, plans.as_slice()),
+            (2, MAX_PIECES, finest.as_slice()),
             (1, MAX_PIECES, singles.as_slice()),
             (2, 2, starts.as_slice()),
             (2, 3, thirds.as_slice()),

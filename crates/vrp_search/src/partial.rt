@@ -303,7 +303,7 @@ mod tests {
 
     #[test]
     fn trees_of_three_nodes(rt: HostRuntime) -> Result<(), Fail> {
-        let table = [(2, 11, 3, 20), (1, 7, 1, 30)];
+        let table = [(2, 10, 2, 20), (1, 7, 1, 30)];
         for (capacity, fronts, plans, least) in table {
             assert!(rt; capacity <= 2);
             let points = [(0, 0), (3, 4), (6, 8)];
@@ -327,7 +327,7 @@ mod tests {
         let instance = Instance::new(rt.alloc(), weights, &[0, 3, 4], 7, &[1], None)?;
         let mut partial = Partial::root(rt.alloc(), &instance)?;
         // a symbol, and behind it the place, the cost, the load and the rest
-        let table = [(2, 2, 10, 4, 3), (1, 1, 15, 7, 0), (0, 0, 20, 0, 0)];
+        let table = [(1, 1, 5, 3, 4), (2, 2, 10, 7, 0), (0, 0, 20, 0, 0)];
         assert_eq!(rt; partial.rest(), 7);
         for (symbol, at, cost, load, rest) in table {
             assert!(rt; partial.child(symbol));
@@ -340,7 +340,33 @@ mod tests {
             assert!(rt; !partial.child(3));
         }
         assert!(rt; partial.complete());
-        assert_eq!(rt; partial.plan(rt.alloc())?.word(), [2, 1, 0].as_slice());
+        assert_eq!(rt; partial.plan(rt.alloc())?.word(), [1, 2, 0].as_slice());
+        Ok(())
+    }
+
+    #[test]
+    fn dead_words_of_three_nodes(rt: HostRuntime) -> Result<(), Fail> {
+        let points = [(0, 0), (3, 4), (6, 8)];
+        let weights = Weights::points(rt.alloc(), Metric::Euc2d, &points)?;
+        let instance = Instance::new(rt.alloc(), weights, &[0, 1, 1], 2, &[1], None)?;
+        let table: [(&[u16], bool); 8] = [
+            (&[], false),
+            (&[1], false),
+            (&[1, 0], false),
+            (&[1, 2], false),
+            (&[1, 2, 0], false),
+            (&[2], true),
+            (&[2, 0], true),
+            (&[2, 1], true),
+        ];
+        for (word, is_dead) in table {
+            let mut partial = Partial::root(rt.alloc(), &instance)?;
+            for symbol in word {
+                assert!(rt; partial.child(*symbol), "{symbol} of {word:?}");
+                partial.push(*symbol);
+            }
+            assert_eq!(rt; partial.is_dead(), is_dead, "{word:?}");
+        }
         Ok(())
     }
 

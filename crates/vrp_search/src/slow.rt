@@ -1,39 +1,19 @@
 //! A plain slow program beside the fast bodies: it judges each short list of symbols as a whole, and so finds all fronts of a
-//! small instance.
+//! small instance, their children, and what is counted along them.
 
-use crate::cutting::{Cutting, MAX_PIECES};
-use crate::partial::Partial;
 use std::alloc::{AllocError, Global};
 use std::process::Abort;
 use std::test::Fail;
-use vrp_model::{Instance, Layout, NoMemory, Weights};
+use vrp_model::{Instance, Layout, Weights};
+
+mod tests;
 
 const NODES: u16 = 4;
 
-// The weights from each node to each. There and back differ.
-const WEIGHTS: [u64; 16] = [0, 5, 9, 14, 3, 0, 7, 2, 8, 1, 0, 6, 11, 4, 10, 0];
+// Weights from each node to each: there and back differ, and there and back are the same.
+const ONE_WAY: [u64; 16] = [0, 5, 9, 14, 3, 0, 7, 2, 8, 1, 0, 6, 11, 4, 10, 0];
 
-// More steps than a walk through any of the trees takes.
-const MOST_STEPS: u32 = 10_000;
-
-// Into how many pieces a tree is cut before a piece is refined, at most: enough for the trees to be cut down to their leaves.
-const MOST_REFINED: u32 = 24;
-
-// Instances of 0 to 3 customers: how many there are, the demands of the places, the depot's first, and the capacity.
-const CASES: [Case; 12] = [
-    (0, [0, 0, 0, 0], 1),
-    (1, [0, 1, 0, 0], 1),
-    (1, [0, 0, 0, 0], 1),
-    (2, [0, 1, 1, 0], 1),
-    (2, [0, 1, 1, 0], 2),
-    (2, [0, 2, 0, 0], 2),
-    (3, [0, 1, 1, 1], 1),
-    (3, [0, 1, 1, 1], 2),
-    (3, [0, 1, 1, 1], 3),
-    (3, [0, 2, 1, 3], 3),
-    (3, [0, 1, 0, 2], 2),
-    (3, [0, 0, 0, 0], 1),
-];
+const BOTH_WAYS: [u64; 16] = [0, 5, 9, 14, 5, 0, 7, 2, 9, 7, 0, 6, 14, 2, 6, 0];
 
 type Case = (u16, [u64; 4], u64);
 
@@ -42,15 +22,30 @@ struct Small {
     customers: u16,
     demands: [u64; 4],
     capacity: u64,
+    is_symmetric: bool,
 }
 
 impl Small {
-    fn new(case: Case) -> Small {
+    // Both instances of a case.
+    fn both(case: Case) -> [Small; 2] {
+        [Small::new(case, false), Small::new(case, true)]
+    }
+
+    fn new(case: Case, is_symmetric: bool) -> Small {
         let (customers, demands, capacity) = case;
         Small {
             customers,
             demands,
             capacity,
+            is_symmetric,
+        }
+    }
+
+    fn weights(&self) -> [u64; 16] {
+        if self.is_symmetric {
+            BOTH_WAYS
+        } else {
+            ONE_WAY
         }
     }
 
@@ -63,9 +58,10 @@ impl Small {
             _ => &[1],
         };
         assert!(rt; !depots.is_empty() && depots.iter().all(|&depot| 1 <= depot && depot <= NODES));
-        assert!(rt; WEIGHTS.len() == Layout::FullMatrix.entries(NODES));
-        assert!(rt; WEIGHTS.iter().all(|&weight| weight <= 100) && self.capacity <= 100);
-        let weights = Weights::matrix(alloc, Layout::FullMatrix, &WEIGHTS, NODES)?;
+        let ways = self.weights();
+        assert!(rt; ways.len() == Layout::FullMatrix.entries(NODES));
+        assert!(rt; ways.iter().all(|&way| way <= 100) && self.capacity <= 100);
+        let weights = Weights::matrix(alloc, Layout::FullMatrix, &ways, NODES)?;
         let instance = Instance::new(alloc, weights, &self.demands, self.capacity, depots, None)?;
         Ok(instance)
     }
@@ -99,7 +95,38 @@ impl Small {
 
     fn is_front(&self, word: &[u16]) -> bool {
         let is_known = word.iter().all(|symbol| *symbol <= self.customers);
-        is_known && is_once(word) && has_stops(word) && self.fits(word) && is_rising(word)
+        let is_plain = is_known && is_once(word) && has_stops(word) && is_rising(word);
+        is_plain && self.fits(word) && self.runs_forward(word)
+    }
+
+    // Whether no closed route has its first customer above its last, where there and back cost the same.
+    fn runs_forward(&self, word: &[u16]) -> bool {
+        // What stands behind the last 0 is open, or nothing.
+        let mut closed: &[u16] = &[];
+        for route in word.split(|symbol| *symbol == 0) {
+            if self.is_symmetric && !is_forward(closed) {
+                return false;
+            }
+            closed = route;
+        }
+        true
+    }
+
+    // Whether there and back cost the same, all who are left are below the last route's first customer, and there is one, or
+    // the word ends with a customer below it.
+    fn is_dead(&self, word: &[u16]) -> bool {
+        let first = last_first(word);
+        let last = word.last().copied().unwrap_or(0);
+        let mut is_left = false;
+        for customer in 1..=self.customers {
+            if !word.contains(&customer) {
+                is_left = true;
+                if customer > first {
+                    return false;
+                }
+            }
+        }
+        self.is_symmetric && (is_left || (last > 0 && last < first))
     }
 
     // Whether no truck has more than its capacity.
@@ -144,6 +171,22 @@ impl Small {
         rest
     }
 
+    // What is paid along a word, from the depot.
+    fn cost(&self, word: &[u16]) -> u64 {
+        let mut cost = 0u64;
+        let mut at = 0u16;
+        for symbol in word {
+            cost = cost.saturating_add(self.weight(at, *symbol));
+            at = *symbol;
+        }
+        cost
+    }
+
+    fn weight(&self, from: u16, to: u16) -> u64 {
+        let way = usize::from(from) * usize::from(NODES) + usize::from(to);
+        self.weights().get(way).copied().unwrap_or(0)
+    }
+
     // Whether a front has every customer and ends at the depot.
     fn is_complete(&self, word: &[u16]) -> bool {
         for customer in 1..=self.customers {
@@ -170,98 +213,6 @@ impl Small {
             }
         }
         Ok(has_any)
-    }
-
-    // The fronts that a walk by children meets, by the order of their symbols. Wherever it comes, the values are compared.
-    fn walked(
-        &self,
-        rt: &impl Abort,
-        alloc: Global,
-        instance: &Instance,
-    ) -> Result<Vec<Vec<u16>>, NoMemory> {
-        let mut partial = Partial::root(alloc, instance)?;
-        let mut fronts = Vec::new(alloc);
-        fronts.push(Vec::new(alloc))?;
-        let mut next = 0u16;
-        for _ in 0..MOST_STEPS {
-            self.assert_values(rt, &partial);
-            if partial.child(next) {
-                partial.push(next);
-                fronts.push(Vec::from_slice(alloc, partial.word())?)?;
-                next = 0;
-            } else if next < NODES {
-                next += 1;
-            } else if partial.word().is_empty() {
-                return Ok(fronts);
-            } else {
-                next = partial.pop().saturating_add(1);
-            }
-        }
-        panic!(rt; "the walk has no end");
-    }
-
-    fn assert_values(&self, rt: &impl Abort, partial: &Partial<'_>) {
-        let word = partial.word();
-        assert_eq!(rt; partial.complete(), self.is_complete(word), "at {word:?}");
-        assert_eq!(rt; partial.cost(), cost(word), "at {word:?}");
-        assert_eq!(rt; partial.load(), self.open_load(word), "at {word:?}");
-        assert_eq!(rt; partial.rest(), self.rest(word), "at {word:?}");
-        assert_eq!(rt;
-            partial.at(),
-            word.last().copied().unwrap_or(0),
-            "at {word:?}"
-        );
-    }
-
-    // The cuttings into few pieces, each of whose pieces is refined.
-    fn assert_all_refined(
-        &self,
-        rt: &impl Abort,
-        alloc: Global,
-        instance: &Instance,
-    ) -> Result<(), Fail> {
-        for pieces in 0..MOST_REFINED {
-            self.assert_each_refined(rt, alloc, instance, pieces)?;
-        }
-        Ok(())
-    }
-
-    fn assert_each_refined(
-        &self,
-        rt: &impl Abort,
-        alloc: Global,
-        instance: &Instance,
-        pieces: u32,
-    ) -> Result<(), Fail> {
-        // There may be more pieces than were asked for, by the children of one.
-        for number in 0..pieces.saturating_add(u32::from(NODES)) {
-            self.assert_refined(rt, alloc, instance, pieces, number)?;
-        }
-        Ok(())
-    }
-
-    // A piece's children stand in its stead where it has any, and all other pieces stay.
-    fn assert_refined(
-        &self,
-        rt: &impl Abort,
-        alloc: Global,
-        instance: &Instance,
-        pieces: u32,
-        number: u32,
-    ) -> Result<(), Fail> {
-        assert!(rt; pieces <= MAX_PIECES);
-        let mut cutting = Cutting::whole(alloc, instance)?;
-        cutting.at_least(alloc, instance, pieces)?;
-        if number as usize >= cutting.pieces().len() {
-            return Ok(());
-        }
-        let before = words(alloc, &cutting)?;
-        let is_refined = cutting.refine(alloc, instance, number)?;
-        let after = words(alloc, &cutting)?;
-        let (wanted, has_children) = self.refined(alloc, &before, number as usize)?;
-        assert_eq!(rt; is_refined, has_children, "piece {number} of {before:?}");
-        assert_eq!(rt; after, wanted, "piece {number} of {before:?}");
-        Ok(())
     }
 
     // The words with one word's children in its stead, and whether it has any.
@@ -332,20 +283,24 @@ fn is_rising(word: &[u16]) -> bool {
     true
 }
 
-// What is paid along a word, from the depot.
-fn cost(word: &[u16]) -> u64 {
-    let mut cost = 0u64;
-    let mut at = 0u16;
-    for symbol in word {
-        cost = cost.saturating_add(weight(at, *symbol));
-        at = *symbol;
+// The first customer of the last route, 0 where there is none.
+fn last_first(word: &[u16]) -> u16 {
+    let mut first = 0u16;
+    for route in word.split(|symbol| *symbol == 0) {
+        first = route.first().copied().unwrap_or(first);
     }
-    cost
+    first
 }
 
-fn weight(from: u16, to: u16) -> u64 {
-    let way = usize::from(from) * usize::from(NODES) + usize::from(to);
-    WEIGHTS.get(way).copied().unwrap_or(0)
+fn is_forward(route: &[u16]) -> bool {
+    match (route.first(), route.last()) {
+        (Some(first), Some(last)) => *first <= *last,
+        _ => true,
+    }
+}
+
+fn begins_with(word: &[u16], front: &[u16]) -> bool {
+    word.len() >= front.len() && word.iter().zip(front.iter()).all(|(a, b)| *a == *b)
 }
 
 // The word with one symbol more.
@@ -353,61 +308,4 @@ fn with(alloc: Global, word: &[u16], symbol: u16) -> Result<Vec<u16>, AllocError
     let mut longer = Vec::from_slice(alloc, word)?;
     longer.push(symbol)?;
     Ok(longer)
-}
-
-// The words of a cutting's pieces.
-fn words(alloc: Global, cutting: &Cutting) -> Result<Vec<Vec<u16>>, AllocError> {
-    let mut words = Vec::new(alloc);
-    for piece in cutting.pieces() {
-        words.push(Vec::from_slice(alloc, piece.word())?)?;
-    }
-    Ok(words)
-}
-
-#[test]
-fn walks_meet_all_fronts(rt: HostRuntime) -> Result<(), Fail> {
-    for case in CASES {
-        let small = Small::new(case);
-        let instance = small.instance(&rt, rt.alloc())?;
-        let fronts = small.fronts(rt.alloc())?;
-        let walked = small.walked(&rt, rt.alloc(), &instance)?;
-        assert_eq!(rt; walked, fronts, "{small:?}");
-    }
-    Ok(())
-}
-
-#[test]
-fn sizes_of_trees(rt: HostRuntime) -> Result<(), Fail> {
-    for (capacity, fronts) in [(2, 11), (1, 7)] {
-        let small = Small::new((2, [0, 1, 1, 0], capacity));
-        assert_eq!(rt;
-            small.fronts(rt.alloc())?.len(),
-            fronts,
-            "capacity {capacity}"
-        );
-    }
-    Ok(())
-}
-
-#[test]
-fn cuttings_end_at_the_leaves(rt: HostRuntime) -> Result<(), Fail> {
-    for case in CASES {
-        let small = Small::new(case);
-        let instance = small.instance(&rt, rt.alloc())?;
-        let mut cutting = Cutting::whole(rt.alloc(), &instance)?;
-        cutting.at_least(rt.alloc(), &instance, MAX_PIECES)?;
-        let words = words(rt.alloc(), &cutting)?;
-        assert_eq!(rt; words, small.leaves(rt.alloc())?, "{small:?}");
-    }
-    Ok(())
-}
-
-#[test]
-fn children_stand_for_a_piece(rt: HostRuntime) -> Result<(), Fail> {
-    for case in CASES {
-        let small = Small::new(case);
-        let instance = small.instance(&rt, rt.alloc())?;
-        small.assert_all_refined(&rt, rt.alloc(), &instance)?;
-    }
-    Ok(())
 }

@@ -102,8 +102,8 @@ fn small_budgets(rt: HostRuntime) -> Result<(), Fail> {
         ),
         // a customer of no demand: the ways into the customers, 4, 5 and 1, and one way home, 1
         (SMALL, FOUR, 1, 1, Status::Open, "Cost 32\nOpen 11\n"),
-        // three pieces, left at 12, 16 and 11; then the last one is finished
-        (SMALL, FOUR, 3, 1, Status::Open, "Cost 32\nOpen 11\n"),
+        // three pieces: two are left at 12 and 16; with the last customer first no route can be opened any more for the others
+        (SMALL, FOUR, 3, 1, Status::Open, "Cost 32\nOpen 12\n"),
         (SMALL, FOUR, 3, 10, Status::Open, "Cost 20\nOpen 12\n"),
         // two pieces, left at 20 and 3; then the last one is finished, and its plan costs less than 20
         (SMALL, SECOND_FIRST, 2, 1, Status::Open, "Cost 31\nOpen 3\n"),
