@@ -20,7 +20,7 @@ invariant_of-result c =
     let one_each : length least ≡ c.len.result = grind (arith, common_steps) in
     let each = subst (λ (ws : List ℕ). (to : ℕ) → to < c.len.result → IsLeastWay ws c.len.result to (slice_index least to)) c.deref-3.ensures.value c.in_ok-least_in.ensures.each in
     let told = subst (λ (ws : List ℕ). IsTrue c.is_symmetric-symmetric.result ↔ IsSymmetricSquare ws (length places)) c.deref-4.ensures.value
-        (subst (λ n. IsTrue c.is_symmetric-symmetric.result ↔ IsSymmetricSquare c.deref-4.result.now n) (omega arith) c.is_symmetric-symmetric.ensures) in
+    (subst (λ n. IsTrue c.is_symmetric-symmetric.result ↔ IsSymmetricSquare c.deref-4.result.now n) (omega arith) c.is_symmetric-symmetric.ensures) in
     record {
       problem = rw (c.in_ok-demands.ensures, c.deref-2.ensures.value) problem;
       least = least_ways_are made least c.len.result count one_each (omega (arith, count, problem.some_places)) each;
