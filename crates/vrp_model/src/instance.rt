@@ -1,5 +1,5 @@
 //! An instance of the problem: the depot is place 0, and the customers are places 1 to m by rising node number.
-ghost use Rattle.std.specs.Prelude.{◌≡◌, ◌↔◌, ℕ, ◌+◌, ◌*◌, ◌-◌, ◌≤◌, ◌<◌, IsTrue, Option, unwrap_or, IfOk, IfErr, OnOk, Bool, not, filter, map, List, ◌∷◌, ◌++◌, length, slice_index, true, false};
+ghost use Rattle.std.specs.Prelude.{◌≡◌, ◌↔◌, ℕ, ◌+◌, ◌*◌, ◌-◌, ◌≤◌, ◌<◌, IsTrue, Option, Some, IfSome, unwrap_or, IfOk, IfErr, OnOk, Bool, not, filter, map, List, ◌∷◌, ◌++◌, length, slice_index, true, false};
 ghost use Rattle.std.specs.List.{range_with_len, flat_map};
 ghost use Rattle.vrp_model.specs.Grid.{entry_at};
 ghost use Rattle.vrp_model.specs.LeastWay.{IsLeastHome, IsLeastIn};
@@ -41,6 +41,7 @@ pub struct Instance {
     demands: Vec<u64>,
     weights: Vec<u32>,
     capacity: u64,
+    trucks: Option<u16>,
     // Into each place; into the depot it is 0 where there is no customer.
     least_in: Vec<u32>,
     symmetric: bool,
@@ -52,9 +53,9 @@ impl Model for Instance {
 
     ghost Value = { Problem };
 
-    ghost view = { λ a. record { nodes = a.nodes.items; demands = a.demands.items; weights = a.weights.items; capacity = a.capacity } };
+    ghost view = { λ a. record { nodes = a.nodes.items; demands = a.demands.items; weights = a.weights.items; capacity = a.capacity; trucks = a.trucks } };
 
-    ghost invariant = { λ a. IsKeptProblem (record { nodes = a.nodes.items; demands = a.demands.items; weights = a.weights.items; capacity = a.capacity }) a.least_in.items a.symmetric };
+    ghost invariant = { λ a. IsKeptProblem (record { nodes = a.nodes.items; demands = a.demands.items; weights = a.weights.items; capacity = a.capacity; trucks = a.trucks }) a.least_in.items a.symmetric };
 }
 
 impl Instance {
@@ -125,9 +126,45 @@ impl Instance {
             demands,
             weights,
             capacity,
+            trucks: None,
             least_in,
             symmetric,
         })
+    }
+
+    /// The same instance with so many trucks: no lawful plan of it has more routes.
+    pub fn with_trucks(self, trucks: u16) -> Instance
+        requires some { 1 ≤ trucks }
+        requires few { trucks ≤ MAX_NODES }
+        ensures { result ≡ record self { trucks = Some trucks } }
+    {
+        let Instance {
+            nodes,
+            demands,
+            weights,
+            capacity,
+            least_in,
+            symmetric,
+            ..
+        } = self;
+        Instance {
+            nodes,
+            demands,
+            weights,
+            capacity,
+            trucks: Some(trucks),
+            least_in,
+            symmetric,
+        }
+    }
+
+    /// How many trucks there are, from 1 to 1,200; `None` where there are as many as are wanted.
+    pub fn trucks(&self) -> Option<u16>
+        ensures value { result ≡ self.now.trucks }
+        ensures some { IfSome result (λ trucks. 1 ≤ trucks) }
+        ensures few { IfSome result (λ trucks. trucks ≤ MAX_NODES) }
+    {
+        self.trucks
     }
 
     /// How many customers there are: from 0 to 1,199.

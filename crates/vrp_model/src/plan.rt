@@ -1,8 +1,8 @@
 //! Plans: the routes of the trucks, and what they cost.
-ghost use Rattle.std.specs.Prelude.{◌≡◌, ℕ, ◌+◌, ◌*◌, ◌<◌, ◌≤◌, ◌==◌, false, Some, IfOk, OnOk, List, [], ◌∷◌, ◌++◌, ◌^◌, length, map, slice_get};
+ghost use Rattle.std.specs.Prelude.{◌≡◌, ℕ, ◌+◌, ◌*◌, ◌<◌, ◌≤◌, ◌==◌, false, Some, IfOk, IfSome, IsTrue, is_some, OnOk, ◌↔◌, List, [], ◌∷◌, ◌++◌, ◌^◌, length, map, slice_get};
 ghost use Rattle.std.specs.List.{All, position_or_len};
 ghost use Rattle.std.specs.List.Sorted.{IsStrictlyIncreasing};
-ghost use Rattle.vrp_model.specs.Problem.{IsSymmetric, Problem, customers, place_count};
+ghost use Rattle.vrp_model.specs.Problem.{HasTrucks, IsSymmetric, Problem, customers, place_count};
 ghost use Rattle.vrp_model.specs.Route.{IsPlanOf, plan_cost, route_cost};
 ghost use Rattle.vrp_model.specs.Inner.Stops.{routes_in, IsWordEnd};
 ghost use Rattle.vrp_model.specs.Word.{IsLawfulWord, RunsForward, first_stops, word_cost, word_of};
@@ -41,8 +41,22 @@ impl Model for Plan {
 }
 
 impl Plan {
-    /// The plan that sends one truck to each customer, by rising place.
-    pub fn singles(alloc: Global, instance: &Instance) -> Result<Plan, NoMemory>
+    /// The plan that sends one truck to each customer, by rising place. `None` where there are more customers than trucks.
+    pub fn singles(alloc: Global, instance: &Instance) -> Result<Option<Plan>, NoMemory>
+        ensures some { IfOk result (λ plan. IsTrue (is_some plan) ↔ HasTrucks instance.now (length (customers instance.now))) }
+        ensures routes { IfOk result (λ found. IfSome found (λ plan. plan.routes ≡ map (λ customer. customer ∷ []) (customers instance.now))) }
+        ensures lawful { IfOk result (λ found. IfSome found (IsPlanOf instance.now)) }
+        ensures word { IfOk result (λ found. IfSome found (λ plan. IsLawfulWord instance.now (word_of plan.routes))) }
+    {
+        match instance.trucks() {
+            Some(trucks) if trucks < instance.customers() => Ok(None),
+            _ => Ok(Some(Plan::one_each(alloc, instance)?)),
+        }
+    }
+
+    // The plan that sends one truck to each customer, where there are so many.
+    fn one_each(alloc: Global, instance: &Instance) -> Result<Plan, NoMemory>
+        requires { HasTrucks instance.now (length (customers instance.now)) }
         ensures routes { IfOk result (λ plan. plan.routes ≡ map (λ customer. customer ∷ []) (customers instance.now)) }
         ensures lawful { IfOk result (IsPlanOf instance.now) }
         ensures word { IfOk result (λ plan. IsLawfulWord instance.now (word_of plan.routes)) }

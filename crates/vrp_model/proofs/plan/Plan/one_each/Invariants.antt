@@ -1,7 +1,7 @@
 use Rattle.std.proofs.Common.{◌≡◌, [], ◌∷◌, ◌*◌, ◌≤◌, map}
 use Rattle.std.specs.List.{range_with_len}
 use Rattle.vrp_model.specs.Route.{plan_cost}
-use Rattle.vrp_model.proofs.plan.Plan.singles.Given as goal
+use Rattle.vrp_model.proofs.plan.Plan.one_each.Given as goal
 
 abbrev pub invariant-loop-index : goal.invariant-loop-index
 invariant-loop-index l =
