@@ -2,15 +2,16 @@
 ghost use Rattle.std.specs.Prelude.{◌≡◌, ◌≤◌, ◌<◌, IfSome};
 ghost use Rattle.vrp_model.specs.Problem.{customers, place_count};
 ghost use Rattle.vrp_model.specs.Route.{load_of};
-ghost use Rattle.vrp_bound.specs.Bound.{IsGreater};
+ghost use Rattle.vrp_bound.specs.Bound.{IsLowerBound};
 
 use crate::capacity::cap_bound;
 use crate::tables::Tables;
+use crate::trucks_left::can_carry;
 use vrp_model::{Instance, MAX_WAYS};
 
 /// What is at least still to pay from a place, with this load on the truck that is out there, by both bounds: `ins` is the sum
-/// of the least ways into the unserved customers, `rest` what they demand. `None` where nothing carries exactly the rest: then
-/// there is no lawful plan.
+/// of the least ways into the unserved customers, `rest` what they demand, `left` how many routes may still be opened. `None` where
+/// nothing carries exactly the rest, or the trucks that are left are too few: then there is no lawful plan.
 pub fn bound(
     tables: &Tables<'_>,
     instance: &Instance,
@@ -18,6 +19,7 @@ pub fn bound(
     load: u64,
     ins: u64,
     rest: u64,
+    left: Option<u16>,
 ) -> Option<u64>
     requires problem { tables.now.problem ≡ instance.now }
     requires place { at < place_count instance.now }
@@ -26,9 +28,12 @@ pub fn bound(
     requires ins { ins ≤ MAX_WAYS }
     requires rest { rest ≤ load_of instance.now tables.now.among }
     requires all { rest ≤ load_of instance.now (customers instance.now) }
-    ensures greater { IsGreater instance.now tables.now.among at load ins rest result }
+    ensures bound { IsLowerBound instance.now tables.now.among at load ins rest left result }
     ensures small { IfSome result (λ least. least < 4000000000000000000) }
 {
+    if !can_carry(instance, at, load, rest, left) {
+        return None;
+    }
     let capacity = cap_bound(instance, at, load, ins, rest);
     match tables.q_bound(at, load, rest) {
         None => None,
@@ -76,7 +81,7 @@ mod tests {
             assert!(rt; rest <= demand_of_all(Scope::new(&instance, &customers)));
             assert!(rt; rest <= instance.whole_demand());
             assert_eq!(rt;
-                bound(&tables, &instance, at, load, ins, rest),
+                bound(&tables, &instance, at, load, ins, rest, None),
                 answer,
                 "{demands:?} {at} {load} {rest}"
             );

@@ -1,23 +1,19 @@
 -- How many routes there are trucks for.
-use Rattle.std.proofs.Common.{◌≡◌, ℕ, ◌≤◌, Bool, List, Option, None, Some, IfSome, refl, arith}
+use Rattle.std.proofs.Common.{◌≡◌, ℕ, ◌≤◌, Bool, List, Option, Some, arith}
+use Rattle.std.specs.Option.{ForSome}
 use Rattle.std.specs.Prelude.{slice_index}
 use Rattle.vrp_model.specs.Inner.Kept.{IsKeptProblem}
 use Rattle.vrp_model.specs.LeastWay.{IsLeastIn}
 use Rattle.vrp_model.specs.Problem.{HasTrucks, Problem}
 use Rattle.vrp_model.specs.declared.limits.TheConstants.{MAX_NODES}
 
-fewer : (trucks : Option ℕ) (some all : ℕ) → some ≤ all → IfSome trucks (λ most. all ≤ most) → IfSome trucks (λ most. some ≤ most)
-fewer None some all less may = tt
-fewer (Some most) some all less may = omega (arith, less, may)
-
 -- where there are trucks for so many routes, there are for fewer
 pub fewer_routes : (p : Problem) (some all : ℕ) → some ≤ all → HasTrucks p all → HasTrucks p some
-fewer_routes p some all less may = fewer p.trucks some all less may
+fewer_routes p some all less may = λ trucks is. omega (arith, less, may trucks is)
 
--- where their number isn't known there are as many as are wanted
-pub no_limit : (trucks : Option ℕ) (P : ℕ → Type 0) → ((k : ℕ) → trucks ≡ Some k → ⊥) → IfSome trucks P
-no_limit None P none = tt
-no_limit (Some k) P none = absurd (none k refl)
+-- a known number of trucks is one number
+pub same_number : (some other : ℕ) → Some some ≡ Some other → some ≡ other
+same_number some other is = cc
 
 -- ---- the same problem with another number of trucks
 
@@ -27,7 +23,7 @@ with_limit p trucks = record { nodes = p.nodes; demands = p.demands; weights = p
 same_least_in : (p : Problem) (trucks : Option ℕ) (to weight : ℕ) → IsLeastIn p to weight → IsLeastIn (with_limit p trucks) to weight
 same_least_in p trucks to weight is = record { met = is.met; least = is.least }
 
-pub kept_with_limit : (p : Problem) (trucks : Option ℕ) (least : List ℕ) (symmetric : Bool) → IfSome trucks (λ k. 1 ≤ k) → IfSome trucks (λ k. k ≤ MAX_NODES) → IsKeptProblem p least symmetric → IsKeptProblem (with_limit p trucks) least symmetric
+pub kept_with_limit : (p : Problem) (trucks : Option ℕ) (least : List ℕ) (symmetric : Bool) → ForSome trucks (λ k. 1 ≤ k) → ForSome trucks (λ k. k ≤ MAX_NODES) → IsKeptProblem p least symmetric → IsKeptProblem (with_limit p trucks) least symmetric
 kept_with_limit p trucks least symmetric some few kept =
     let known = kept.problem in
     record {

@@ -42,6 +42,6 @@ IsProblem-made depots demands places weights depot capacity nodes are count few 
       empty_depot = rw (get_or-map (node_demand demands) places 0 0 0 are.some, are.depot_first) (node_demand_depot depots demands depot empty listed);
       fitting_demands = demand_fits demands places capacity (place_fits depots demands places depot capacity nodes are count empty listed fit);
       small_capacity = light;
-      some_trucks = tt;
-      few_trucks = tt;
+      some_trucks = λ trucks is. absurd (cc);
+      few_trucks = λ trucks is. absurd (cc);
     }

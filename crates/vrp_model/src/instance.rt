@@ -1,6 +1,7 @@
 //! An instance of the problem: the depot is place 0, and the customers are places 1 to m by rising node number.
-ghost use Rattle.std.specs.Prelude.{◌≡◌, ◌↔◌, ℕ, ◌+◌, ◌*◌, ◌-◌, ◌≤◌, ◌<◌, IsTrue, Option, Some, IfSome, unwrap_or, IfOk, IfErr, OnOk, Bool, not, filter, map, List, ◌∷◌, ◌++◌, length, slice_index, true, false};
+ghost use Rattle.std.specs.Prelude.{◌≡◌, ◌↔◌, ℕ, ◌+◌, ◌*◌, ◌-◌, ◌≤◌, ◌<◌, IsTrue, Option, Some, unwrap_or, IfOk, IfErr, OnOk, Bool, not, filter, map, List, ◌∷◌, ◌++◌, length, slice_index, true, false};
 ghost use Rattle.std.specs.List.{range_with_len, flat_map};
+ghost use Rattle.std.specs.Option.{ForSome};
 ghost use Rattle.vrp_model.specs.Grid.{entry_at};
 ghost use Rattle.vrp_model.specs.LeastWay.{IsLeastHome, IsLeastIn};
 ghost use Rattle.vrp_model.specs.Problem.{place_count, customers, node_of, demand_of, weight_of, IsProblem, IsSymmetric};
@@ -161,8 +162,8 @@ impl Instance {
     /// How many trucks there are, from 1 to 1,200; `None` where there are as many as are wanted.
     pub fn trucks(&self) -> Option<u16>
         ensures value { result ≡ self.now.trucks }
-        ensures some { IfSome result (λ trucks. 1 ≤ trucks) }
-        ensures few { IfSome result (λ trucks. trucks ≤ MAX_NODES) }
+        ensures some { ForSome result (λ trucks. 1 ≤ trucks) }
+        ensures few { ForSome result (λ trucks. trucks ≤ MAX_NODES) }
     {
         self.trucks
     }
@@ -208,7 +209,8 @@ impl Instance {
 
     /// What one truck can carry.
     pub fn capacity(&self) -> u64
-        ensures { result ≡ self.now.capacity }
+        ensures value { result ≡ self.now.capacity }
+        ensures small { result ≤ MAX_CAPACITY }
     {
         self.capacity
     }

@@ -93,9 +93,9 @@ returns c =
     (omega (arith, c.if-symbol-eq0.false)) (omega (arith, c.if-symbol-customers.false, c.customers-customers.ensures.value)) isnt_served (omega (arith, at, c.if-at-eq0.false)) in (
       λ test.
           let light : c.self.inside.tally.load + c.demand.result ≤ c.capacity.result = grind (arith, nat_tests, test) in
-          child_outside c.self.inside.instance.now c.self.inside.word.items c.args.symbol c.args.self.now c.self.view_is (child.0 (omega (arith, light, c.demand.ensures.value, c.capacity.ensures))),
+          child_outside c.self.inside.instance.now c.self.inside.word.items c.args.symbol c.args.self.now c.self.view_is (child.0 (omega (arith, light, c.demand.ensures.value, c.capacity.ensures.value))),
       λ after.
           let fits = child.1 (child_inside c.self.inside.instance.now c.self.inside.word.items c.args.symbol c.args.self.now c.self.view_is after) in
-          let light : c.self.inside.tally.load + c.demand.result ≤ c.capacity.result = omega (arith, fits, c.demand.ensures.value, c.capacity.ensures) in
+          let light : c.self.inside.tally.load + c.demand.result ≤ c.capacity.result = omega (arith, fits, c.demand.ensures.value, c.capacity.ensures.value) in
           grind (arith, nat_tests, light),
     )
