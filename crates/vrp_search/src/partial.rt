@@ -1,8 +1,8 @@
 //! Partial plans: a word that grows and shrinks by one symbol, with what the search asks of it kept in step.
 ghost use Rattle.std.specs.Prelude.{◌≡◌, ◌<◌, ◌≤◌, ◌+◌, ◌*◌, ◌↔◌, [], ◌∷◌, ◌++◌, length, IsTrue, IfOk, IfSome, MatchOption};
-ghost use Rattle.vrp_model.specs.Problem.{IsProblem, place_count};
+ghost use Rattle.vrp_model.specs.Problem.{HasTrucks, IsProblem, place_count};
 ghost use Rattle.vrp_model.specs.Route.{IsPlanOf, load_of};
-ghost use Rattle.vrp_model.specs.Word.{IsDead, IsFront, IsLawfulWord, last_symbol, unserved_in, word_cost, word_of};
+ghost use Rattle.vrp_model.specs.Word.{IsDead, IsFront, IsLawfulWord, last_symbol, routes_of, unserved_in, word_cost, word_of};
 ghost use Rattle.vrp_model.specs.declared.limits.TheConstants.{MAX_NODES};
 ghost use Rattle.vrp_search.specs.Partial.{PartialPlan};
 ghost use Rattle.vrp_model.specs.Front.{open_load};
@@ -90,9 +90,20 @@ impl<'a> Partial<'a> {
             return false;
         }
         if at == 0 {
-            return self.tally.first < symbol;
+            return self.tally.first < symbol && self.has_truck();
         }
         self.tally.load + self.instance.demand(symbol) <= self.instance.capacity()
+    }
+
+    // Whether one more route may be opened.
+    #[inline(always)]
+    fn has_truck(&self) -> bool
+        ensures { IsTrue result ↔ HasTrucks self.now.problem (length (routes_of self.now.word) + 1) }
+    {
+        match self.instance.trucks() {
+            None => true,
+            Some(trucks) => self.tally.routes < trucks,
+        }
     }
 
     /// The first symbol from this one on that makes a child.
@@ -182,10 +193,16 @@ impl<'a> Partial<'a> {
                 first: tally.first,
                 unserved: tally.unserved,
                 greatest: tally.greatest,
+                routes: tally.routes,
             };
         }
         let demand = self.instance.demand(symbol);
         let first = if at == 0 { symbol } else { tally.first };
+        let routes = if at == 0 {
+            tally.routes + 1
+        } else {
+            tally.routes
+        };
         let greatest = if symbol == tally.greatest {
             self.greatest_below(symbol)
         } else {
@@ -199,6 +216,7 @@ impl<'a> Partial<'a> {
             first,
             unserved: tally.unserved - 1,
             greatest,
+            routes,
         }
     }
 
@@ -267,6 +285,13 @@ impl<'a> Partial<'a> {
         ensures { result ≡ open_load self.now.problem self.now.word }
     {
         self.tally.load
+    }
+
+    /// How many routes there are, an open one counted.
+    pub fn routes(&self) -> u16
+        ensures { result ≡ length (routes_of self.now.word) }
+    {
+        self.tally.routes
     }
 
     /// What the unserved customers demand.
