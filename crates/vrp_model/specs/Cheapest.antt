@@ -15,8 +15,8 @@ pub record IsCheapest (p : Problem) (plan : PricedPlan) : Type 0 where
   pub none_cheaper : NoneCheaper p plan.cost
 
 -- no plan is lawful
-abbrev pub NoPlan : Problem → Type 0
-NoPlan p = (routes : List (List ℕ)) → IsLawful p routes → ⊥
+abbrev pub HasNoPlan : Problem → Type 0
+HasNoPlan p = (routes : List (List ℕ)) → IsLawful p routes → ⊥
 
 -- what a plan costs; where there is none, more than any plan does
 abbrev pub cost_of : Option PricedPlan → ℕ

@@ -164,6 +164,8 @@ impl Instance {
         ensures value { result ≡ self.now.trucks }
         ensures some { ForSome result (λ trucks. 1 ≤ trucks) }
         ensures few { ForSome result (λ trucks. trucks ≤ MAX_NODES) }
+        // What is known of every instance.
+        ensures problem { IsProblem self.now }
     {
         self.trucks
     }

@@ -2,7 +2,7 @@
 ghost use Rattle.std.specs.Prelude.{◌≡◌, ℕ, ◌+◌, ◌*◌, ◌<◌, ◌≤◌, ◌==◌, false, Some, IfOk, IfSome, IsTrue, is_some, OnOk, ◌↔◌, List, [], ◌∷◌, ◌++◌, ◌^◌, length, map, slice_get};
 ghost use Rattle.std.specs.List.{All, position_or_len};
 ghost use Rattle.std.specs.List.Sorted.{IsStrictlyIncreasing};
-ghost use Rattle.vrp_model.specs.Problem.{HasTrucks, IsSymmetric, Problem, customers, place_count};
+ghost use Rattle.vrp_model.specs.Problem.{HasTrucks, IsProblem, IsSymmetric, Problem, customers, place_count};
 ghost use Rattle.vrp_model.specs.Route.{IsPlanOf, plan_cost, route_cost};
 ghost use Rattle.vrp_model.specs.Inner.Stops.{routes_in, IsWordEnd};
 ghost use Rattle.vrp_model.specs.Word.{IsLawfulWord, RunsForward, first_stops, word_cost, word_of};
@@ -47,6 +47,8 @@ impl Plan {
         ensures routes { IfOk result (λ found. IfSome found (λ plan. plan.routes ≡ map (λ customer. customer ∷ []) (customers instance.now))) }
         ensures lawful { IfOk result (λ found. IfSome found (IsPlanOf instance.now)) }
         ensures word { IfOk result (λ found. IfSome found (λ plan. IsLawfulWord instance.now (word_of plan.routes))) }
+        // What is known of every instance.
+        ensures problem { IsProblem instance.now }
     {
         match instance.trucks() {
             Some(trucks) if trucks < instance.customers() => Ok(None),
