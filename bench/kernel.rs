@@ -1,18 +1,24 @@
 //! A plain kernel of the search in Rust, by one thread, written for speed and not proved: beside it the proved search is timed.
 //!
 //!     rustc -O kernel.rs -o kernel
-//!     ./kernel [BUDGET] < file.vrp      prints: cost, looked, seconds, millions of partial plans looked at each second
+//!     ./kernel [BUDGET [RULES]] < file.vrp      prints: cost, looked, seconds, millions of partial plans looked at each second
 //!
-//! It reads lawful EUC_2D files alone (whole coordinates, one depot, node 1). It opens with one route for each customer,
-//! looks at children by rising symbol, and does not go below a child whose cost plus bound is not under the best cost.
-//! Of a route's two directions it closes the one alone whose last customer is not below its first.
-//! Demands are divided by their greatest common divisor. The bound is looked up in one flat table by place, room and rest.
+//! It reads lawful files of the plainest spelling alone: EUC_2D or CEIL_2D with whole coordinates, or a matrix as LOWER_ROW or
+//! FULL_MATRIX; one depot, node 1. It opens with one route for each customer, looks at children by rising symbol, and does not
+//! go below a child whose cost plus bound is not under the best cost.
+//! Where there and back weigh the same between any two nodes, two more rules hold, or those that RULES names (`both`, `forward`,
+//! `none`). `forward`: a route is closed only if its first customer is not above its last. The other: it does not go below a
+//! dead child, one whose unserved customers are all below the first customer of the last route, so that no route can be opened
+//! any more, and which leaves some unserved or has an open route whose last customer is below its first.
+//! Demands are divided by their greatest common divisor. The bound is looked up in one flat table by place, room and rest; where
+//! a customer demands nothing, or the numbers are large, there is no such table and the capacity bound stands alone.
 use std::io::Read;
 use std::time::Instant;
 
 const NONE: u32 = 1 << 30;
+const MOST_STEPS: usize = 200_000_000;
 
-struct Problem { n: usize, capacity: usize, unit: u64, demand: Vec<usize>, weight: Vec<u64>, least_in: Vec<u64>, home_for: Vec<u64> }
+struct Problem { n: usize, capacity: usize, whole: u64, unit: u64, symmetric: bool, demand: Vec<usize>, weight: Vec<u64>, least_in: Vec<u64>, least_home: u64 }
 
 fn root(x: u64) -> u64 { let mut k = (x as f64).sqrt() as u64; while k * k > x { k -= 1 } while (k + 1) * (k + 1) <= x { k += 1 } k }
 fn gcd(a: u64, b: u64) -> u64 { if b == 0 { a } else { gcd(b, a % b) } }
@@ -21,16 +27,18 @@ fn read() -> Problem {
     let mut text = String::new();
     std::io::stdin().read_to_string(&mut text).unwrap();
     let (mut n, mut capacity, mut section) = (0, 0u64, 0);
-    let (mut points, mut demand) = (vec![], vec![]);
+    let (mut points, mut demand, mut listed) = (vec![], vec![], vec![]);
+    let (mut kind, mut format) = ("", "");
     for line in text.lines() {
         let line = line.trim();
         if line == "EOF" { break }
-        if line.ends_with("_SECTION") { section = if line.starts_with("NODE") { 1 } else if line.starts_with("DEMAND") { 2 } else { 3 }; continue }
+        if line.ends_with("_SECTION") { section = if line.starts_with("NODE") { 1 } else if line.starts_with("DEMAND") { 2 } else if line.starts_with("EDGE") { 3 } else { 4 }; continue }
         if let Some((key, value)) = line.split_once(':') {
             match key.trim() {
                 "DIMENSION" => { n = value.trim().parse().unwrap(); points = vec![(0i64, 0i64); n]; demand = vec![0u64; n] }
                 "CAPACITY" => capacity = value.trim().parse().unwrap(),
-                "EDGE_WEIGHT_TYPE" => assert_eq!(value.trim(), "EUC_2D"),
+                "EDGE_WEIGHT_TYPE" => kind = value.trim(),
+                "EDGE_WEIGHT_FORMAT" => format = value.trim(),
                 _ => {}
             }
             continue;
@@ -39,30 +47,42 @@ fn read() -> Problem {
         match section {
             1 => points[numbers[0] as usize - 1] = (numbers[1] as i64, numbers[2] as i64),
             2 => demand[numbers[0] as usize - 1] = numbers[1] as u64,
+            3 => listed.extend(numbers.iter().map(|&x| x as u64)),
             _ => {}
         }
     }
+    let mut listed = listed.into_iter();
     let mut weight = vec![0; n * n];
-    for i in 0..n { for j in 0..n { if i != j {
+    for i in 0..n { for j in 0..n {
         let (x, y) = (points[i].0 - points[j].0, points[i].1 - points[j].1);
         let s = (x * x + y * y) as u64;
         let k = root(s);
-        weight[i * n + j] = if s > k * k + k { k + 1 } else { k };
-    } } }
+        match (kind, format) {
+            ("EUC_2D", _) => weight[i * n + j] = if s > k * k + k { k + 1 } else { k },
+            ("CEIL_2D", _) => weight[i * n + j] = if s > k * k { k + 1 } else { k },
+            ("EXPLICIT", "FULL_MATRIX") => weight[i * n + j] = listed.next().unwrap(),
+            ("EXPLICIT", "LOWER_ROW") => if j < i { let w = listed.next().unwrap(); weight[i * n + j] = w; weight[j * n + i] = w },
+            _ => panic!("{} {}", kind, format),
+        }
+    } }
+    let symmetric = (0..n).all(|i| (0..i).all(|j| weight[i * n + j] == weight[j * n + i]));
     let unit = demand.iter().fold(0, |a, &b| gcd(a, b)).max(1);
     let least_in = (0..n).map(|j| (0..n).filter(|&i| i != j).map(|i| weight[i * n + j]).min().unwrap_or(0)).collect();
     let least_home = (1..n).map(|i| weight[i * n]).min().unwrap_or(0);
-    let total: u64 = demand.iter().sum();
-    let home_for = (0..=total / unit + capacity / unit).map(|x| (x * unit).div_ceil(capacity) * least_home).collect();
-    Problem { n, capacity: (capacity / unit) as usize, unit, demand: demand.iter().map(|d| (d / unit) as usize).collect(), weight, least_in, home_for }
+    Problem { n, capacity: (capacity / unit) as usize, whole: capacity.max(1), unit, symmetric, demand: demand.iter().map(|d| (d / unit) as usize).collect(), weight, least_in, least_home }
 }
 
-/// by place, room and rest: the least cost of a relaxed completion; at place 0 by rest alone
-struct Tables { rest: usize, room: usize, from: Vec<u32>, tours: Vec<u32> }
+/// what the ways home of a load cost at least
+fn ways_home(p: &Problem, load: usize) -> u64 { (load as u64 * p.unit).div_ceil(p.whole) * p.least_home }
 
-fn tables(p: &Problem) -> Tables {
+/// by place, room and rest: the least cost of a relaxed completion; at place 0 by rest alone; and what the ways home of a load cost
+struct Tables { rest: usize, room: usize, from: Vec<u32>, tours: Vec<u32>, home_for: Vec<u64> }
+
+fn tables(p: &Problem) -> Option<Tables> {
     let rest: usize = p.demand.iter().sum();
     let room = rest.min(p.capacity);
+    let unit = p.unit as usize;
+    if p.demand[1..].contains(&0) || (room * unit + 1) * (p.n - 1) * (p.n - 1) > MOST_STEPS || rest * unit * room * unit > MOST_STEPS { return None }
     let mut walk = vec![NONE as u64; (room + 1) * p.n];
     for at in 1..p.n { walk[at] = p.weight[at * p.n] }
     for load in 1..=room { for at in 0..p.n {
@@ -78,18 +98,19 @@ fn tables(p: &Problem) -> Tables {
         let all = if space <= r { walk[space * p.n + at] + tours[r - space] } else { NONE as u64 };
         from[(at * (room + 1) + space) * (rest + 1) + r] = less.min(all).min(NONE as u64) as u32;
     } } }
-    Tables { rest, room, from, tours: tours.iter().map(|&x| x as u32).collect() }
+    let home_for = (0..=rest + p.capacity).map(|x| ways_home(p, x)).collect();
+    Some(Tables { rest, room, from, tours: tours.iter().map(|&x| x as u32).collect(), home_for })
 }
 
-/// the open route, before each symbol
+/// the last route, before each symbol; `high` is the highest unserved customer, 0 where there is none
 #[derive(Clone, Copy)]
-struct Step { symbol: usize, load: usize, first: usize, cost: u64, ins: u64, rest: usize }
+struct Step { symbol: usize, load: usize, first: usize, high: usize, cost: u64, ins: u64, rest: usize }
 
-fn search(p: &Problem, t: &Tables, budget: u64) -> (u64, u64) {
+fn search(p: &Problem, t: Option<&Tables>, budget: u64, forward: bool, past_dead: bool) -> (u64, u64) {
     let m = p.n - 1;
     let mut best: u64 = (1..p.n).map(|c| p.weight[c] + p.weight[c * p.n]).sum();
     let mut free = vec![true; p.n];
-    let mut stack = vec![Step { symbol: 0, load: 0, first: 0, cost: 0, ins: p.least_in[1..].iter().sum(), rest: t.rest }];
+    let mut stack = vec![Step { symbol: 0, load: 0, first: 0, high: m, cost: 0, ins: p.least_in[1..].iter().sum(), rest: p.demand.iter().sum() }];
     let mut next = 0;
     let mut left = m;
     let mut looked = 1;
@@ -101,27 +122,35 @@ fn search(p: &Problem, t: &Tables, budget: u64) -> (u64, u64) {
             let k = next;
             next += 1;
             let child = if k == 0 {
-                if here.symbol == 0 || here.symbol < here.first { continue }
-                Step { symbol: 0, load: 0, first: here.first, cost: here.cost + p.weight[here.symbol * p.n], ins: here.ins, rest: here.rest }
+                if here.symbol == 0 || forward && here.symbol < here.first { continue }
+                Step { symbol: 0, load: 0, first: here.first, high: here.high, cost: here.cost + p.weight[here.symbol * p.n], ins: here.ins, rest: here.rest }
             } else {
                 if !free[k] { continue }
                 let (load, first) = if here.symbol == 0 { if k <= here.first { continue } (0, k) } else { (here.load, here.first) };
                 if load + p.demand[k] > p.capacity { continue }
-                Step { symbol: k, load: load + p.demand[k], first, cost: here.cost + p.weight[here.symbol * p.n + k], ins: here.ins - p.least_in[k], rest: here.rest - p.demand[k] }
+                let mut high = here.high;
+                if k == high { high -= 1; while !free[high] { high -= 1 } }
+                Step { symbol: k, load: load + p.demand[k], first, high, cost: here.cost + p.weight[here.symbol * p.n + k], ins: here.ins - p.least_in[k], rest: here.rest - p.demand[k] }
             };
             if looked == budget { return (best, looked) }
             looked += 1;
-            let q = if child.symbol == 0 { t.tours[child.rest] } else {
-                let space = (p.capacity - child.load).min(t.room);
-                t.from[(child.symbol * (t.room + 1) + space) * (t.rest + 1) + child.rest]
+            let is_open = child.symbol != 0;
+            if past_dead && child.high < child.first && (child.high > 0 || is_open && child.symbol < child.first) { continue }
+            let out = is_open as u64 * p.least_home;
+            let bound = match t {
+                Some(t) => {
+                    let q = if is_open {
+                        let space = (p.capacity - child.load).min(t.room);
+                        t.from[(child.symbol * (t.room + 1) + space) * (t.rest + 1) + child.rest]
+                    } else { t.tours[child.rest] };
+                    if q >= NONE { continue }
+                    (q as u64).max(child.ins + t.home_for[child.load + child.rest].max(out))
+                }
+                None => child.ins + ways_home(p, child.load + child.rest).max(out),
             };
-            if q >= NONE { continue }
-            let out = if child.symbol == 0 { 0 } else { 1 };
-            let homes = p.home_for[child.load + child.rest].max(out * p.home_for[1]);
-            let bound = (q as u64).max(child.ins + homes);
             if child.cost + bound >= best { continue }
-            if child.symbol == 0 && left == 0 { best = child.cost; continue }
-            if child.symbol != 0 { free[child.symbol] = false; left -= 1 }
+            if !is_open && left == 0 { best = child.cost; continue }
+            if is_open { free[child.symbol] = false; left -= 1 }
             stack.push(child);
             next = 0;
             gone = true;
@@ -137,10 +166,12 @@ fn search(p: &Problem, t: &Tables, budget: u64) -> (u64, u64) {
 
 fn main() {
     let budget = std::env::args().nth(1).map_or(u64::MAX, |b| b.parse().unwrap());
+    let rules = std::env::args().nth(2).unwrap_or("both".to_string());
+    assert!(["both", "forward", "none"].contains(&rules.as_str()));
     let p = read();
     let t = tables(&p);
     let clock = Instant::now();
-    let (cost, looked) = search(&p, &t, budget);
+    let (cost, looked) = search(&p, t.as_ref(), budget, p.symmetric && rules != "none", p.symmetric && rules == "both");
     let seconds = clock.elapsed().as_secs_f64();
     println!("cost {cost} looked {looked} seconds {seconds:.3} million/s {:.1} unit {}", looked as f64 / seconds / 1e6, p.unit);
 }

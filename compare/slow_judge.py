@@ -26,6 +26,9 @@ def fault(problem, status, printed, error):
         return "a truck is overloaded"
     if firsts != sorted(firsts):
         return "the routes do not rise"
+    # Nodes rise as places do among customers, and a route has no other nodes.
+    if is_symmetric(problem) and any(route[0] > route[-1] for route in routes):
+        return "a route runs backward"
     if cost != plan_cost(problem, routes):
         return "the cost is not that of the routes"
     if cost > plan_cost(problem, [[node] for node in problem.customers]):
@@ -51,6 +54,12 @@ def text(routes, cost, lower):
 
 def load(problem, nodes):
     return sum(problem.demands[node] for node in nodes)
+
+
+def is_symmetric(problem):
+    """Whether there and back cost the same between any two of the depot and the customers."""
+    places = [problem.depot] + problem.customers
+    return all(problem.weight(start, end) == problem.weight(end, start) for start, end in combinations(places, 2))
 
 
 def plan_cost(problem, routes):

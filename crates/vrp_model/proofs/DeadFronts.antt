@@ -1,11 +1,11 @@
 -- No lawful word begins with a dead front.
-use Rattle.std.proofs.Common.{◌≡◌, ◌≢◌, ◌⊎◌, ℕ, zero, suc, ◌+◌, ◌-◌, ◌≤◌, ◌<◌, List, [], ◌∷◌, ◌++◌, length, get_or, refl, sym, ap, subst, ◌∙◌, inl, inr, append_assoc, append-nil, arith}
+use Rattle.std.proofs.Common.{◌≡◌, ◌≢◌, ◌⊎◌, ℕ, zero, suc, ◌-◌, ◌<◌, List, [], ◌∷◌, ◌++◌, length, get_or, refl, sym, ap, subst, ◌∙◌, inl, inr, append_assoc, append-nil, arith}
 use Rattle.std.specs.List.{All, Contains}
 use Rattle.std.specs.Prelude.{slice_index, slice_index_or}
 use Rattle.std.proofs.lemmas.Bool.{cases_lt}
 use Rattle.std.proofs.lemmas.List.Elements.{All-contains, All-contains_itself}
 use Rattle.vrp_model.specs.Problem.{IsProblem, IsSymmetric, Problem, customers}
-use Rattle.vrp_model.specs.Word.{BeginsWith, IsDead, IsFront, IsLawfulWord, IsOpen, RunsForward, last_route, last_symbol, routes_of, served_in, unserved_in, word_of}
+use Rattle.vrp_model.specs.Word.{BeginsWith, IsDead, IsFront, IsLawfulWord, IsOpen, last_route, last_symbol, served_in, unserved_in, word_of}
 use Rattle.vrp_model.proofs.ChildCases.{cases_of_child}
 use Rattle.vrp_model.proofs.FrontsBefore.{fronts_before}
 use Rattle.vrp_model.proofs.FrontWithSymbol.{closed_is_open, closed_runs_forward, last_of, last_of_shape, open_is_some, unserved_if_added}

@@ -1,6 +1,5 @@
 -- The word of the plan that sends one truck to each customer is lawful.
-use Rattle.std.proofs.Common.{◌-◌, ◌≤◌, ℕ, List, [], ◌∷◌, length, get_or, map, arith}
-use Rattle.std.specs.List.{All}
+use Rattle.std.proofs.Common.{◌-◌, ℕ, [], ◌∷◌, length, get_or, map, arith}
 use Rattle.std.proofs.lemmas.List.Elements.{All-map}
 use Rattle.vrp_model.specs.Problem.{HasTrucks, IsProblem, Problem, customers, place_count}
 use Rattle.vrp_model.specs.Word.{IsLawfulWord, RunsForward, word_of}

@@ -1,6 +1,6 @@
 -- The routes of a lawful plan, turned round where they would run backward, and the lawful word that each lawful plan has.
-use Rattle.std.proofs.Common.{◌≡◌, ◌≢◌, ℕ, zero, suc, ◌+◌, ◌≤◌, ◌<◌, ◌==◌, true, false, cond, nat_lt, List, [], ◌∷◌, ◌++◌, length, length-append, get_or, reverse, map, refl, sym, ap, subst, ◌∙◌, inl, inr, ◌⊎◌, append_assoc, arith}
-use Rattle.std.specs.List.{All, Contains, concat, sum_by}
+use Rattle.std.proofs.Common.{◌≡◌, ◌≢◌, ℕ, suc, ◌≤◌, ◌<◌, ◌==◌, cond, nat_lt, List, [], ◌∷◌, ◌++◌, length, get_or, reverse, map, refl, sym, ap, ◌∙◌, inl, inr, ◌⊎◌, arith}
+use Rattle.std.specs.List.{All, concat}
 use Rattle.std.specs.List.Sorted.{IsPermutation}
 use Rattle.std.specs.Prelude.{slice_index}
 use Rattle.std.proofs.lemmas.Bool.{cases_Bool}
@@ -11,7 +11,7 @@ use Rattle.std.proofs.lemmas.List.Sorted.{All-permutation, Contains-permutation,
 use Rattle.std.proofs.lemmas.List.Sums.{sum_by-cons}
 use Rattle.vrp_model.specs.Problem.{HasTrucks, IsSymmetric, Problem, customers, demand_of, place_count, weight_of}
 use Rattle.vrp_model.specs.Route.{AreTurned, IsLawful, cost_along, load_of, plan_cost, route_cost}
-use Rattle.vrp_model.specs.Word.{IsLawfulWord, RunsForward, first_stops, last_symbol, word_cost, word_of}
+use Rattle.vrp_model.specs.Word.{IsLawfulWord, RunsForward, last_symbol, word_cost, word_of}
 use Rattle.vrp_model.proofs.CustomerPlaces.{customer_below}
 use Rattle.vrp_model.proofs.LastRoute.{last_symbol_with}
 use Rattle.vrp_model.proofs.PlanWords.{cost_parts, has_length, word_of_plan}

@@ -260,7 +260,7 @@ impl Instance {
 mod tests {
     use super::InstanceError::{DemandOverCapacity, DepotDemand, NotADepot, OutOfMemory};
     use super::*;
-    use crate::fixture::{Case, three_nodes};
+    use crate::fixture::{Case, full_matrix, three_nodes};
     use std::test::Fail;
 
     // A case, the node and the demand of each place, and what all demand.
@@ -315,6 +315,52 @@ mod tests {
         assert_eq!(rt; instance.least_home(), 5);
         let alone = three_nodes(&rt, rt.alloc(), case([0, 0, 0], &[3, 1, 2], None))?;
         assert_eq!(rt; alone.least_home(), 0);
+        Ok(())
+    }
+
+    // The weights of a full matrix of so many nodes, the listed depots, and whether the instance is symmetric.
+    type Square<'a> = (u16, &'a [u64], &'a [u16], bool);
+
+    #[test]
+    fn symmetric_squares(rt: HostRuntime) -> Result<(), Fail> {
+        let table: [Square<'_>; 14] = [
+            // the depot alone
+            (1, &[7], &[1], true),
+            (2, &[0, 1, 1, 0], &[1], true),
+            (2, &[0, 1, 2, 0], &[1], false),
+            (3, &[0, 1, 1, 1, 0, 9, 1, 9, 0], &[1], true),
+            // the diagonal has no say
+            (3, &[3, 1, 1, 1, 4, 9, 1, 9, 5], &[1], true),
+            // the depot and the first customer, the depot and the last one, both customers
+            (3, &[0, 1, 1, 2, 0, 9, 1, 9, 0], &[1], false),
+            (3, &[0, 1, 1, 1, 0, 9, 2, 9, 0], &[1], false),
+            (3, &[0, 1, 1, 1, 0, 9, 1, 8, 0], &[1], false),
+            // each row and each column has the same sum
+            (3, &[0, 1, 2, 2, 0, 1, 1, 2, 0], &[1], false),
+            // a depot that is listed second is no place
+            (3, &[0, 1, 1, 1, 0, 9, 2, 8, 0], &[1, 3], true),
+            (3, &[0, 1, 1, 1, 0, 9, 2, 9, 0], &[3, 1], true),
+            (3, &[0, 1, 1, 1, 0, 9, 1, 8, 0], &[3, 1], false),
+            // the same, its node lying between the depot's and the customers'
+            (
+                4,
+                &[0, 1, 2, 3, 7, 0, 7, 7, 2, 8, 0, 4, 3, 9, 4, 0],
+                &[1, 2],
+                true,
+            ),
+            (
+                4,
+                &[0, 1, 2, 3, 7, 0, 7, 7, 2, 8, 0, 4, 3, 9, 5, 0],
+                &[1, 2],
+                false,
+            ),
+        ];
+        for (n, entries, depots, symmetric) in table {
+            let instance = full_matrix(&rt, rt.alloc(), entries, n, depots)?;
+            assert_eq!(rt; instance.symmetric(), symmetric, "{entries:?} {depots:?}");
+        }
+        let points = three_nodes(&rt, rt.alloc(), case([0, 1, 1], &[1], None))?;
+        assert!(rt; points.symmetric());
         Ok(())
     }
 

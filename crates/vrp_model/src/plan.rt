@@ -266,6 +266,25 @@ mod tests {
         Ok(())
     }
 
+    // Both customers are served by one truck, whose route runs forward.
+    #[test]
+    fn one_truck_for_all(rt: HostRuntime) -> Result<(), Fail> {
+        let case = Case {
+            demands: [0, 1, 1],
+            depots: &[1],
+            chosen: None,
+        };
+        let instance = three_nodes(&rt, rt.alloc(), case)?;
+        assert!(rt; instance.customers() == 2);
+        assert!(rt; instance.demand(1) + instance.demand(2) <= instance.capacity());
+        let plan = Plan::of_word(rt.alloc(), &instance, &[1, 2, 0])?;
+        assert_eq!(rt; plan.word(), [1, 2, 0].as_slice());
+        assert_eq!(rt; plan.routes(), 1);
+        assert_eq!(rt; plan.route(0), [1, 2].as_slice());
+        assert_eq!(rt; plan.cost(), 20);
+        Ok(())
+    }
+
     #[test]
     fn costs_of_singles(rt: HostRuntime) -> Result<(), Fail> {
         let table: [([u64; 3], &[u16], Option<u16>, usize, u64); 5] = [
