@@ -1,6 +1,7 @@
 //! A plain slow evaluator: what the definitions say, computed the long way round from the text of a file, beside what
-//! the command prints for it: at a glance, and where there are few customers also given time. It prints one line for each
-//! file that its command line names. It has no clauses: the definitions are compared with it, so it does not lean on them.
+//! the command prints for it: at a glance, and where there are few customers also given time. It prints one line on the
+//! metrics, and one for each file that its command line names. It has no clauses: the definitions are compared with it, so
+//! it does not lean on them.
 #![tactic(auto)]
 
 mod distance;
@@ -36,6 +37,8 @@ struct Answer {
 }
 
 fn main(rt: HostRuntime) -> Result<()> {
+    let metrics = agreement(distance::agree_on_a_square());
+    println!(&rt; "metrics: {metrics}")?;
     for name in env::args(&rt)?.skip(1) {
         let finding = compare(&rt, name.as_str())?;
         println!(&rt; "{name}: {finding}")?;
