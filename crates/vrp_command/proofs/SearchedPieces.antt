@@ -232,8 +232,8 @@ PlansCostLess = (p : Problem) (routes : List (List ℕ)) → IsProblem p → IsL
 none_cheaper_than : OnePiece → PlansHaveWords → (p : Problem) (cutting : List (List ℕ)) (budget cost : ℕ) → IsCutting p cutting → AreSearched p cutting budget cost cutting None → NoneCheaper p cost
 none_cheaper_than piece have p cutting budget cost is_cutting so_far =
     words_to_plans have p cost (λ word lawful.
-        let none = no_word_cheaper piece p cutting budget cost None is_cutting so_far word lawful in
-        subst (λ (costs : List ℕ). least_of cost costs ≤ word_cost p word) so_far.least none)
+    let none = no_word_cheaper piece p cutting budget cost None is_cutting so_far word lawful in
+    subst (λ (costs : List ℕ). least_of cost costs ≤ word_cost p word) so_far.least none)
 
 pub proven : OnePiece → PlansHaveWords → (p : Problem) (cutting : List (List ℕ)) (budget : ℕ) (plan : PricedPlan) → IsCutting p cutting → IsPlanOf p plan
     → AreSearched p cutting budget plan.cost cutting None → IsCheapest p plan

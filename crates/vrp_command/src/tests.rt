@@ -6,6 +6,7 @@ mod files;
 mod limits;
 mod outcomes;
 mod plans;
+mod trucks;
 
 use crate::{MAX_BUDGET, MAX_PIECES, Options, RunError, Status, run};
 use std::alloc::Global;

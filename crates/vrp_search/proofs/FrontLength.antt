@@ -43,5 +43,5 @@ routes_are_few p front problem is_front =
       length-slice_split (λ k. k == 0) front,
       count_by-le-length (λ k. k == 0) front,
       fronts_are_short p front problem is_front,
-      problem.few_places
+      problem.few_places,
     )

@@ -14,12 +14,14 @@ fn default_options(rt: HostRuntime) {
         pieces: 64,
         budget: 10_000_000,
         depot: None,
+        trucks: None,
     };
     assert_eq!(rt; Options::default(), options);
 }
 
-const EXIT_STATUSES: [(Result<Status, RunError>, u8); 6] = [
+const EXIT_STATUSES: [(Result<Status, RunError>, u8); 7] = [
     (Ok(Status::Proven), 0),
+    (Ok(Status::NoPlan), 0),
     (Ok(Status::Open), 1),
     (Err(RunError::Text(TextError::TooLong)), 3),
     (Err(RunError::OutOfMemory), 4),

@@ -81,7 +81,7 @@ returns-then-self-symbol c =
     let child = first_child p word k c.self.inside.served.items c.self.inside.before.items c.self.inside.tally c.self.invariant.0
     (omega (arith, c.if-symbol-eq0.false)) (omega (arith, c.if-symbol-customers.false, c.customers-customers.ensures.value)) isnt_served at in (
       λ test. child_outside p word k c.args.self.now c.self.view_is
-          (child.0 (c.if-self-symbol.true, subst (λ (v : PartialPlan). HasTrucks v.problem (length (routes_of v.word) + 1)) (sym c.self.view_is) (c.has_truck.ensures.0 test))),
+          (child.0 (omega (arith, c.if-self-symbol.true), subst (λ (v : PartialPlan). HasTrucks v.problem (length (routes_of v.word) + 1)) (sym c.self.view_is) (c.has_truck.ensures.0 test))),
       λ after. c.has_truck.ensures.1 (subst (λ (v : PartialPlan). HasTrucks v.problem (length (routes_of v.word) + 1)) c.self.view_is (child.1 (child_inside p word k c.args.self.now c.self.view_is after)).1),
     )
 
