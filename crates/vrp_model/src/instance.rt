@@ -261,6 +261,7 @@ mod tests {
     use super::InstanceError::{DemandOverCapacity, DepotDemand, NotADepot, OutOfMemory};
     use super::*;
     use crate::fixture::{Case, full_matrix, three_nodes};
+    use std::process::Abort;
     use std::test::Fail;
 
     // A case, the node and the demand of each place, and what all demand.
@@ -303,6 +304,34 @@ mod tests {
             assert_eq!(rt; instance.weight(from, to), weight, "from {from} to {to}");
         }
         Ok(())
+    }
+
+    // With so many trucks, nothing else of an instance changes.
+    #[test]
+    fn so_many_trucks(rt: HostRuntime) -> Result<(), Fail> {
+        for trucks in [1, 2, 1_200] {
+            assert!(rt; 1 <= trucks && trucks <= 1_200);
+            let case = case([1, 0, 2], &[2], None);
+            let free = three_nodes(&rt, rt.alloc(), case)?;
+            let same = three_nodes(&rt, rt.alloc(), case)?;
+            assert_limited(&rt, &free, &same.with_trucks(trucks), trucks);
+            let square = [0, 1, 2, 0];
+            let free = full_matrix(&rt, rt.alloc(), &square, 2, &[1])?;
+            let same = full_matrix(&rt, rt.alloc(), &square, 2, &[1])?;
+            assert_limited(&rt, &free, &same.with_trucks(trucks), trucks);
+        }
+        Ok(())
+    }
+
+    fn assert_limited(rt: &impl Abort, free: &Instance, limited: &Instance, trucks: u16) {
+        assert_eq!(rt; free.trucks(), None);
+        assert_eq!(rt; limited.trucks(), Some(trucks));
+        assert_eq!(rt; limited.nodes.as_slice(), free.nodes.as_slice());
+        assert_eq!(rt; limited.demands.as_slice(), free.demands.as_slice());
+        assert_eq!(rt; limited.weights.as_slice(), free.weights.as_slice());
+        assert_eq!(rt; limited.capacity, free.capacity);
+        assert_eq!(rt; limited.least_in.as_slice(), free.least_in.as_slice());
+        assert_eq!(rt; limited.symmetric, free.symmetric);
     }
 
     #[test]

@@ -237,7 +237,7 @@ mod tests {
             chosen: None,
         };
         let instance = three_nodes(&rt, rt.alloc(), case)?;
-        let plan = Plan::singles(rt.alloc(), &instance)?;
+        let plan = Plan::singles(rt.alloc(), &instance)?.expect(&rt, "a truck for each");
         let copy = plan.copy(rt.alloc())?;
         for plan in [&plan, &copy] {
             assert_eq!(rt; plan.routes(), 2);
@@ -257,7 +257,7 @@ mod tests {
             chosen: None,
         };
         let instance = three_nodes(&rt, rt.alloc(), case)?;
-        let singles = Plan::singles(rt.alloc(), &instance)?;
+        let singles = Plan::singles(rt.alloc(), &instance)?.expect(&rt, "a truck for each");
         let plan = Plan::of_word(rt.alloc(), &instance, singles.word())?;
         assert_eq!(rt; plan.word(), [1, 0, 2, 0].as_slice());
         assert_eq!(rt; plan.routes(), 2);
@@ -301,9 +301,43 @@ mod tests {
                 chosen,
             };
             let instance = three_nodes(&rt, rt.alloc(), case)?;
-            let plan = Plan::singles(rt.alloc(), &instance)?;
+            let plan = Plan::singles(rt.alloc(), &instance)?.expect(&rt, "a truck for each");
             assert_eq!(rt; plan.routes(), routes, "{case:?}");
             assert_eq!(rt; plan.cost(), cost, "{case:?}");
+        }
+        Ok(())
+    }
+
+    #[test]
+    fn singles_of_so_many_trucks(rt: HostRuntime) -> Result<(), Fail> {
+        // the listed depots, how many trucks there are, and the routes
+        let table: [(&[u16], u16, Option<usize>); 8] = [
+            // two customers
+            (&[1], 1, None),
+            (&[1], 2, Some(2)),
+            (&[1], 3, Some(2)),
+            (&[1], 1_200, Some(2)),
+            // one
+            (&[1, 2], 1, Some(1)),
+            (&[1, 2], 2, Some(1)),
+            // the depot alone
+            (&[3, 1, 2], 1, Some(0)),
+            (&[3, 1, 2], 1_200, Some(0)),
+        ];
+        for (depots, trucks, routes) in table {
+            assert!(rt; 1 <= trucks && trucks <= 1_200);
+            let case = Case {
+                demands: [0; 3],
+                depots,
+                chosen: None,
+            };
+            let instance = three_nodes(&rt, rt.alloc(), case)?.with_trucks(trucks);
+            let plan = Plan::singles(rt.alloc(), &instance)?;
+            assert_eq!(rt;
+                plan.as_ref().map(Plan::routes),
+                routes,
+                "{depots:?} {trucks}"
+            );
         }
         Ok(())
     }
@@ -313,7 +347,7 @@ mod tests {
         let weights = Weights::points(rt.alloc(), Metric::Euc2d, &[(3, 4)])?;
         let instance = Instance::new(rt.alloc(), weights, &[0], 2, &[1], None)?;
         assert_eq!(rt; instance.customers(), 0);
-        let plan = Plan::singles(rt.alloc(), &instance)?;
+        let plan = Plan::singles(rt.alloc(), &instance)?.expect(&rt, "a truck for each");
         let copy = plan.copy(rt.alloc())?;
         for plan in [&plan, &copy] {
             assert_eq!(rt; plan.routes(), 0);
@@ -328,7 +362,7 @@ mod tests {
         let points = [(-100_000_000, -100_000_000), (100_000_000, 100_000_000)];
         let weights = Weights::points(rt.alloc(), Metric::Euc2d, &points)?;
         let instance = Instance::new(rt.alloc(), weights, &[0, 1], 2, &[1], None)?;
-        let plan = Plan::singles(rt.alloc(), &instance)?;
+        let plan = Plan::singles(rt.alloc(), &instance)?.expect(&rt, "a truck for each");
         assert_eq!(rt; plan.cost(), 565_685_424);
         Ok(())
     }
