@@ -351,22 +351,42 @@ mod tests {
         let weights = Weights::points(rt.alloc(), Metric::Euc2d, &points)?;
         let instance = Instance::new(rt.alloc(), weights, &[0, 3, 4], 7, &[1], None)?;
         let mut partial = Partial::root(rt.alloc(), &instance)?;
-        // a symbol, and behind it the place, the cost, the load and the rest
-        let table = [(1, 1, 5, 3, 4), (2, 2, 10, 7, 0), (0, 0, 20, 0, 0)];
         assert_eq!(rt; partial.rest(), 7);
-        for (symbol, at, cost, load, rest) in table {
-            assert!(rt; partial.child(symbol));
-            assert!(rt; !partial.complete());
-            partial.push(symbol);
-            assert_eq!(rt; partial.at(), at);
-            assert_eq!(rt; partial.cost(), cost);
-            assert_eq!(rt; partial.load(), load);
-            assert_eq!(rt; partial.rest(), rest);
-            assert!(rt; !partial.child(3));
+        let table = [(1, 5, 3, 4, 1), (2, 10, 7, 0, 1), (0, 20, 0, 0, 1)];
+        for (symbol, cost, load, rest, routes) in table {
+            let wanted = Counters {
+                cost,
+                load,
+                rest,
+                routes,
+            };
+            assert_pushed(&rt, &mut partial, symbol, wanted);
         }
         assert!(rt; partial.complete());
         assert_eq!(rt; partial.plan(rt.alloc())?.word(), [1, 2, 0].as_slice());
         Ok(())
+    }
+
+    // What is counted along a word.
+    #[derive(Clone, Copy)]
+    struct Counters {
+        cost: u64,
+        load: u64,
+        rest: u64,
+        routes: u16,
+    }
+
+    // Pushes a symbol onto a word that isn't complete.
+    fn assert_pushed(rt: &impl Abort, partial: &mut Partial<'_>, symbol: u16, wanted: Counters) {
+        assert!(rt; partial.child(symbol));
+        assert!(rt; !partial.complete());
+        partial.push(symbol);
+        assert_eq!(rt; partial.at(), symbol);
+        assert_eq!(rt; partial.cost(), wanted.cost);
+        assert_eq!(rt; partial.load(), wanted.load);
+        assert_eq!(rt; partial.rest(), wanted.rest);
+        assert_eq!(rt; partial.routes(), wanted.routes);
+        assert!(rt; !partial.child(3));
     }
 
     #[test]
