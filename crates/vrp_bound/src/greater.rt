@@ -71,7 +71,8 @@ mod tests {
             (NEAR, [0, 0, 1], (0, 0, 10, 1, None, Some(15))),
         ];
         for (points, demands, asked) in table {
-            assert_answer(&rt, rt.alloc(), points, demands, asked)?;
+            let weights = Weights::points(rt.alloc(), Metric::Euc2d, &points)?;
+            assert_answer(&rt, rt.alloc(), weights, demands, asked)?;
         }
         Ok(())
     }
@@ -109,7 +110,8 @@ mod tests {
             ([0, 0, 1], (1, 2, 5, 1, Some(0), None)),
         ];
         for (demands, asked) in table {
-            assert_answer(&rt, rt.alloc(), NEAR, demands, asked)?;
+            let weights = Weights::points(rt.alloc(), Metric::Euc2d, &NEAR)?;
+            assert_answer(&rt, rt.alloc(), weights, demands, asked)?;
         }
         Ok(())
     }
@@ -117,21 +119,21 @@ mod tests {
     fn assert_answer(
         rt: &impl Abort,
         alloc: Global,
-        points: [(i64, i64); 3],
+        weights: Weights,
         demands: [u64; 3],
         asked: Asked,
     ) -> Result<(), Fail> {
         let (at, load, ins, rest, left, answer) = asked;
-        let weights = Weights::points(alloc, Metric::Euc2d, &points)?;
+        assert!(rt; weights.nodes() == 3);
         let instance = Instance::new(alloc, weights, &demands, 2, &[1], None)?;
         let customers = [1, 2];
         assert!(rt; are_customers(&instance, &customers));
+        assert!(rt; rest <= demand_of_all(Scope::new(&instance, &customers)));
         let tables = Tables::build(alloc, &instance, &customers)?;
         assert!(rt; at <= instance.customers());
         assert!(rt; load <= instance.capacity());
         assert!(rt; at != 0 || load == 0);
         assert!(rt; ins <= 50);
-        assert!(rt; rest <= demand_of_all(Scope::new(&instance, &customers)));
         assert!(rt; rest <= instance.whole_demand());
         assert_eq!(rt;
             bound(&tables, &instance, at, load, ins, rest, left),
