@@ -4,7 +4,6 @@ use Rattle.std.specs.Str.{bytes_eq}
 use Rattle.std.specs.Option.{ForSome}
 use Rattle.std.specs.Prelude.{◌↔◌, false, is_some, IfSome, IsTrue, true, if◌then◌else◌, map, slice_index_or, unwrap_or}
 use Rattle.std.specs.List.{All, Contains}
-use Rattle.std.specs.List.Sorted.{IsPermutation, IsStrictlyIncreasing}
 use Rattle.std.proofs.lemmas.List.Elements.{All-append, All-cons, All-contains, All-nil, All-tail}
 use Rattle.std.proofs.lemmas.Bool.{cases_Bool, cases_lt}
 use Rattle.std.proofs.lemmas.Bool.Decides.{not_from_Decides}
@@ -13,7 +12,7 @@ use Rattle.std.proofs.lemmas.List.{get_or-map, length-map, take_more}
 use Rattle.vrp_model.specs.Cheapest.{HasNoPlan, IsCheapest, NoneCheaper, cost_of}
 use Rattle.vrp_model.specs.Problem.{HasTrucks, IsProblem, Problem, customers}
 use Rattle.vrp_model.specs.Route.{IsLawful, IsPlanOf, PricedPlan, plan_cost}
-use Rattle.vrp_model.specs.Word.{BeginsWith, IsLawfulWord, NoneCheaperUnder, first_stops, word_cost, word_of}
+use Rattle.vrp_model.specs.Word.{BeginsWith, IsLawfulWord, NoneCheaperUnder, word_cost}
 use Rattle.vrp_model.specs.declared.limits.TheConstants.{MAX_NODES, NO_COST}
 use Rattle.vrp_search.specs.Cutting.{HasNoChild, IsCutting, NumberedWord}
 use Rattle.vrp_search.specs.Search.{IsUnfinished}

@@ -1,10 +1,9 @@
-use Rattle.std.proofs.Common.{◌≡◌, ◌∙◌, ◌+◌, ◌-◌, ◌≤◌, Option, Some, None, arith, length, min, ap, refl, sym, subst}
+use Rattle.std.proofs.Common.{◌≡◌, ◌∙◌, ◌+◌, ◌-◌, ◌≤◌, Option, arith, length, min, ap, sym, subst}
 use Rattle.std.specs.Option.{ForSome}
-use Rattle.std.specs.Prelude.{is_some}
 use Rattle.vrp_model.specs.Cheapest.{cost_of}
 use Rattle.vrp_model.specs.Route.{IsPlanOf, PricedPlan}
-use Rattle.vrp_model.specs.declared.limits.TheConstants.{MAX_NODES, NO_COST}
-use Rattle.vrp_command.specs.Answer.{IsAnswer, IsLeftOpen}
+use Rattle.vrp_model.specs.declared.limits.TheConstants.{MAX_NODES}
+use Rattle.vrp_command.specs.Answer.{IsLeftOpen}
 use Rattle.vrp_command.specs.Searched.{AreSearched}
 use Rattle.vrp_command.proofs.SearchedPieces.{for_some, found_or_none, left_open, missing}
 use Rattle.vrp_command.proofs.answer.solve.Goals.{in-Some, in-None, in-None-2}
