@@ -1,5 +1,5 @@
 -- What a lawful word adds to a front is no less than the capacity bound.
-use Rattle.std.proofs.Common.{◌≡◌, ℕ, suc, Option, None, Some, length, ◌+◌, ◌-◌, ◌*◌, ◌≤◌, ◌==◌, if◌then◌else◌, false, List, [], ◌∷◌, ◌++◌, refl, sym, ap, ◌∙◌, arith}
+use Rattle.std.proofs.Common.{◌≡◌, ℕ, suc, Option, None, Some, length, ◌+◌, ◌-◌, ◌*◌, ◌≤◌, ◌==◌, if◌then◌else◌, false, List, ◌∷◌, ◌++◌, refl, sym, ap, ◌∙◌, arith}
 use Rattle.std.specs.List.{All, sum_by}
 use Rattle.std.specs.Option.{option_map}
 use Rattle.std.proofs.lemmas.Bool.Decides.{nat_tests}
@@ -116,7 +116,7 @@ enough_left (Some most) routes left is = (most, refl, (let same : Some (most - r
 pub left_carry : (p : Problem) (front more : List ℕ) → IsProblem p → IsLawfulWord p (front ++ more) → CanCarry p (last_symbol front) (open_load p front) (load_of p (unserved_in p front)) (routes_left p front)
 left_carry p front more problem lawful =
     λ left is.
-        let (most, limit, rest) = enough_left p.trucks (length (routes_of front)) left is in
-        let sent = opened (last_symbol front) more in
-        let few : sent ≤ left = omega (arith, rest, lawful.front.few most limit, routes_behind p front more lawful) in
-        omega (arith, carries_behind p front more problem lawful, mul-le sent p.capacity left p.capacity few (omega arith))
+    let (most, limit, rest) = enough_left p.trucks (length (routes_of front)) left is in
+    let sent = opened (last_symbol front) more in
+    let few : sent ≤ left = omega (arith, rest, lawful.front.few most limit, routes_behind p front more lawful) in
+    omega (arith, carries_behind p front more problem lawful, mul-le sent p.capacity left p.capacity few (omega arith))

@@ -1,5 +1,5 @@
 -- How many routes a word opens behind a front.
-use Rattle.std.proofs.Common.{◌≡◌, ℕ, zero, suc, ◌+◌, ◌<◌, List, [], ◌∷◌, ◌++◌, length, refl, sym, ap, inl, inr, append_assoc, append-nil, arith}
+use Rattle.std.proofs.Common.{◌≡◌, ℕ, zero, suc, ◌+◌, ◌<◌, List, [], ◌∷◌, ◌++◌, length, refl, ap, inl, inr, append_assoc, append-nil, arith}
 use Rattle.std.proofs.lemmas.Bool.{cases_lt}
 use Rattle.vrp_model.specs.Problem.{Problem}
 use Rattle.vrp_model.specs.Word.{IsLawfulWord, last_symbol, routes_of}
@@ -31,11 +31,12 @@ routes_behind p front (zero ∷ more) lawful =
     let before = front_of p front (0 ∷ more) lawful in
     let rest = routes_behind p (front ++ 0 ∷ []) more after in
     omega (
-      arith, rest,
+      arith,
+      rest,
       ap (λ (w : List ℕ). length (routes_of w)) (append_assoc front (0 ∷ []) more),
       ap length (routes_at_depot front before.stops is_open),
       ap (λ n. opened n more) (last_symbol_with front 0),
-      opened_there (last_symbol front) 0 more is_open
+      opened_there (last_symbol front) 0 more is_open,
     )
 routes_behind p front (suc k ∷ more) lawful =
     let after = with_symbol p front more (suc k) lawful in

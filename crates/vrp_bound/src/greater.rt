@@ -52,6 +52,7 @@ mod tests {
     use vrp_model::{Metric, Weights};
 
     const NEAR: [(i64, i64); 3] = [(0, 0), (3, 4), (6, 8)];
+
     const FAR: [(i64, i64); 3] = [(0, 0), (3, 4), (30, 40)];
 
     // A place, a load, the sum of the least ways in, a rest, how many routes may still be opened, and what is answered.

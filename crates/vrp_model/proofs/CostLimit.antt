@@ -1,5 +1,5 @@
 -- What a lawful plan costs at most.
-use Rattle.std.proofs.Common.{◌≡◌, ℕ, ◌+◌, ◌*◌, ◌≤◌, ◌<◌, List, [], ◌∷◌, length, arith}
+use Rattle.std.proofs.Common.{ℕ, ◌+◌, ◌*◌, ◌≤◌, ◌<◌, List, [], ◌∷◌, length, arith}
 use Rattle.vrp_model.specs.Problem.{IsProblem, Problem, place_count}
 use Rattle.vrp_model.specs.Route.{IsLawful, cost_along, plan_cost}
 use Rattle.vrp_model.specs.declared.limits.TheConstants.{MAX_WEIGHT, NO_COST}
