@@ -56,10 +56,12 @@ pub(crate) fn least(alloc: Global, problem: &Problem) -> Result<Cheapest, AllocE
         load: 0,
         left: problem.trucks.unwrap_or(u16::from(MOST_CUSTOMERS)),
     };
-    Ok(match ways.least_from(alloc, start, &customers, MOST_CUSTOMERS)? {
-        NO_PLAN => Cheapest::NoPlan,
-        cost => Cheapest::Cost(cost),
-    })
+    Ok(
+        match ways.least_from(alloc, start, &customers, MOST_CUSTOMERS)? {
+            NO_PLAN => Cheapest::NoPlan,
+            cost => Cheapest::Cost(cost),
+        },
+    )
 }
 
 // The weight from each node to each other one, looked up once.
@@ -110,7 +112,11 @@ impl Ways<'_> {
             let demand = self.problem.demand(at);
             if truck.left > 0 {
                 let left = truck.left - 1;
-                let new = Truck { at, load: demand, left };
+                let new = Truck {
+                    at,
+                    load: demand,
+                    left,
+                };
                 let behind = self.least_from(alloc, new, &others, most - 1)?;
                 let start = self.weight(depot, at);
                 least = least.min(home.saturating_add(start).saturating_add(behind));

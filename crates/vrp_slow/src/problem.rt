@@ -34,7 +34,8 @@ impl Problem {
 
     /// Whether there are trucks for so many routes.
     pub(crate) fn has_trucks_for(&self, routes: usize) -> bool {
-        self.trucks.is_none_or(|trucks| routes <= usize::from(trucks))
+        self.trucks
+            .is_none_or(|trucks| routes <= usize::from(trucks))
     }
 
     /// The lowest depot that has a demand, or else the lowest customer whose demand no truck carries.
