@@ -79,7 +79,8 @@ pub(crate) fn assert_singles_cost(
     instance: &Instance,
     cost: u64,
 ) -> Result<(), Fail> {
-    assert_eq!(rt; Plan::singles(alloc, instance)?.cost(), cost);
+    let plan = Plan::singles(alloc, instance)?.expect(rt, "a truck for each");
+    assert_eq!(rt; plan.cost(), cost);
     Ok(())
 }
 

@@ -4,7 +4,7 @@ use crate::read;
 use std::alloc::Global;
 use std::process::Abort;
 use std::test::*;
-use vrp_model::{Instance, Plan};
+use vrp_model::Instance;
 
 // The small file from its end to its front.
 const REVERSED: &str =
@@ -224,8 +224,7 @@ fn one_node(rt: HostRuntime) -> Result<(), Fail> {
         "TYPE : CVRP\nDIMENSION : 1\nEDGE_WEIGHT_TYPE : EUC_2D\nCAPACITY : 1\nNODE_COORD_SECTION\n1 0 0\nDEMAND_SECTION\n1 0\nDEPOT_SECTION\n1\n-1\nEOF\n";
     let instance = read(rt.alloc(), text.as_bytes(), None)?;
     assert_eq!(rt; instance.customers(), 0);
-    assert_eq!(rt; Plan::singles(rt.alloc(), &instance)?.cost(), 0);
-    Ok(())
+    assert_singles_cost(&rt, rt.alloc(), &instance, 0)
 }
 
 // Says something where a growth is refused: run it by `rt try --test --fail-alloc N`, N from 1 on.

@@ -4,7 +4,7 @@ use crate::read;
 use std::alloc::Global;
 use std::process::Abort;
 use std::test::*;
-use vrp_model::{Instance, Plan};
+use vrp_model::Instance;
 
 // Four nodes, of which the first is the depot.
 const FOUR: &str =
@@ -15,8 +15,7 @@ const FOUR: &str =
 fn ways_there_and_back(rt: HostRuntime) -> Result<(), Fail> {
     let instance = read(rt.alloc(), MATRIX.as_bytes(), None)?;
     assert_eq!(rt; places_of(&rt, &instance), matrix_places());
-    assert_eq!(rt; Plan::singles(rt.alloc(), &instance)?.cost(), 11);
-    Ok(())
+    assert_singles_cost(&rt, rt.alloc(), &instance, 11)
 }
 
 // The greatest weight, demand and capacity.
