@@ -6,13 +6,25 @@ from itertools import combinations
 # With no more customers the least cost is computed, and the program has to find it. With more of them it may take long.
 MOST_CUSTOMERS = 8
 
+# What a missing plan counts as.
+NO_COST = 4_000_000_000_000
+
 REPORT = rb"((?:Route #[0-9]+:(?: [0-9]+)+\n)*)Cost ([0-9]+)\n(?:Proven|Open ([0-9]+))\n"
 
+REPORT_WITHOUT_PLAN = rb"(?:NoPlan|Open ([0-9]+))\n"
 
-def fault(problem, status, printed, error):
-    """What is wrong with an exit status, standard output and standard error, or None."""
+
+def fault(problem, status, printed, error, trucks=None):
+    """What is wrong with an exit status, standard output and standard error, or None. There are so many trucks, or as many as
+    are wanted."""
+    if error != b"":
+        return "no report"
+    missing = re.fullmatch(REPORT_WITHOUT_PLAN, printed)
+    if missing is not None:
+        lower = None if missing.group(1) is None else int(missing.group(1))
+        return fault_without_plan(problem, status, printed, lower, trucks)
     found = re.fullmatch(REPORT, printed)
-    if found is None or error != b"":
+    if found is None:
         return "no report"
     routes = [[int(node) for node in line.split(b":")[1].split()] for line in found.group(1).splitlines()]
     cost = int(found.group(2))
@@ -22,6 +34,8 @@ def fault(problem, status, printed, error):
         return "numbers are spelled in another way"
     if sorted(node for route in routes for node in route) != problem.customers:
         return "not each customer is served once"
+    if trucks is not None and len(routes) > trucks:
+        return "there are more routes than trucks"
     if any(load(problem, route) > problem.capacity for route in routes):
         return "a truck is overloaded"
     if firsts != sorted(firsts):
@@ -31,7 +45,7 @@ def fault(problem, status, printed, error):
         return "a route runs backward"
     if cost != plan_cost(problem, routes):
         return "the cost is not that of the routes"
-    if cost > plan_cost(problem, [[node] for node in problem.customers]):
+    if has_trucks_for_each(problem, trucks) and cost > plan_cost(problem, [[node] for node in problem.customers]):
         return "one truck for each customer costs less"
     if status != (0 if lower is None else 1):
         return "the verdict has another status"
@@ -40,9 +54,34 @@ def fault(problem, status, printed, error):
     if len(problem.customers) <= MOST_CUSTOMERS:
         if lower is not None:
             return "few customers, and nothing proved"
-        if cost != least_cost(problem):
-            return f"the least cost is {least_cost(problem)}"
+        least = least_cost(problem, trucks)
+        if cost != least:
+            return f"the least cost is {least}"
     return None
+
+
+def fault_without_plan(problem, status, printed, lower, trucks):
+    """What is wrong with a report that has no plan, or None: no number stands for NoPlan."""
+    if has_trucks_for_each(problem, trucks):
+        return "no plan, and there is a truck for each customer"
+    if printed != (b"NoPlan\n" if lower is None else f"Open {lower}\n".encode()):
+        return "numbers are spelled in another way"
+    if status != (0 if lower is None else 1):
+        return "the verdict has another status"
+    if lower is not None and lower > NO_COST:
+        return "the lower bound is above what a missing plan counts as"
+    if len(problem.customers) <= MOST_CUSTOMERS:
+        if lower is not None:
+            return "few customers, and nothing proved"
+        least = least_cost(problem, trucks)
+        if least is not None:
+            return f"there is a plan of cost {least}"
+    return None
+
+
+def has_trucks_for_each(problem, trucks):
+    """Whether there is a truck for each customer."""
+    return trucks is None or len(problem.customers) <= trucks
 
 
 def text(routes, cost, lower):
@@ -71,28 +110,59 @@ def plan_cost(problem, routes):
     return cost
 
 
-def least_cost(problem):
-    """The least cost of a plan: for each set of customers that of a walk, then of a route, then of a plan."""
+def least_cost(problem, trucks=None):
+    """The least cost of a plan with so many trucks, or as many as are wanted; None where there is no plan."""
+    routes = route_costs(problem)
+    if has_trucks_for_each(problem, trucks):
+        return plan_costs(problem, routes)[frozenset(problem.customers)]
+    plans = {frozenset(): 0}
+    for _ in range(trucks):
+        plans = with_one_more(problem, routes, plans)
+    return plans.get(frozenset(problem.customers))
+
+
+def sets_of_customers(problem):
+    """All sets of customers but the empty one, those with fewer customers first."""
+    sizes = range(1, len(problem.customers) + 1)
+    return [frozenset(nodes) for size in sizes for nodes in combinations(problem.customers, size)]
+
+
+def route_costs(problem):
+    """The least cost of a route for each set of customers that a truck carries: from that of a walk through the set."""
     depot = problem.depot
     places = [depot] + problem.customers
     ways = {(start, end): problem.weight(start, end) for start in places for end in places if start != end}
-    sizes = range(1, len(problem.customers) + 1)
-    # Those with fewer customers come first.
-    sets = [frozenset(nodes) for size in sizes for nodes in combinations(problem.customers, size)]
+    sets = sets_of_customers(problem)
     # From the depot through the set, to one of it at the end.
     walks = {}
     for nodes in sets:
         for last in nodes:
             before = nodes - {last}
             walks[nodes, last] = min((walks[before, node] + ways[node, last] for node in before), default=ways[depot, last])
-    routes = {
+    return {
         nodes: min(walks[nodes, last] + ways[last, depot] for last in nodes)
         for nodes in sets
         if load(problem, nodes) <= problem.capacity
     }
+
+
+def plan_costs(problem, routes):
+    """The least cost of a plan for each set of customers, with as many trucks as are wanted."""
     plans = {frozenset(): 0}
-    for nodes in sets:
+    for nodes in sets_of_customers(problem):
         # Some route serves the lowest of them.
         first = min(nodes)
         plans[nodes] = min(routes[some] + plans[nodes - some] for some in routes if first in some and some <= nodes)
-    return plans[frozenset(problem.customers)]
+    return plans
+
+
+def with_one_more(problem, routes, plans):
+    """The least costs with one truck more than in these, for each set of customers that so many trucks can serve."""
+    more = {frozenset(): 0}
+    for nodes in sets_of_customers(problem):
+        first = min(nodes)
+        rests = [(some, nodes - some) for some in routes if first in some and some <= nodes]
+        costs = [routes[some] + plans[rest] for some, rest in rests if rest in plans]
+        if costs:
+            more[nodes] = min(costs)
+    return more

@@ -3,6 +3,7 @@
 #![tactic(auto)]
 
 ghost use Rattle.std.specs.Prelude.{◌≡◌, ◌≤◌, IfOk};
+ghost use Rattle.std.specs.Option.{ForSome};
 ghost use Rattle.vrp_model.specs.Problem.{customers};
 ghost use Rattle.vrp_model.specs.Route.{IsPlanOf};
 
@@ -47,7 +48,7 @@ fn measure<R: Clock + Print + Eprint + AllocGlobal>(
     let ended = search_all(rt.alloc(), instance, &tables, budget, &mut board)?;
     let time = start.elapsed(rt)?;
     let looked = looked_at(ended);
-    let cost = board.plan().cost();
+    let cost = board.plan().context("no plan")?.cost();
     println!(rt; "{name}: {looked} partial plans looked at, cost {cost}")?;
     print_rate(rt, looked, time)?;
     eprintln!(rt; "tables in {} milliseconds", tables_time.as_millis())?;
@@ -64,7 +65,7 @@ fn search_all(
 ) -> Result<Ended, NoMemory>
     requires tables { tables.now.problem ≡ instance.now }
     requires all { tables.now.among ≡ customers instance.now }
-    requires board { IsPlanOf instance.now board.old }
+    requires board { ForSome board.old (IsPlanOf instance.now) }
     requires budget { 1 ≤ budget }
 {
     let cutting = Cutting::whole(alloc, instance)?;

@@ -1,7 +1,8 @@
-//! Instances whose cheapest plan is known, over four cuttings of the tree each. A word of the command line is a file, or a
-//! file and what a cheapest plan costs, as `P-n16-k8.vrp:450`. A file alone is solved, and each line has the number of pieces
-//! that were asked for and the end of the report: the cost and the verdict. With a cost the search is given little, and each
-//! line says whether that cost lies between the bound and the cost that are printed.
+//! Instances whose cheapest plan is known, over four cuttings of the tree each. A word of the command line is a file, a file
+//! and a number of trucks, as `P-n16-k8.vrp/8`, or a file and what a cheapest plan costs, as `P-n16-k8.vrp:450`. With no cost
+//! the file is solved, and each line has the number of pieces that were asked for and the end of the report: the cost and the
+//! verdict, or that there is no plan. With a cost the search is given little, and each line says whether that cost lies
+//! between the bound and the cost that are printed.
 #![tactic(auto)]
 
 use anyhow::{Context, Result, ensure};
@@ -9,6 +10,9 @@ use std::alloc::Global;
 use std::rt::Files;
 use std::{env, fs, str};
 use vrp_command::{MAX_PIECES, Options, run};
+
+// The most trucks that may be asked for.
+const MAX_TRUCKS: u16 = 1_200;
 
 // The whole tree; the fewest cuts; the pieces of a plain run; as many pieces as may be asked for.
 const CUTTINGS: [u32; 4] = [1, 2, 64, MAX_PIECES];
@@ -28,19 +32,29 @@ struct Range {
 
 fn main(rt: HostRuntime) -> Result<()> {
     for word in env::args(&rt)?.skip(1) {
-        match word.as_str().split_once(':') {
-            None => print_endings(&rt, word.as_str())?,
-            Some((name, least)) => print_ranges(&rt, name, least.parse::<u64>()?)?,
+        let word = word.as_str();
+        if let Some((name, least)) = word.split_once(':') {
+            print_ranges(&rt, name, least.parse::<u64>()?)?;
+        } else if let Some((name, trucks)) = word.split_once('/') {
+            print_endings(&rt, word, name, Some(trucks.parse::<u16>()?))?;
+        } else {
+            print_endings(&rt, word, word, None)?;
         }
     }
     Ok(())
 }
 
-// Prints the end of the report on a file for each number of pieces.
-fn print_endings<R: Files + Print + AllocGlobal>(rt: &R, name: &str) -> Result<()> {
+// Prints for each number of pieces the end of the report on a file, with so many trucks or as many as are wanted. Each line
+// begins with the word.
+fn print_endings<R: Files + Print + AllocGlobal>(
+    rt: &R,
+    word: &str,
+    name: &str,
+    trucks: Option<u16>,
+) -> Result<()> {
     for pieces in CUTTINGS {
-        let ending = ending(rt, name, pieces, AMPLE)?;
-        println!(rt; "{name}, {pieces} pieces: {ending}")?;
+        let ending = ending(rt, name, trucks, pieces, AMPLE)?;
+        println!(rt; "{word}, {pieces} pieces: {ending}")?;
     }
     Ok(())
 }
@@ -48,7 +62,7 @@ fn print_endings<R: Files + Print + AllocGlobal>(rt: &R, name: &str) -> Result<(
 // Prints for each number of pieces where the cost of a cheapest plan of a file lies.
 fn print_ranges<R: Files + Print + AllocGlobal>(rt: &R, name: &str, least: u64) -> Result<()> {
     for pieces in CUTTINGS {
-        let range = read_range(ending(rt, name, pieces, LITTLE)?.as_str())?;
+        let range = read_range(ending(rt, name, None, pieces, LITTLE)?.as_str())?;
         let lies = if range.lower <= least && least <= range.cost {
             "lies"
         } else {
@@ -76,15 +90,25 @@ fn read_range(ending: &str) -> Result<Range> {
     Ok(Range { lower, cost })
 }
 
-// The last two lines of the report on a file, with this budget for each piece.
-fn ending<R: Files + AllocGlobal>(rt: &R, name: &str, pieces: u32, budget: u64) -> Result<String> {
+// The end of the report on a file, with so many trucks and this budget for each piece.
+fn ending<R: Files + AllocGlobal>(
+    rt: &R,
+    name: &str,
+    trucks: Option<u16>,
+    pieces: u32,
+    budget: u64,
+) -> Result<String> {
     ensure!(1 <= pieces && pieces <= MAX_PIECES, "{pieces} pieces");
     ensure!(1 <= budget && budget <= AMPLE, "a budget of {budget}");
+    if let Some(trucks) = trucks {
+        ensure!(1 <= trucks && trucks <= MAX_TRUCKS, "{trucks} trucks");
+    }
     let options = Options {
         workers: 1,
         pieces,
         budget,
         depot: None,
+        trucks,
     };
     let file = fs::read(rt, name)?;
     let mut input = file.as_slice();
@@ -93,12 +117,15 @@ fn ending<R: Files + AllocGlobal>(rt: &R, name: &str, pieces: u32, budget: u64) 
     last_two(rt.alloc(), str::from_utf8(&report)?)
 }
 
-// The last two lines of a text, as one.
+// The last two lines of a text as one, or its one line. A report has one line where it has no plan.
 fn last_two(alloc: Global, text: &str) -> Result<String> {
     let mut last = ("", "");
     for line in text.lines() {
         last = (last.1, line);
     }
     let (cost, verdict) = last;
+    if cost.is_empty() {
+        return Ok(verdict.to_string(alloc)?);
+    }
     Ok(format!(in alloc; "{cost}, {verdict}")?)
 }

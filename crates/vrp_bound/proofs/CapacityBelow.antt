@@ -1,28 +1,32 @@
 -- What a lawful word adds to a front is no less than the capacity bound.
-use Rattle.std.proofs.Common.{◌≡◌, ℕ, suc, ◌+◌, ◌-◌, ◌*◌, ◌≤◌, ◌==◌, if◌then◌else◌, false, List, [], ◌∷◌, ◌++◌, refl, sym, ap, ◌∙◌, arith}
+use Rattle.std.proofs.Common.{◌≡◌, ℕ, suc, Option, None, Some, length, ◌+◌, ◌-◌, ◌*◌, ◌≤◌, ◌==◌, if◌then◌else◌, false, List, ◌∷◌, ◌++◌, refl, sym, ap, ◌∙◌, arith}
 use Rattle.std.specs.List.{All, sum_by}
+use Rattle.std.specs.Option.{option_map}
 use Rattle.std.proofs.lemmas.Bool.Decides.{nat_tests}
 use Rattle.std.proofs.lemmas.Nat.{mul-le}
 use Rattle.std.proofs.lemmas.List.Sums.{sum_by-cons}
-use Rattle.vrp_model.specs.Front.{open_load}
+use Rattle.vrp_model.specs.Front.{open_load, routes_left}
 use Rattle.vrp_model.specs.LeastWay.{IsLeastHome, IsLeastIn}
 use Rattle.vrp_model.specs.Problem.{IsProblem, Problem, demand_of, weight_of}
 use Rattle.vrp_model.specs.Route.{cost_along, load_of}
-use Rattle.vrp_model.specs.Word.{IsLawfulWord, last_symbol, served_in, unserved_in, word_cost}
+use Rattle.vrp_model.specs.Word.{IsLawfulWord, last_symbol, routes_of, served_in, unserved_in, word_cost}
 use Rattle.vrp_model.proofs.Words.{serves_customer}
-use Rattle.vrp_bound.specs.Capacity.{IsCapacityBound, IsInsOf, free_room}
+use Rattle.vrp_bound.specs.Capacity.{CanCarry, IsCapacityBound, IsInsOf, free_room}
 use Rattle.vrp_bound.proofs.SymbolBySymbol.{HoldsBySymbol, all_served_behind, by_symbols, first_and_rest, sum_behind}
+use Rattle.vrp_bound.proofs.RoutesOpened.{opened, routes_behind}
 use Rattle.vrp_bound.proofs.ServedBehind.{cost_behind}
 
 -- the truck that is out drives home
 abbrev pub out : ℕ → ℕ
 out at = if at == 0 then 0 else 1
 
--- So many trucks leave the depot yet: with the one that is out they carry all, and each is paid for.
-pub record Pays (p : Problem) (least_in : ℕ → ℕ) (home at load : ℕ) (more : List ℕ) : Type 0 where
-  pub trucks : ℕ
-  pub paid : sum_by least_in (served_in more) + (trucks + out at) * home ≤ cost_along p at more
-  pub carried : load_of p (served_in more) ≤ free_room p at load + trucks * p.capacity
+-- each truck that leaves the depot yet, and the one that is out, is paid for
+abbrev pub Pays : Problem → (ℕ → ℕ) → ℕ → ℕ → ℕ → List ℕ → Type 0
+Pays p least_in home at load more = sum_by least_in (served_in more) + (opened at more + out at) * home ≤ cost_along p at more
+
+-- together they carry all
+abbrev pub Carries : Problem → ℕ → ℕ → List ℕ → Type 0
+Carries p at load more = load_of p (served_in more) ≤ free_room p at load + opened at more * p.capacity
 
 out_there : (k : ℕ) → out (suc k) ≡ 1
 out_there k = let test : (suc k == 0) ≡ false = grind (arith, nat_tests) in rw test refl
@@ -42,52 +46,53 @@ homes_here trucks home = omega arith
 room_here : (p : Problem) (load : ℕ) → free_room p 0 load ≡ 0
 room_here p load = refl
 
-nothing_more : (p : Problem) (least_in : ℕ → ℕ) (home : ℕ) → Pays p least_in home 0 0 []
-nothing_more p least_in home = record { trucks = 0; paid = omega arith; carried = omega arith }
+home_next : (p : Problem) (least_in : ℕ → ℕ) (home k load : ℕ) (more : List ℕ) → home ≤ weight_of p (suc k) 0 → Pays p least_in home 0 0 more → Pays p least_in home (suc k) load (0 ∷ more)
+home_next p least_in home k load more way rest = omega (arith, rest, way, homes_there (opened 0 more) home k, homes_here (opened 0 more) home)
 
-then_home : (p : Problem) (least_in : ℕ → ℕ) (home k load : ℕ) (more : List ℕ) → home ≤ weight_of p (suc k) 0 → Pays p least_in home 0 0 more → Pays p least_in home (suc k) load (0 ∷ more)
-then_home p least_in home k load more way rest = record {
-  trucks = rest.trucks;
-  paid = omega (arith, rest.paid, way, homes_there rest.trucks home k, homes_here rest.trucks home);
-  carried = omega (arith, rest.carried, room_here p 0);
+sum_with : (f : ℕ → ℕ) (k : ℕ) (more : List ℕ) → sum_by f (served_in (suc k ∷ more)) ≡ f (suc k) + sum_by f (served_in more)
+sum_with f k more = ap (sum_by f) (serves_customer k more) ∙ sum_by-cons f (suc k) (served_in more)
+
+on_next : (p : Problem) (least_in : ℕ → ℕ) (home j load k : ℕ) (more : List ℕ) → least_in (suc k) ≤ weight_of p (suc j) (suc k) → Pays p least_in home (suc k) (load + demand_of p (suc k)) more → Pays p least_in home (suc j) load (suc k ∷ more)
+on_next p least_in home j load k more way rest = omega (arith, rest, way, sum_with least_in k more, homes_there (opened (suc k) more) home k, homes_there (opened (suc k) more) home j)
+
+out_next : (p : Problem) (least_in : ℕ → ℕ) (home k : ℕ) (more : List ℕ) → least_in (suc k) ≤ weight_of p 0 (suc k) → Pays p least_in home (suc k) (demand_of p (suc k)) more → Pays p least_in home 0 0 (suc k ∷ more)
+out_next p least_in home k more way rest =
+    let homes : (1 + opened (suc k) more + out 0) * home ≡ opened (suc k) more * home + home = omega arith in
+    omega (arith, rest, way, sum_with least_in k more, homes_there (opened (suc k) more) home k, homes)
+
+out_carries : (p : Problem) (k : ℕ) (more : List ℕ) → demand_of p (suc k) ≤ p.capacity → Carries p (suc k) (demand_of p (suc k)) more → Carries p 0 0 (suc k ∷ more)
+out_carries p k more fits rest =
+    let room : (1 + opened (suc k) more) * p.capacity ≡ opened (suc k) more * p.capacity + p.capacity = omega arith in
+    omega (arith, rest, sum_with (demand_of p) k more, fits, room, room_there p k (demand_of p (suc k)), room_here p 0)
+
+-- what is carried, symbol by symbol
+carries_by_symbol : (p : Problem) → HoldsBySymbol p (Carries p)
+carries_by_symbol p = record {
+  nothing = omega arith;
+  home = λ j load more place light rest. omega (arith, rest, room_here p 0);
+  leaves = λ k more fits rest. out_carries p k more fits rest;
+  goes_on = λ j load k more place differs fits rest. omega (arith, rest, sum_with (demand_of p) k more, fits, room_there p k (load + demand_of p (suc k)), room_there p j load);
 }
-
-ins_with : (f : ℕ → ℕ) (k : ℕ) (more : List ℕ) → sum_by f (served_in (suc k ∷ more)) ≡ f (suc k) + sum_by f (served_in more)
-ins_with f k more = ap (sum_by f) (serves_customer k more) ∙ sum_by-cons f (suc k) (served_in more)
-
-then_on : (p : Problem) (least_in : ℕ → ℕ) (home j load k : ℕ) (more : List ℕ) → least_in (suc k) ≤ weight_of p (suc j) (suc k) → load + demand_of p (suc k) ≤ p.capacity → Pays p least_in home (suc k) (load + demand_of p (suc k)) more
-    → Pays p least_in home (suc j) load (suc k ∷ more)
-then_on p least_in home j load k more way fits rest = record {
-  trucks = rest.trucks;
-  paid = omega (arith, rest.paid, way, ins_with least_in k more, homes_there rest.trucks home k, homes_there rest.trucks home j);
-  carried = omega (arith, rest.carried, ins_with (demand_of p) k more, fits, room_there p k (load + demand_of p (suc k)), room_there p j load);
-}
-
-then_out : (p : Problem) (least_in : ℕ → ℕ) (home k : ℕ) (more : List ℕ) → least_in (suc k) ≤ weight_of p 0 (suc k) → demand_of p (suc k) ≤ p.capacity → Pays p least_in home (suc k) (demand_of p (suc k)) more
-    → Pays p least_in home 0 0 (suc k ∷ more)
-then_out p least_in home k more way fits rest =
-    let room : (rest.trucks + 1) * p.capacity ≡ rest.trucks * p.capacity + p.capacity = omega arith in
-    let homes : (rest.trucks + 1 + out 0) * home ≡ rest.trucks * home + home = omega arith in
-    record {
-      trucks = rest.trucks + 1;
-      paid = omega (arith, rest.paid, way, ins_with least_in k more, homes_there rest.trucks home k, homes);
-      carried = omega (arith, rest.carried, ins_with (demand_of p) k more, fits, room, room_there p k (demand_of p (suc k)), room_here p 0);
-    }
 
 -- of each customer that is served behind a least way in is known
 pays_by_symbol : (p : Problem) (least_in : ℕ → ℕ) (home : ℕ) → IsProblem p → IsLeastHome p home → HoldsBySymbol p (λ at load more. All (λ customer. IsLeastIn p customer (least_in customer)) (served_in more) → Pays p least_in home at load more)
 pays_by_symbol p least_in home problem way_home =
     let Into : ℕ → Type 0 = λ customer. IsLeastIn p customer (least_in customer) in
     record {
-      nothing = λ _. nothing_more p least_in home;
-      home = λ j load more place light rest ins. then_home p least_in home j load more ((way_home.some (omega (arith, place))).least (suc j) place (λ same. omega (arith, same))) (rest ins);
+      nothing = λ _. omega arith;
+      home = λ j load more place light rest ins. home_next p least_in home j load more ((way_home.some (omega (arith, place))).least (suc j) place (λ same. omega (arith, same))) (rest ins);
       leaves = λ k more fits rest ins. (
           let both = first_and_rest Into k more ins in
-          then_out p least_in home k more (both.0.least 0 (omega (arith, problem.some_places)) (λ same. omega (arith, same))) fits (rest both.1));
+          out_next p least_in home k more (both.0.least 0 (omega (arith, problem.some_places)) (λ same. omega (arith, same))) (rest both.1));
       goes_on = λ j load k more place differs fits rest ins. (
           let both = first_and_rest Into k more ins in
-          then_on p least_in home j load k more (both.0.least (suc j) place differs) fits (rest both.1));
+          on_next p least_in home j load k more (both.0.least (suc j) place differs) (rest both.1));
     }
+
+-- the truck that is out and those that a lawful word sends out behind a front carry what the front leaves
+carries_behind : (p : Problem) (front more : List ℕ) → IsProblem p → IsLawfulWord p (front ++ more)
+    → load_of p (unserved_in p front) ≤ free_room p (last_symbol front) (open_load p front) + opened (last_symbol front) more * p.capacity
+carries_behind p front more problem lawful = omega (arith, by_symbols p (Carries p) (carries_by_symbol p) problem front more lawful, sum_behind (demand_of p) p front more lawful)
 
 pub none_adds_less : (p : Problem) (front more : List ℕ) (ins bound : ℕ) → IsProblem p → IsLawfulWord p (front ++ more) → IsInsOf p front ins
     → IsCapacityBound p (last_symbol front) (open_load p front) ins (load_of p (unserved_in p front)) bound → word_cost p front + bound ≤ word_cost p (front ++ more)
@@ -97,8 +102,21 @@ none_adds_less p front more ins bound problem lawful is_ins is_bound =
     let Into : ℕ → Type 0 = λ customer. IsLeastIn p customer (f customer) in
     let paid = by_symbols p (λ place load behind. All Into (served_in behind) → Pays p f is_bound.home place load behind) (pays_by_symbol p f is_bound.home problem is_bound.least_home) problem front more lawful (all_served_behind Into p front more lawful is_ins.each) in
     let sum : sum_by f (served_in more) ≡ ins = sum_behind f p front more lawful ∙ sym is_ins.whole in
-    let carried = sum_behind (demand_of p) p front more lawful in
-    let over : load_of p (unserved_in p front) - free_room p at (open_load p front) ≤ paid.trucks * p.capacity = omega (arith, paid.carried, carried) in
-    let fewer : is_bound.count.trucks ≤ paid.trucks = is_bound.count.carry.least paid.trucks over in
-    let homes : is_bound.returns * is_bound.home ≤ (paid.trucks + out at) * is_bound.home = mul-le is_bound.returns is_bound.home (paid.trucks + out at) is_bound.home (omega (arith, is_bound.count.all, fewer)) (omega arith) in
-    omega (arith, paid.paid, sum, homes, is_bound.is, cost_behind p front more at refl)
+    let carried = carries_behind p front more problem lawful in
+    let over : load_of p (unserved_in p front) - free_room p at (open_load p front) ≤ opened at more * p.capacity = omega (arith, carried) in
+    let fewer : is_bound.count.trucks ≤ opened at more = is_bound.count.carry.least (opened at more) over in
+    let homes : is_bound.returns * is_bound.home ≤ (opened at more + out at) * is_bound.home = mul-le is_bound.returns is_bound.home (opened at more + out at) is_bound.home (omega (arith, is_bound.count.all, fewer)) (omega arith) in
+    omega (arith, paid, sum, homes, is_bound.is, cost_behind p front more at refl)
+
+enough_left : (trucks : Option ℕ) (routes : ℕ) → (left : ℕ) → option_map (λ most. most - routes) trucks ≡ Some left → (most : ℕ) × (trucks ≡ Some most) × (left ≡ most - routes)
+enough_left None routes left is = absurd (cc)
+enough_left (Some most) routes left is = (most, refl, (let same : Some (most - routes) ≡ Some left = is in cc))
+
+-- the trucks that a front leaves carry what a lawful word adds to it
+pub left_carry : (p : Problem) (front more : List ℕ) → IsProblem p → IsLawfulWord p (front ++ more) → CanCarry p (last_symbol front) (open_load p front) (load_of p (unserved_in p front)) (routes_left p front)
+left_carry p front more problem lawful =
+    λ left is.
+    let (most, limit, rest) = enough_left p.trucks (length (routes_of front)) left is in
+    let sent = opened (last_symbol front) more in
+    let few : sent ≤ left = omega (arith, rest, lawful.front.few most limit, routes_behind p front more lawful) in
+    omega (arith, carries_behind p front more problem lawful, mul-le sent p.capacity left p.capacity few (omega arith))

@@ -8,6 +8,7 @@ pub mod InUnits
 pub mod LeastOfCosts
 pub mod RelaxedBelow
 pub mod RisingCustomers
+pub mod RoutesOpened
 pub mod ServedBehind
 pub mod SymbolBySymbol
 pub mod TableSizes

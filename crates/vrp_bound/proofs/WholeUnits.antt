@@ -99,6 +99,8 @@ problem_in unit p some problem = record {
   empty_depot = omega (arith, demand_in unit p 0 some, no_more_units unit (demand_of p 0) some, problem.empty_depot);
   fitting_demands = λ place. omega (arith, demand_in unit p place some, units_rise unit (demand_of p place) p.capacity some (problem.fitting_demands place));
   small_capacity = omega (arith, no_more_units unit p.capacity some, problem.small_capacity);
+  some_trucks = problem.some_trucks;
+  few_trucks = problem.few_trucks;
 }
 
 some_units : (unit amount demanded : ℕ) → 1 ≤ amount → amount ≡ demanded * unit → 1 ≤ demanded

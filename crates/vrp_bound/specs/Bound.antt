@@ -1,8 +1,8 @@
 -- The greater of the two bounds.
-use Rattle.std.specs.Prelude.{◌≡◌, ℕ, max, List, Option}
+use Rattle.std.specs.Prelude.{◌≡◌, ℕ, max, List, Option, None}
 use Rattle.std.specs.Option.{option_map}
 use Rattle.vrp_model.specs.Problem.{Problem}
-use Rattle.vrp_bound.specs.Capacity.{IsCapacityBound}
+use Rattle.vrp_bound.specs.Capacity.{CanCarry, IsCapacityBound}
 use Rattle.vrp_bound.specs.Tables.{IsBound}
 
 -- What is at least still to pay: the greater of the least relaxed completion over some customers and the capacity bound. None
@@ -13,3 +13,9 @@ pub record IsGreater (p : Problem) (among : List ℕ) (at load ins rest : ℕ) (
   pub capacity : ℕ
   pub is_capacity : IsCapacityBound p at load ins rest capacity
   pub greater : answer ≡ option_map (λ least. max least capacity) relaxed
+
+-- What is at least still to pay, where so many routes may still be opened: the greater of the two. None also where the trucks that
+-- are left can't carry the rest.
+pub record IsLowerBound (p : Problem) (among : List ℕ) (at load ins rest : ℕ) (left answer : Option ℕ) : Type 0 where
+  pub enough : CanCarry p at load rest left → IsGreater p among at load ins rest answer
+  pub too_few : (CanCarry p at load rest left → ⊥) → answer ≡ None

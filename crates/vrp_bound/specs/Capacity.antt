@@ -1,6 +1,7 @@
 -- The capacity bound: each unserved customer is driven into, and enough trucks drive home.
-use Rattle.std.specs.Prelude.{◌≡◌, ℕ, ◌+◌, ◌-◌, ◌*◌, ◌≤◌, ◌==◌, if◌then◌else◌, List}
+use Rattle.std.specs.Prelude.{◌≡◌, ℕ, ◌+◌, ◌-◌, ◌*◌, ◌≤◌, ◌==◌, if◌then◌else◌, Option, List}
 use Rattle.std.specs.List.{All, sum_by}
+use Rattle.std.specs.Option.{ForSome}
 use Rattle.vrp_model.specs.LeastWay.{IsLeastHome, IsLeastIn}
 use Rattle.vrp_model.specs.Problem.{Problem}
 use Rattle.vrp_model.specs.Word.{unserved_in}
@@ -14,6 +15,11 @@ pub record IsInsOf (p : Problem) (word : List ℕ) (ins : ℕ) : Type 0 where
 -- what the truck that is out can still take; none is out at the depot
 abbrev pub free_room : Problem → ℕ → ℕ → ℕ
 free_room p at load = if at == 0 then 0 else p.capacity - load
+
+-- The truck that is out and those that may still leave can carry the rest. Where their number isn't known there are as many as are
+-- wanted
+abbrev pub CanCarry : Problem → ℕ → ℕ → ℕ → Option ℕ → Type 0
+CanCarry p at load rest left = ForSome left (λ trucks. rest ≤ free_room p at load + trucks * p.capacity)
 
 -- the least number of trucks that carry so much: no fewer carry it, and so many do
 pub record IsTrucks (capacity amount trucks : ℕ) : Type 0 where

@@ -2,15 +2,16 @@
 ghost use Rattle.std.specs.Prelude.{◌≡◌, ◌≤◌, ◌<◌, IfSome};
 ghost use Rattle.vrp_model.specs.Problem.{customers, place_count};
 ghost use Rattle.vrp_model.specs.Route.{load_of};
-ghost use Rattle.vrp_bound.specs.Bound.{IsGreater};
+ghost use Rattle.vrp_bound.specs.Bound.{IsLowerBound};
 
 use crate::capacity::cap_bound;
 use crate::tables::Tables;
+use crate::trucks_left::can_carry;
 use vrp_model::{Instance, MAX_WAYS};
 
 /// What is at least still to pay from a place, with this load on the truck that is out there, by both bounds: `ins` is the sum
-/// of the least ways into the unserved customers, `rest` what they demand. `None` where nothing carries exactly the rest: then
-/// there is no lawful plan.
+/// of the least ways into the unserved customers, `rest` what they demand, `left` how many routes may still be opened. `None` where
+/// nothing carries exactly the rest, or the trucks that are left are too few: then there is no lawful plan.
 pub fn bound(
     tables: &Tables<'_>,
     instance: &Instance,
@@ -18,6 +19,7 @@ pub fn bound(
     load: u64,
     ins: u64,
     rest: u64,
+    left: Option<u16>,
 ) -> Option<u64>
     requires problem { tables.now.problem ≡ instance.now }
     requires place { at < place_count instance.now }
@@ -26,9 +28,12 @@ pub fn bound(
     requires ins { ins ≤ MAX_WAYS }
     requires rest { rest ≤ load_of instance.now tables.now.among }
     requires all { rest ≤ load_of instance.now (customers instance.now) }
-    ensures greater { IsGreater instance.now tables.now.among at load ins rest result }
+    ensures bound { IsLowerBound instance.now tables.now.among at load ins rest left result }
     ensures small { IfSome result (λ least. least < 4000000000000000000) }
 {
+    if !can_carry(instance, at, load, rest, left) {
+        return None;
+    }
     let capacity = cap_bound(instance, at, load, ins, rest);
     match tables.q_bound(at, load, rest) {
         None => None,
@@ -41,46 +46,101 @@ mod tests {
     use super::*;
     use crate::fixture::are_customers;
     use crate::scope::{Scope, demand_of_all};
+    use std::alloc::Global;
+    use std::process::Abort;
     use std::test::Fail;
     use vrp_model::{Metric, Weights};
 
-    // A place, a load, the sum of the least ways in, a rest, and what is answered.
-    type Asked = (u16, u64, u64, u64, Option<u64>);
+    const NEAR: [(i64, i64); 3] = [(0, 0), (3, 4), (6, 8)];
+
+    const FAR: [(i64, i64); 3] = [(0, 0), (3, 4), (30, 40)];
+
+    // A place, a load, the sum of the least ways in, a rest, how many routes may still be opened, and what is answered.
+    type Asked = (u16, u64, u64, u64, Option<u16>, Option<u64>);
 
     #[test]
     fn bounds_of_two_customers(rt: HostRuntime) -> Result<(), Fail> {
-        let near = [(0, 0), (3, 4), (6, 8)];
-        let far = [(0, 0), (3, 4), (30, 40)];
-        let table = [
-            (near, [0, 1, 1], (0, 0, 10, 2, Some(20))),
-            (near, [0, 1, 1], (1, 1, 5, 1, Some(15))),
-            (near, [0, 2, 2], (0, 0, 10, 4, Some(20))),
-            (near, [0, 2, 2], (0, 0, 10, 1, None)),
-            (near, [0, 2, 2], (1, 2, 5, 2, Some(15))),
+        let table: [([(i64, i64); 3], [u64; 3], Asked); 7] = [
+            (NEAR, [0, 1, 1], (0, 0, 10, 2, None, Some(20))),
+            (NEAR, [0, 1, 1], (1, 1, 5, 1, None, Some(15))),
+            (NEAR, [0, 2, 2], (0, 0, 10, 4, None, Some(20))),
+            (NEAR, [0, 2, 2], (0, 0, 10, 1, None, None)),
+            (NEAR, [0, 2, 2], (1, 2, 5, 2, None, Some(15))),
             // the capacity bound is the greater: both tours go to the near customer
-            (far, [0, 1, 1], (0, 0, 50, 2, Some(55))),
+            (FAR, [0, 1, 1], (0, 0, 50, 2, None, Some(55))),
             // no tables
-            (near, [0, 0, 1], (0, 0, 10, 1, Some(15))),
+            (NEAR, [0, 0, 1], (0, 0, 10, 1, None, Some(15))),
         ];
         for (points, demands, asked) in table {
-            let (at, load, ins, rest, answer): Asked = asked;
             let weights = Weights::points(rt.alloc(), Metric::Euc2d, &points)?;
-            let instance = Instance::new(rt.alloc(), weights, &demands, 2, &[1], None)?;
-            let customers = [1, 2];
-            assert!(rt; are_customers(&instance, &customers));
-            let tables = Tables::build(rt.alloc(), &instance, &customers)?;
-            assert!(rt; at <= instance.customers());
-            assert!(rt; load <= instance.capacity());
-            assert!(rt; at != 0 || load == 0);
-            assert!(rt; ins <= 50);
-            assert!(rt; rest <= demand_of_all(Scope::new(&instance, &customers)));
-            assert!(rt; rest <= instance.whole_demand());
-            assert_eq!(rt;
-                bound(&tables, &instance, at, load, ins, rest),
-                answer,
-                "{demands:?} {at} {load} {rest}"
-            );
+            assert_answer(&rt, rt.alloc(), weights, demands, asked)?;
         }
+        Ok(())
+    }
+
+    #[test]
+    fn bounds_with_so_many_trucks(rt: HostRuntime) -> Result<(), Fail> {
+        let table: [([u64; 3], Asked); 22] = [
+            // at the depot: too few, exactly enough, more
+            ([0, 1, 1], (0, 0, 10, 2, Some(0), None)),
+            ([0, 1, 1], (0, 0, 10, 2, Some(1), Some(20))),
+            ([0, 1, 1], (0, 0, 10, 2, Some(65_535), Some(20))),
+            ([0, 2, 2], (0, 0, 10, 4, Some(1), None)),
+            ([0, 2, 2], (0, 0, 10, 4, Some(2), Some(20))),
+            // enough, but nothing carries exactly the rest
+            ([0, 2, 2], (0, 0, 10, 1, Some(1), None)),
+            // at a customer what the truck can still take counts
+            ([0, 1, 1], (1, 1, 5, 1, Some(0), Some(15))),
+            ([0, 1, 1], (1, 2, 5, 1, Some(0), None)),
+            ([0, 1, 1], (1, 2, 5, 1, Some(1), Some(15))),
+            ([0, 2, 2], (1, 2, 5, 2, Some(0), None)),
+            ([0, 2, 2], (1, 2, 5, 2, Some(1), Some(15))),
+            ([0, 1, 2], (1, 1, 5, 2, Some(0), None)),
+            ([0, 1, 2], (1, 1, 5, 2, Some(1), Some(25))),
+            ([0, 1, 2], (1, 1, 10, 3, Some(0), None)),
+            ([0, 1, 2], (1, 1, 10, 3, Some(1), Some(35))),
+            // nothing is left
+            ([0, 1, 1], (0, 0, 0, 0, Some(0), Some(0))),
+            ([0, 1, 1], (2, 2, 0, 0, Some(0), Some(10))),
+            // what is left demands nothing
+            ([0, 0, 1], (0, 0, 5, 0, Some(0), Some(5))),
+            // no tables
+            ([0, 0, 1], (0, 0, 10, 1, Some(0), None)),
+            ([0, 0, 1], (0, 0, 10, 1, Some(1), Some(15))),
+            ([0, 0, 1], (1, 0, 5, 1, Some(0), Some(10))),
+            ([0, 0, 1], (1, 2, 5, 1, Some(0), None)),
+        ];
+        for (demands, asked) in table {
+            let weights = Weights::points(rt.alloc(), Metric::Euc2d, &NEAR)?;
+            assert_answer(&rt, rt.alloc(), weights, demands, asked)?;
+        }
+        Ok(())
+    }
+
+    fn assert_answer(
+        rt: &impl Abort,
+        alloc: Global,
+        weights: Weights,
+        demands: [u64; 3],
+        asked: Asked,
+    ) -> Result<(), Fail> {
+        let (at, load, ins, rest, left, answer) = asked;
+        assert!(rt; weights.nodes() == 3);
+        let instance = Instance::new(alloc, weights, &demands, 2, &[1], None)?;
+        let customers = [1, 2];
+        assert!(rt; are_customers(&instance, &customers));
+        assert!(rt; rest <= demand_of_all(Scope::new(&instance, &customers)));
+        let tables = Tables::build(alloc, &instance, &customers)?;
+        assert!(rt; at <= instance.customers());
+        assert!(rt; load <= instance.capacity());
+        assert!(rt; at != 0 || load == 0);
+        assert!(rt; ins <= 50);
+        assert!(rt; rest <= instance.whole_demand());
+        assert_eq!(rt;
+            bound(&tables, &instance, at, load, ins, rest, left),
+            answer,
+            "{demands:?} {asked:?}"
+        );
         Ok(())
     }
 }

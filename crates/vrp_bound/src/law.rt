@@ -1,12 +1,12 @@
 //! What is true of the definitions, whatever the code does: both bounds are bounds.
 ghost use Rattle.std.specs.Prelude.{◌≡◌, ℕ, ◌+◌, ◌≤◌, Option, MatchOption, List, ◌++◌};
 ghost use Rattle.std.specs.List.{All, Contains};
-ghost use Rattle.vrp_model.specs.Front.{open_load};
+ghost use Rattle.vrp_model.specs.Front.{open_load, routes_left};
 ghost use Rattle.vrp_model.specs.Problem.{IsProblem, Problem};
 ghost use Rattle.vrp_model.specs.Route.{load_of};
 ghost use Rattle.vrp_model.specs.Word.{IsLawfulWord, last_symbol, unserved_in, word_cost};
-ghost use Rattle.vrp_bound.specs.Bound.{IsGreater};
-ghost use Rattle.vrp_bound.specs.Capacity.{IsCapacityBound, IsInsOf};
+ghost use Rattle.vrp_bound.specs.Bound.{IsLowerBound};
+ghost use Rattle.vrp_bound.specs.Capacity.{CanCarry, IsCapacityBound, IsInsOf};
 ghost use Rattle.vrp_bound.specs.Walk.{IsRelaxed, relaxed_cost};
 
 /// What a lawful word adds to a front that it begins with is a relaxed completion of the front, of the same cost, over any
@@ -17,11 +17,11 @@ pub fn relaxed_completions()
         × (word_cost p front + relaxed_cost p (last_symbol front) home tours ≡ word_cost p (front ++ more)) }
 {}
 
-/// No lawful word that begins with a front adds less to it than the greater of the two bounds; and where the answer is `None`,
+/// No lawful word that begins with a front adds less to it than the lower bound, the greater of the two; and where the answer is `None`,
 /// there is no such word.
 pub fn bounds_hold()
     ensures { (p : Problem) (front more among : List ℕ) (ins : ℕ) (answer : Option ℕ) → IsProblem p → IsLawfulWord p (front ++ more) → All (Contains among) (unserved_in p front) → IsInsOf p front ins
-        → IsGreater p among (last_symbol front) (open_load p front) ins (load_of p (unserved_in p front)) answer
+        → IsLowerBound p among (last_symbol front) (open_load p front) ins (load_of p (unserved_in p front)) (routes_left p front) answer
         → MatchOption answer ⊥ (λ least. word_cost p front + least ≤ word_cost p (front ++ more)) }
 {}
 
@@ -29,4 +29,10 @@ pub fn bounds_hold()
 pub fn capacity_bounds()
     ensures { (p : Problem) (front more : List ℕ) (ins bound : ℕ) → IsProblem p → IsLawfulWord p (front ++ more) → IsInsOf p front ins
         → IsCapacityBound p (last_symbol front) (open_load p front) ins (load_of p (unserved_in p front)) bound → word_cost p front + bound ≤ word_cost p (front ++ more) }
+{}
+
+/// Where a lawful word begins with a front, the trucks that the front leaves can carry what it leaves.
+pub fn trucks_left_carry()
+    ensures { (p : Problem) (front more : List ℕ) → IsProblem p → IsLawfulWord p (front ++ more)
+        → CanCarry p (last_symbol front) (open_load p front) (load_of p (unserved_in p front)) (routes_left p front) }
 {}

@@ -13,10 +13,11 @@ mod quotients;
 mod scope;
 mod tables;
 mod tours;
+mod trucks_left;
 mod units;
 mod walks;
 
 pub use capacity::cap_bound;
 pub use greater::bound;
-pub use law::{bounds_hold, capacity_bounds, relaxed_completions};
+pub use law::{bounds_hold, capacity_bounds, relaxed_completions, trucks_left_carry};
 pub use tables::Tables;

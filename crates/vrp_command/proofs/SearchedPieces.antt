@@ -1,24 +1,24 @@
 -- What is known after each piece that is searched, and what follows when all are.
 use Rattle.std.proofs.Common.{◌≡◌, ◌∙◌, ℕ, suc, ◌+◌, ◌-◌, ◌≤◌, ◌<◌, ◌⊎◌, inl, inr, min, Option, Some, None, List, [], ◌∷◌, ◌++◌, length, get_or, take, refl, sym, ap, subst, arith}
 use Rattle.std.specs.Str.{bytes_eq}
-use Rattle.std.specs.Prelude.{true, if◌then◌else◌, map, slice_index_or, unwrap_or}
+use Rattle.std.specs.Option.{ForSome}
+use Rattle.std.specs.Prelude.{◌↔◌, false, is_some, IfSome, IsTrue, true, if◌then◌else◌, map, slice_index_or, unwrap_or}
 use Rattle.std.specs.List.{All, Contains}
-use Rattle.std.specs.List.Sorted.{IsPermutation, IsStrictlyIncreasing}
 use Rattle.std.proofs.lemmas.List.Elements.{All-append, All-cons, All-contains, All-nil, All-tail}
 use Rattle.std.proofs.lemmas.Bool.{cases_Bool, cases_lt}
 use Rattle.std.proofs.lemmas.Bool.Decides.{not_from_Decides}
 use Rattle.std.proofs.lemmas.Slice.Eq.{bytes_eq-Decides}
 use Rattle.std.proofs.lemmas.List.{get_or-map, length-map, take_more}
-use Rattle.vrp_model.specs.Cheapest.{IsCheapest, NoneCheaper}
-use Rattle.vrp_model.specs.Problem.{Problem, customers}
+use Rattle.vrp_model.specs.Cheapest.{HasNoPlan, IsCheapest, NoneCheaper, cost_of}
+use Rattle.vrp_model.specs.Problem.{HasTrucks, IsProblem, Problem, customers}
 use Rattle.vrp_model.specs.Route.{IsLawful, IsPlanOf, PricedPlan, plan_cost}
-use Rattle.vrp_model.specs.Word.{BeginsWith, IsLawfulWord, NoneCheaperUnder, first_stops, word_cost, word_of}
-use Rattle.vrp_model.specs.declared.limits.TheConstants.{MAX_NODES}
+use Rattle.vrp_model.specs.Word.{BeginsWith, IsLawfulWord, NoneCheaperUnder, word_cost}
+use Rattle.vrp_model.specs.declared.limits.TheConstants.{MAX_NODES, NO_COST}
 use Rattle.vrp_search.specs.Cutting.{HasNoChild, IsCutting, NumberedWord}
 use Rattle.vrp_search.specs.Search.{IsUnfinished}
 use Rattle.vrp_command.specs.Answer.{IsAnswer, IsLeftOpen}
 use Rattle.vrp_command.specs.declared.verdict.Verdict.{Verdict}
-use Rattle.vrp_command.specs.declared.verdict.Verdict.TheVariants.{Proven, Open}
+use Rattle.vrp_command.specs.declared.verdict.Verdict.TheVariants.{Proven, Open, NoPlan}
 use Rattle.vrp_command.specs.Searched.{AreSearched, IsLeastOfAll, IsLeft, least_of}
 
 -- ---- piece by piece
@@ -223,22 +223,55 @@ no_word_cheaper piece p cutting budget cost lower is_cutting so_far word lawful 
       | inr none ↦ omega (arith, least_is_low cost (map so_far.low so_far.unfinished), none word lawful begins)
     ]
 
+-- no lawful plan costs as much as none
+abbrev pub PlansCostLess : Type 0
+PlansCostLess = (p : Problem) (routes : List (List ℕ)) → IsProblem p → IsLawful p routes → plan_cost p routes < NO_COST
+
+-- no word costs less than what is known, where all pieces are finished
+none_cheaper_than : OnePiece → PlansHaveWords → (p : Problem) (cutting : List (List ℕ)) (budget cost : ℕ) → IsCutting p cutting → AreSearched p cutting budget cost cutting None → NoneCheaper p cost
+none_cheaper_than piece have p cutting budget cost is_cutting so_far =
+    words_to_plans have p cost (λ word lawful.
+    let none = no_word_cheaper piece p cutting budget cost None is_cutting so_far word lawful in
+    subst (λ (costs : List ℕ). least_of cost costs ≤ word_cost p word) so_far.least none)
+
 pub proven : OnePiece → PlansHaveWords → (p : Problem) (cutting : List (List ℕ)) (budget : ℕ) (plan : PricedPlan) → IsCutting p cutting → IsPlanOf p plan
     → AreSearched p cutting budget plan.cost cutting None → IsCheapest p plan
 proven piece have p cutting budget plan is_cutting plan_of so_far = record {
   plan_of = plan_of;
-  none_cheaper = words_to_plans have p plan.cost (λ word lawful.
-      let none = no_word_cheaper piece p cutting budget plan.cost None is_cutting so_far word lawful in
-      subst (λ (costs : List ℕ). least_of plan.cost costs ≤ word_cost p word) so_far.least none);
+  none_cheaper = none_cheaper_than piece have p cutting budget plan.cost is_cutting so_far;
 }
 
-pub left_open : OnePiece → PlansHaveWords → (p : Problem) (cutting : List (List ℕ)) (pieces budget : ℕ) (plan : PricedPlan) (lower : ℕ) → IsCutting p cutting
-    → (pieces ≤ length cutting) ⊎ All (HasNoChild p) cutting → length cutting ≤ pieces + (MAX_NODES - 1) → IsPlanOf p plan → AreSearched p cutting budget plan.cost cutting (Some lower) → IsLeftOpen p pieces budget plan (min lower plan.cost)
-left_open piece have p cutting pieces budget plan lower is_cutting enough few plan_of so_far =
-    let least : min lower plan.cost ≡ least_of plan.cost (map so_far.low so_far.unfinished) = omega (arith, so_far.least.1 plan.cost) in
+pub no_plan : OnePiece → PlansHaveWords → PlansCostLess → (p : Problem) (cutting : List (List ℕ)) (budget : ℕ) → IsProblem p → IsCutting p cutting → AreSearched p cutting budget NO_COST cutting None → HasNoPlan p
+no_plan piece have less p cutting budget problem is_cutting so_far = λ routes lawful.
+    omega (arith, none_cheaper_than piece have p cutting budget NO_COST is_cutting so_far routes lawful, less p routes problem lawful)
+
+-- all pieces are finished, and a plan was found, or none
+pub found_or_none : OnePiece → PlansHaveWords → PlansCostLess → (p : Problem) (cutting : List (List ℕ)) (pieces budget : ℕ) (plan : Option PricedPlan) → IsProblem p → IsCutting p cutting → ForSome plan (IsPlanOf p)
+    → AreSearched p cutting budget (cost_of plan) cutting None → (is_some plan ≡ true → IsAnswer p pieces budget plan Proven) × (is_some plan ≡ false → IsAnswer p pieces budget plan NoPlan)
+found_or_none piece have less p cutting pieces budget None problem is_cutting plan_of so_far = (λ found. absurd (let never : false ≡ true = found in cc), λ none. (refl, no_plan piece have less p cutting budget problem is_cutting so_far))
+found_or_none piece have less p cutting pieces budget (Some plan) problem is_cutting plan_of so_far = (λ found. (plan, refl, proven piece have p cutting budget plan is_cutting (plan_of plan refl) so_far), λ none. absurd (let never : true ≡ false = none in cc))
+
+-- what is said of a plan, if there is one, is said of each that it is
+pub for_some : (found : Option PricedPlan) (P : PricedPlan → Type 0) → IfSome found P → ForSome found P
+for_some None P all = λ plan is. absurd (cc)
+for_some (Some found) P all = λ plan is. (let same : found ≡ plan = cc in subst P same all)
+
+-- a plan is missing only where the first one was
+pub missing : PlansCostLess → (p : Problem) (first last : Option PricedPlan) → IsProblem p → ForSome first (IsPlanOf p) → (IsTrue (is_some first) ↔ HasTrucks p (length (customers p))) → cost_of last ≤ cost_of first → last ≡ None → HasTrucks p (length (customers p)) → ⊥
+missing less p None last problem first_of told falls none trucks = let never : false ≡ true = told.1 trucks in cc
+missing less p (Some first) last problem first_of told falls none trucks =
+    let plan_of = first_of first refl in
+    omega (arith, falls, ap cost_of none, less p first.routes problem plan_of.lawful, plan_of.priced)
+
+pub left_open : OnePiece → PlansHaveWords → (p : Problem) (cutting : List (List ℕ)) (pieces budget : ℕ) (plan : Option PricedPlan) (lower : ℕ) → IsCutting p cutting
+    → (pieces ≤ length cutting) ⊎ All (HasNoChild p) cutting → length cutting ≤ pieces + (MAX_NODES - 1) → ForSome plan (IsPlanOf p) → (plan ≡ None → HasTrucks p (length (customers p)) → ⊥)
+    → AreSearched p cutting budget (cost_of plan) cutting (Some lower) → IsLeftOpen p pieces budget plan (min lower (cost_of plan))
+left_open piece have p cutting pieces budget plan lower is_cutting enough few plan_of none so_far =
+    let least : min lower (cost_of plan) ≡ least_of (cost_of plan) (map so_far.low so_far.unfinished) = omega (arith, so_far.least.1 (cost_of plan)) in
     record {
       plan_of = plan_of;
-      none_cheaper = words_to_plans have p (min lower plan.cost) (λ word lawful. omega (arith, least, no_word_cheaper piece p cutting budget plan.cost (Some lower) is_cutting so_far word lawful));
+      missing = none;
+      none_cheaper = words_to_plans have p (min lower (cost_of plan)) (λ word lawful. omega (arith, least, no_word_cheaper piece p cutting budget (cost_of plan) (Some lower) is_cutting so_far word lawful));
       unfinished = record {
         cutting = cutting;
         is_cutting = is_cutting;
@@ -273,6 +306,7 @@ one_more cutting i word at = take_more cutting i word at.within ∙ ap (λ (w : 
 
 -- ---- answers
 
-pub answer_lawful : (p : Problem) (pieces budget : ℕ) (plan : PricedPlan) (verdict : Verdict) → IsAnswer p pieces budget plan verdict → IsPlanOf p plan
-answer_lawful p pieces budget plan Proven cheapest = cheapest.plan_of
+pub answer_lawful : (p : Problem) (pieces budget : ℕ) (plan : Option PricedPlan) (verdict : Verdict) → IsAnswer p pieces budget plan verdict → ForSome plan (IsPlanOf p)
+answer_lawful p pieces budget plan Proven (cheapest, is, plan_of) = λ other same. (let one : Some cheapest ≡ Some other = sym is ∙ same in subst (IsPlanOf p) (cc) plan_of.plan_of)
 answer_lawful p pieces budget plan (Open lower) left = left.plan_of
+answer_lawful p pieces budget plan NoPlan (none, no_plan) = λ other same. absurd (let never : None ≡ Some other = sym none ∙ same in cc)

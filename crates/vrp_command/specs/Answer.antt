@@ -1,15 +1,16 @@
 -- What is known of a plan and the verdict on it.
-use Rattle.std.specs.Prelude.{◌≡◌, ◌⊎◌, ℕ, ◌+◌, ◌-◌, ◌≤◌, ◌<◌, List, length, map}
+use Rattle.std.specs.Prelude.{◌≡◌, ◌⊎◌, ℕ, ◌+◌, ◌-◌, ◌≤◌, ◌<◌, Option, None, Some, List, length, map}
 use Rattle.std.specs.List.{All, Contains}
-use Rattle.vrp_model.specs.Cheapest.{IsCheapest, NoneCheaper}
-use Rattle.vrp_model.specs.Problem.{Problem}
+use Rattle.std.specs.Option.{ForSome}
+use Rattle.vrp_model.specs.Cheapest.{HasNoPlan, IsCheapest, NoneCheaper, cost_of}
+use Rattle.vrp_model.specs.Problem.{HasTrucks, Problem, customers}
 use Rattle.vrp_model.specs.Route.{IsPlanOf, PricedPlan}
 use Rattle.vrp_model.specs.Word.{NoneCheaperUnder}
 use Rattle.vrp_model.specs.declared.limits.TheConstants.{MAX_NODES}
 use Rattle.vrp_search.specs.Cutting.{HasNoChild, IsCutting}
 use Rattle.vrp_command.specs.Searched.{IsLeft, least_of}
 use Rattle.vrp_command.specs.declared.verdict.Verdict.{Verdict}
-use Rattle.vrp_command.specs.declared.verdict.Verdict.TheVariants.{Proven, Open}
+use Rattle.vrp_command.specs.declared.verdict.Verdict.TheVariants.{Proven, Open, NoPlan}
 
 -- The words are cut into pieces, as many as were asked for or until none has a child, and fewer than `MAX_NODES` more. Some
 -- pieces are left unfinished. No word under any other piece costs less than the plan. The lower number is the least of the plan's
@@ -26,12 +27,15 @@ pub record HasUnfinished (p : Problem) (pieces budget cost lower : ℕ) : Type 0
   pub others : All (λ front. Contains unfinished front ⊎ NoneCheaperUnder p front cost) cutting
   pub least : lower ≡ least_of cost (map low unfinished)
 
--- a lawful plan; no lawful plan costs less than the number behind `Open`, and some pieces are left unfinished
-pub record IsLeftOpen (p : Problem) (pieces budget : ℕ) (plan : PricedPlan) (lower : ℕ) : Type 0 where
-  pub plan_of : IsPlanOf p plan
+-- A lawful plan, or none yet, where there are more customers than trucks. No lawful plan costs less than the number behind `Open`,
+-- and some pieces are left unfinished.
+pub record IsLeftOpen (p : Problem) (pieces budget : ℕ) (plan : Option PricedPlan) (lower : ℕ) : Type 0 where
+  pub plan_of : ForSome plan (IsPlanOf p)
+  pub missing : plan ≡ None → HasTrucks p (length (customers p)) → ⊥
   pub none_cheaper : NoneCheaper p lower
-  pub unfinished : HasUnfinished p pieces budget plan.cost lower
+  pub unfinished : HasUnfinished p pieces budget (cost_of plan) lower
 
-abbrev pub IsAnswer : Problem → ℕ → ℕ → PricedPlan → Verdict → Type 0
-IsAnswer p pieces budget plan Proven = IsCheapest p plan
+abbrev pub IsAnswer : Problem → ℕ → ℕ → Option PricedPlan → Verdict → Type 0
+IsAnswer p pieces budget plan Proven = (cheapest : PricedPlan) × (plan ≡ Some cheapest) × IsCheapest p cheapest
 IsAnswer p pieces budget plan (Open lower) = IsLeftOpen p pieces budget plan lower
+IsAnswer p pieces budget plan NoPlan = (plan ≡ None) × HasNoPlan p

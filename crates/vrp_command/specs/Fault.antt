@@ -17,6 +17,7 @@ fault_text fault.Write = codes "write fault"
 abbrev pub exit_code : Result Status RunError → ℕ
 exit_code (Ok status.Proven) = 0
 exit_code (Ok status.Open) = 1
+exit_code (Ok status.NoPlan) = 0
 exit_code (Err (fault.Text _)) = 3
 exit_code (Err fault.OutOfMemory) = 4
 exit_code (Err fault.Read) = 5

@@ -1,11 +1,13 @@
 -- How a run is asked for where nothing is said.
 use Rattle.std.specs.Prelude.{◌≡◌, ◌≤◌, None}
+use Rattle.std.specs.Option.{ForSome}
+use Rattle.vrp_model.specs.declared.limits.TheConstants.{MAX_NODES}
 use Rattle.vrp_search.specs.declared.cutting.TheConstants.{MAX_PIECES}
 use Rattle.vrp_command.specs.declared.options.Options.{Options}
 use Rattle.vrp_command.specs.declared.options.TheConstants.{MAX_BUDGET, MAX_WORKERS}
 
 abbrev pub IsDefault : Options → Type 0
-IsDefault options = options ≡ record { workers = 1; pieces = 64; budget = 10000000; depot = None }
+IsDefault options = options ≡ record { workers = 1; pieces = 64; budget = 10000000; depot = None; trucks = None }
 
 -- what may be asked for
 pub record AreInRange (options : Options) : Type 0 where
@@ -15,3 +17,5 @@ pub record AreInRange (options : Options) : Type 0 where
   pub few_pieces : options.pieces ≤ MAX_PIECES
   pub some_budget : 1 ≤ options.budget
   pub small_budget : options.budget ≤ MAX_BUDGET
+  pub some_truck : ForSome options.trucks (λ trucks. 1 ≤ trucks)
+  pub few_trucks : ForSome options.trucks (λ trucks. trucks ≤ MAX_NODES)

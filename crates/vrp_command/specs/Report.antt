@@ -1,10 +1,10 @@
 -- What the program prints: a line for each route, the cost, and the verdict.
-use Rattle.std.specs.Prelude.{ℕ, ◌+◌, List, [], ◌∷◌, ◌++◌, codes, decimal}
+use Rattle.std.specs.Prelude.{ℕ, ◌+◌, Option, None, Some, List, [], ◌∷◌, ◌++◌, codes, decimal}
 use Rattle.std.specs.List.{flat_map}
 use Rattle.vrp_model.specs.Problem.{Problem, node_of}
 use Rattle.vrp_model.specs.Route.{PricedPlan}
 use Rattle.vrp_command.specs.declared.verdict.Verdict.{Verdict}
-use Rattle.vrp_command.specs.declared.verdict.Verdict.TheVariants.{Proven, Open}
+use Rattle.vrp_command.specs.declared.verdict.Verdict.TheVariants.{Proven, Open, NoPlan}
 
 -- the file's node numbers of a route's stops, with a space before each
 abbrev pub stops_text : Problem → List ℕ → List ℕ
@@ -25,6 +25,12 @@ cost_line cost = codes "Cost " ++ decimal cost ++ codes "\n"
 abbrev pub verdict_line : Verdict → List ℕ
 verdict_line Proven = codes "Proven\n"
 verdict_line (Open low) = codes "Open " ++ decimal low ++ codes "\n"
+verdict_line NoPlan = codes "NoPlan\n"
 
-abbrev pub report_of : Problem → PricedPlan → Verdict → List ℕ
-report_of p plan verdict = route_lines p 1 plan.routes ++ cost_line plan.cost ++ verdict_line verdict
+-- a line for each route, and the cost; nothing where there is no plan
+abbrev pub plan_lines : Problem → Option PricedPlan → List ℕ
+plan_lines p None = []
+plan_lines p (Some plan) = route_lines p 1 plan.routes ++ cost_line plan.cost
+
+abbrev pub report_of : Problem → Option PricedPlan → Verdict → List ℕ
+report_of p plan verdict = plan_lines p plan ++ verdict_line verdict

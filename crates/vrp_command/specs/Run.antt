@@ -1,5 +1,5 @@
 -- What a run reads, and what it writes.
-use Rattle.std.specs.Prelude.{◌≡◌, ◌≢◌, ℕ, Option, List, ⊤}
+use Rattle.std.specs.Prelude.{◌≡◌, ◌≢◌, ℕ, Option, None, Some, List, ⊤}
 use Rattle.std.specs.Io.KnownBytes.{Appends}
 use Rattle.vrp_model.specs.Problem.{Problem}
 use Rattle.vrp_model.specs.Route.{PricedPlan}
@@ -21,16 +21,23 @@ use Rattle.vrp_command.specs.declared.verdict.Verdict.TheVariants as verdict
 abbrev pub status_of : Verdict → Status
 status_of verdict.Proven = status.Proven
 status_of (verdict.Open lower) = status.Open
+status_of verdict.NoPlan = status.NoPlan
+
+-- the problem with so many trucks, if a number was asked for
+abbrev pub limited : Option ℕ → Problem → Problem
+limited None problem = problem
+limited (Some trucks) problem = record problem { trucks = Some trucks }
 
 -- the report of a plan of the problem, with the verdict that is known of it
 pub record ReportsAnswer (options : Options) (problem : Problem) (report : List ℕ) (ended : Status) : Type 0 where
-  pub plan : PricedPlan
+  pub plan : Option PricedPlan
   pub judged : Verdict
   pub answer : IsAnswer problem options.pieces options.budget plan judged
   pub text : report ≡ report_of problem plan judged
   pub status : ended ≡ status_of judged
 
--- What was read means a problem, and what was written is the report of such an answer, and nothing else. What is known of a
+-- What was read means a problem, and what was written is the report of such an answer to it, with the trucks that were asked for,
+-- and nothing else. What is known of a
 -- reader's bytes, and of a writer's, comes before the call and after it.
 pub record PrintsAnswer (options : Options) (unread_old unread_new written_old written_new : Option (List ℕ)) (ended : Status) : Type 0 where
   pub bytes : List ℕ
@@ -38,7 +45,7 @@ pub record PrintsAnswer (options : Options) (unread_old unread_new written_old w
   pub problem : Problem
   pub meant : MeansProblem bytes options.depot problem
   pub report : List ℕ
-  pub reported : ReportsAnswer options problem report ended
+  pub reported : ReportsAnswer options (limited options.trucks problem) report ended
   pub output : Appends written_old written_new report
 
 -- what was read is refused for this

@@ -66,12 +66,12 @@ impl From<TextError> for RunError {
     }
 }
 
-/// The exit status of an outcome: 0 proven, 1 open, 3 a refused file, 4 no memory, 5 a read or write fault.
+/// The exit status of an outcome: 0 proven or no plan, 1 open, 3 a refused file, 4 no memory, 5 a read or write fault.
 pub fn exit_status(outcome: &Result<Status, RunError>) -> u8
     ensures { result ≡ exit_code outcome.now }
 {
     match outcome {
-        Ok(Status::Proven) => 0,
+        Ok(Status::Proven | Status::NoPlan) => 0,
         Ok(Status::Open) => 1,
         Err(RunError::Text(_)) => 3,
         Err(RunError::OutOfMemory) => 4,

@@ -18,18 +18,22 @@ pub struct Options {
     pub budget: u64,
     /// The node that is the depot, or else the first that the file lists.
     pub depot: Option<u16>,
+    /// Trucks, from 1 to `MAX_NODES`, or else as many as are wanted.
+    pub trucks: Option<u16>,
 }
 
 impl Default for Options {
     ghost is_default = { IsDefault };
 
-    /// One worker, 64 pieces, 10,000,000 partial plans a piece, and the first listed depot.
+    /// One worker, 64 pieces, 10,000,000 partial plans a piece, the first listed depot, and as many trucks as are
+    /// wanted.
     fn default() -> Options {
         Options {
             workers: 1,
             pieces: 64,
             budget: 10_000_000,
             depot: None,
+            trucks: None,
         }
     }
 }
@@ -41,4 +45,6 @@ pub enum Status {
     Proven,
     /// A lawful plan may cost less.
     Open,
+    /// There is no lawful plan: the trucks are too few.
+    NoPlan,
 }

@@ -1,27 +1,30 @@
-//! The report: a line for each route, the cost, and the verdict.
+//! The report: a line for each route and the cost, where there is a plan, and the verdict.
 ghost use Rattle.std.specs.Prelude.{◌≡◌, ℕ, ◌+◌, ◌<◌, OnOk, IfOk, List, ◌++◌, decimal, string_bytes, All};
+ghost use Rattle.std.specs.Option.{ForSome};
 ghost use Rattle.vrp_model.specs.Problem.{place_count};
 ghost use Rattle.vrp_command.specs.Report.{route_line, route_lines, stops_text, cost_line, verdict_line, report_of};
 
+use crate::answer::Answer;
 use crate::verdict::Verdict;
 use itoa::Buffer;
 use std::alloc::{AllocError, Global};
 use vrp_model::{Instance, Plan};
 
-/// The report on a plan of the instance.
+/// The report of an answer to the instance.
 pub(crate) fn report(
     alloc: Global,
     instance: &Instance,
-    plan: &Plan,
-    verdict: Verdict,
+    answer: &Answer,
 ) -> Result<String, AllocError>
-    requires { All (λ route. All (λ place. place < place_count instance.now) route) plan.now.routes }
-    ensures { IfOk result (λ text. string_bytes text ≡ report_of instance.now plan.now verdict) }
+    requires { ForSome answer.now.plan (λ plan. All (λ route. All (λ place. place < place_count instance.now) route) plan.routes) }
+    ensures { IfOk result (λ text. string_bytes text ≡ report_of instance.now answer.now.plan answer.now.verdict) }
 {
     let mut text = String::new(alloc);
-    push_routes(&mut text, instance, plan)?;
-    push_cost(&mut text, plan.cost())?;
-    push_verdict(&mut text, verdict)?;
+    if let Some(plan) = &answer.plan {
+        push_routes(&mut text, instance, plan)?;
+        push_cost(&mut text, plan.cost())?;
+    }
+    push_verdict(&mut text, answer.verdict)?;
     Ok(text)
 }
 
@@ -82,6 +85,7 @@ fn push_verdict(text: &mut String, verdict: Verdict) -> Result<(), AllocError>
 {
     match verdict {
         Verdict::Proven => text.push_str("Proven\n")?,
+        Verdict::NoPlan => text.push_str("NoPlan\n")?,
         Verdict::Open(low) => {
             text.push_str("Open ")?;
             push_number(text, low)?;

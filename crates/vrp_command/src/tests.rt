@@ -6,9 +6,11 @@ mod files;
 mod limits;
 mod outcomes;
 mod plans;
+mod trucks;
 
-use crate::{Options, RunError, Status, run};
+use crate::{MAX_BUDGET, MAX_PIECES, Options, RunError, Status, run};
 use std::alloc::Global;
+use std::process::Abort;
 
 /// A small file: three nodes on a line, 5 apart, and the depot at one end.
 pub(crate) const SMALL: &str =
@@ -21,25 +23,53 @@ pub(crate) const MIDDLE: &str =
 // The report on the small file.
 const REPORT: &str = "Route #1: 2 3\nCost 20\nProven\n";
 
-// What a run over these bytes answers, and what it writes.
-fn run_on(alloc: Global, bytes: &[u8]) -> (Result<Status, RunError>, Vec<u8>) {
-    run_as(alloc, bytes, Options::default())
-}
-
-// The same with a node chosen as the depot.
-fn run_with(
+// Asserts how a run over these bytes ends, with this node chosen as the depot, and all that it writes.
+fn assert_run(
+    rt: &impl Abort,
     alloc: Global,
     bytes: &[u8],
     depot: Option<u16>,
-) -> (Result<Status, RunError>, Vec<u8>) {
+    wanted: Result<Status, RunError>,
+    report: &str,
+) {
     let options = Options {
         depot,
         ..Options::default()
     };
-    run_as(alloc, bytes, options)
+    let (outcome, written) = run_as(alloc, bytes, options);
+    assert_eq!(rt; outcome, wanted);
+    assert_eq!(rt; written.as_slice(), report.as_bytes());
 }
 
-// The same with any options.
+// Asserts how a run over a text ends that may make so many pieces, and spend so much on each, and what it writes last.
+fn assert_end(
+    rt: &impl Abort,
+    alloc: Global,
+    text: &str,
+    (pieces, budget): (u32, u64),
+    status: Status,
+    end: &str,
+) {
+    assert!(rt; 1 <= pieces && pieces <= MAX_PIECES);
+    assert!(rt; 1 <= budget && budget <= MAX_BUDGET);
+    let options = Options {
+        pieces,
+        budget,
+        ..Options::default()
+    };
+    let (outcome, written) = run_as(alloc, text.as_bytes(), options);
+    assert_eq!(rt;
+        outcome,
+        Ok(status),
+        "{pieces} pieces, budget {budget}, not {end}"
+    );
+    assert!(rt;
+        written.ends_with(end.as_bytes()),
+        "{pieces} pieces, budget {budget}, not {end}"
+    );
+}
+
+// What a run over these bytes answers, and what it writes.
 fn run_as(alloc: Global, bytes: &[u8], options: Options) -> (Result<Status, RunError>, Vec<u8>)
     requires { AreInRange options }
 {

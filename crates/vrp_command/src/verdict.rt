@@ -7,4 +7,6 @@ pub(crate) enum Verdict {
     Proven,
     /// No lawful plan costs less than this.
     Open(u64),
+    /// There is no lawful plan.
+    NoPlan,
 }

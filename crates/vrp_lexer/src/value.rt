@@ -141,22 +141,22 @@ mod tests {
     use super::*;
     use std::test::*;
 
+    const PROBLEM_TYPES: [(&str, Result<(), LineFault>); 10] = [
+        ("CVRP", Ok(())),
+        ("TSP", Err(LineFault::Unsupported)),
+        ("ATSP", Err(LineFault::Unsupported)),
+        ("SOP", Err(LineFault::Unsupported)),
+        ("HCP", Err(LineFault::Unsupported)),
+        ("TOUR", Err(LineFault::Unsupported)),
+        ("", Err(LineFault::BadValue)),
+        ("cvrp", Err(LineFault::BadValue)),
+        ("CVRPTW", Err(LineFault::BadValue)),
+        ("VRP", Err(LineFault::BadValue)),
+    ];
+
     #[test]
     fn problem_types(rt: HostRuntime) {
-        let unsupported = Err(LineFault::Unsupported);
-        let table = [
-            ("CVRP", Ok(())),
-            ("TSP", unsupported),
-            ("ATSP", unsupported),
-            ("SOP", unsupported),
-            ("HCP", unsupported),
-            ("TOUR", unsupported),
-            ("", Err(LineFault::BadValue)),
-            ("cvrp", Err(LineFault::BadValue)),
-            ("CVRPTW", Err(LineFault::BadValue)),
-            ("VRP", Err(LineFault::BadValue)),
-        ];
-        for (word, want) in table {
+        for (word, want) in PROBLEM_TYPES {
             assert_eq!(rt; problem_type(word.as_bytes()), want, "at {word}");
         }
     }
@@ -189,17 +189,18 @@ mod tests {
         }
     }
 
+    const WEIGHT_KINDS: [(&str, WeightKind); 6] = [
+        ("EXPLICIT", WeightKind::Explicit),
+        ("EUC_2D", WeightKind::Points(Metric::Euc2d)),
+        ("CEIL_2D", WeightKind::Points(Metric::Ceil2d)),
+        ("MAN_2D", WeightKind::Points(Metric::Man2d)),
+        ("MAX_2D", WeightKind::Points(Metric::Max2d)),
+        ("ATT", WeightKind::Points(Metric::Att)),
+    ];
+
     #[test]
     fn weight_kinds(rt: HostRuntime) {
-        let table = [
-            ("EXPLICIT", WeightKind::Explicit),
-            ("EUC_2D", WeightKind::Points(Metric::Euc2d)),
-            ("CEIL_2D", WeightKind::Points(Metric::Ceil2d)),
-            ("MAN_2D", WeightKind::Points(Metric::Man2d)),
-            ("MAX_2D", WeightKind::Points(Metric::Max2d)),
-            ("ATT", WeightKind::Points(Metric::Att)),
-        ];
-        for (word, want) in table {
+        for (word, want) in WEIGHT_KINDS {
             assert_eq!(rt; weight_kind(word.as_bytes()), Ok(want), "at {word}");
         }
         for word in [
@@ -220,20 +221,21 @@ mod tests {
         }
     }
 
+    const LAYOUTS: [(&str, Layout); 9] = [
+        ("FULL_MATRIX", Layout::FullMatrix),
+        ("UPPER_ROW", Layout::UpperRow),
+        ("LOWER_ROW", Layout::LowerRow),
+        ("UPPER_DIAG_ROW", Layout::UpperDiagRow),
+        ("LOWER_DIAG_ROW", Layout::LowerDiagRow),
+        ("UPPER_COL", Layout::UpperCol),
+        ("LOWER_COL", Layout::LowerCol),
+        ("UPPER_DIAG_COL", Layout::UpperDiagCol),
+        ("LOWER_DIAG_COL", Layout::LowerDiagCol),
+    ];
+
     #[test]
     fn weight_formats(rt: HostRuntime) {
-        let table = [
-            ("FULL_MATRIX", Layout::FullMatrix),
-            ("UPPER_ROW", Layout::UpperRow),
-            ("LOWER_ROW", Layout::LowerRow),
-            ("UPPER_DIAG_ROW", Layout::UpperDiagRow),
-            ("LOWER_DIAG_ROW", Layout::LowerDiagRow),
-            ("UPPER_COL", Layout::UpperCol),
-            ("LOWER_COL", Layout::LowerCol),
-            ("UPPER_DIAG_COL", Layout::UpperDiagCol),
-            ("LOWER_DIAG_COL", Layout::LowerDiagCol),
-        ];
-        for (word, layout) in table {
+        for (word, layout) in LAYOUTS {
             for explicit in [false, true] {
                 let want = Ok(WeightFormat::Matrix(layout));
                 assert_eq!(rt; weight_format(explicit, word.as_bytes()), want, "at {word}");

@@ -1,11 +1,11 @@
 -- A symbol makes a child of a front in three cases, and in no other.
-use Rattle.std.proofs.Common.{◌≡◌, ℕ, zero, suc, ◌+◌, ◌-◌, ◌≤◌, ◌<◌, List, [], ◌∷◌, ◌++◌, length, refl, sym, ap, subst, ◌∙◌, inl, inr, append-nil, arith}
+use Rattle.std.proofs.Common.{◌≡◌, ℕ, zero, suc, ◌+◌, ◌-◌, ◌≤◌, ◌<◌, List, [], ◌∷◌, ◌++◌, length, length-append, refl, sym, ap, subst, ◌∙◌, inl, inr, append-nil, arith}
 use Rattle.std.specs.List.{All}
 use Rattle.std.specs.List.Sorted.{IsStrictlyIncreasing}
 use Rattle.std.specs.Prelude.{slice_index, slice_index_or, ◌↔◌}
 use Rattle.std.proofs.lemmas.List.{get_or-map, length-map, map-append}
 use Rattle.std.proofs.lemmas.List.Elements.{All-cons, All-nil, All-append}
-use Rattle.vrp_model.specs.Problem.{Problem, IsProblem, demand_of}
+use Rattle.vrp_model.specs.Problem.{HasTrucks, Problem, IsProblem, demand_of}
 use Rattle.vrp_model.specs.Route.{load_of}
 use Rattle.vrp_model.specs.Word.{IsFront, IsOpen, MakesChild, first_stops, last_route, last_symbol, routes_of, word_of}
 use Rattle.vrp_model.proofs.Words.{AreClosed, IsStops, routes_are, shape_of}
@@ -39,11 +39,13 @@ closed_cases p front k closed is are problem is_front some =
     let new : routes_of (front ++ k ∷ []) ≡ closed ++ (k ∷ []) ∷ [] = ap (λ (w : List ℕ). routes_of (w ++ k ∷ [])) is ∙ routes_with_stop closed [] k are none some in
     let at_depot : last_symbol front ≡ 0 = ap last_symbol is ∙ last_of_shape closed [] in
     let last : last_route front ≡ slice_index_or closed (length closed - 1) [] = ap (λ (rs : List (List ℕ)). slice_index_or rs (length rs - 1) []) routes in
+    let count : length (closed ++ (k ∷ []) ∷ []) ≡ length (routes_of front) + 1 = length-append closed ((k ∷ []) ∷ []) ∙ ap (λ (rs : List (List ℕ)). length rs + 1) (sym routes) in
     let Fits : List (List ℕ) → Type 0 = All (λ r. load_of p r ≤ p.capacity) in
     let Rises : List (List ℕ) → Type 0 = λ rs. IsStrictlyIncreasing (first_stops rs) in (
       λ child.
           let rising = subst IsStrictlyIncreasing (firsts_with closed (k ∷ [])) (subst Rises new child.rising) in
-          inr (inr (unserved_if_added p front k some child, at_depot, rw last (below_last closed k some rising))),
+          let trucks = subst (λ n. HasTrucks p n) count (subst (λ (rs : List (List ℕ)). HasTrucks p (length rs)) new child.few) in
+          inr (inr (unserved_if_added p front k some child, at_depot, rw last (below_last closed k some rising), trucks)),
       λ made. elim made [
         | inl depot ↦ absurd (omega (arith, depot.0, some))
         | inr (inl inside) ↦ absurd (omega (arith, inside.1, at_depot))
@@ -53,6 +55,7 @@ closed_cases p front k closed is are problem is_front some =
             customer_added p front k (closed ++ (k ∷ []) ∷ []) is_front behind.0 new
             (All-append (λ r. load_of p r ≤ p.capacity) closed ((k ∷ []) ∷ []) (subst Fits routes is_front.fits) (All-cons (λ r. load_of p r ≤ p.capacity) (k ∷ []) [] light (All-nil (λ r. load_of p r ≤ p.capacity))))
             (subst IsStrictlyIncreasing (sym (firsts_with closed (k ∷ []))) (rising_more (first_stops closed) k (subst Rises routes is_front.rising) (λ lt. above_last closed k lt above)))
+            (subst (λ n. HasTrucks p n) (sym count) behind.3)
       ],
     )
 
@@ -79,6 +82,7 @@ open_cases p front k closed stop stops is are free is_front some =
             customer_added p front k (closed ++ ((stop ∷ stops) ++ k ∷ []) ∷ []) is_front inside.0 new
             (All-append (λ r. load_of p r ≤ p.capacity) closed (((stop ∷ stops) ++ k ∷ []) ∷ []) before (All-cons (λ r. load_of p r ≤ p.capacity) ((stop ∷ stops) ++ k ∷ []) [] light (All-nil (λ r. load_of p r ≤ p.capacity))))
             (subst IsStrictlyIncreasing (sym same) (subst Rises routes is_front.rising))
+            (subst (λ n. HasTrucks p n) (length-append closed ((stop ∷ stops) ∷ []) ∙ sym (length-append closed (((stop ∷ stops) ++ k ∷ []) ∷ []))) (subst (λ (rs : List (List ℕ)). HasTrucks p (length rs)) routes is_front.few))
       ],
     )
 

@@ -8,7 +8,7 @@ use Rattle.std.proofs.Math.Seq.{get_or-append_seam}
 use Rattle.std.proofs.lemmas.Bool.Decides.{nat_tests, leb_tells}
 use Rattle.std.proofs.lemmas.List.Elements.{All-cons, All-nil, All-append, filter-append}
 use Rattle.std.proofs.lemmas.List.Quantifiers.{all_pairs_push}
-use Rattle.vrp_model.specs.Problem.{IsSymmetric, Problem, customers}
+use Rattle.vrp_model.specs.Problem.{HasTrucks, IsSymmetric, Problem, customers}
 use Rattle.vrp_model.specs.Route.{load_of}
 use Rattle.vrp_model.specs.Word.{HasStops, IsFront, IsOpen, RunsForward, closed_routes, first_stops, last_route, last_symbol, routes_of, served_in, unserved_in, word_of}
 use Rattle.vrp_model.proofs.CustomerPlaces.{customer_is_some}
@@ -142,6 +142,7 @@ front_closed p front is_front is_open forward =
       stops = HasStops-append 0 front (0 ∷ []) is_front.stops ((λ _. rw (← last_is front) is_open), tt);
       fits = subst (All (λ r. load_of p r ≤ p.capacity)) (sym routes) is_front.fits;
       rising = subst (λ (rs : List (List ℕ)). IsStrictlyIncreasing (first_stops rs)) (sym routes) is_front.rising;
+      few = subst (λ (rs : List (List ℕ)). HasTrucks p (length rs)) (sym routes) is_front.few;
       forward = λ symmetric. subst (All RunsForward) (sym (closed_at_depot front is_front.stops is_open))
           (All-append RunsForward (closed_routes front) (last_route front ∷ []) (is_front.forward symmetric) (All-cons RunsForward (last_route front) [] (forward symmetric) (All-nil RunsForward)));
     }
@@ -202,10 +203,10 @@ others_differ xs k pairs = λ i d lt.
     let b : get_or (xs ++ k ∷ []) (length xs) d ≡ k = get_or-append_seam xs k [] d in
     λ same. pairs i (length xs) d lt (omega (arith, long)) (a ∙ same ∙ sym b)
 
--- an unserved customer may be added where its route can carry it, and its route rises
+-- an unserved customer may be added where its route can carry it, its route rises, and there are trucks
 pub customer_added : (p : Problem) (front : List ℕ) (k : ℕ) (routes : List (List ℕ)) → IsFront p front → Contains (unserved_in p front) k → routes_of (front ++ k ∷ []) ≡ routes
-    → All (λ r. load_of p r ≤ p.capacity) routes → IsStrictlyIncreasing (first_stops routes) → IsFront p (front ++ k ∷ [])
-customer_added p front k routes is_front unserved is fits rising =
+    → All (λ r. load_of p r ≤ p.capacity) routes → IsStrictlyIncreasing (first_stops routes) → HasTrucks p (length routes) → IsFront p (front ++ k ∷ [])
+customer_added p front k routes is_front unserved is fits rising few =
     let known = unserved_is_customer p front k unserved in
     let some : 0 < k = customer_is_some p k known in
     record {
@@ -214,6 +215,7 @@ customer_added p front k routes is_front unserved is fits rising =
       stops = HasStops-append 0 front (k ∷ []) is_front.stops ((λ zero_is. absurd (omega (arith, some, zero_is))), tt);
       fits = subst (All (λ r. load_of p r ≤ p.capacity)) (sym is) fits;
       rising = subst (λ (rs : List (List ℕ)). IsStrictlyIncreasing (first_stops rs)) (sym is) rising;
+      few = subst (λ (rs : List (List ℕ)). HasTrucks p (length rs)) (sym is) few;
       forward = λ symmetric. subst (All RunsForward) (sym (closed_with_customer front k is_front.stops some)) (is_front.forward symmetric);
     }
 

@@ -5,13 +5,14 @@ use Rattle.std.specs.List.Sorted.{IsStrictlyIncreasing}
 use Rattle.std.specs.Prelude.{slice_index, not, ◌==◌}
 use Rattle.std.proofs.Math.ListN.{get_or-append}
 use Rattle.std.proofs.lemmas.List.Elements.{All-cons, All-nil, All-append, filter-append}
-use Rattle.vrp_model.specs.Problem.{IsSymmetric, Problem, customers}
+use Rattle.vrp_model.specs.Problem.{HasTrucks, IsSymmetric, Problem, customers}
 use Rattle.vrp_model.specs.Route.{load_of}
 use Rattle.vrp_model.specs.Word.{BeginsWith, IsFront, IsLawfulWord, RunsForward, TreeHasAtLeast, closed_routes, first_stops, last_route, last_symbol, routes_of, served_in, word_of}
 use Rattle.vrp_model.proofs.Words.{AreClosed, HasStops-parts, IsStops, last_is, routes_are, shape_of}
 use Rattle.vrp_model.proofs.FrontWithSymbol.{All-last, All-left, closed_at_depot, closed_is_open, closed_with_customer, open_is_some, pairs_left, routes_when_closed, routes_with_stop}
 use Rattle.vrp_model.proofs.ChildCases.{firsts_with}
 use Rattle.vrp_model.proofs.CustomerPlaces.{load_with}
+use Rattle.vrp_model.proofs.FewTrucks.{fewer_routes}
 
 -- what a rising list begins with rises
 pub rising_left : (xs ys : List ℕ) → IsStrictlyIncreasing (xs ++ ys) → IsStrictlyIncreasing xs
@@ -24,12 +25,14 @@ rising_left xs ys rising = λ i lt.
 pub record RoutesFit (p : Problem) (word : List ℕ) : Type 0 where
   pub fits : All (λ r. load_of p r ≤ p.capacity) (routes_of word)
   pub rising : IsStrictlyIncreasing (first_stops (routes_of word))
+  pub few : HasTrucks p (length (routes_of word))
 
-from_routes : (p : Problem) (word : List ℕ) (routes : List (List ℕ)) → routes_of word ≡ routes → All (λ r. load_of p r ≤ p.capacity) routes → IsStrictlyIncreasing (first_stops routes) → RoutesFit p word
-from_routes p word routes is fits rising =
+from_routes : (p : Problem) (word : List ℕ) (routes : List (List ℕ)) → routes_of word ≡ routes → All (λ r. load_of p r ≤ p.capacity) routes → IsStrictlyIncreasing (first_stops routes) → HasTrucks p (length routes) → RoutesFit p word
+from_routes p word routes is fits rising few =
     record {
       fits = subst (All (λ r. load_of p r ≤ p.capacity)) (sym is) fits;
       rising = subst (λ (rs : List (List ℕ)). IsStrictlyIncreasing (first_stops rs)) (sym is) rising;
+      few = subst (λ (rs : List (List ℕ)). HasTrucks p (length rs)) (sym is) few;
     }
 
 routes_before : (p : Problem) (front : List ℕ) (k : ℕ) (closed : List (List ℕ)) (stops : List ℕ) → front ≡ word_of closed ++ stops → AreClosed closed → IsStops stops → 0 < k → IsFront p (front ++ k ∷ []) → RoutesFit p front
@@ -40,6 +43,7 @@ routes_before p front k closed [] is are free some after =
     from_routes p front closed routes
     (All-left (λ r. load_of p r ≤ p.capacity) closed ((k ∷ []) ∷ []) (subst (All (λ r. load_of p r ≤ p.capacity)) new after.fits))
     (rising_left (first_stops closed) (k ∷ []) rising)
+    (fewer_routes p (length closed) (length (closed ++ (k ∷ []) ∷ [])) (omega (arith, length-append closed ((k ∷ []) ∷ []))) (subst (λ (rs : List (List ℕ)). HasTrucks p (length rs)) new after.few))
 routes_before p front k closed (stop ∷ stops) is are free some after =
     let routes : routes_of front ≡ closed ++ (stop ∷ stops) ∷ [] = ap routes_of is ∙ routes_are closed (stop ∷ stops) are free in
     let new : routes_of (front ++ k ∷ []) ≡ closed ++ ((stop ∷ stops) ++ k ∷ []) ∷ [] = ap (λ (w : List ℕ). routes_of (w ++ k ∷ [])) is ∙ routes_with_stop closed (stop ∷ stops) k are free some in
@@ -50,6 +54,7 @@ routes_before p front k closed (stop ∷ stops) is are free some after =
     from_routes p front (closed ++ (stop ∷ stops) ∷ []) routes
     (All-append (λ r. load_of p r ≤ p.capacity) closed ((stop ∷ stops) ∷ []) (All-left (λ r. load_of p r ≤ p.capacity) closed (((stop ∷ stops) ++ k ∷ []) ∷ []) fits) (All-cons (λ r. load_of p r ≤ p.capacity) (stop ∷ stops) [] light (All-nil (λ r. load_of p r ≤ p.capacity))))
     (subst IsStrictlyIncreasing same (subst (λ (rs : List (List ℕ)). IsStrictlyIncreasing (first_stops rs)) new after.rising))
+    (fewer_routes p (length (closed ++ (stop ∷ stops) ∷ [])) (length (closed ++ ((stop ∷ stops) ++ k ∷ []) ∷ [])) (omega (arith, length-append closed ((stop ∷ stops) ∷ []), length-append closed (((stop ∷ stops) ++ k ∷ []) ∷ []))) (subst (λ (rs : List (List ℕ)). HasTrucks p (length rs)) new after.few))
 
 routes_before_depot : (p : Problem) (front : List ℕ) → IsFront p (front ++ 0 ∷ []) → RoutesFit p front
 routes_before_depot p front after =
@@ -58,7 +63,7 @@ routes_before_depot p front after =
     let is_open : 0 < last_symbol front = rw (last_is front) (parts.1.0 refl) in
     let some : 0 < length s.open_stops = open_is_some s.closed s.open_stops (subst (λ (w : List ℕ). 0 < last_symbol w) s.is is_open) in
     let same : routes_of (front ++ 0 ∷ []) ≡ routes_of front = ap (λ (w : List ℕ). routes_of (w ++ 0 ∷ [])) s.is ∙ routes_when_closed s.closed s.open_stops s.are_closed s.are_stops some ∙ sym (ap routes_of s.is) in
-    from_routes p front (routes_of (front ++ 0 ∷ [])) (sym same) after.fits after.rising
+    from_routes p front (routes_of (front ++ 0 ∷ [])) (sym same) after.fits after.rising after.few
 
 routes_fit : (p : Problem) (front : List ℕ) (k : ℕ) → IsFront p (front ++ k ∷ []) → RoutesFit p front
 routes_fit p front zero after = routes_before_depot p front after
@@ -84,6 +89,7 @@ front_before p front k after =
       stops = (HasStops-parts 0 front (k ∷ []) after.stops).0;
       fits = routes.fits;
       rising = routes.rising;
+      few = routes.few;
       forward = forward_before p front k after;
     }
 

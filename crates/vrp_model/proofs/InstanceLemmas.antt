@@ -1,5 +1,5 @@
 -- What is known of an instance that is made from a request without a fault.
-use Rattle.std.proofs.Common.{◌≡◌, ℕ, zero, suc, ◌*◌, ◌≤◌, ◌<◌, true, false, List, length, slice_index, map, arith, inl, inr}
+use Rattle.std.proofs.Common.{◌≡◌, ℕ, zero, suc, ◌*◌, ◌≤◌, ◌<◌, true, false, None, List, length, slice_index, map, arith, inl, inr}
 use Rattle.std.proofs.lemmas.List.{get_or-map, get_or_past, length-map}
 use Rattle.std.proofs.lemmas.Bool.{cases_lt}
 use Rattle.vrp_model.specs.Problem.{IsProblem}
@@ -31,7 +31,7 @@ demand_fits demands places capacity fits place = elim (cases_lt place (length pl
   | inr past ↦ let none = get_or_past (map (node_demand demands) places) place 0 (rw length-map past) in omega arith
 ]
 
-pub IsProblem-made : (depots demands places weights : List ℕ) (depot capacity nodes : ℕ) → ArePlaces depots depot nodes places → nodes ≡ length demands → nodes ≤ 1200 → depot ≤ nodes → NoDepotHasDemand depots demands → is_listed depots depot ≡ true → NoneIsTooHeavy depots demands capacity → length weights ≡ length places * length places → ((k : ℕ) → slice_index weights k ≤ 1000000000) → capacity ≤ 1000000000 → IsProblem (record { nodes = places; demands = map (node_demand demands) places; weights = weights; capacity = capacity })
+pub IsProblem-made : (depots demands places weights : List ℕ) (depot capacity nodes : ℕ) → ArePlaces depots depot nodes places → nodes ≡ length demands → nodes ≤ 1200 → depot ≤ nodes → NoDepotHasDemand depots demands → is_listed depots depot ≡ true → NoneIsTooHeavy depots demands capacity → length weights ≡ length places * length places → ((k : ℕ) → slice_index weights k ≤ 1000000000) → capacity ≤ 1000000000 → IsProblem (record { nodes = places; demands = map (node_demand demands) places; weights = weights; capacity = capacity; trucks = None })
 IsProblem-made depots demands places weights depot capacity nodes are count few within empty listed fit square small light =
     record {
       some_places = are.some;
@@ -42,4 +42,6 @@ IsProblem-made depots demands places weights depot capacity nodes are count few 
       empty_depot = rw (get_or-map (node_demand demands) places 0 0 0 are.some, are.depot_first) (node_demand_depot depots demands depot empty listed);
       fitting_demands = demand_fits demands places capacity (place_fits depots demands places depot capacity nodes are count empty listed fit);
       small_capacity = light;
+      some_trucks = λ trucks is. absurd (cc);
+      few_trucks = λ trucks is. absurd (cc);
     }

@@ -1,5 +1,5 @@
 -- The last route of a front with one more symbol.
-use Rattle.std.proofs.Common.{◌≡◌, ℕ, ◌+◌, ◌-◌, ◌<◌, ◌≤◌, ◌==◌, inl, inr, false, List, [], ◌∷◌, ◌++◌, length, refl, sym, ap, subst, ◌∙◌, arith}
+use Rattle.std.proofs.Common.{◌≡◌, ℕ, ◌+◌, ◌-◌, ◌<◌, ◌≤◌, ◌==◌, inl, inr, false, List, [], ◌∷◌, ◌++◌, length, length-append, append-nil, refl, sym, ap, subst, ◌∙◌, arith}
 use Rattle.std.proofs.lemmas.Bool.Decides.{nat_tests}
 use Rattle.std.specs.Prelude.{slice_index, slice_index_or}
 use Rattle.vrp_model.specs.Front.{open_load}
@@ -15,13 +15,16 @@ use Rattle.vrp_model.proofs.CustomerPlaces.{load_with}
 pub last_symbol_with : (word : List ℕ) (k : ℕ) → last_symbol (word ++ k ∷ []) ≡ k
 last_symbol_with word k = last_is (word ++ k ∷ []) ∙ last_behind-append 0 word (k ∷ [])
 
--- behind the depot the last route stays
-pub last_route_closed : (word : List ℕ) → HasStops 0 word → IsOpen word → last_route (word ++ 0 ∷ []) ≡ last_route word
-last_route_closed word has is_open =
+-- the depot behind an open route opens none
+pub routes_at_depot : (word : List ℕ) → HasStops 0 word → IsOpen word → routes_of (word ++ 0 ∷ []) ≡ routes_of word
+routes_at_depot word has is_open =
     let s = shape_of word has in
     let some : 0 < length s.open_stops = open_is_some s.closed s.open_stops (subst (λ (w : List ℕ). 0 < last_symbol w) s.is is_open) in
-    let routes : routes_of (word ++ 0 ∷ []) ≡ routes_of word = ap (λ (w : List ℕ). routes_of (w ++ 0 ∷ [])) s.is ∙ routes_when_closed s.closed s.open_stops s.are_closed s.are_stops some ∙ sym (ap routes_of s.is) in
-    ap (λ (rs : List (List ℕ)). slice_index_or rs (length rs - 1) []) routes
+    ap (λ (w : List ℕ). routes_of (w ++ 0 ∷ [])) s.is ∙ routes_when_closed s.closed s.open_stops s.are_closed s.are_stops some ∙ sym (ap routes_of s.is)
+
+-- behind the depot the last route stays
+pub last_route_closed : (word : List ℕ) → HasStops 0 word → IsOpen word → last_route (word ++ 0 ∷ []) ≡ last_route word
+last_route_closed word has is_open = ap (λ (rs : List (List ℕ)). slice_index_or rs (length rs - 1) []) (routes_at_depot word has is_open)
 
 -- the first customer of the last route, where a customer is added behind the depot, or behind a customer
 pub record LastRouteWith (word : List ℕ) (k : ℕ) : Type 0 where
@@ -55,6 +58,31 @@ pub last_route_with : (word : List ℕ) (k : ℕ) → HasStops 0 word → 0 < k 
 last_route_with word k has some =
     let s = shape_of word has in
     by_shape word k s.closed s.open_stops s.is s.are_closed s.are_stops some
+
+-- ---- how many routes there are
+
+-- where a customer is added behind the depot, or behind a customer
+pub record RoutesWith (word : List ℕ) (k : ℕ) : Type 0 where
+  pub starts : last_symbol word ≡ 0 → length (routes_of (word ++ k ∷ [])) ≡ length (routes_of word) + 1
+  pub stays : 0 < last_symbol word → length (routes_of (word ++ k ∷ [])) ≡ length (routes_of word)
+
+count_by_shape : (word : List ℕ) (k : ℕ) (closed : List (List ℕ)) (stops : List ℕ) → word ≡ word_of closed ++ stops → AreClosed closed → IsStops stops → 0 < k → RoutesWith word k
+count_by_shape word k closed [] is are free some =
+    let before : length (routes_of word) ≡ length closed = ap (λ (w : List ℕ). length (routes_of w)) is ∙ ap length (routes_are closed [] are free) ∙ ap length (append-nil closed) in
+    let new : length (routes_of (word ++ k ∷ [])) ≡ length closed + 1 = ap (λ (w : List ℕ). length (routes_of (w ++ k ∷ []))) is ∙ ap length (routes_with_stop closed [] k are free some) ∙ length-append closed ((k ∷ []) ∷ []) in
+    let at_depot : last_symbol word ≡ 0 = ap last_symbol is ∙ last_of_shape closed [] in
+    record { starts = λ _. omega (arith, before, new); stays = λ lt. absurd (omega (arith, lt, at_depot)) }
+count_by_shape word k closed (stop ∷ stops) is are free some =
+    let before : length (routes_of word) ≡ length closed + 1 = ap (λ (w : List ℕ). length (routes_of w)) is ∙ ap length (routes_are closed (stop ∷ stops) are free) ∙ length-append closed ((stop ∷ stops) ∷ []) in
+    let new : length (routes_of (word ++ k ∷ [])) ≡ length closed + 1 = ap (λ (w : List ℕ). length (routes_of (w ++ k ∷ []))) is ∙ ap length (routes_with_stop closed (stop ∷ stops) k are free some) ∙ length-append closed (((stop ∷ stops) ++ k ∷ []) ∷ []) in
+    let is_open : 0 < last_symbol word = rw is (rw (last_of_shape closed (stop ∷ stops)) (last_stop 0 (stop ∷ stops) free (omega arith))) in
+    record { starts = λ none. absurd (omega (arith, none, is_open)); stays = λ _. omega (arith, before, new) }
+
+-- the routes of a word with a customer more
+pub routes_with : (word : List ℕ) (k : ℕ) → HasStops 0 word → 0 < k → RoutesWith word k
+routes_with word k has some =
+    let s = shape_of word has in
+    count_by_shape word k s.closed s.open_stops s.is s.are_closed s.are_stops some
 
 -- ---- what is on the truck of the open route
 

@@ -2,6 +2,7 @@ pub mod BoundedLists
 pub mod Ceilings
 pub mod CellCounts
 pub mod ChildCases
+pub mod CostLimit
 pub mod CustomerPlaces
 pub mod DeadFronts
 pub mod Distances
@@ -9,6 +10,7 @@ pub mod DistinctLists
 pub mod DistinctWithin
 pub mod Euclid
 pub mod FilledSquare
+pub mod FewTrucks
 pub mod FrontPlaces
 pub mod FrontWithSymbol
 pub mod FrontsBefore

@@ -3,14 +3,14 @@ use Rattle.std.proofs.Common.{subst, ◌≡◌, ◌≢◌, ℕ, suc, ◌+◌, �
 use Rattle.std.specs.List.{concat, range_with_len}
 use Rattle.std.specs.List.Sorted.{IsStrictlyIncreasing}
 use Rattle.std.proofs.lemmas.Grind.{common_steps, pieces}
-use Rattle.std.proofs.lemmas.List.{map-append}
+use Rattle.std.proofs.lemmas.List.{length-map, map-append}
 use Rattle.std.proofs.lemmas.List.Elements.{All-append, All-cons, All-map, All-nil}
 use Rattle.std.proofs.lemmas.List.Sorted.{IsPermutation-refl}
 use Rattle.std.proofs.lemmas.List.Sums.{sum_by_push}
 use Rattle.vrp_model.proofs.Words.{word_of-append}
 use Rattle.vrp_model.proofs.DistinctLists.{range_rises}
 use Rattle.vrp_model.proofs.PlacesLemmas.{range_with_len_more}
-use Rattle.vrp_model.specs.Problem.{Problem, IsProblem, customers}
+use Rattle.vrp_model.specs.Problem.{HasTrucks, Problem, IsProblem, customers}
 use Rattle.vrp_model.specs.Route.{IsLawful, load_of, plan_cost, route_cost}
 use Rattle.vrp_model.specs.Inner.Stops.{routes_in, AreWithin, IsKept, IsWithin}
 use Rattle.vrp_model.specs.Word.{first_stops, word_of}
@@ -62,11 +62,12 @@ concat_singles : (xs : List ℕ) → concat (map (λ x. x ∷ []) xs) ≡ xs
 concat_singles [] = refl
 concat_singles (x ∷ xs) = ap (λ rest. x ∷ rest) (concat_singles xs)
 
-pub IsLawful-singles : (p : Problem) → IsProblem p → IsLawful p (map (λ customer. customer ∷ []) (customers p))
-IsLawful-singles p known = record {
+pub IsLawful-singles : (p : Problem) → IsProblem p → HasTrucks p (length (customers p)) → IsLawful p (map (λ customer. customer ∷ []) (customers p))
+IsLawful-singles p known few = record {
   served = rw concat_singles (IsPermutation-refl _);
   stops = All-map (λ route. route ≢ []) (λ customer. customer ∷ []) (customers p) (λ k d inside empty. cc);
   fits = All-map (λ route. load_of p route ≤ p.capacity) (λ customer. customer ∷ []) (customers p) (λ k d inside. omega (arith, known.fitting_demands (get_or (customers p) k d)));
+  few = subst (λ n. HasTrucks p n) (sym (length-map (customers p) (λ customer. customer ∷ []))) few;
 }
 
 -- one more customer, one more truck

@@ -7,7 +7,7 @@ use Rattle.std.proofs.Math.ListN.{get_or-append}
 use Rattle.std.proofs.lemmas.List.{get_or-append-add}
 use Rattle.std.proofs.lemmas.List.Sums.{sum_by-cons}
 use Rattle.std.proofs.lemmas.List.Sorted.{IsPermutation-sym, Contains-permutation}
-use Rattle.vrp_model.specs.Problem.{IsSymmetric, Problem, customers}
+use Rattle.vrp_model.specs.Problem.{HasTrucks, IsSymmetric, Problem, customers}
 use Rattle.vrp_model.specs.Route.{IsLawful, IsPlanOf, PricedPlan, cost_along, load_of, plan_cost, route_cost}
 use Rattle.vrp_model.specs.Word.{HasStops, IsLawfulWord, RunsForward, closed_routes, first_stops, last_symbol, routes_of, served_in, word_cost, word_of}
 use Rattle.vrp_model.proofs.Words.{AreClosed, HasStops-append, IsStops, closed_routes_are, is_stop, last_behind, last_behind-append, routes_are, shape_of}
@@ -67,6 +67,7 @@ plan_of_closed p word routes lawful is are =
             (subst (All (Contains (customers p))) served lawful.front.known);
         stops = some_stops routes are;
         fits = subst (All (λ r. load_of p r ≤ p.capacity)) same lawful.front.fits;
+        few = subst (λ (rs : List (List ℕ)). HasTrucks p (length rs)) same lawful.front.few;
       },
       subst (λ (rs : List (List ℕ)). IsStrictlyIncreasing (first_stops rs)) same lawful.front.rising,
       λ symmetric. subst (All RunsForward) closed (lawful.front.forward symmetric),
@@ -147,6 +148,7 @@ word_of_plan p routes lawful rising forward =
           stops = stops_of_closed routes 0 are;
           fits = subst (All (λ r. load_of p r ≤ p.capacity)) (sym same) lawful.fits;
           rising = subst (λ (rs : List (List ℕ)). IsStrictlyIncreasing (first_stops rs)) (sym same) rising;
+          few = subst (λ (rs : List (List ℕ)). HasTrucks p (length rs)) (sym same) lawful.few;
           forward = λ symmetric. subst (All RunsForward) (sym (closed_are are)) (forward symmetric);
         };
         every = subst (λ (xs : List ℕ). All (Contains xs) (customers p)) (sym served) (λ i d lt. Contains-permutation (customers p) (concat routes) (get_or (customers p) i d) back (All-contains_itself (customers p) i d lt));

@@ -8,8 +8,8 @@ use Rattle.std.proofs.lemmas.Bool.{cases_Bool}
 use Rattle.std.proofs.lemmas.Bool.Decides.{nat_tests}
 use Rattle.std.proofs.lemmas.List.{get_or-append-add, get_or_default}
 use Rattle.std.proofs.lemmas.List.Elements.{All-cons, All-nil, Contains-append_left, Contains-append_right}
-use Rattle.std.proofs.lemmas.List.Sorted.{All-permutation, IsPermutation-append_comm, IsPermutation-append_left, IsPermutation-append_right, IsPermutation-cons, IsPermutation-middle, IsPermutation-refl, IsPermutation-sym, IsPermutation-trans, sum_by-IsPermutation}
-use Rattle.vrp_model.specs.Problem.{Problem, customers}
+use Rattle.std.proofs.lemmas.List.Sorted.{All-permutation, IsPermutation-append_comm, IsPermutation-append_left, IsPermutation-append_right, IsPermutation-cons, IsPermutation-middle, IsPermutation-refl, IsPermutation-sym, IsPermutation-trans, length_permutation, sum_by-IsPermutation}
+use Rattle.vrp_model.specs.Problem.{HasTrucks, Problem, customers}
 use Rattle.vrp_model.specs.Route.{IsLawful, load_of, plan_cost, route_cost}
 use Rattle.vrp_model.specs.Word.{first_stops}
 use Rattle.vrp_model.proofs.DistinctLists.{AreDistinct, AreDistinct-permutation, customers_distinct}
@@ -144,6 +144,7 @@ rising_plan p routes lawful =
         served = IsPermutation-trans (concat (sort_routes routes)) (concat routes) (customers p) (IsPermutation-sym (concat routes) (concat (sort_routes routes)) (sort_moves_stops routes)) lawful.served;
         stops = All-permutation (λ r. r ≢ []) routes (sort_routes routes) moved lawful.stops;
         fits = All-permutation (λ r. load_of p r ≤ p.capacity) routes (sort_routes routes) moved lawful.fits;
+        few = subst (λ n. HasTrucks p n) (sym (length_permutation routes (sort_routes routes) moved)) lawful.few;
       },
       rising_firsts (sort_routes routes) (sort_rises routes (distinct_firsts routes distinct lawful.stops)),
       sum_by-IsPermutation (route_cost p) routes (sort_routes routes) moved,

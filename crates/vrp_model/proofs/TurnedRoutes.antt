@@ -1,15 +1,15 @@
 -- The routes of a lawful plan, turned round where they would run backward, and the lawful word that each lawful plan has.
-use Rattle.std.proofs.Common.{◌≡◌, ◌≢◌, ℕ, suc, ◌≤◌, ◌<◌, ◌==◌, cond, nat_lt, List, [], ◌∷◌, ◌++◌, length, get_or, reverse, map, refl, sym, ap, ◌∙◌, inl, inr, ◌⊎◌, arith}
+use Rattle.std.proofs.Common.{◌≡◌, ◌≢◌, ℕ, suc, ◌≤◌, ◌<◌, ◌==◌, cond, nat_lt, List, [], ◌∷◌, ◌++◌, length, get_or, reverse, map, refl, sym, ap, subst, ◌∙◌, inl, inr, ◌⊎◌, arith}
 use Rattle.std.specs.List.{All, concat}
 use Rattle.std.specs.List.Sorted.{IsPermutation}
 use Rattle.std.specs.Prelude.{slice_index}
 use Rattle.std.proofs.lemmas.Bool.{cases_Bool}
 use Rattle.std.proofs.lemmas.Bool.Decides.{nat_tests}
-use Rattle.std.proofs.lemmas.List.{length-reverse, reverse-append, reverse-reverse}
+use Rattle.std.proofs.lemmas.List.{length-map, length-reverse, reverse-append, reverse-reverse}
 use Rattle.std.proofs.lemmas.List.Elements.{All-cons, All-contains_itself, All-nil}
 use Rattle.std.proofs.lemmas.List.Sorted.{All-permutation, Contains-permutation, IsPermutation-append_left, IsPermutation-append_right, IsPermutation-refl, IsPermutation-reverse, IsPermutation-sym, IsPermutation-trans, sum_by-IsPermutation}
 use Rattle.std.proofs.lemmas.List.Sums.{sum_by-cons}
-use Rattle.vrp_model.specs.Problem.{IsSymmetric, Problem, customers, demand_of, place_count, weight_of}
+use Rattle.vrp_model.specs.Problem.{HasTrucks, IsSymmetric, Problem, customers, demand_of, place_count, weight_of}
 use Rattle.vrp_model.specs.Route.{AreTurned, IsLawful, cost_along, load_of, plan_cost, route_cost}
 use Rattle.vrp_model.specs.Word.{IsLawfulWord, RunsForward, last_symbol, word_cost, word_of}
 use Rattle.vrp_model.proofs.CustomerPlaces.{customer_below}
@@ -144,7 +144,7 @@ forward_plan p routes lawful =
       | inl places ↦
           let all = all_turned p routes places lawful.stops lawful.fits (some_place p routes lawful) in
           let others = map (turn p) routes in
-          (others, all.turned, record { served = IsPermutation-trans (concat others) (concat routes) (customers p) (IsPermutation-sym (concat routes) (concat others) all.moved) lawful.served; stops = all.stops; fits = all.fits }, all.forward, all.priced)
+          (others, all.turned, record { served = IsPermutation-trans (concat others) (concat routes) (customers p) (IsPermutation-sym (concat routes) (concat others) all.moved) lawful.served; stops = all.stops; fits = all.fits; few = subst (λ n. HasTrucks p n) (sym (length-map routes (turn p))) lawful.few }, all.forward, all.priced)
       | inr none ↦ (routes, rw none tt, lawful, (λ symmetric. rw none (All-nil RunsForward)), refl)
     ]
 

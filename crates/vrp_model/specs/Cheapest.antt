@@ -1,5 +1,7 @@
 -- What it is that no lawful plan costs less.
-use Rattle.std.specs.Prelude.{ℕ, ◌≤◌, List}
+use Rattle.std.specs.Prelude.{ℕ, ◌≤◌, Option, unwrap_or, List}
+use Rattle.std.specs.Option.{option_map}
+use Rattle.vrp_model.specs.declared.limits.TheConstants.{NO_COST}
 use Rattle.vrp_model.specs.Problem.{Problem}
 use Rattle.vrp_model.specs.Route.{IsLawful, IsPlanOf, PricedPlan, plan_cost}
 
@@ -11,3 +13,11 @@ NoneCheaper p cost = (routes : List (List ℕ)) → IsLawful p routes → cost �
 pub record IsCheapest (p : Problem) (plan : PricedPlan) : Type 0 where
   pub plan_of : IsPlanOf p plan
   pub none_cheaper : NoneCheaper p plan.cost
+
+-- no plan is lawful
+abbrev pub HasNoPlan : Problem → Type 0
+HasNoPlan p = (routes : List (List ℕ)) → IsLawful p routes → ⊥
+
+-- what a plan costs; where there is none, more than any plan does
+abbrev pub cost_of : Option PricedPlan → ℕ
+cost_of found = unwrap_or (option_map (λ plan. plan.cost) found) NO_COST

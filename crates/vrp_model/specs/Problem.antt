@@ -1,5 +1,6 @@
 -- The capacitated vehicle routing problem of TSPLIB 95 (section 1, type CVRP): the depot is place 0, and the customers are places 1 to m.
-use Rattle.std.specs.Prelude.{◌≡◌, ℕ, ◌+◌, ◌*◌, ◌-◌, ◌≤◌, ◌<◌, List, length, slice_index}
+use Rattle.std.specs.Option.{ForSome}
+use Rattle.std.specs.Prelude.{◌≡◌, ℕ, ◌+◌, ◌*◌, ◌-◌, ◌≤◌, ◌<◌, Option, List, length, slice_index}
 use Rattle.std.specs.List.{range_with_len}
 use Rattle.vrp_model.specs.declared.limits.TheConstants.{MAX_CAPACITY, MAX_NODES, MAX_WEIGHT}
 
@@ -12,6 +13,8 @@ pub record Problem : Type 0 where
   pub weights : List ℕ
   -- what one truck can carry
   pub capacity : ℕ
+  -- how many trucks there are; None: as many as are wanted
+  pub trucks : Option ℕ
 
 abbrev pub place_count : Problem → ℕ
 place_count p = length p.nodes
@@ -28,6 +31,10 @@ demand_of p place = slice_index p.demands place
 abbrev pub weight_of : Problem → ℕ → ℕ → ℕ
 weight_of p from to = slice_index p.weights (from * place_count p + to)
 
+-- there are trucks for so many routes
+abbrev pub HasTrucks : Problem → ℕ → Type 0
+HasTrucks p routes = ForSome p.trucks (λ trucks. routes ≤ trucks)
+
 -- between any two places there and back cost the same
 abbrev pub IsSymmetric : Problem → Type 0
 IsSymmetric p = (from to : ℕ) → from < place_count p → to < place_count p → weight_of p from to ≡ weight_of p to from
@@ -42,3 +49,5 @@ pub record IsProblem (p : Problem) : Type 0 where
   pub empty_depot : demand_of p 0 ≡ 0
   pub fitting_demands : (place : ℕ) → demand_of p place ≤ p.capacity
   pub small_capacity : p.capacity ≤ MAX_CAPACITY
+  pub some_trucks : ForSome p.trucks (λ trucks. 1 ≤ trucks)
+  pub few_trucks : ForSome p.trucks (λ trucks. trucks ≤ MAX_NODES)

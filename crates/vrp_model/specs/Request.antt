@@ -1,7 +1,7 @@
 -- What an instance is made from: demands by node number, listed depots, and the node that is chosen as the depot.
 -- (TSPLIB 95, section 1.2, DEMAND_SECTION and DEPOT_SECTION. That one of several depots is chosen, and the others are
 -- neither depot nor customers, is this project's rule.)
-use Rattle.std.specs.Prelude.{◌≡◌, ℕ, Option, unwrap_or, ◌-◌, ◌≤◌, ◌<◌, Bool, true, false, not, ◌==◌, List, ◌∷◌, length, map, filter, slice_index}
+use Rattle.std.specs.Prelude.{◌≡◌, ℕ, Option, None, unwrap_or, ◌-◌, ◌≤◌, ◌<◌, Bool, true, false, not, ◌==◌, List, ◌∷◌, length, map, filter, slice_index}
 use Rattle.std.specs.List.{range_with_len, flat_map, list_any}
 use Rattle.vrp_model.specs.Grid.{Grid, entry_at}
 use Rattle.vrp_model.specs.Problem.{Problem}
@@ -37,6 +37,7 @@ problem_of request = record {
   demands = map (node_demand request.demands) (places_of request);
   weights = flat_map (λ from. map (entry_at request.grid from) (places_of request)) (places_of request);
   capacity = request.capacity;
+  trucks = None;
 }
 
 -- a listed depot that has a demand

@@ -1,8 +1,8 @@
 -- Routes and plans of the capacitated vehicle routing problem (TSPLIB 95, section 1, type CVRP).
-use Rattle.std.specs.Prelude.{◌≡◌, ◌≢◌, ◌⊎◌, ℕ, ◌+◌, ◌≤◌, List, [], ◌∷◌, ◌++◌, reverse}
+use Rattle.std.specs.Prelude.{◌≡◌, ◌≢◌, ◌⊎◌, ℕ, ◌+◌, ◌≤◌, List, [], ◌∷◌, ◌++◌, length, reverse}
 use Rattle.std.specs.List.{All, concat, sum_by}
 use Rattle.std.specs.List.Sorted.{IsPermutation}
-use Rattle.vrp_model.specs.Problem.{Problem, customers, demand_of, weight_of}
+use Rattle.vrp_model.specs.Problem.{HasTrucks, Problem, customers, demand_of, weight_of}
 
 abbrev pub load_of : Problem → List ℕ → ℕ
 load_of p stops = sum_by (demand_of p) stops
@@ -19,12 +19,13 @@ route_cost p stops = cost_along p 0 (stops ++ 0 ∷ [])
 abbrev pub plan_cost : Problem → List (List ℕ) → ℕ
 plan_cost p routes = sum_by (route_cost p) routes
 
--- each customer is served once, and no truck is overloaded
+-- each customer is served once, no truck is overloaded, and there are trucks for all routes
 pub record IsLawful (p : Problem) (routes : List (List ℕ)) : Type 0 where
   -- each customer stands in one route, once, and nothing else stands in any
   pub served : IsPermutation (concat routes) (customers p)
   pub stops : All (λ r. r ≢ []) routes
   pub fits : All (λ r. load_of p r ≤ p.capacity) routes
+  pub few : HasTrucks p (length routes)
 
 -- routes, and what they are said to cost
 pub record PricedPlan : Type 0 where

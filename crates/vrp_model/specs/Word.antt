@@ -3,7 +3,7 @@
 use Rattle.std.specs.Prelude.{◌≡◌, ◌≢◌, ◌⊎◌, ℕ, ◌+◌, ◌-◌, ◌≤◌, ◌<◌, ◌==◌, Bool, not, List, [], ◌∷◌, ◌++◌, count_by, length, map, slice_index, slice_index_or, take}
 use Rattle.std.specs.List.{All, AllPairs, Contains, filter, flat_map, list_any, slice_split}
 use Rattle.std.specs.List.Sorted.{IsStrictlyIncreasing}
-use Rattle.vrp_model.specs.Problem.{IsSymmetric, Problem, customers, demand_of}
+use Rattle.vrp_model.specs.Problem.{HasTrucks, IsSymmetric, Problem, customers, demand_of}
 use Rattle.vrp_model.specs.Route.{load_of, cost_along}
 
 abbrev pub word_of : List (List ℕ) → List ℕ
@@ -48,6 +48,8 @@ pub record IsFront (p : Problem) (word : List ℕ) : Type 0 where
   pub stops : HasStops 0 word
   pub fits : All (λ r. load_of p r ≤ p.capacity) (routes_of word)
   pub rising : IsStrictlyIncreasing (first_stops (routes_of word))
+  -- an open route has a truck too
+  pub few : HasTrucks p (length (routes_of word))
   -- where both directions of a route cost the same, a closed one runs forward
   pub forward : IsSymmetric p → All RunsForward (closed_routes word)
 
@@ -97,12 +99,12 @@ unserved_in p word = filter (λ k. not (stands_in word k)) (customers p)
 
 -- the symbols that make a child of a front, in three cases: the depot, where a route is open that may be closed as it runs; an
 -- unserved customer, where a route is open that can still carry its demand; an unserved customer, where no route is open and the
--- customer is above the first one of the last route, or there is no route yet
+-- customer is above the first one of the last route, or there is no route yet, and there is a truck for one more
 abbrev pub MakesChild : Problem → List ℕ → ℕ → Type 0
 MakesChild p word k =
     ((k ≡ 0) × IsOpen word × (IsSymmetric p → RunsForward (last_route word)))
     ⊎ (Contains (unserved_in p word) k × IsOpen word × (load_of p (last_route word) + demand_of p k ≤ p.capacity))
-    ⊎ (Contains (unserved_in p word) k × (last_symbol word ≡ 0) × (slice_index (last_route word) 0 < k))
+    ⊎ (Contains (unserved_in p word) k × (last_symbol word ≡ 0) × (slice_index (last_route word) 0 < k) × HasTrucks p (length (routes_of word) + 1))
 
 -- No plan is under the front, where both directions of a route cost the same: every unserved customer is below the first one of
 -- the last route, so no route can be opened any more, and the last one would end with one of them, or ends below its first

@@ -1,6 +1,7 @@
 //! An instance of the problem: the depot is place 0, and the customers are places 1 to m by rising node number.
-ghost use Rattle.std.specs.Prelude.{◌≡◌, ◌↔◌, ℕ, ◌+◌, ◌*◌, ◌-◌, ◌≤◌, ◌<◌, IsTrue, Option, unwrap_or, IfOk, IfErr, OnOk, Bool, not, filter, map, List, ◌∷◌, ◌++◌, length, slice_index, true, false};
+ghost use Rattle.std.specs.Prelude.{◌≡◌, ◌↔◌, ℕ, ◌+◌, ◌*◌, ◌-◌, ◌≤◌, ◌<◌, IsTrue, Option, Some, unwrap_or, IfOk, IfErr, OnOk, Bool, not, filter, map, List, ◌∷◌, ◌++◌, length, slice_index, true, false};
 ghost use Rattle.std.specs.List.{range_with_len, flat_map};
+ghost use Rattle.std.specs.Option.{ForSome};
 ghost use Rattle.vrp_model.specs.Grid.{entry_at};
 ghost use Rattle.vrp_model.specs.LeastWay.{IsLeastHome, IsLeastIn};
 ghost use Rattle.vrp_model.specs.Problem.{place_count, customers, node_of, demand_of, weight_of, IsProblem, IsSymmetric};
@@ -41,6 +42,7 @@ pub struct Instance {
     demands: Vec<u64>,
     weights: Vec<u32>,
     capacity: u64,
+    trucks: Option<u16>,
     // Into each place; into the depot it is 0 where there is no customer.
     least_in: Vec<u32>,
     symmetric: bool,
@@ -52,9 +54,9 @@ impl Model for Instance {
 
     ghost Value = { Problem };
 
-    ghost view = { λ a. record { nodes = a.nodes.items; demands = a.demands.items; weights = a.weights.items; capacity = a.capacity } };
+    ghost view = { λ a. record { nodes = a.nodes.items; demands = a.demands.items; weights = a.weights.items; capacity = a.capacity; trucks = a.trucks } };
 
-    ghost invariant = { λ a. IsKeptProblem (record { nodes = a.nodes.items; demands = a.demands.items; weights = a.weights.items; capacity = a.capacity }) a.least_in.items a.symmetric };
+    ghost invariant = { λ a. IsKeptProblem (record { nodes = a.nodes.items; demands = a.demands.items; weights = a.weights.items; capacity = a.capacity; trucks = a.trucks }) a.least_in.items a.symmetric };
 }
 
 impl Instance {
@@ -125,9 +127,47 @@ impl Instance {
             demands,
             weights,
             capacity,
+            trucks: None,
             least_in,
             symmetric,
         })
+    }
+
+    /// The same instance with so many trucks: no lawful plan of it has more routes.
+    pub fn with_trucks(self, trucks: u16) -> Instance
+        requires some { 1 ≤ trucks }
+        requires few { trucks ≤ MAX_NODES }
+        ensures { result ≡ record self { trucks = Some trucks } }
+    {
+        let Instance {
+            nodes,
+            demands,
+            weights,
+            capacity,
+            least_in,
+            symmetric,
+            ..
+        } = self;
+        Instance {
+            nodes,
+            demands,
+            weights,
+            capacity,
+            trucks: Some(trucks),
+            least_in,
+            symmetric,
+        }
+    }
+
+    /// How many trucks there are, from 1 to 1,200; `None` where there are as many as are wanted.
+    pub fn trucks(&self) -> Option<u16>
+        ensures value { result ≡ self.now.trucks }
+        ensures some { ForSome result (λ trucks. 1 ≤ trucks) }
+        ensures few { ForSome result (λ trucks. trucks ≤ MAX_NODES) }
+        // What is known of every instance.
+        ensures problem { IsProblem self.now }
+    {
+        self.trucks
     }
 
     /// How many customers there are: from 0 to 1,199.
@@ -171,7 +211,8 @@ impl Instance {
 
     /// What one truck can carry.
     pub fn capacity(&self) -> u64
-        ensures { result ≡ self.now.capacity }
+        ensures value { result ≡ self.now.capacity }
+        ensures small { result ≤ MAX_CAPACITY }
     {
         self.capacity
     }
@@ -220,6 +261,7 @@ mod tests {
     use super::InstanceError::{DemandOverCapacity, DepotDemand, NotADepot, OutOfMemory};
     use super::*;
     use crate::fixture::{Case, full_matrix, three_nodes};
+    use std::process::Abort;
     use std::test::Fail;
 
     // A case, the node and the demand of each place, and what all demand.
@@ -262,6 +304,34 @@ mod tests {
             assert_eq!(rt; instance.weight(from, to), weight, "from {from} to {to}");
         }
         Ok(())
+    }
+
+    // With so many trucks, nothing else of an instance changes.
+    #[test]
+    fn so_many_trucks(rt: HostRuntime) -> Result<(), Fail> {
+        for trucks in [1, 2, 1_200] {
+            assert!(rt; 1 <= trucks && trucks <= 1_200);
+            let case = case([1, 0, 2], &[2], None);
+            let free = three_nodes(&rt, rt.alloc(), case)?;
+            let same = three_nodes(&rt, rt.alloc(), case)?;
+            assert_limited(&rt, &free, &same.with_trucks(trucks), trucks);
+            let square = [0, 1, 2, 0];
+            let free = full_matrix(&rt, rt.alloc(), &square, 2, &[1])?;
+            let same = full_matrix(&rt, rt.alloc(), &square, 2, &[1])?;
+            assert_limited(&rt, &free, &same.with_trucks(trucks), trucks);
+        }
+        Ok(())
+    }
+
+    fn assert_limited(rt: &impl Abort, free: &Instance, limited: &Instance, trucks: u16) {
+        assert_eq!(rt; free.trucks(), None);
+        assert_eq!(rt; limited.trucks(), Some(trucks));
+        assert_eq!(rt; limited.nodes.as_slice(), free.nodes.as_slice());
+        assert_eq!(rt; limited.demands.as_slice(), free.demands.as_slice());
+        assert_eq!(rt; limited.weights.as_slice(), free.weights.as_slice());
+        assert_eq!(rt; limited.capacity, free.capacity);
+        assert_eq!(rt; limited.least_in.as_slice(), free.least_in.as_slice());
+        assert_eq!(rt; limited.symmetric, free.symmetric);
     }
 
     #[test]

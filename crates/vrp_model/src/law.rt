@@ -1,11 +1,12 @@
 //! What is true of the definitions, whatever the code does.
-ghost use Rattle.std.specs.Prelude.{◌≡◌, ◌≢◌, ◌↔◌, ℕ, ℤ, ◌+◌, ◌≤◌, List, [], ◌∷◌, ◌++◌};
+ghost use Rattle.std.specs.Prelude.{◌≡◌, ◌≢◌, ◌↔◌, ℕ, ℤ, ◌+◌, ◌≤◌, ◌<◌, List, [], ◌∷◌, ◌++◌};
 ghost use Rattle.std.specs.List.{All, Contains, sum_by};
 ghost use Rattle.std.specs.List.Sorted.{IsPermutation, IsStrictlyIncreasing};
 ghost use Rattle.vrp_model.specs.Distance.{IsDistance};
 ghost use Rattle.vrp_model.specs.Problem.{IsProblem, IsSymmetric, Problem};
 ghost use Rattle.vrp_model.specs.Route.{AreTurned, IsLawful, plan_cost};
 ghost use Rattle.vrp_model.specs.Word.{BeginsWith, IsDead, IsFront, IsLawfulWord, MakesChild, RunsForward, TreeHas, TreeHasAtLeast, first_stops, word_cost, word_of};
+ghost use Rattle.vrp_model.specs.declared.limits.TheConstants.{NO_COST};
 ghost use Rattle.vrp_model.specs.declared.metric.Metric.{Metric};
 
 /// Two points have one distance by a metric, and no other.
@@ -43,6 +44,11 @@ pub fn plans_can_turn()
 /// So every lawful plan has a lawful word of the same cost.
 pub fn plans_have_words()
     ensures { (p : Problem) (routes : List (List ℕ)) → IsLawful p routes → (word : List ℕ) × IsLawfulWord p word × (word_cost p word ≡ plan_cost p routes) }
+{}
+
+/// No lawful plan costs as much as `NO_COST`.
+pub fn plans_cost_less()
+    ensures { (p : Problem) (routes : List (List ℕ)) → IsProblem p → IsLawful p routes → plan_cost p routes < NO_COST }
 {}
 
 /// A symbol makes a child of a front in three cases, and in no other.

@@ -22,11 +22,13 @@ mod weights;
 pub use instance::{Instance, InstanceError};
 pub use law::{
     child_cases, dead_fronts, longer_trees, one_child, one_distance, plans_are_words,
-    plans_can_rise, plans_can_turn, plans_have_words, tree_sizes, trees_of_children,
-    words_are_plans,
+    plans_can_rise, plans_can_turn, plans_cost_less, plans_have_words, tree_sizes,
+    trees_of_children, words_are_plans,
 };
 pub use layout::Layout;
-pub use limits::{MAX_CAPACITY, MAX_COORDINATE, MAX_NODES, MAX_WAYS, MAX_WEIGHT, MAX_WHOLE_DEMAND};
+pub use limits::{
+    MAX_CAPACITY, MAX_COORDINATE, MAX_NODES, MAX_WAYS, MAX_WEIGHT, MAX_WHOLE_DEMAND, NO_COST,
+};
 pub use memory::NoMemory;
 pub use metric::Metric;
 pub use plan::Plan;

@@ -15,5 +15,8 @@ pub const MAX_COORDINATE: i64 = 100_000_000;
 /// The most that all customers can demand together: `MAX_CAPACITY` for each of `MAX_NODES`.
 pub const MAX_WHOLE_DEMAND: u64 = 1_200_000_000_000;
 
+/// More than any plan costs, which has at most 2,398 ways: what counts as the cost of a plan where there is none.
+pub const NO_COST: u64 = 4_000_000_000_000;
+
 /// The most that the ways into `MAX_NODES` places can cost together: `MAX_WEIGHT` for each.
 pub const MAX_WAYS: u64 = 1_200_000_000_000;

@@ -1,8 +1,8 @@
 //! Plans: the routes of the trucks, and what they cost.
-ghost use Rattle.std.specs.Prelude.{◌≡◌, ℕ, ◌+◌, ◌*◌, ◌<◌, ◌≤◌, ◌==◌, false, Some, IfOk, OnOk, List, [], ◌∷◌, ◌++◌, ◌^◌, length, map, slice_get};
+ghost use Rattle.std.specs.Prelude.{◌≡◌, ℕ, ◌+◌, ◌*◌, ◌<◌, ◌≤◌, ◌==◌, false, Some, IfOk, IfSome, IsTrue, is_some, OnOk, ◌↔◌, List, [], ◌∷◌, ◌++◌, ◌^◌, length, map, slice_get};
 ghost use Rattle.std.specs.List.{All, position_or_len};
 ghost use Rattle.std.specs.List.Sorted.{IsStrictlyIncreasing};
-ghost use Rattle.vrp_model.specs.Problem.{IsSymmetric, Problem, customers, place_count};
+ghost use Rattle.vrp_model.specs.Problem.{HasTrucks, IsProblem, IsSymmetric, Problem, customers, place_count};
 ghost use Rattle.vrp_model.specs.Route.{IsPlanOf, plan_cost, route_cost};
 ghost use Rattle.vrp_model.specs.Inner.Stops.{routes_in, IsWordEnd};
 ghost use Rattle.vrp_model.specs.Word.{IsLawfulWord, RunsForward, first_stops, word_cost, word_of};
@@ -41,8 +41,24 @@ impl Model for Plan {
 }
 
 impl Plan {
-    /// The plan that sends one truck to each customer, by rising place.
-    pub fn singles(alloc: Global, instance: &Instance) -> Result<Plan, NoMemory>
+    /// The plan that sends one truck to each customer, by rising place. `None` where there are more customers than trucks.
+    pub fn singles(alloc: Global, instance: &Instance) -> Result<Option<Plan>, NoMemory>
+        ensures some { IfOk result (λ plan. IsTrue (is_some plan) ↔ HasTrucks instance.now (length (customers instance.now))) }
+        ensures routes { IfOk result (λ found. IfSome found (λ plan. plan.routes ≡ map (λ customer. customer ∷ []) (customers instance.now))) }
+        ensures lawful { IfOk result (λ found. IfSome found (IsPlanOf instance.now)) }
+        ensures word { IfOk result (λ found. IfSome found (λ plan. IsLawfulWord instance.now (word_of plan.routes))) }
+        // What is known of every instance.
+        ensures problem { IsProblem instance.now }
+    {
+        match instance.trucks() {
+            Some(trucks) if trucks < instance.customers() => Ok(None),
+            _ => Ok(Some(Plan::one_each(alloc, instance)?)),
+        }
+    }
+
+    // The plan that sends one truck to each customer, where there are so many.
+    fn one_each(alloc: Global, instance: &Instance) -> Result<Plan, NoMemory>
+        requires { HasTrucks instance.now (length (customers instance.now)) }
         ensures routes { IfOk result (λ plan. plan.routes ≡ map (λ customer. customer ∷ []) (customers instance.now)) }
         ensures lawful { IfOk result (IsPlanOf instance.now) }
         ensures word { IfOk result (λ plan. IsLawfulWord instance.now (word_of plan.routes)) }
@@ -221,7 +237,7 @@ mod tests {
             chosen: None,
         };
         let instance = three_nodes(&rt, rt.alloc(), case)?;
-        let plan = Plan::singles(rt.alloc(), &instance)?;
+        let plan = Plan::singles(rt.alloc(), &instance)?.expect(&rt, "a truck for each");
         let copy = plan.copy(rt.alloc())?;
         for plan in [&plan, &copy] {
             assert_eq!(rt; plan.routes(), 2);
@@ -241,7 +257,7 @@ mod tests {
             chosen: None,
         };
         let instance = three_nodes(&rt, rt.alloc(), case)?;
-        let singles = Plan::singles(rt.alloc(), &instance)?;
+        let singles = Plan::singles(rt.alloc(), &instance)?.expect(&rt, "a truck for each");
         let plan = Plan::of_word(rt.alloc(), &instance, singles.word())?;
         assert_eq!(rt; plan.word(), [1, 0, 2, 0].as_slice());
         assert_eq!(rt; plan.routes(), 2);
@@ -285,9 +301,43 @@ mod tests {
                 chosen,
             };
             let instance = three_nodes(&rt, rt.alloc(), case)?;
-            let plan = Plan::singles(rt.alloc(), &instance)?;
+            let plan = Plan::singles(rt.alloc(), &instance)?.expect(&rt, "a truck for each");
             assert_eq!(rt; plan.routes(), routes, "{case:?}");
             assert_eq!(rt; plan.cost(), cost, "{case:?}");
+        }
+        Ok(())
+    }
+
+    #[test]
+    fn singles_of_so_many_trucks(rt: HostRuntime) -> Result<(), Fail> {
+        // the listed depots, how many trucks there are, and the routes
+        let table: [(&[u16], u16, Option<usize>); 8] = [
+            // two customers
+            (&[1], 1, None),
+            (&[1], 2, Some(2)),
+            (&[1], 3, Some(2)),
+            (&[1], 1_200, Some(2)),
+            // one
+            (&[1, 2], 1, Some(1)),
+            (&[1, 2], 2, Some(1)),
+            // the depot alone
+            (&[3, 1, 2], 1, Some(0)),
+            (&[3, 1, 2], 1_200, Some(0)),
+        ];
+        for (depots, trucks, routes) in table {
+            assert!(rt; 1 <= trucks && trucks <= 1_200);
+            let case = Case {
+                demands: [0; 3],
+                depots,
+                chosen: None,
+            };
+            let instance = three_nodes(&rt, rt.alloc(), case)?.with_trucks(trucks);
+            let plan = Plan::singles(rt.alloc(), &instance)?;
+            assert_eq!(rt;
+                plan.as_ref().map(Plan::routes),
+                routes,
+                "{depots:?} {trucks}"
+            );
         }
         Ok(())
     }
@@ -297,7 +347,7 @@ mod tests {
         let weights = Weights::points(rt.alloc(), Metric::Euc2d, &[(3, 4)])?;
         let instance = Instance::new(rt.alloc(), weights, &[0], 2, &[1], None)?;
         assert_eq!(rt; instance.customers(), 0);
-        let plan = Plan::singles(rt.alloc(), &instance)?;
+        let plan = Plan::singles(rt.alloc(), &instance)?.expect(&rt, "a truck for each");
         let copy = plan.copy(rt.alloc())?;
         for plan in [&plan, &copy] {
             assert_eq!(rt; plan.routes(), 0);
@@ -312,7 +362,7 @@ mod tests {
         let points = [(-100_000_000, -100_000_000), (100_000_000, 100_000_000)];
         let weights = Weights::points(rt.alloc(), Metric::Euc2d, &points)?;
         let instance = Instance::new(rt.alloc(), weights, &[0, 1], 2, &[1], None)?;
-        let plan = Plan::singles(rt.alloc(), &instance)?;
+        let plan = Plan::singles(rt.alloc(), &instance)?.expect(&rt, "a truck for each");
         assert_eq!(rt; plan.cost(), 565_685_424);
         Ok(())
     }

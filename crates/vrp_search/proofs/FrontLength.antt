@@ -1,9 +1,13 @@
--- A front has at most two symbols for each customer.
-use Rattle.std.proofs.Common.{◌≡◌, ℕ, zero, suc, ◌+◌, ◌-◌, ◌*◌, ◌≤◌, min, true, not, ◌==◌, List, [], ◌∷◌, length, refl, arith}
+-- A front has at most two symbols for each customer, and so few routes.
+use Rattle.std.proofs.Common.{◌≡◌, ℕ, zero, suc, ◌+◌, ◌-◌, ◌*◌, ◌≤◌, min, Bool, true, not, ◌==◌, List, [], ◌∷◌, length, refl, arith}
 use Rattle.std.proofs.lemmas.Bool.Decides.{nat_tests}
+use Rattle.std.specs.List.{slice_split}
 use Rattle.std.proofs.lemmas.List.FromFn.{length-range_with_len}
+use Rattle.std.proofs.lemmas.List.Splits.{length-slice_split}
+use Rattle.std.proofs.lemmas.List.Sums.{count_by-le-length, length-filter}
 use Rattle.vrp_model.specs.Problem.{IsProblem, Problem, customers, place_count}
-use Rattle.vrp_model.specs.Word.{HasStops, IsFront, served_in}
+use Rattle.vrp_model.specs.Word.{HasStops, IsFront, routes_of, served_in}
+use Rattle.vrp_model.specs.declared.limits.TheConstants.{MAX_NODES}
 use Rattle.vrp_model.proofs.DistinctWithin.{length_among}
 
 short_behind : (before : ℕ) (word : List ℕ) → HasStops before word → length word ≤ 2 * length (served_in word) + min before 1
@@ -26,3 +30,18 @@ served_are_few p front problem is_front =
 pub fronts_are_short : (p : Problem) (front : List ℕ) → IsProblem p → IsFront p front → length front + 2 ≤ 2 * place_count p
 fronts_are_short p front problem is_front =
     omega (arith, short_behind 0 front is_front.stops, served_are_few p front problem is_front)
+
+-- a front has no more routes than symbols, and one
+pub routes_are_few : (p : Problem) (front : List ℕ) → IsProblem p → IsFront p front → length (routes_of front) + 1 ≤ 2 * MAX_NODES
+routes_are_few p front problem is_front =
+    let parts = slice_split (λ k. k == 0) front in
+    let Kept : List ℕ → Bool = λ r. not (length r == 0) in
+    omega (
+      arith,
+      length-filter Kept parts,
+      count_by-le-length Kept parts,
+      length-slice_split (λ k. k == 0) front,
+      count_by-le-length (λ k. k == 0) front,
+      fronts_are_short p front problem is_front,
+      problem.few_places,
+    )

@@ -1,13 +1,13 @@
 -- The greatest customer that a word leaves unserved, and what it tells of a dead front.
-use Rattle.std.proofs.Common.{◌≡◌, ◌≢◌, ◌⊎◌, ◌↔◌, ℕ, ◌+◌, ◌-◌, ◌≤◌, ◌<◌, Bool, true, false, refl, List, [], ◌∷◌, ◌++◌, length, get_or, sym, ap, subst, ◌∙◌, inl, inr, arith}
+use Rattle.std.proofs.Common.{◌≡◌, ◌≢◌, ◌⊎◌, ℕ, ◌+◌, ◌≤◌, ◌<◌, Bool, true, false, refl, List, [], ◌∷◌, ◌++◌, length, get_or, sym, subst, ◌∙◌, inl, inr, arith}
 use Rattle.std.specs.List.{All, Contains}
 use Rattle.std.specs.Prelude.{slice_index, slice_index_or}
 use Rattle.std.proofs.lemmas.Bool.{cases_lt}
 use Rattle.std.proofs.lemmas.List.Elements.{All-contains, All-contains_itself}
 use Rattle.vrp_model.specs.Problem.{IsSymmetric, Problem, customers, place_count}
-use Rattle.vrp_model.specs.Word.{IsDead, IsOpen, last_route, last_symbol, stands_in, unserved_in}
+use Rattle.vrp_model.specs.Word.{IsDead, last_route, last_symbol, stands_in, unserved_in}
 use Rattle.vrp_model.proofs.CustomerPlaces.{customer_below, customer_is_some, is_customer}
-use Rattle.vrp_model.proofs.UnservedCustomers.{all_unserved, nat_same, stands_in-append, stands_last, unserved_at_depot, unserved_before, unserved_if_not_standing, unserved_is_customer, unserved_stands_not}
+use Rattle.vrp_model.proofs.UnservedCustomers.{all_unserved, stands_in-append, stands_last, unserved_at_depot, unserved_before, unserved_if_not_standing, unserved_is_customer, unserved_stands_not}
 use Rattle.vrp_search.specs.Inner.Tallied.{AreFlags, IsGreatestBelow, IsGreatestUnserved, IsTally}
 use Rattle.vrp_search.specs.declared.tally.Tally.{Tally}
 

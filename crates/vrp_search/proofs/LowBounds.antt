@@ -1,12 +1,12 @@
 -- What a word under a front costs at least, by the tables.
-use Rattle.std.proofs.Common.{◌≡◌, ℕ, ◌+◌, ◌≤◌, Option, Some, None, get_or, refl, List, [], ◌∷◌, ◌++◌, append-nil, append_assoc, sym, ap, subst, ◌∙◌, arith}
+use Rattle.std.proofs.Common.{◌≡◌, ℕ, ◌+◌, ◌-◌, ◌≤◌, Option, Some, None, get_or, refl, List, [], ◌∷◌, ◌++◌, append-nil, append_assoc, sym, ap, subst, ◌∙◌, arith}
 use Rattle.std.specs.List.{Contains}
 use Rattle.std.specs.Option.{option_map}
 use Rattle.std.specs.Prelude.{MatchOption, unwrap_or}
 use Rattle.std.proofs.lemmas.List.Elements.{All-contains, Contains-get_or}
-use Rattle.vrp_bound.specs.Bound.{IsGreater}
+use Rattle.vrp_bound.specs.Bound.{IsLowerBound}
 use Rattle.vrp_bound.specs.Capacity.{IsInsOf}
-use Rattle.vrp_model.specs.Front.{open_load}
+use Rattle.vrp_model.specs.Front.{open_load, routes_left}
 use Rattle.vrp_model.specs.Problem.{IsProblem, Problem, demand_of}
 use Rattle.vrp_model.specs.Route.{load_of}
 use Rattle.vrp_model.specs.Word.{BeginsWith, IsLawfulWord, NoneCheaperUnder, last_symbol, unserved_in, word_cost}
@@ -22,7 +22,9 @@ low_is p among front t low tally is_low = record {
   ins = t.ins;
   is_ins = tally.ins;
   bound = is_low.bound;
-  is_bound = subst (λ rest. IsGreater p among (last_symbol front) (open_load p front) t.ins rest is_low.bound) tally.rest (subst (λ load. IsGreater p among (last_symbol front) load t.ins t.rest is_low.bound) tally.load is_low.is_bound);
+  is_bound = subst (λ routes. IsLowerBound p among (last_symbol front) (open_load p front) t.ins (load_of p (unserved_in p front)) (option_map (λ trucks. trucks - routes) p.trucks) is_low.bound) tally.routes
+      (subst (λ rest. IsLowerBound p among (last_symbol front) (open_load p front) t.ins rest (option_map (λ trucks. trucks - t.routes) p.trucks) is_low.bound) tally.rest
+      (subst (λ load. IsLowerBound p among (last_symbol front) load t.ins t.rest (option_map (λ trucks. trucks - t.routes) p.trucks) is_low.bound) tally.load is_low.is_bound));
   whole = is_low.whole ∙ ap (λ cost. option_map (λ more. cost + more) is_low.bound) tally.cost;
 }
 
@@ -47,13 +49,13 @@ covered_under p among root word covered begins = subst (AreCovered p among) (sym
 
 abbrev pub BoundsHold : Type 0
 BoundsHold = (p : Problem) (front more among : List ℕ) (ins : ℕ) (answer : Option ℕ) → IsProblem p → IsLawfulWord p (front ++ more) → AreCovered p among front → IsInsOf p front ins
-    → IsGreater p among (last_symbol front) (open_load p front) ins (load_of p (unserved_in p front)) answer → MatchOption answer ⊥ (λ least. word_cost p front + least ≤ word_cost p (front ++ more))
+    → IsLowerBound p among (last_symbol front) (open_load p front) ins (load_of p (unserved_in p front)) (routes_left p front) answer → MatchOption answer ⊥ (λ least. word_cost p front + least ≤ word_cost p (front ++ more))
 
 abbrev pub NoneUnder : Problem → List ℕ → Option ℕ → Type 0
 NoneUnder p front low = MatchOption low ((w : List ℕ) → IsLawfulWord p w → BeginsWith w front → ⊥) (NoneCheaperUnder p front)
 
 by_bound : BoundsHold → (p : Problem) (among front : List ℕ) (ins : ℕ) (bound : Option ℕ) → IsProblem p → AreCovered p among front → IsInsOf p front ins
-    → IsGreater p among (last_symbol front) (open_load p front) ins (load_of p (unserved_in p front)) bound → NoneUnder p front (option_map (λ more. word_cost p front + more) bound)
+    → IsLowerBound p among (last_symbol front) (open_load p front) ins (load_of p (unserved_in p front)) (routes_left p front) bound → NoneUnder p front (option_map (λ more. word_cost p front + more) bound)
 by_bound law p among front ins None problem covered is_ins is_bound = λ w lawful begins. law p front begins.0 among ins None problem (subst (IsLawfulWord p) begins.1 lawful) covered is_ins is_bound
 by_bound law p among front ins (Some more) problem covered is_ins is_bound = λ w lawful begins.
     omega (arith, law p front begins.0 among ins (Some more) problem (subst (IsLawfulWord p) begins.1 lawful) covered is_ins is_bound, ap (word_cost p) begins.1)

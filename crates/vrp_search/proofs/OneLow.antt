@@ -1,17 +1,17 @@
 -- What a word under a front costs at least is one number: two answers that fit the definition are equal.
-use Rattle.std.proofs.Common.{◌≡◌, ◌∙◌, ℕ, ◌+◌, ◌⊎◌, inl, inr, Option, Some, None, List, [], ◌∷◌, max, refl, sym, ap, subst, arith}
+use Rattle.std.proofs.Common.{◌≡◌, ◌∙◌, ℕ, ◌+◌, ◌*◌, ◌≤◌, ◌⊎◌, inl, inr, Option, Some, None, List, [], ◌∷◌, max, refl, sym, ap, subst, arith}
 use Rattle.std.specs.Prelude.{MatchOption}
 use Rattle.std.specs.List.{All, sum_by}
 use Rattle.std.specs.Option.{option_map}
 use Rattle.std.proofs.lemmas.Bool.{cases_eq, cases_lt}
 use Rattle.std.proofs.lemmas.List.Elements.{All-tail}
 use Rattle.std.proofs.lemmas.List.Sums.{sum_by-cons}
-use Rattle.vrp_bound.specs.Bound.{IsGreater}
-use Rattle.vrp_bound.specs.Capacity.{IsCapacityBound, IsInsOf, IsReturns}
+use Rattle.vrp_bound.specs.Bound.{IsGreater, IsLowerBound}
+use Rattle.vrp_bound.specs.Capacity.{CanCarry, IsCapacityBound, IsInsOf, IsReturns, free_room}
 use Rattle.vrp_bound.specs.Tables.{AreMade, IsBound}
 use Rattle.vrp_bound.specs.Walk.{IsLeastRelaxed, NoneRelaxed}
 use Rattle.vrp_model.specs.LeastWay.{IsLeastHome, IsLeastIn}
-use Rattle.vrp_model.specs.Front.{open_load}
+use Rattle.vrp_model.specs.Front.{open_load, routes_left}
 use Rattle.vrp_model.specs.Problem.{IsProblem, Problem, place_count}
 use Rattle.vrp_model.specs.Route.{load_of}
 use Rattle.vrp_model.specs.Word.{last_symbol, unserved_in, word_cost}
@@ -94,11 +94,24 @@ one_greater p among at load ins rest answer other problem is also =
     let capacity = one_capacity p at load ins rest is.capacity also.capacity problem is.is_capacity also.is_capacity in
     is.greater ∙ ap (λ n. option_map (λ least. max least n) is.relaxed) capacity ∙ ap (option_map (λ least. max least also.capacity)) relaxed ∙ sym also.greater
 
+can_or_not : (p : Problem) (at load rest : ℕ) (left : Option ℕ) → CanCarry p at load rest left ⊎ (CanCarry p at load rest left → ⊥)
+can_or_not p at load rest None = inl (λ trucks is. absurd (cc))
+can_or_not p at load rest (Some trucks) = elim (cases_lt (free_room p at load + trucks * p.capacity) rest) [
+  | inl above ↦ inr (λ may. omega (arith, above, may trucks refl))
+  | inr within ↦ inl (λ other is. let same : trucks ≡ other = cc in subst (λ n. rest ≤ free_room p at load + n * p.capacity) same within)
+]
+
+one_lower_bound : (p : Problem) (among : List ℕ) (at load ins rest : ℕ) (left answer other : Option ℕ) → IsProblem p → IsLowerBound p among at load ins rest left answer → IsLowerBound p among at load ins rest left other → answer ≡ other
+one_lower_bound p among at load ins rest left answer other problem is also = elim (can_or_not p at load rest left) [
+  | inl may ↦ one_greater p among at load ins rest answer other problem (is.enough may) (also.enough may)
+  | inr may_not ↦ is.too_few may_not ∙ sym (also.too_few may_not)
+]
+
 pub one_low : (p : Problem) (among front : List ℕ) (low other : Option ℕ) → IsProblem p → IsLow p among front low → IsLow p among front other → low ≡ other
 one_low p among front low other problem is also =
     let at = last_symbol front in
     let load = open_load p front in
     let rest = load_of p (unserved_in p front) in
     let ins = one_ins p front is.ins also.ins is.is_ins also.is_ins in
-    let bound = one_greater p among at load also.ins rest is.bound also.bound problem (subst (λ n. IsGreater p among at load n rest is.bound) ins is.is_bound) also.is_bound in
+    let bound = one_lower_bound p among at load also.ins rest (routes_left p front) is.bound also.bound problem (subst (λ n. IsLowerBound p among at load n rest (routes_left p front) is.bound) ins is.is_bound) also.is_bound in
     is.whole ∙ ap (option_map (λ more. word_cost p front + more)) bound ∙ sym also.whole

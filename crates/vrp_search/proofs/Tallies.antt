@@ -7,9 +7,9 @@ use Rattle.std.proofs.Math.Seq.{get_or-append_seam, take-append_seam}
 use Rattle.std.proofs.lemmas.Bool.{cases_lt}
 use Rattle.std.proofs.lemmas.List.{get_or_default, get_or-set_same, get_or-set_other, length-set, take-append-le}
 use Rattle.vrp_model.specs.declared.limits.TheConstants.{MAX_WAYS}
-use Rattle.vrp_model.specs.Problem.{IsProblem, IsSymmetric, Problem, customers, demand_of, place_count, weight_of}
+use Rattle.vrp_model.specs.Problem.{HasTrucks, IsProblem, IsSymmetric, Problem, customers, demand_of, place_count, weight_of}
 use Rattle.vrp_model.specs.Route.{load_of}
-use Rattle.vrp_model.specs.Word.{IsFront, IsLawfulWord, IsOpen, MakesChild, last_route, last_symbol, served_in, stands_in, unserved_in, word_cost}
+use Rattle.vrp_model.specs.Word.{IsFront, IsLawfulWord, IsOpen, MakesChild, last_route, routes_of, last_symbol, served_in, stands_in, unserved_in, word_cost}
 use Rattle.vrp_model.proofs.Words.{last_is}
 use Rattle.vrp_model.proofs.CustomerPlaces.{is_customer, load_with}
 use Rattle.vrp_model.proofs.FrontWithSymbol.{closed_is_open, closed_runs_forward, served_at_depot, served_with, unserved_if_added}
@@ -28,14 +28,14 @@ use Rattle.vrp_search.proofs.GreatestUnserved.{greatest_at_depot, greatest_of_al
 use Rattle.vrp_search.proofs.WaysIn.{ins_at_depot, ins_with}
 use Rattle.vrp_model.proofs.DistinctWithin.{all_among, length_among}
 use Rattle.vrp_search.proofs.FrontLength.{fronts_are_short, length_customers, served_are_few}
-use Rattle.vrp_model.proofs.LastRoute.{last_route_closed, last_route_with, last_symbol_with, load_at_customer, load_at_depot}
+use Rattle.vrp_model.proofs.LastRoute.{routes_at_depot, routes_with, last_route_closed, last_route_with, last_symbol_with, load_at_customer, load_at_depot}
 
 pub cost_with : (p : Problem) (word : List ℕ) (k : ℕ) → word_cost p (word ++ k ∷ []) ≡ word_cost p word + weight_of p (last_symbol word) k
 cost_with p word k = let parts = cost_parts p 0 word (k ∷ []) in rw (last_is word) (omega (arith, parts))
 
 -- the empty word
 pub tally_of_nothing : (p : Problem) (rest ins unserved : ℕ) → rest ≡ load_of p (customers p) → IsInsOf p [] ins → ins ≤ MAX_WAYS → unserved + 1 ≡ place_count p
-    → IsTally p [] (record { cost = 0; load = 0; rest = rest; ins = ins; first = 0; unserved = unserved; greatest = unserved })
+    → IsTally p [] (record { cost = 0; load = 0; rest = rest; ins = ins; first = 0; unserved = unserved; greatest = unserved; routes = 0 })
 tally_of_nothing p rest ins unserved whole is_ins few all = record {
   cost = refl;
   small = omega arith;
@@ -47,11 +47,12 @@ tally_of_nothing p rest ins unserved whole is_ins few all = record {
   first = refl;
   unserved = omega (arith, all);
   greatest = greatest_of_all p unserved all;
+  routes = refl;
 }
 
 -- the depot
 pub tally_at_depot : (p : Problem) (word : List ℕ) (t : Tally) (cost : ℕ) → IsProblem p → IsFront p word → IsOpen word → IsTally p word t → cost ≡ t.cost + weight_of p (last_symbol word) 0
-    → IsTally p (word ++ 0 ∷ []) (record { cost = cost; load = 0; rest = t.rest; ins = t.ins; first = t.first; unserved = t.unserved; greatest = t.greatest })
+    → IsTally p (word ++ 0 ∷ []) (record { cost = cost; load = 0; rest = t.rest; ins = t.ins; first = t.first; unserved = t.unserved; greatest = t.greatest; routes = t.routes })
 tally_at_depot p word t cost problem front is_open tally is =
     let long : length (word ++ 0 ∷ []) ≡ length word + 1 = length-append word (0 ∷ []) in
     let weight = problem.small_weights (last_symbol word * place_count p + 0) in
@@ -66,6 +67,7 @@ tally_at_depot p word t cost problem front is_open tally is =
       first = tally.first ∙ ap (λ (r : List ℕ). slice_index r 0) (sym (last_route_closed word front.stops is_open));
       unserved = rw (served_at_depot word) tally.unserved;
       greatest = greatest_at_depot p word t.greatest tally.greatest;
+      routes = tally.routes ∙ ap length (sym (routes_at_depot word front.stops is_open));
     }
 
 -- what of a customer is known before it is added
@@ -108,8 +110,10 @@ added p word k t problem front some after tally =
 pub tally_at_customer : (p : Problem) (word : List ℕ) (k least : ℕ) (t new : Tally) → IsLeastIn p k least → new.ins ≡ t.ins - least → IsProblem p → IsFront p word → 0 < k → IsFront p (word ++ k ∷ []) → IsTally p word t
     → new.cost ≡ t.cost + weight_of p (last_symbol word) k → new.load ≡ t.load + demand_of p k → new.rest ≡ t.rest - demand_of p k
     → (last_symbol word ≡ 0 → new.first ≡ k) → (0 < last_symbol word → new.first ≡ t.first) → new.unserved ≡ t.unserved - 1 → IsGreatestUnserved p (word ++ k ∷ []) new.greatest
+    → (last_symbol word ≡ 0 → new.routes ≡ t.routes + 1) → (0 < last_symbol word → new.routes ≡ t.routes)
     → IsTally p (word ++ k ∷ []) new
-tally_at_customer p word k least t new is_least ins problem front some after tally cost load rest starts goes_on unserved greatest =
+tally_at_customer p word k least t new is_least ins problem front some after tally cost load rest starts goes_on unserved greatest one_more stays =
+    let routes = routes_with word k front.stops some in
     let ways = ins_with p word k t.ins least some front after tally.ins is_least in
     let facts = added p word k t problem front some after tally in
     let with_stop = last_route_with word k front.stops some in
@@ -132,6 +136,10 @@ tally_at_customer p word k least t new is_least ins problem front some after tal
       ];
       unserved = omega (arith, unserved, facts.some_left, count, tally.unserved);
       greatest = greatest;
+      routes = elim (cases_lt 0 (last_symbol word)) [
+        | inl inside ↦ omega (arith, stays inside, tally.routes, routes.stays inside)
+        | inr behind ↦ (let at_depot : last_symbol word ≡ 0 = omega (arith, behind) in omega (arith, one_more at_depot, tally.routes, routes.starts at_depot))
+      ];
     }
 
 -- ---- flags
@@ -228,13 +236,13 @@ unserved : (p : Problem) (word : List ℕ) (k : ℕ) (served : List Bool) → Ar
 unserved p word k served flags some below isnt_served = unserved_if_not_standing p word k (is_customer p k some below) (sym (flags k some below) ∙ isnt_served)
 
 pub first_child : (p : Problem) (word : List ℕ) (k : ℕ) (served : List Bool) (before : List Tally) (t : Tally) → AreTallied p word served before t → 0 < k → k < place_count p → slice_index_or served k false ≡ false → last_symbol word ≡ 0
-    → (t.first < k) ↔ IsFront p (word ++ k ∷ [])
+    → ((t.first < k) × HasTrucks p (length (routes_of word) + 1)) ↔ IsFront p (word ++ k ∷ [])
 first_child p word k served before t are some below isnt_served at_depot = (
-  λ above. (cases_of_child p word k are.problem are.front).1 (inr (inr (unserved p word k served are.flags some below isnt_served, at_depot, omega (arith, above, are.now.first)))),
+  λ (above, trucks). (cases_of_child p word k are.problem are.front).1 (inr (inr (unserved p word k served are.flags some below isnt_served, at_depot, omega (arith, above, are.now.first), trucks))),
   λ after. elim ((cases_of_child p word k are.problem are.front).0 after) [
     | inl depot ↦ absurd (omega (arith, depot.0, some))
     | inr (inl inside) ↦ absurd (omega (arith, inside.1, at_depot))
-    | inr (inr behind) ↦ omega (arith, behind.2, are.now.first)
+    | inr (inr behind) ↦ (omega (arith, behind.2, are.now.first), behind.3)
   ],
 )
 

@@ -2,9 +2,9 @@
 use Rattle.std.specs.Prelude.{◌≡◌, ℕ, ◌+◌, ◌≤◌, Option, Some, List}
 use Rattle.std.specs.List.{All, Contains}
 use Rattle.std.specs.Option.{option_map}
-use Rattle.vrp_bound.specs.Bound.{IsGreater}
+use Rattle.vrp_bound.specs.Bound.{IsLowerBound}
 use Rattle.vrp_bound.specs.Capacity.{IsInsOf}
-use Rattle.vrp_model.specs.Front.{open_load}
+use Rattle.vrp_model.specs.Front.{open_load, routes_left}
 use Rattle.vrp_model.specs.Problem.{Problem}
 use Rattle.vrp_model.specs.Route.{load_of}
 use Rattle.vrp_model.specs.Word.{NoneCheaperUnder, TreeHasAtLeast, last_symbol, unserved_in, word_cost}
@@ -21,7 +21,7 @@ pub record IsLow (p : Problem) (among front : List ℕ) (low : Option ℕ) : Typ
   pub ins : ℕ
   pub is_ins : IsInsOf p front ins
   pub bound : Option ℕ
-  pub is_bound : IsGreater p among (last_symbol front) (open_load p front) ins (load_of p (unserved_in p front)) bound
+  pub is_bound : IsLowerBound p among (last_symbol front) (open_load p front) ins (load_of p (unserved_in p front)) (routes_left p front) bound
   pub whole : low ≡ option_map (λ more. word_cost p front + more) bound
 
 -- no word under the front costs less than the floor

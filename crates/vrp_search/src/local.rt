@@ -1,69 +1,76 @@
-//! The board of one thread: it keeps the cheapest plan.
-ghost use Rattle.std.specs.Prelude.{◌≡◌, ℕ, ◌≤◌, ◌<◌, OnOk, OnErr};
+//! The board of one thread: it keeps the cheapest plan, if there is one.
+ghost use Rattle.std.specs.Prelude.{◌≡◌, ℕ, ◌≤◌, ◌<◌, Some, OnOk, OnErr};
+ghost use Rattle.std.specs.Option.{ForSome, option_map};
 ghost use Rattle.vrp_model.specs.Problem.{Problem};
 ghost use Rattle.vrp_model.specs.Route.{IsPlanOf};
+ghost use Rattle.vrp_model.specs.Cheapest.{cost_of};
 
 use crate::board::Board;
 use std::alloc::Global;
 use std::marker::Model;
-use vrp_model::{NoMemory, Plan};
+use vrp_model::{NO_COST, NoMemory, Plan};
 
-/// The cheapest plan so far. Its floor is what the plan costs, and it serves the problems whose lawful plan it is.
+/// The cheapest plan so far, or none. Its floor is what the plan costs, `NO_COST` where there is none, and it serves the problems
+/// whose lawful plan it is.
 #[derive(Debug, Drop)]
 pub struct Local {
-    plan: Plan,
+    plan: Option<Plan>,
 }
 
 impl Model for Local {
+    ghost use Rattle.std.specs.Prelude.{Option};
     ghost use Rattle.vrp_model.specs.Route.{PricedPlan};
 
-    ghost Value = { PricedPlan };
+    ghost Value = { Option PricedPlan };
 
     ghost view = { λ a. a.plan };
 }
 
 impl Local {
-    /// Opens with a plan.
-    pub fn open(plan: Plan) -> Local
+    /// Opens with a plan, or without one.
+    pub fn open(plan: Option<Plan>) -> Local
         ensures { result ≡ plan }
     {
         Local { plan }
     }
 
     /// The cheapest plan: the one that it was opened with, or one that was offered.
-    pub fn plan(&self) -> &Plan
-        ensures { result.now ≡ self.now }
+    pub fn plan(&self) -> Option<&Plan>
+        ensures { option_map (λ plan. plan.now) result ≡ self.now }
     {
-        &self.plan
+        self.plan.as_ref()
     }
 }
 
 impl Board for Local {
-    ghost serves = { λ local p. IsPlanOf p local };
+    ghost serves = { λ local p. ForSome local (IsPlanOf p) };
 
-    ghost floor = { λ local. local.cost };
+    ghost floor = { λ local. cost_of local };
 
     fn least(&mut self) -> u64
-        ensures serves { (p : Problem) → IsPlanOf p self.old → IsPlanOf p self.new }
-        ensures falls { self.new.cost ≤ self.old.cost }
-        ensures answered { self.new.cost ≤ result }
-        ensures value { result ≡ self.old.cost }
+        ensures serves { (p : Problem) → ForSome self.old (IsPlanOf p) → ForSome self.new (IsPlanOf p) }
+        ensures falls { cost_of self.new ≤ cost_of self.old }
+        ensures answered { cost_of self.new ≤ result }
+        ensures value { result ≡ cost_of self.old }
         ensures same { self.new ≡ self.old }
     {
-        self.plan.cost()
+        match &self.plan {
+            Some(plan) => plan.cost(),
+            None => NO_COST,
+        }
     }
 
     fn offer(&mut self, alloc: Global, plan: &Plan) -> Result<(), NoMemory>
-        requires { (p : Problem) × IsPlanOf p self.old × IsPlanOf p plan.now }
-        ensures serves { (p : Problem) → IsPlanOf p self.old → IsPlanOf p plan.now → IsPlanOf p self.new }
-        ensures falls { self.new.cost ≤ self.old.cost }
-        ensures taken { OnOk result (self.new.cost ≤ plan.now.cost) }
-        ensures cheaper { OnOk result (plan.now.cost < self.old.cost → self.new ≡ plan.now) }
-        ensures kept { self.old.cost ≤ plan.now.cost → self.new ≡ self.old }
+        requires { (p : Problem) × ForSome self.old (IsPlanOf p) × IsPlanOf p plan.now }
+        ensures serves { (p : Problem) → ForSome self.old (IsPlanOf p) → IsPlanOf p plan.now → ForSome self.new (IsPlanOf p) }
+        ensures falls { cost_of self.new ≤ cost_of self.old }
+        ensures taken { OnOk result (cost_of self.new ≤ plan.now.cost) }
+        ensures cheaper { OnOk result (plan.now.cost < cost_of self.old → self.new ≡ Some plan.now) }
+        ensures kept { cost_of self.old ≤ plan.now.cost → self.new ≡ self.old }
         ensures err { OnErr result (self.new ≡ self.old) }
     {
-        if plan.cost() < self.plan.cost() {
-            self.plan = plan.copy(alloc)?;
+        if plan.cost() < self.least() {
+            self.plan = Some(plan.copy(alloc)?);
         }
         Ok(())
     }
@@ -78,11 +85,26 @@ mod tests {
 
     #[test]
     fn keeps_its_plan(rt: HostRuntime) -> Result<(), Fail> {
-        let points = [(0, 0), (3, 4), (6, 8)];
-        let weights = Weights::points(rt.alloc(), Metric::Euc2d, &points)?;
-        let instance = Instance::new(rt.alloc(), weights, &[0, 1, 1], 2, &[1], None)?;
-        let singles = Plan::singles(rt.alloc(), &instance)?;
+        let instance = three_nodes(rt.alloc())?;
+        let singles = Plan::singles(rt.alloc(), &instance)?.expect(&rt, "a truck for each");
         check_offer(&rt, rt.alloc(), &instance, &singles)
+    }
+
+    #[test]
+    fn takes_a_plan_where_it_has_none(rt: HostRuntime) -> Result<(), Fail> {
+        let instance = three_nodes(rt.alloc())?;
+        let mut board = Local::open(None);
+        assert_eq!(rt; board.least(), NO_COST);
+        assert!(rt; board.plan().is_none());
+        let singles = Plan::singles(rt.alloc(), &instance)?.expect(&rt, "a truck for each");
+        board.offer(rt.alloc(), &singles)?;
+        assert_eq!(rt; board.least(), 30);
+        Ok(())
+    }
+
+    fn three_nodes(alloc: Global) -> Result<Instance, Fail> {
+        let weights = Weights::points(alloc, Metric::Euc2d, &[(0, 0), (3, 4), (6, 8)])?;
+        Ok(Instance::new(alloc, weights, &[0, 1, 1], 2, &[1], None)?)
     }
 
     // Opened with the singles plan and offered it again.
@@ -94,11 +116,11 @@ mod tests {
     ) -> Result<(), Fail>
         requires { IsPlanOf instance.now singles.now }
     {
-        let mut board = Local::open(singles.copy(alloc)?);
+        let mut board = Local::open(Some(singles.copy(alloc)?));
         assert_eq!(rt; board.least(), 30);
         board.offer(alloc, singles)?;
         assert_eq!(rt; board.least(), 30);
-        assert_eq!(rt; board.plan().routes(), 2);
+        assert_eq!(rt; board.plan().map(Plan::routes), Some(2));
         Ok(())
     }
 }

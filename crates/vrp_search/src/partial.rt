@@ -1,8 +1,8 @@
 //! Partial plans: a word that grows and shrinks by one symbol, with what the search asks of it kept in step.
 ghost use Rattle.std.specs.Prelude.{◌≡◌, ◌<◌, ◌≤◌, ◌+◌, ◌*◌, ◌↔◌, [], ◌∷◌, ◌++◌, length, IsTrue, IfOk, IfSome, MatchOption};
-ghost use Rattle.vrp_model.specs.Problem.{IsProblem, place_count};
+ghost use Rattle.vrp_model.specs.Problem.{HasTrucks, IsProblem, place_count};
 ghost use Rattle.vrp_model.specs.Route.{IsPlanOf, load_of};
-ghost use Rattle.vrp_model.specs.Word.{IsDead, IsFront, IsLawfulWord, last_symbol, unserved_in, word_cost, word_of};
+ghost use Rattle.vrp_model.specs.Word.{IsDead, IsFront, IsLawfulWord, last_symbol, routes_of, unserved_in, word_cost, word_of};
 ghost use Rattle.vrp_model.specs.declared.limits.TheConstants.{MAX_NODES};
 ghost use Rattle.vrp_search.specs.Partial.{PartialPlan};
 ghost use Rattle.vrp_model.specs.Front.{open_load};
@@ -90,9 +90,20 @@ impl<'a> Partial<'a> {
             return false;
         }
         if at == 0 {
-            return self.tally.first < symbol;
+            return self.tally.first < symbol && self.has_truck();
         }
         self.tally.load + self.instance.demand(symbol) <= self.instance.capacity()
+    }
+
+    // Whether one more route may be opened.
+    #[inline(always)]
+    fn has_truck(&self) -> bool
+        ensures { IsTrue result ↔ HasTrucks self.now.problem (length (routes_of self.now.word) + 1) }
+    {
+        match self.instance.trucks() {
+            None => true,
+            Some(trucks) => self.tally.routes < trucks,
+        }
     }
 
     /// The first symbol from this one on that makes a child.
@@ -182,10 +193,16 @@ impl<'a> Partial<'a> {
                 first: tally.first,
                 unserved: tally.unserved,
                 greatest: tally.greatest,
+                routes: tally.routes,
             };
         }
         let demand = self.instance.demand(symbol);
         let first = if at == 0 { symbol } else { tally.first };
+        let routes = if at == 0 {
+            tally.routes + 1
+        } else {
+            tally.routes
+        };
         let greatest = if symbol == tally.greatest {
             self.greatest_below(symbol)
         } else {
@@ -199,6 +216,7 @@ impl<'a> Partial<'a> {
             first,
             unserved: tally.unserved - 1,
             greatest,
+            routes,
         }
     }
 
@@ -269,6 +287,13 @@ impl<'a> Partial<'a> {
         self.tally.load
     }
 
+    /// How many routes there are, an open one counted.
+    pub fn routes(&self) -> u16
+        ensures { result ≡ length (routes_of self.now.word) }
+    {
+        self.tally.routes
+    }
+
     /// What the unserved customers demand.
     pub fn rest(&self) -> u64
         ensures { result ≡ load_of self.now.problem (unserved_in self.now.problem self.now.word) }
@@ -326,22 +351,42 @@ mod tests {
         let weights = Weights::points(rt.alloc(), Metric::Euc2d, &points)?;
         let instance = Instance::new(rt.alloc(), weights, &[0, 3, 4], 7, &[1], None)?;
         let mut partial = Partial::root(rt.alloc(), &instance)?;
-        // a symbol, and behind it the place, the cost, the load and the rest
-        let table = [(1, 1, 5, 3, 4), (2, 2, 10, 7, 0), (0, 0, 20, 0, 0)];
         assert_eq!(rt; partial.rest(), 7);
-        for (symbol, at, cost, load, rest) in table {
-            assert!(rt; partial.child(symbol));
-            assert!(rt; !partial.complete());
-            partial.push(symbol);
-            assert_eq!(rt; partial.at(), at);
-            assert_eq!(rt; partial.cost(), cost);
-            assert_eq!(rt; partial.load(), load);
-            assert_eq!(rt; partial.rest(), rest);
-            assert!(rt; !partial.child(3));
+        let table = [(1, 5, 3, 4, 1), (2, 10, 7, 0, 1), (0, 20, 0, 0, 1)];
+        for (symbol, cost, load, rest, routes) in table {
+            let wanted = Counters {
+                cost,
+                load,
+                rest,
+                routes,
+            };
+            assert_pushed(&rt, &mut partial, symbol, wanted);
         }
         assert!(rt; partial.complete());
         assert_eq!(rt; partial.plan(rt.alloc())?.word(), [1, 2, 0].as_slice());
         Ok(())
+    }
+
+    // What is counted along a word.
+    #[derive(Clone, Copy)]
+    struct Counters {
+        cost: u64,
+        load: u64,
+        rest: u64,
+        routes: u16,
+    }
+
+    // Pushes a symbol onto a word that isn't complete.
+    fn assert_pushed(rt: &impl Abort, partial: &mut Partial<'_>, symbol: u16, wanted: Counters) {
+        assert!(rt; partial.child(symbol));
+        assert!(rt; !partial.complete());
+        partial.push(symbol);
+        assert_eq!(rt; partial.at(), symbol);
+        assert_eq!(rt; partial.cost(), wanted.cost);
+        assert_eq!(rt; partial.load(), wanted.load);
+        assert_eq!(rt; partial.rest(), wanted.rest);
+        assert_eq!(rt; partial.routes(), wanted.routes);
+        assert!(rt; !partial.child(3));
     }
 
     #[test]

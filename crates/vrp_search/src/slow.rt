@@ -23,12 +23,26 @@ struct Small {
     demands: [u64; 4],
     capacity: u64,
     is_symmetric: bool,
+    trucks: Option<u16>,
 }
 
 impl Small {
-    // Both instances of a case.
-    fn both(case: Case) -> [Small; 2] {
-        [Small::new(case, false), Small::new(case, true)]
+    // The instances of a case: of both kinds, and with few trucks.
+    fn kinds(case: Case) -> [Small; 4] {
+        let symmetric = Small::new(case, true);
+        [
+            Small::new(case, false),
+            symmetric,
+            symmetric.with_trucks(1),
+            symmetric.with_trucks(2),
+        ]
+    }
+
+    fn with_trucks(self, trucks: u16) -> Small {
+        Small {
+            trucks: Some(trucks),
+            ..self
+        }
     }
 
     fn new(case: Case, is_symmetric: bool) -> Small {
@@ -38,6 +52,7 @@ impl Small {
             demands,
             capacity,
             is_symmetric,
+            trucks: None,
         }
     }
 
@@ -63,7 +78,11 @@ impl Small {
         assert!(rt; ways.iter().all(|&way| way <= 100) && self.capacity <= 100);
         let weights = Weights::matrix(alloc, Layout::FullMatrix, &ways, NODES)?;
         let instance = Instance::new(alloc, weights, &self.demands, self.capacity, depots, None)?;
-        Ok(instance)
+        match self.trucks {
+            Some(1) => Ok(instance.with_trucks(1)),
+            Some(_) => Ok(instance.with_trucks(2)),
+            None => Ok(instance),
+        }
     }
 
     // All fronts, by the order of their symbols: each list of at most two symbols for each customer is judged.
@@ -96,7 +115,12 @@ impl Small {
     fn is_front(&self, word: &[u16]) -> bool {
         let is_known = word.iter().all(|symbol| *symbol <= self.customers);
         let is_plain = is_known && is_once(word) && has_stops(word) && is_rising(word);
-        is_plain && self.fits(word) && self.runs_forward(word)
+        is_plain && self.fits(word) && self.runs_forward(word) && self.has_trucks(word)
+    }
+
+    // Whether there are trucks for all routes, an open one counted.
+    fn has_trucks(&self, word: &[u16]) -> bool {
+        self.trucks.is_none_or(|trucks| routes(word) <= trucks)
     }
 
     // Whether no closed route has its first customer above its last, where there and back cost the same.
@@ -290,6 +314,17 @@ fn last_first(word: &[u16]) -> u16 {
         first = route.first().copied().unwrap_or(first);
     }
     first
+}
+
+// How many routes there are, an open one counted.
+fn routes(word: &[u16]) -> u16 {
+    let mut count = 0u16;
+    for route in word.split(|symbol| *symbol == 0) {
+        if !route.is_empty() {
+            count = count.saturating_add(1);
+        }
+    }
+    count
 }
 
 fn is_forward(route: &[u16]) -> bool {

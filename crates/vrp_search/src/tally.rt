@@ -1,7 +1,8 @@
 //! What is counted along a word, and what a plan under it costs at least.
-ghost use Rattle.std.specs.Prelude.{◌≡◌, ◌↔◌, ◌⊎◌, ◌*◌, ◌≤◌, ◌<◌, [], IsTrue};
+ghost use Rattle.std.specs.Prelude.{◌≡◌, ◌↔◌, ◌⊎◌, ◌-◌, ◌*◌, ◌≤◌, ◌<◌, [], IsTrue};
+ghost use Rattle.std.specs.Option.{option_map};
 ghost use Rattle.vrp_bound.specs.Capacity.{IsInsOf};
-ghost use Rattle.vrp_model.specs.Problem.{customers, place_count};
+ghost use Rattle.vrp_model.specs.Problem.{HasTrucks, customers, place_count};
 ghost use Rattle.vrp_model.specs.Route.{load_of};
 ghost use Rattle.vrp_model.specs.declared.limits.TheConstants.{MAX_WAYS};
 ghost use Rattle.vrp_search.specs.Inner.Tallied.{IsLowOf, IsTally};
@@ -25,6 +26,8 @@ pub(crate) struct Tally {
     pub(crate) unserved: u16,
     /// The greatest unserved customer, 0 where there is none.
     pub(crate) greatest: u16,
+    /// How many routes there are, an open one counted.
+    pub(crate) routes: u16,
 }
 
 impl Tally {
@@ -41,6 +44,7 @@ impl Tally {
             first: 0,
             unserved: customers,
             greatest: customers,
+            routes: 0,
         }
     }
 
@@ -66,10 +70,21 @@ impl Tally {
         requires cost { self.cost ≤ 2 * MAX_WAYS }
         requires rest { self.rest ≤ load_of instance.now tables.now.among }
         requires all { self.rest ≤ load_of instance.now (customers instance.now) }
+        requires trucks { HasTrucks instance.now self.routes }
         ensures { IsLowOf instance.now tables.now.among at self result }
     {
-        let more = bound(tables, instance, at, self.load, self.ins, self.rest)?;
+        let left = self.routes_left(instance);
+        let more = bound(tables, instance, at, self.load, self.ins, self.rest, left)?;
         Some(self.cost + more)
+    }
+
+    // How many routes may still be opened; `None` where there are as many trucks as are wanted.
+    #[inline(always)]
+    fn routes_left(self, instance: &Instance) -> Option<u16>
+        requires { HasTrucks instance.now self.routes }
+        ensures { result ≡ option_map (λ trucks. trucks - self.routes) instance.now.trucks }
+    {
+        Some(instance.trucks()? - self.routes)
     }
 }
 

@@ -14,8 +14,29 @@ struct Ways<'a> {
     weights: Vec<((i64, i64), u64)>,
 }
 
+/// What a cheapest plan costs.
+#[derive(Clone, Copy, Debug)]
+pub(crate) enum Cheapest {
+    Cost(u64),
+    /// The trucks are too few.
+    NoPlan,
+    /// There are too many customers to say.
+    Unknown,
+}
+
+// More than any plan costs.
+const NO_PLAN: u64 = u64::MAX;
+
+// The truck on its way: where it is, what it carries, and how many may start after it.
+#[derive(Clone, Copy)]
+struct Truck {
+    at: i64,
+    load: i64,
+    left: u16,
+}
+
 /// The least cost of a plan, where there are few customers.
-pub(crate) fn least(alloc: Global, problem: &Problem) -> Result<Option<u64>, AllocError> {
+pub(crate) fn least(alloc: Global, problem: &Problem) -> Result<Cheapest, AllocError> {
     let mut customers = Vec::new(alloc);
     for node in 1..=problem.nodes {
         if !problem.is_depot(node) {
@@ -23,14 +44,24 @@ pub(crate) fn least(alloc: Global, problem: &Problem) -> Result<Option<u64>, All
         }
     }
     if customers.len() > usize::from(MOST_CUSTOMERS) {
-        return Ok(None);
+        return Ok(Cheapest::Unknown);
     }
     let ways = Ways {
         problem,
         weights: weights(alloc, problem)?,
     };
-    let least = ways.least_from(alloc, problem.depot(), 0, &customers, MOST_CUSTOMERS)?;
-    Ok(Some(least))
+    // No plan has more routes than customers.
+    let start = Truck {
+        at: problem.depot(),
+        load: 0,
+        left: problem.trucks.unwrap_or(u16::from(MOST_CUSTOMERS)),
+    };
+    Ok(
+        match ways.least_from(alloc, start, &customers, MOST_CUSTOMERS)? {
+            NO_PLAN => Cheapest::NoPlan,
+            cost => Cheapest::Cost(cost),
+        },
+    )
 }
 
 // The weight from each node to each other one, looked up once.
@@ -60,32 +91,41 @@ fn push_weights(
 }
 
 impl Ways<'_> {
-    // The least cost of serving the unserved customers and coming home, where the truck at a node has a load. Each of them
-    // may be next: on the same truck where it has room, and on a new one. There are no more of them than `most`.
+    // The least cost of serving the unserved customers and coming home, where this truck is on its way. Each of them may be
+    // next: on the same truck where it has room, and on a new one where one is left. There are no more of them than `most`.
     fn least_from(
         &self,
         alloc: Global,
-        at: i64,
-        load: i64,
+        truck: Truck,
         unserved: &[i64],
         most: u8,
     ) -> Result<u64, AllocError> {
         let depot = self.problem.depot();
-        let home = self.weight(at, depot);
+        let home = self.weight(truck.at, depot);
         if unserved.is_empty() || most == 0 {
             return Ok(home);
         }
-        let mut least = u64::MAX;
+        let mut least = NO_PLAN;
         for next in unserved {
-            let others = without(alloc, unserved, *next)?;
-            let demand = self.problem.demand(*next);
-            let behind = self.least_from(alloc, *next, demand, &others, most - 1)?;
-            let start = self.weight(depot, *next);
-            least = least.min(home.saturating_add(start).saturating_add(behind));
-            let load = load.saturating_add(demand);
-            if at != depot && load <= self.problem.capacity {
-                let behind = self.least_from(alloc, *next, load, &others, most - 1)?;
-                least = least.min(self.weight(at, *next).saturating_add(behind));
+            let at = *next;
+            let others = without(alloc, unserved, at)?;
+            let demand = self.problem.demand(at);
+            if truck.left > 0 {
+                let left = truck.left - 1;
+                let new = Truck {
+                    at,
+                    load: demand,
+                    left,
+                };
+                let behind = self.least_from(alloc, new, &others, most - 1)?;
+                let start = self.weight(depot, at);
+                least = least.min(home.saturating_add(start).saturating_add(behind));
+            }
+            let load = truck.load.saturating_add(demand);
+            if truck.at != depot && load <= self.problem.capacity {
+                let same = Truck { at, load, ..truck };
+                let behind = self.least_from(alloc, same, &others, most - 1)?;
+                least = least.min(self.weight(truck.at, at).saturating_add(behind));
             }
         }
         Ok(least)

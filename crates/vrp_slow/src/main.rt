@@ -1,6 +1,7 @@
 //! A plain slow evaluator: what the definitions say, computed the long way round from the text of a file, beside what
-//! the command prints for it: at a glance, and where there are few customers also given time. It prints one line for each
-//! file that its command line names. It has no clauses: the definitions are compared with it, so it does not lean on them.
+//! the command prints for it: at a glance, and where there are few customers also given time. It prints one line on the
+//! metrics, and one for each word of its command line: a file, or a file and a number of trucks, as `three-nodes.vrp/1`. It
+//! has no clauses: the definitions are compared with it, so it does not lean on them.
 #![tactic(auto)]
 
 mod distance;
@@ -17,8 +18,9 @@ mod report;
 mod section;
 mod weights;
 
-use anyhow::Result;
+use anyhow::{Result, ensure};
 use fault::Fault;
+use least::Cheapest;
 use problem::Problem;
 use std::alloc::Global;
 use std::rt::Files;
@@ -28,6 +30,8 @@ use vrp_command::{Options, RunError, Status, exit_status, fault_line, run};
 // The exit status of a refused file.
 const REFUSED: u8 = 3;
 
+const MOST_TRUCKS: u16 = 1_200;
+
 // What the command answers to a file.
 #[derive(Debug, Drop)]
 struct Answer {
@@ -35,81 +39,127 @@ struct Answer {
     printed: Vec<u8>,
 }
 
+// What the command is given for each piece.
+#[derive(Clone, Copy)]
+enum Time {
+    // A look at the empty partial plan alone: the command keeps the plan that it starts with, if any, and what it says of
+    // other plans is what it knows before it has made any.
+    Glance,
+    Enough,
+}
+
+// What there is to say of the plan that the command starts with.
+#[derive(Debug, Drop)]
+struct First {
+    said: String,
+    cost: Option<u64>,
+    // The report of that plan, with the verdict that the command has printed.
+    report: String,
+}
+
 fn main(rt: HostRuntime) -> Result<()> {
-    for name in env::args(&rt)?.skip(1) {
-        let finding = compare(&rt, name.as_str())?;
-        println!(&rt; "{name}: {finding}")?;
+    let metrics = agreement(distance::agree_on_a_square());
+    println!(&rt; "metrics: {metrics}")?;
+    for word in env::args(&rt)?.skip(1) {
+        let finding = match word.as_str().split_once('/') {
+            None => compare(&rt, word.as_str(), None)?,
+            Some((name, trucks)) => compare(&rt, name, Some(trucks.parse::<u16>()?))?,
+        };
+        println!(&rt; "{word}: {finding}")?;
     }
     Ok(())
 }
 
-// What the evaluator finds in a file, and whether the command answers just that.
-fn compare<R: Files + AllocGlobal>(rt: &R, name: &str) -> Result<String> {
+// What the evaluator finds in a file, with so many trucks or as many as are wanted, and whether the command answers just that.
+fn compare<R: Files + AllocGlobal>(rt: &R, name: &str, trucks: Option<u16>) -> Result<String> {
     let alloc = rt.alloc();
     let text = fs::read_to_string(rt, name)?;
     match reading::read(alloc, text.as_str()) {
-        Ok(problem) => evaluated(alloc, &problem, text.as_str()),
-        Err(fault) => refused(alloc, fault, text.as_str()),
+        Ok(mut problem) => {
+            problem.trucks = trucks;
+            evaluated(alloc, &problem, text.as_str())
+        }
+        Err(fault) => refused(alloc, fault, text.as_str(), trucks),
     }
 }
 
 // What there is to say of a file that states a problem.
 fn evaluated(alloc: Global, problem: &Problem, text: &str) -> Result<String> {
-    let routes = plan::singles(alloc, problem)?;
-    let cost = plan::cost(problem, &routes);
-    let count = routes.len();
-    let lawful = word(plan::is_lawful(problem, &routes), "lawful", "not lawful");
-    let glance = glance(alloc, text);
+    let glance = ask(alloc, text, problem.trucks, Time::Glance)?;
     let verdict = last_line(str::from_utf8(&glance.printed)?);
-    let lower = report::lower(verdict, cost);
-    let status = status(verdict);
-    let wanted = report::text(alloc, &routes, cost, verdict)?;
-    let is_same = glance.is(status, wanted.as_str());
-    let finding = format!(in alloc;
-        "{count} routes, cost {cost}, {lawful}, {verdict} at a glance"
-    )?;
+    let first = first_plan(alloc, problem, verdict)?;
+    let is_same = glance.is(status(verdict), first.report.as_str());
+    let lower = report::lower(verdict, first.cost);
+    let said = first.said;
+    let finding = format!(in alloc; "{said}, {verdict} at a glance")?;
     match least::least(alloc, problem)? {
-        None => {
-            let same = agreement(is_same && lower <= cost);
+        Cheapest::Unknown => {
+            let is_bound = lower <= first.cost.unwrap_or(report::NO_COST);
+            let same = agreement(is_same && is_bound);
             Ok(format!(in alloc; "{finding}; {same}")?)
         }
-        Some(least) => {
+        Cheapest::Cost(least) => {
             let is_bound = is_same && lower <= least;
             let same = agreement(is_bound && is_solved(alloc, problem, text, least)?);
             Ok(format!(in alloc; "{finding}; least {least}; {same}")?)
         }
+        Cheapest::NoPlan => {
+            let is_bound = is_same && lower <= report::NO_COST;
+            let same = agreement(is_bound && has_no_plan(alloc, problem, text)?);
+            Ok(format!(in alloc; "{finding}; there is none; {same}")?)
+        }
     }
+}
+
+// One truck for each customer, where there are so many.
+fn first_plan(alloc: Global, problem: &Problem, verdict: &str) -> Result<First> {
+    let routes = plan::singles(alloc, problem)?;
+    let count = routes.len();
+    if !problem.has_trucks_for(count) {
+        return Ok(First {
+            said: "no plan to start with".to_string(alloc)?,
+            cost: None,
+            report: report::text_without_plan(alloc, verdict)?,
+        });
+    }
+    let cost = plan::cost(problem, &routes);
+    let lawful = word(plan::is_lawful(problem, &routes), "lawful", "not lawful");
+    Ok(First {
+        said: format!(in alloc; "{count} routes, cost {cost}, {lawful}")?,
+        cost: Some(cost),
+        report: report::text(alloc, &routes, cost, verdict)?,
+    })
 }
 
 // How a run ends that prints this verdict.
 fn status(verdict: &str) -> Status {
-    if verdict == report::PROVEN {
-        Status::Proven
-    } else {
-        Status::Open
+    match verdict {
+        report::PROVEN => Status::Proven,
+        report::NO_PLAN => Status::NoPlan,
+        _ => Status::Open,
     }
 }
 
 // Whether the command, given time, prints a lawful plan of the least cost, and says that it is proven.
 fn is_solved(alloc: Global, problem: &Problem, text: &str, least: u64) -> Result<bool> {
-    let mut printed = Vec::new(alloc);
-    let outcome = run(
-        alloc,
-        Options::default(),
-        &mut text.as_bytes(),
-        &mut printed,
-    );
-    let routes = report::routes(alloc, str::from_utf8(&printed)?)?;
-    let answer = Answer { outcome, printed };
+    let answer = ask(alloc, text, problem.trucks, Time::Enough)?;
+    let routes = report::routes(alloc, str::from_utf8(&answer.printed)?)?;
     let is_cheapest = plan::is_lawful(problem, &routes) && plan::cost(problem, &routes) == least;
     let wanted = report::text(alloc, &routes, least, report::PROVEN)?;
     Ok(is_cheapest && answer.is(Status::Proven, wanted.as_str()))
 }
 
+// Whether the command, given time, says that there is no plan.
+fn has_no_plan(alloc: Global, problem: &Problem, text: &str) -> Result<bool> {
+    let answer = ask(alloc, text, problem.trucks, Time::Enough)?;
+    let wanted = report::text_without_plan(alloc, report::NO_PLAN)?;
+    Ok(answer.is(Status::NoPlan, wanted.as_str()))
+}
+
 // What there is to say of a file that is refused.
-fn refused(alloc: Global, fault: Fault, text: &str) -> Result<String> {
+fn refused(alloc: Global, fault: Fault, text: &str, trucks: Option<u16>) -> Result<String> {
     let wanted = fault.to_string(alloc)?;
-    let answer = glance(alloc, text);
+    let answer = ask(alloc, text, trucks, Time::Glance)?;
     let is_same = match &answer.outcome {
         Ok(_) => false,
         Err(refusal) => fault_line(alloc, refusal)?.as_str() == wanted.as_str(),
@@ -119,17 +169,26 @@ fn refused(alloc: Global, fault: Fault, text: &str) -> Result<String> {
     Ok(format!(in alloc; "{wanted}; {same}")?)
 }
 
-// The command's answer where it may look at the empty partial plan alone: it keeps the plan that it starts with, and what it
-// says of other plans is what it knows before it has made any.
-fn glance(alloc: Global, text: &str) -> Answer {
-    let options = Options {
-        pieces: 1,
-        budget: 1,
+// The command's answer to a file, with so many trucks or as many as are wanted.
+fn ask(alloc: Global, text: &str, trucks: Option<u16>, time: Time) -> Result<Answer> {
+    if let Some(trucks) = trucks {
+        ensure!(1 <= trucks && trucks <= MOST_TRUCKS, "{trucks} trucks");
+    }
+    let enough = Options {
+        trucks,
         ..Options::default()
+    };
+    let options = match time {
+        Time::Glance => Options {
+            pieces: 1,
+            budget: 1,
+            ..enough
+        },
+        Time::Enough => enough,
     };
     let mut printed = Vec::new(alloc);
     let outcome = run(alloc, options, &mut text.as_bytes(), &mut printed);
-    Answer { outcome, printed }
+    Ok(Answer { outcome, printed })
 }
 
 impl Answer {

@@ -14,7 +14,8 @@ pub(crate) fn singles(alloc: Global, problem: &Problem) -> Result<Vec<Vec<i64>>,
     Ok(routes)
 }
 
-/// Whether each customer is served once and nothing else is, no route is empty, and no truck is overloaded.
+/// Whether each customer is served once and nothing else is, there are trucks for the routes, no route is empty, and no truck
+/// is overloaded.
 pub(crate) fn is_lawful(problem: &Problem, routes: &[Vec<i64>]) -> bool {
     for node in 1..=problem.nodes {
         let wanted = if problem.is_depot(node) { 0u64 } else { 1u64 };
@@ -23,7 +24,8 @@ pub(crate) fn is_lawful(problem: &Problem, routes: &[Vec<i64>]) -> bool {
             return false;
         }
     }
-    routes.iter().all(|route| !route.is_empty() && load(problem, route) <= problem.capacity)
+    problem.has_trucks_for(routes.len())
+        && routes.iter().all(|route| !route.is_empty() && load(problem, route) <= problem.capacity)
 }
 
 // How often a node stands in the routes.

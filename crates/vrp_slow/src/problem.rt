@@ -12,6 +12,8 @@ pub(crate) struct Problem {
     pub demands: Vec<(i64, i64)>,
     pub depots: Vec<i64>,
     pub weights: Weights,
+    /// Trucks, or else as many as are wanted. No file says how many there are.
+    pub trucks: Option<u16>,
 }
 
 impl Problem {
@@ -28,6 +30,12 @@ impl Problem {
     /// The depot from which the trucks start.
     pub(crate) fn depot(&self) -> i64 {
         self.depots.first().copied().unwrap_or(0)
+    }
+
+    /// Whether there are trucks for so many routes.
+    pub(crate) fn has_trucks_for(&self, routes: usize) -> bool {
+        self.trucks
+            .is_none_or(|trucks| routes <= usize::from(trucks))
     }
 
     /// The lowest depot that has a demand, or else the lowest customer whose demand no truck carries.

@@ -13,7 +13,7 @@ use std::alloc::{AllocError, Global};
 
 const MOST_BYTES: usize = 16_777_216;
 
-/// Reads a file.
+/// Reads a file. The problem that it states has as many trucks as are wanted.
 pub(crate) fn read(alloc: Global, text: &str) -> Result<Problem, Fault> {
     if text.len() > MOST_BYTES {
         return Err(Fault::TooLong);
@@ -79,6 +79,7 @@ fn stated(alloc: Global, lines: &[Line<'_>], is_explicit: bool) -> Result<Proble
         demands,
         depots,
         weights,
+        trucks: None,
     })
 }
 

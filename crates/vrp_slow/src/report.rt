@@ -7,15 +7,22 @@ use std::alloc::{AllocError, Global};
 /// The verdict on a plan that is known to be a cheapest one.
 pub(crate) const PROVEN: &str = "Proven";
 
-/// What each plan is said to cost at least by the verdict on a plan of this cost. A verdict that says nothing is taken for too
-/// much.
-pub(crate) fn lower(verdict: &str, cost: u64) -> u64 {
-    if verdict == PROVEN {
-        return cost;
-    }
-    match verdict.strip_prefix("Open ") {
-        Some(lower) => lower.parse::<u64>().unwrap_or(u64::MAX),
-        None => u64::MAX,
+/// The verdict where there is no plan.
+pub(crate) const NO_PLAN: &str = "NoPlan";
+
+/// What a plan counts as that is missing: more than any plan costs.
+pub(crate) const NO_COST: u64 = 4_000_000_000_000;
+
+/// What each plan is said to cost at least by the verdict on a plan of this cost, or on none. A verdict that says nothing is
+/// taken for too much.
+pub(crate) fn lower(verdict: &str, cost: Option<u64>) -> u64 {
+    match (verdict, cost) {
+        (PROVEN, Some(cost)) => cost,
+        (NO_PLAN, None) => NO_COST,
+        _ => match verdict.strip_prefix("Open ") {
+            Some(lower) => lower.parse::<u64>().unwrap_or(u64::MAX),
+            None => u64::MAX,
+        },
     }
 }
 
@@ -37,6 +44,11 @@ pub(crate) fn text(
     }
     writeln!(text, "Cost {cost}\n{verdict}")?;
     Ok(text)
+}
+
+/// The verdict alone.
+pub(crate) fn text_without_plan(alloc: Global, verdict: &str) -> Result<String, AllocError> {
+    format!(in alloc; "{verdict}\n")
 }
 
 /// The stops of each route that a report lists.

@@ -115,7 +115,7 @@ weights_between-one nodes g h places alike all =
     places all
 
 abbrev problem_with : List ℕ → ℕ → List ℕ → List ℕ → Problem
-problem_with demands capacity places weights = record { nodes = places; demands = map (node_demand demands) places; weights = weights; capacity = capacity }
+problem_with demands capacity places weights = record { nodes = places; demands = map (node_demand demands) places; weights = weights; capacity = capacity; trucks = None }
 
 -- requests over two grids that are alike mean one problem
 problem_of-one : (nodes : ℕ) (g h : Grid) (demands : List ℕ) (capacity : ℕ) (depots : List ℕ) (chosen : ℕ) → AreAlike nodes g h → IsNode nodes chosen

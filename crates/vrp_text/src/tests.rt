@@ -13,7 +13,8 @@ mod sections;
 use crate::{TextError, read};
 use std::alloc::Global;
 use std::process::Abort;
-use vrp_model::Instance;
+use std::test::Fail;
+use vrp_model::{Instance, Plan};
 
 /// Three nodes on a line, 5 apart, and the depot at one end.
 pub(crate) const SMALL: &str =
@@ -71,7 +72,46 @@ pub(crate) fn places_of(rt: &impl Abort, instance: &Instance) -> Places {
     }
 }
 
+/// Asserts what the plan of one truck for each customer costs.
+pub(crate) fn assert_singles_cost(
+    rt: &impl Abort,
+    alloc: Global,
+    instance: &Instance,
+    cost: u64,
+) -> Result<(), Fail> {
+    let plan = Plan::singles(alloc, instance)?.expect(rt, "a truck for each");
+    assert_eq!(rt; plan.cost(), cost);
+    Ok(())
+}
+
 /// Why these bytes are refused, or None where they are not.
 pub(crate) fn refusal_of(alloc: Global, bytes: &[u8], chosen: Option<u16>) -> Option<TextError> {
     read(alloc, bytes, chosen).err()
+}
+
+/// Asserts that a text is refused for this.
+pub(crate) fn assert_refused(
+    rt: &impl Abort,
+    alloc: Global,
+    text: &str,
+    chosen: Option<u16>,
+    refusal: TextError,
+) {
+    let found = refusal_of(alloc, text.as_bytes(), chosen);
+    assert_eq!(rt; found, Some(refusal), "of {text}");
+}
+
+/// Asserts that a file is refused for this with one text in place of another, where that stands first.
+pub(crate) fn assert_change_refused(
+    rt: &impl Abort,
+    alloc: Global,
+    file: &str,
+    old: &str,
+    new: &str,
+    refusal: TextError,
+) -> Result<(), Fail> {
+    assert!(rt; file.contains(old), "no {old}");
+    let text = file.replacen(alloc, old, new, 1)?;
+    assert_refused(rt, alloc, text.as_str(), None, refusal);
+    Ok(())
 }

@@ -103,31 +103,52 @@ fn room_for(alloc: Global, most: usize, room: usize) -> Narrow {
 fn little_at_a_time(rt: HostRuntime) {
     // The small file has 183 bytes. Behind them the end is read once.
     for (most, reads) in [(1, 184), (7, 28), (70_000, 2)] {
-        let mut input = small_in_parts(most, 0, ErrorKind::Other);
-        let mut output = room_for(rt.alloc(), most, usize::MAX);
-        let outcome = run(rt.alloc(), Options::default(), &mut input, &mut output);
-        assert_eq!(rt; outcome, Ok(Status::Proven));
-        assert_eq!(rt; input.reads, reads, "{most} at a time");
-        assert_eq!(rt; output.taken.as_slice(), REPORT.as_bytes());
-        assert_eq!(rt; output.flushes, 1);
+        let input = small_in_parts(most, 0, ErrorKind::Other);
+        let output = room_for(rt.alloc(), most, usize::MAX);
+        let ended = run_over(rt.alloc(), input, output);
+        assert_eq!(rt; ended.outcome, Ok(Status::Proven));
+        assert_eq!(rt; ended.reads, reads, "{most} at a time");
+        assert_eq!(rt; ended.taken.as_slice(), REPORT.as_bytes());
+        assert_eq!(rt; ended.flushes, 1);
     }
 }
 
+// How a run ended, how often it read and flushed, and what it wrote.
+#[derive(Drop)]
+struct Ended {
+    outcome: Result<Status, RunError>,
+    reads: usize,
+    taken: Vec<u8>,
+    flushes: usize,
+}
+
+fn run_over(alloc: Global, mut input: Flaky<'_>, mut output: Narrow) -> Ended {
+    let outcome = run(alloc, Options::default(), &mut input, &mut output);
+    Ended {
+        outcome,
+        reads: input.reads,
+        taken: output.taken,
+        flushes: output.flushes,
+    }
+}
+
+const FAILED_READS: [(usize, usize, ErrorKind); 4] = [
+    (70_000, 1, ErrorKind::Other),
+    (50, 2, ErrorKind::Other),
+    (50, 2, ErrorKind::Interrupted),
+    (70_000, 2, ErrorKind::UnexpectedEof),
+];
+
 #[test]
 fn failed_reads(rt: HostRuntime) {
-    for (most, failing, kind) in [
-        (70_000, 1, ErrorKind::Other),
-        (50, 2, ErrorKind::Other),
-        (50, 2, ErrorKind::Interrupted),
-        (70_000, 2, ErrorKind::UnexpectedEof),
-    ] {
-        let mut input = small_in_parts(most, failing, kind);
-        let mut output = room_for(rt.alloc(), 70_000, usize::MAX);
-        let outcome = run(rt.alloc(), Options::default(), &mut input, &mut output);
-        assert_eq!(rt; outcome, Err(RunError::Read), "read {failing}");
-        assert_eq!(rt; input.reads, failing);
-        assert!(rt; output.taken.is_empty());
-        assert_eq!(rt; output.flushes, 0);
+    for (most, failing, kind) in FAILED_READS {
+        let input = small_in_parts(most, failing, kind);
+        let output = room_for(rt.alloc(), 70_000, usize::MAX);
+        let ended = run_over(rt.alloc(), input, output);
+        assert_eq!(rt; ended.outcome, Err(RunError::Read), "read {failing}");
+        assert_eq!(rt; ended.reads, failing);
+        assert!(rt; ended.taken.is_empty());
+        assert_eq!(rt; ended.flushes, 0);
     }
 }
 
@@ -143,21 +164,23 @@ fn endless_input(rt: HostRuntime) {
     assert!(rt; output.taken.is_empty());
 }
 
+const FAILED_WRITES: [(usize, bool, bool, &str); 5] = [
+    (5, true, false, "Route"),
+    (5, false, false, "Route"),
+    (0, false, false, ""),
+    (0, true, false, ""),
+    (usize::MAX, false, true, REPORT),
+];
+
 #[test]
 fn failed_writes(rt: HostRuntime) {
-    for (room, fails_when_full, fails_at_flush, written) in [
-        (5, true, false, "Route"),
-        (5, false, false, "Route"),
-        (0, false, false, ""),
-        (0, true, false, ""),
-        (usize::MAX, false, true, REPORT),
-    ] {
-        let mut input = SMALL.as_bytes();
+    for (room, fails_when_full, fails_at_flush, written) in FAILED_WRITES {
+        let input = small_in_parts(70_000, 0, ErrorKind::Other);
         let mut output = room_for(rt.alloc(), 70_000, room);
         output.fails_when_full = fails_when_full;
         output.fails_at_flush = fails_at_flush;
-        let outcome = run(rt.alloc(), Options::default(), &mut input, &mut output);
-        assert_eq!(rt; outcome, Err(RunError::Write), "at {room}");
-        assert_eq!(rt; output.taken.as_slice(), written.as_bytes(), "at {room}");
+        let ended = run_over(rt.alloc(), input, output);
+        assert_eq!(rt; ended.outcome, Err(RunError::Write), "at {room}");
+        assert_eq!(rt; ended.taken.as_slice(), written.as_bytes(), "at {room}");
     }
 }

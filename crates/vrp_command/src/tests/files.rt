@@ -1,5 +1,5 @@
 //! The reports on whole files, and files that are refused.
-use super::{MIDDLE, REPORT, SMALL, run_on, run_with};
+use super::{MIDDLE, REPORT, SMALL, assert_run};
 use crate::{RunError, Status};
 use std::alloc::Global;
 use std::test::*;
@@ -17,81 +17,83 @@ fn long_file(alloc: Global, length: usize) -> Result<Vec<u8>, Fail> {
     Ok(bytes)
 }
 
+const REPORTS: [(&str, &str, &str); 5] = [
+    ("EOF", "EOF", REPORT),
+    (
+        "CAPACITY : 2",
+        "CAPACITY : 1",
+        "Route #1: 2\nRoute #2: 3\nCost 30\nProven\n",
+    ),
+    (SMALL, MIDDLE, "Route #1: 1\nRoute #2: 3\nCost 20\nProven\n"),
+    (
+        SMALL,
+        "TYPE : CVRP\nDIMENSION : 1\nEDGE_WEIGHT_TYPE : EUC_2D\nCAPACITY : 2\nNODE_COORD_SECTION\n1 0 0\nDEMAND_SECTION\n1 0\nDEPOT_SECTION\n1\n-1\nEOF\n",
+        "Cost 0\nProven\n",
+    ),
+    (
+        SMALL,
+        "TYPE : CVRP\nDIMENSION : 2\nEDGE_WEIGHT_TYPE : EUC_2D\nCAPACITY : 2\nNODE_COORD_SECTION\n1 -100000000 -100000000\n2 100000000 100000000\nDEMAND_SECTION\n1 0\n2 1\nDEPOT_SECTION\n1\n-1\nEOF\n",
+        "Route #1: 2\nCost 565685424\nProven\n",
+    ),
+];
+
 #[test]
 fn reports(rt: HostRuntime) -> Result<(), Fail> {
-    for (old, new, report) in [
-        ("EOF", "EOF", REPORT),
-        (
-            "CAPACITY : 2",
-            "CAPACITY : 1",
-            "Route #1: 2\nRoute #2: 3\nCost 30\nProven\n",
-        ),
-        (SMALL, MIDDLE, "Route #1: 1\nRoute #2: 3\nCost 20\nProven\n"),
-        (
-            SMALL,
-            "TYPE : CVRP\nDIMENSION : 1\nEDGE_WEIGHT_TYPE : EUC_2D\nCAPACITY : 2\nNODE_COORD_SECTION\n1 0 0\nDEMAND_SECTION\n1 0\nDEPOT_SECTION\n1\n-1\nEOF\n",
-            "Cost 0\nProven\n",
-        ),
-        (
-            SMALL,
-            "TYPE : CVRP\nDIMENSION : 2\nEDGE_WEIGHT_TYPE : EUC_2D\nCAPACITY : 2\nNODE_COORD_SECTION\n1 -100000000 -100000000\n2 100000000 100000000\nDEMAND_SECTION\n1 0\n2 1\nDEPOT_SECTION\n1\n-1\nEOF\n",
-            "Route #1: 2\nCost 565685424\nProven\n",
-        ),
-    ] {
+    for (old, new, report) in REPORTS {
         let text = SMALL.replacen(rt.alloc(), old, new, 1)?;
-        let (outcome, written) = run_on(rt.alloc(), text.as_bytes());
-        assert_eq!(rt; outcome, Ok(Status::Proven), "at {new}");
-        assert_eq!(rt; written.as_slice(), report.as_bytes(), "at {new}");
+        let wanted = Ok(Status::Proven);
+        assert_run(&rt, rt.alloc(), text.as_bytes(), None, wanted, report);
     }
     Ok(())
 }
 
+const REFUSED: [(&str, &str, Option<u16>, TextError); 7] = [
+    (SMALL, "", None, TextError::Missing(Key::Problem)),
+    (
+        SMALL,
+        "\0\u{1}\n\u{7f}\u{ffff}",
+        None,
+        TextError::DataOutside(1),
+    ),
+    (
+        "\n1 0\n2 1",
+        "\n1 5\n2 1",
+        None,
+        TextError::Instance(InstanceError::DepotDemand(1)),
+    ),
+    (
+        "\n2 1\n",
+        "\n2 3\n",
+        None,
+        TextError::Instance(InstanceError::DemandOverCapacity(2)),
+    ),
+    (
+        "EOF",
+        "EOF",
+        Some(3),
+        TextError::Instance(InstanceError::NotADepot(3)),
+    ),
+    (
+        "EOF",
+        "EOF",
+        Some(1200),
+        TextError::Instance(InstanceError::NotADepot(1200)),
+    ),
+    (
+        "\n2 1\n",
+        "\n2 1\nCAPACITY : 2\n",
+        None,
+        TextError::Repeated(14),
+    ),
+];
+
 // The small file with one text in place of another, and with a chosen depot, is refused for this.
 #[test]
 fn refused(rt: HostRuntime) -> Result<(), Fail> {
-    for (old, new, depot, refusal) in [
-        (SMALL, "", None, TextError::Missing(Key::Problem)),
-        (
-            SMALL,
-            "\0\u{1}\n\u{7f}\u{ffff}",
-            None,
-            TextError::DataOutside(1),
-        ),
-        (
-            "\n1 0\n2 1",
-            "\n1 5\n2 1",
-            None,
-            TextError::Instance(InstanceError::DepotDemand(1)),
-        ),
-        (
-            "\n2 1\n",
-            "\n2 3\n",
-            None,
-            TextError::Instance(InstanceError::DemandOverCapacity(2)),
-        ),
-        (
-            "EOF",
-            "EOF",
-            Some(3),
-            TextError::Instance(InstanceError::NotADepot(3)),
-        ),
-        (
-            "EOF",
-            "EOF",
-            Some(1200),
-            TextError::Instance(InstanceError::NotADepot(1200)),
-        ),
-        (
-            "\n2 1\n",
-            "\n2 1\nCAPACITY : 2\n",
-            None,
-            TextError::Repeated(14),
-        ),
-    ] {
+    for (old, new, depot, refusal) in REFUSED {
         let text = SMALL.replacen(rt.alloc(), old, new, 1)?;
-        let (outcome, written) = run_with(rt.alloc(), text.as_bytes(), depot);
-        assert_eq!(rt; outcome, Err(RunError::Text(refusal)), "at {new}");
-        assert!(rt; written.is_empty(), "at {new}");
+        let wanted = Err(RunError::Text(refusal));
+        assert_run(&rt, rt.alloc(), text.as_bytes(), depot, wanted, "");
     }
     Ok(())
 }
@@ -107,24 +109,21 @@ fn chosen_depots(rt: HostRuntime) -> Result<(), Fail> {
         (Some(1), "Route #1: 3\nCost 20\nProven\n"),
         (Some(2), "Route #1: 3\nCost 10\nProven\n"),
     ] {
-        let (outcome, written) = run_with(rt.alloc(), text.as_bytes(), depot);
-        assert_eq!(rt; outcome, Ok(Status::Proven));
-        assert_eq!(rt; written.as_slice(), report.as_bytes());
+        let wanted = Ok(Status::Proven);
+        assert_run(&rt, rt.alloc(), text.as_bytes(), depot, wanted, report);
     }
     Ok(())
 }
 
 #[test]
 fn longest_file(rt: HostRuntime) -> Result<(), Fail> {
-    for (length, answer, report) in [
+    for (length, wanted, report) in [
         (16_777_216, Ok(Status::Proven), REPORT),
         (16_777_217, Err(RunError::Text(TextError::TooLong)), ""),
     ] {
         let bytes = long_file(rt.alloc(), length)?;
         assert_eq!(rt; bytes.len(), length);
-        let (outcome, written) = run_on(rt.alloc(), &bytes);
-        assert_eq!(rt; outcome, answer, "at {length}");
-        assert_eq!(rt; written.as_slice(), report.as_bytes(), "at {length}");
+        assert_run(&rt, rt.alloc(), &bytes, None, wanted, report);
     }
     Ok(())
 }

@@ -1,6 +1,6 @@
 //! Files of as many nodes as there may be.
-use super::run_as;
-use crate::{MAX_BUDGET, Options, Status};
+use super::assert_end;
+use crate::Status;
 use itoa::Buffer;
 use std::alloc::{AllocError, Global};
 use std::test::*;
@@ -19,15 +19,7 @@ fn most_nodes(rt: HostRuntime) -> Result<(), Fail> {
         (points.as_str(), 2_400, "Cost 1436404\nOpen 2398\n"),
         (matrix.as_str(), 2_400, "Cost 1436404\nOpen 2398\n"),
     ] {
-        assert!(rt; 1 <= budget && budget <= MAX_BUDGET);
-        let options = Options {
-            pieces: 1,
-            budget,
-            ..Options::default()
-        };
-        let (outcome, written) = run_as(rt.alloc(), text.as_bytes(), options);
-        assert_eq!(rt; outcome, Ok(Status::Open), "budget {budget}");
-        assert!(rt; written.ends_with(end.as_bytes()), "budget {budget}");
+        assert_end(&rt, rt.alloc(), text, (1, budget), Status::Open, end);
     }
     Ok(())
 }

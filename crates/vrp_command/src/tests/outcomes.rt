@@ -1,6 +1,8 @@
 //! The options, the texts and the exit statuses, and growths that are refused.
 use super::{REPORT, SMALL};
 use crate::{Options, RunError, Status, exit_status, fault_line, run};
+use std::alloc::Global;
+use std::process::Abort;
 use std::test::*;
 use vrp_model::InstanceError;
 use vrp_text::{Key, TextError};
@@ -12,20 +14,24 @@ fn default_options(rt: HostRuntime) {
         pieces: 64,
         budget: 10_000_000,
         depot: None,
+        trucks: None,
     };
     assert_eq!(rt; Options::default(), options);
 }
 
+const EXIT_STATUSES: [(Result<Status, RunError>, u8); 7] = [
+    (Ok(Status::Proven), 0),
+    (Ok(Status::NoPlan), 0),
+    (Ok(Status::Open), 1),
+    (Err(RunError::Text(TextError::TooLong)), 3),
+    (Err(RunError::OutOfMemory), 4),
+    (Err(RunError::Read), 5),
+    (Err(RunError::Write), 5),
+];
+
 #[test]
 fn exit_statuses(rt: HostRuntime) {
-    for (outcome, status) in [
-        (Ok(Status::Proven), 0),
-        (Ok(Status::Open), 1),
-        (Err(RunError::Text(TextError::TooLong)), 3),
-        (Err(RunError::OutOfMemory), 4),
-        (Err(RunError::Read), 5),
-        (Err(RunError::Write), 5),
-    ] {
+    for (outcome, status) in EXIT_STATUSES {
         assert_eq!(rt; exit_status(&outcome), status);
     }
 }
@@ -43,68 +49,78 @@ fn fault_lines(rt: HostRuntime) -> Result<(), Fail> {
     Ok(())
 }
 
+const REFUSAL_LINES: [(TextError, &str); 21] = [
+    (TextError::DataOutside(7), "line 7: data outside a section"),
+    (TextError::UnknownKeyword(10), "line 10: unknown keyword"),
+    (TextError::Repeated(7), "line 7: repeated keyword"),
+    (TextError::BadValue(6), "line 6: bad value"),
+    (
+        TextError::Unsupported(16_777_217),
+        "line 16777217: not supported",
+    ),
+    (TextError::BadNumber(10), "line 10: bad number"),
+    (TextError::NotWhole(9), "line 9: number is not whole"),
+    (TextError::Missing(Key::Problem), "missing TYPE"),
+    (TextError::Missing(Key::Dimension), "missing DIMENSION"),
+    (TextError::Missing(Key::Capacity), "missing CAPACITY"),
+    (
+        TextError::Missing(Key::WeightKind),
+        "missing EDGE_WEIGHT_TYPE",
+    ),
+    (
+        TextError::Missing(Key::WeightFormat),
+        "missing EDGE_WEIGHT_FORMAT",
+    ),
+    (
+        TextError::Missing(Key::NodeCoord),
+        "missing NODE_COORD_SECTION",
+    ),
+    (
+        TextError::WrongCount(Key::EdgeWeight),
+        "wrong count in EDGE_WEIGHT_SECTION",
+    ),
+    (
+        TextError::BadNode(Key::Demand, 2),
+        "bad node 2 in DEMAND_SECTION",
+    ),
+    (
+        TextError::BadNode(Key::Depot, -7),
+        "bad node -7 in DEPOT_SECTION",
+    ),
+    (
+        TextError::Instance(InstanceError::DepotDemand(1)),
+        "node 1: a depot has a demand",
+    ),
+    (
+        TextError::Instance(InstanceError::NotADepot(3)),
+        "node 3: not a depot",
+    ),
+    (
+        TextError::Instance(InstanceError::DemandOverCapacity(2)),
+        "node 2: demand above capacity",
+    ),
+    (TextError::TooLong, "input too long"),
+    (TextError::OutOfMemory, "out of memory"),
+];
+
 // The text of a refused file is the one that the refusal itself prints.
 #[test]
 fn refusal_lines(rt: HostRuntime) -> Result<(), Fail> {
-    for (refusal, line) in [
-        (TextError::DataOutside(7), "line 7: data outside a section"),
-        (TextError::UnknownKeyword(10), "line 10: unknown keyword"),
-        (TextError::Repeated(7), "line 7: repeated keyword"),
-        (TextError::BadValue(6), "line 6: bad value"),
-        (
-            TextError::Unsupported(16_777_217),
-            "line 16777217: not supported",
-        ),
-        (TextError::BadNumber(10), "line 10: bad number"),
-        (TextError::NotWhole(9), "line 9: number is not whole"),
-        (TextError::Missing(Key::Problem), "missing TYPE"),
-        (TextError::Missing(Key::Dimension), "missing DIMENSION"),
-        (TextError::Missing(Key::Capacity), "missing CAPACITY"),
-        (
-            TextError::Missing(Key::WeightKind),
-            "missing EDGE_WEIGHT_TYPE",
-        ),
-        (
-            TextError::Missing(Key::WeightFormat),
-            "missing EDGE_WEIGHT_FORMAT",
-        ),
-        (
-            TextError::Missing(Key::NodeCoord),
-            "missing NODE_COORD_SECTION",
-        ),
-        (
-            TextError::WrongCount(Key::EdgeWeight),
-            "wrong count in EDGE_WEIGHT_SECTION",
-        ),
-        (
-            TextError::BadNode(Key::Demand, 2),
-            "bad node 2 in DEMAND_SECTION",
-        ),
-        (
-            TextError::BadNode(Key::Depot, -7),
-            "bad node -7 in DEPOT_SECTION",
-        ),
-        (
-            TextError::Instance(InstanceError::DepotDemand(1)),
-            "node 1: a depot has a demand",
-        ),
-        (
-            TextError::Instance(InstanceError::NotADepot(3)),
-            "node 3: not a depot",
-        ),
-        (
-            TextError::Instance(InstanceError::DemandOverCapacity(2)),
-            "node 2: demand above capacity",
-        ),
-        (TextError::TooLong, "input too long"),
-        (TextError::OutOfMemory, "out of memory"),
-    ] {
-        assert_eq!(rt;
-            fault_line(rt.alloc(), &RunError::Text(refusal))?.as_str(),
-            line
-        );
-        assert_eq!(rt; refusal.to_string(rt.alloc())?.as_str(), line);
+    for (refusal, line) in REFUSAL_LINES {
+        assert_refusal_line(&rt, rt.alloc(), refusal, line)?;
     }
+    Ok(())
+}
+
+fn assert_refusal_line(
+    rt: &impl Abort,
+    alloc: Global,
+    refusal: TextError,
+    line: &str,
+) -> Result<(), Fail> {
+    let fault = RunError::Text(refusal);
+    assert_eq!(rt; fault_line(alloc, &fault)?.as_str(), line);
+    assert_eq!(rt; refusal.to_string(alloc)?.as_str(), line);
     Ok(())
 }
 

@@ -1,6 +1,8 @@
 //! The plans of small files, and the verdicts on them, as the options ask for them.
-use super::{SMALL, run_as, run_on};
-use crate::{MAX_BUDGET, MAX_PIECES, Options, Status};
+use super::{SMALL, assert_end, assert_run};
+use crate::{MAX_PIECES, Options, Status};
+use std::alloc::Global;
+use std::process::Abort;
 use std::test::*;
 
 // Three nodes, where it matters which way a road is taken.
@@ -23,110 +25,94 @@ const LARGE: &str =
 const SAME_POINT: &str =
     "TYPE : CVRP\nDIMENSION : 3\nEDGE_WEIGHT_TYPE : EUC_2D\nCAPACITY : 2\nNODE_COORD_SECTION\n1 7 7\n2 7 7\n3 7 7\nDEMAND_SECTION\n1 0\n2 1\n3 1\nDEPOT_SECTION\n1\n-1\nEOF\n";
 
+const PROVEN_COSTS: [(&str, &str, &str); 8] = [
+    ("EOF", "EOF", "Cost 20\nProven\n"),
+    ("CAPACITY : 2", "CAPACITY : 1", "Cost 30\nProven\n"),
+    ("\n2 1\n", "\n2 2\n", "Cost 30\nProven\n"),
+    (SMALL, ONE_WAY, "Route #1: 2 3\nCost 3\nProven\n"),
+    (SMALL, SECOND_FIRST, "Route #1: 3 2\nCost 3\nProven\n"),
+    (SMALL, FOUR, "Cost 20\nProven\n"),
+    (SMALL, SAME_POINT, "Cost 0\nProven\n"),
+    (SMALL, LARGE, "Cost 20\nProven\n"),
+];
+
 // However many pieces there are, the least cost is found and proved.
 #[test]
 fn proven_costs(rt: HostRuntime) -> Result<(), Fail> {
-    for (old, new, end) in [
-        ("EOF", "EOF", "Cost 20\nProven\n"),
-        ("CAPACITY : 2", "CAPACITY : 1", "Cost 30\nProven\n"),
-        ("\n2 1\n", "\n2 2\n", "Cost 30\nProven\n"),
-        (SMALL, ONE_WAY, "Route #1: 2 3\nCost 3\nProven\n"),
-        (SMALL, SECOND_FIRST, "Route #1: 3 2\nCost 3\nProven\n"),
-        (SMALL, FOUR, "Cost 20\nProven\n"),
-        (SMALL, SAME_POINT, "Cost 0\nProven\n"),
-        (SMALL, LARGE, "Cost 20\nProven\n"),
-    ] {
+    for (old, new, end) in PROVEN_COSTS {
         let text = SMALL.replacen(rt.alloc(), old, new, 1)?;
-        for pieces in [1, 2, 3, 64, MAX_PIECES] {
-            assert!(rt; 1 <= pieces && pieces <= MAX_PIECES);
-            let options = Options {
-                pieces,
-                ..Options::default()
-            };
-            let (outcome, written) = run_as(rt.alloc(), text.as_bytes(), options);
-            assert_eq!(rt; outcome, Ok(Status::Proven), "{pieces} pieces of {new}");
-            assert!(rt;
-                written.ends_with(end.as_bytes()),
-                "{pieces} pieces of {new}"
-            );
-        }
+        assert_proven(&rt, rt.alloc(), text.as_str(), end);
     }
     Ok(())
 }
 
-// What is left open with a small budget. The whole tree of the small file has eleven partial plans: seven are looked at.
+fn assert_proven(rt: &impl Abort, alloc: Global, text: &str, end: &str) {
+    for pieces in [1, 2, 3, 64, MAX_PIECES] {
+        let given = (pieces, Options::default().budget);
+        assert_end(rt, alloc, text, given, Status::Proven, end);
+    }
+}
+
+const SMALL_BUDGETS: [(&str, &str, u32, u64, Status, &str); 14] = [
+    // two trucks, each to a customer and back, cost 30; both customers by walks of one truck cost at least 20
+    (
+        "EOF",
+        "EOF",
+        1,
+        1,
+        Status::Open,
+        "Route #1: 2\nRoute #2: 3\nCost 30\nOpen 20\n",
+    ),
+    ("EOF", "EOF", 1, 2, Status::Open, "Cost 30\nOpen 20\n"),
+    // the sixth is the complete word of the cheaper plan
+    ("EOF", "EOF", 1, 6, Status::Open, "Cost 20\nOpen 20\n"),
+    ("EOF", "EOF", 1, 7, Status::Proven, "Cost 20\nProven\n"),
+    ("EOF", "EOF", 1, 11, Status::Proven, "Cost 20\nProven\n"),
+    // the pieces are the first customers: 5 paid and 15 to pay, 10 paid and 10 to pay
+    ("EOF", "EOF", 2, 1, Status::Open, "Cost 30\nOpen 20\n"),
+    (
+        "EOF",
+        "EOF",
+        MAX_PIECES,
+        1,
+        Status::Proven,
+        "Cost 20\nProven\n",
+    ),
+    // twice to the nearer customer: a walk may come to it again
+    (
+        "CAPACITY : 2",
+        "CAPACITY : 1",
+        1,
+        1,
+        Status::Open,
+        "Cost 30\nOpen 20\n",
+    ),
+    // the bound is what the first plan costs
+    (
+        "\n2 1\n",
+        "\n2 2\n",
+        1,
+        1,
+        Status::Proven,
+        "Cost 30\nProven\n",
+    ),
+    // a customer of no demand: the ways into the customers, 4, 5 and 1, and one way home, 1
+    (SMALL, FOUR, 1, 1, Status::Open, "Cost 32\nOpen 11\n"),
+    // three pieces: two are left at 12 and 16; with the last customer first no route can be opened any more for the others
+    (SMALL, FOUR, 3, 1, Status::Open, "Cost 32\nOpen 12\n"),
+    (SMALL, FOUR, 3, 10, Status::Open, "Cost 20\nOpen 12\n"),
+    // two pieces, left at 20 and 3; then the last one is finished, and its plan costs less than 20
+    (SMALL, SECOND_FIRST, 2, 1, Status::Open, "Cost 31\nOpen 3\n"),
+    (SMALL, SECOND_FIRST, 2, 4, Status::Open, "Cost 3\nOpen 3\n"),
+];
+
+// What is left open with a small budget. The whole tree of the small file has ten partial plans: seven are looked at.
 #[test]
 fn small_budgets(rt: HostRuntime) -> Result<(), Fail> {
-    for (old, new, pieces, budget, status, end) in [
-        // two trucks, each to a customer and back, cost 30; both customers by walks of one truck cost at least 20
-        (
-            "EOF",
-            "EOF",
-            1,
-            1,
-            Status::Open,
-            "Route #1: 2\nRoute #2: 3\nCost 30\nOpen 20\n",
-        ),
-        ("EOF", "EOF", 1, 2, Status::Open, "Cost 30\nOpen 20\n"),
-        // the sixth is the complete word of the cheaper plan
-        ("EOF", "EOF", 1, 6, Status::Open, "Cost 20\nOpen 20\n"),
-        ("EOF", "EOF", 1, 7, Status::Proven, "Cost 20\nProven\n"),
-        ("EOF", "EOF", 1, 11, Status::Proven, "Cost 20\nProven\n"),
-        // the pieces are the first customers: 5 paid and 15 to pay, 10 paid and 10 to pay
-        ("EOF", "EOF", 2, 1, Status::Open, "Cost 30\nOpen 20\n"),
-        (
-            "EOF",
-            "EOF",
-            MAX_PIECES,
-            1,
-            Status::Proven,
-            "Cost 20\nProven\n",
-        ),
-        // twice to the nearer customer: a walk may come to it again
-        (
-            "CAPACITY : 2",
-            "CAPACITY : 1",
-            1,
-            1,
-            Status::Open,
-            "Cost 30\nOpen 20\n",
-        ),
-        // the bound is what the first plan costs
-        (
-            "\n2 1\n",
-            "\n2 2\n",
-            1,
-            1,
-            Status::Proven,
-            "Cost 30\nProven\n",
-        ),
-        // a customer of no demand: the ways into the customers, 4, 5 and 1, and one way home, 1
-        (SMALL, FOUR, 1, 1, Status::Open, "Cost 32\nOpen 11\n"),
-        // three pieces: two are left at 12 and 16; with the last customer first no route can be opened any more for the others
-        (SMALL, FOUR, 3, 1, Status::Open, "Cost 32\nOpen 12\n"),
-        (SMALL, FOUR, 3, 10, Status::Open, "Cost 20\nOpen 12\n"),
-        // two pieces, left at 20 and 3; then the last one is finished, and its plan costs less than 20
-        (SMALL, SECOND_FIRST, 2, 1, Status::Open, "Cost 31\nOpen 3\n"),
-        (SMALL, SECOND_FIRST, 2, 4, Status::Open, "Cost 3\nOpen 3\n"),
-    ] {
-        assert!(rt; 1 <= pieces && pieces <= MAX_PIECES);
-        assert!(rt; 1 <= budget && budget <= MAX_BUDGET);
-        let options = Options {
-            pieces,
-            budget,
-            ..Options::default()
-        };
+    for (old, new, pieces, budget, status, end) in SMALL_BUDGETS {
         let text = SMALL.replacen(rt.alloc(), old, new, 1)?;
-        let (outcome, written) = run_as(rt.alloc(), text.as_bytes(), options);
-        assert_eq!(rt;
-            outcome,
-            Ok(status),
-            "{pieces} pieces, budget {budget} of {new}"
-        );
-        assert!(rt;
-            written.ends_with(end.as_bytes()),
-            "{pieces} pieces, budget {budget} of {new}"
-        );
+        let given = (pieces, budget);
+        assert_end(&rt, rt.alloc(), text.as_str(), given, status, end);
     }
     Ok(())
 }
@@ -134,10 +120,8 @@ fn small_budgets(rt: HostRuntime) -> Result<(), Fail> {
 // Without customers there is one plan, which has no routes.
 #[test]
 fn depot_alone(rt: HostRuntime) {
-    let (outcome, written) = run_on(
-        rt.alloc(),
-        b"TYPE : CVRP\nDIMENSION : 1\nEDGE_WEIGHT_TYPE : EUC_2D\nCAPACITY : 2\nNODE_COORD_SECTION\n1 0 0\nDEMAND_SECTION\n1 0\nDEPOT_SECTION\n1\n-1\nEOF\n",
-    );
-    assert_eq!(rt; outcome, Ok(Status::Proven));
-    assert_eq!(rt; written.as_slice(), b"Cost 0\nProven\n".as_slice());
+    let bytes =
+        b"TYPE : CVRP\nDIMENSION : 1\nEDGE_WEIGHT_TYPE : EUC_2D\nCAPACITY : 2\nNODE_COORD_SECTION\n1 0 0\nDEMAND_SECTION\n1 0\nDEPOT_SECTION\n1\n-1\nEOF\n";
+    let wanted = Ok(Status::Proven);
+    assert_run(&rt, rt.alloc(), bytes, None, wanted, "Cost 0\nProven\n");
 }

@@ -1,28 +1,35 @@
 //! Which tokens texts have.
 use super::*;
+use std::process::Abort;
 use std::test::*;
+
+const TOKENS: [(&str, [&str; 3]); 10] = [
+    ("", ["", "", ""]),
+    (" \t\r", ["", "", ""]),
+    ("1", ["1", "", ""]),
+    ("1 0 0", ["1", "0", "0"]),
+    ("  12   -3.5\t+4e2 ", ["12", "-3.5", "+4e2"]),
+    ("1 38 46\r", ["1", "38", "46"]),
+    ("\r\r-1\r\r", ["-1", "", ""]),
+    ("a\rb", ["a", "b", ""]),
+    (": CVRP", [":", "CVRP", ""]),
+    ("a\u{b}b\u{c}c\0d", ["a\u{b}b\u{c}c\0d", "", ""]),
+];
 
 // The texts have three tokens at most. An empty one stands for none.
 #[test]
 fn tokens_of_texts(rt: HostRuntime) {
-    for (text, expected) in [
-        ("", ["", "", ""]),
-        (" \t\r", ["", "", ""]),
-        ("1", ["1", "", ""]),
-        ("1 0 0", ["1", "0", "0"]),
-        ("  12   -3.5\t+4e2 ", ["12", "-3.5", "+4e2"]),
-        ("1 38 46\r", ["1", "38", "46"]),
-        ("\r\r-1\r\r", ["-1", "", ""]),
-        ("a\rb", ["a", "b", ""]),
-        (": CVRP", [":", "CVRP", ""]),
-        ("a\u{b}b\u{c}c\0d", ["a\u{b}b\u{c}c\0d", "", ""]),
-    ] {
-        let mut tokens = Tokens::of(text.as_bytes());
-        for token in expected {
-            assert_eq!(rt; tokens.is_empty(), token.is_empty(), "at {text}");
-            assert_eq!(rt; tokens.next().unwrap_or(b""), token.as_bytes(), "at {text}");
-        }
-        assert!(rt; tokens.is_empty(), "at {text}");
-        assert_eq!(rt; tokens.next(), None, "at {text}");
+    for (text, expected) in TOKENS {
+        assert_tokens(&rt, text, expected);
     }
+}
+
+fn assert_tokens(rt: &impl Abort, text: &str, expected: [&str; 3]) {
+    let mut tokens = Tokens::of(text.as_bytes());
+    for token in expected {
+        assert_eq!(rt; tokens.is_empty(), token.is_empty(), "at {text}");
+        assert_eq!(rt; tokens.next().unwrap_or(b""), token.as_bytes(), "at {text}");
+    }
+    assert!(rt; tokens.is_empty(), "at {text}");
+    assert_eq!(rt; tokens.next(), None, "at {text}");
 }

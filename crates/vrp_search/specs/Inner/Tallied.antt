@@ -1,11 +1,11 @@
 -- What a partial plan keeps beside its word: counters that are what they are called, and what they were before each symbol.
-use Rattle.std.specs.Prelude.{◌≡◌, ◌⊎◌, ℕ, ◌+◌, ◌*◌, ◌≤◌, ◌<◌, Bool, false, Option, List, length, slice_index, slice_index_or, take}
+use Rattle.std.specs.Prelude.{◌≡◌, ◌⊎◌, ℕ, ◌+◌, ◌-◌, ◌*◌, ◌≤◌, ◌<◌, Bool, false, Option, List, length, slice_index, slice_index_or, take}
 use Rattle.std.specs.List.{All, Contains}
 use Rattle.std.specs.Option.{option_map}
-use Rattle.vrp_bound.specs.Bound.{IsGreater}
+use Rattle.vrp_bound.specs.Bound.{IsLowerBound}
 use Rattle.vrp_bound.specs.Capacity.{IsInsOf}
 use Rattle.vrp_model.specs.Problem.{IsProblem, Problem, place_count}
-use Rattle.vrp_model.specs.Word.{IsFront, last_route, served_in, stands_in, unserved_in, word_cost}
+use Rattle.vrp_model.specs.Word.{IsFront, last_route, routes_of, served_in, stands_in, unserved_in, word_cost}
 use Rattle.vrp_model.specs.Front.{open_load}
 use Rattle.vrp_model.specs.Route.{load_of}
 use Rattle.vrp_model.specs.declared.limits.TheConstants.{MAX_WAYS, MAX_WEIGHT}
@@ -33,11 +33,12 @@ pub record IsTally (p : Problem) (word : List ℕ) (tally : Tally) : Type 0 wher
   pub first : tally.first ≡ slice_index (last_route word) 0
   pub unserved : tally.unserved + length (served_in word) + 1 ≡ place_count p
   pub greatest : IsGreatestUnserved p word tally.greatest
+  pub routes : tally.routes ≡ length (routes_of word)
 
 -- what is paid, and the bound on what is still to pay from this place, with tables over these customers
 pub record IsLowOf (p : Problem) (among : List ℕ) (at : ℕ) (tally : Tally) (low : Option ℕ) : Type 0 where
   pub bound : Option ℕ
-  pub is_bound : IsGreater p among at tally.load tally.ins tally.rest bound
+  pub is_bound : IsLowerBound p among at tally.load tally.ins tally.rest (option_map (λ trucks. trucks - tally.routes) p.trucks) bound
   pub whole : low ≡ option_map (λ more. tally.cost + more) bound
 
 -- a flag for each place: what stands at 0 is of no account

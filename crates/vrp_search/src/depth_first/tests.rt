@@ -1,5 +1,6 @@
 //! Searches of small trees, and of a piece at the limits of an instance.
 ghost use Rattle.std.specs.Prelude.{◌≡◌, ◌≤◌, IfOk};
+ghost use Rattle.std.specs.Option.{ForSome};
 ghost use Rattle.vrp_model.specs.Route.{IsPlanOf};
 ghost use Rattle.vrp_model.specs.Word.{IsFront};
 
@@ -8,7 +9,7 @@ use crate::cutting::Cutting;
 use crate::local::Local;
 use std::process::Abort;
 use std::test::Fail;
-use vrp_model::{Layout, MAX_NODES, Metric, Plan, Weights};
+use vrp_model::{Layout, MAX_NODES, Metric, NO_COST, Plan, Weights};
 
 #[test]
 fn three_nodes_on_a_line(rt: HostRuntime) -> Result<(), Fail> {
@@ -32,6 +33,24 @@ fn three_nodes_on_a_line(rt: HostRuntime) -> Result<(), Fail> {
     Ok(())
 }
 
+// Two customers to a truck, and one truck: the plan is the one that serves both. With a truck for each demand there is none.
+#[test]
+fn one_truck_for_two(rt: HostRuntime) -> Result<(), Fail> {
+    // a capacity, how the search ends, and the cost of the plan
+    let table = [
+        (2, Ended::Finished { spent: 6 }, 20),
+        (1, Ended::Finished { spent: 1 }, NO_COST),
+    ];
+    for (capacity, ended, cost) in table {
+        let instance = three_on_a_line(&rt, rt.alloc(), capacity)?.with_trucks(1);
+        let plan = Plan::singles(rt.alloc(), &instance)?;
+        assert!(rt; plan.is_none());
+        let wanted = Wanted { ended, cost };
+        assert_search(&rt, rt.alloc(), &instance, plan, 1_000, wanted)?;
+    }
+    Ok(())
+}
+
 // Both customers are a step from the depot and nine steps from one another: a truck for both costs 11, and two trucks cost 4.
 // The dear plan stays until a cheaper one is looked at, the fifth.
 #[test]
@@ -50,7 +69,7 @@ fn opened_with_a_dear_plan(rt: HostRuntime) -> Result<(), Fail> {
         let plan = one_truck(&rt, rt.alloc(), &instance)?;
         assert_eq!(rt; plan.cost(), 11);
         let wanted = Wanted { ended, cost };
-        assert_search(&rt, rt.alloc(), &instance, plan, budget, wanted)?;
+        assert_search(&rt, rt.alloc(), &instance, Some(plan), budget, wanted)?;
     }
     Ok(())
 }
@@ -70,7 +89,7 @@ fn deep_piece_at_the_limits(rt: HostRuntime) -> Result<(), Fail> {
         low: paid + 4,
     };
     assert_eq!(rt; found, ended);
-    assert_eq!(rt; board.plan().cost(), 1_199 * 1_200);
+    assert_eq!(rt; board.least(), 1_199 * 1_200);
     Ok(())
 }
 
@@ -86,17 +105,17 @@ fn assert_search(
     rt: &impl Abort,
     alloc: Global,
     instance: &Instance,
-    plan: Plan,
+    plan: Option<Plan>,
     budget: u64,
     wanted: Wanted,
 ) -> Result<(), Fail>
-    requires { IsPlanOf instance.now plan }
+    requires { ForSome plan (IsPlanOf instance.now) }
 {
     assert!(rt; budget >= 1);
     let mut board = Local::open(plan);
     let ended = search_all(alloc, instance, budget, &mut board)?;
     assert_eq!(rt; ended, wanted.ended, "budget {budget}");
-    assert_eq!(rt; board.plan().cost(), wanted.cost, "budget {budget}");
+    assert_eq!(rt; board.least(), wanted.cost, "budget {budget}");
     Ok(())
 }
 
@@ -178,7 +197,7 @@ fn search_all(
     budget: u64,
     board: &mut Local,
 ) -> Result<Ended, NoMemory>
-    requires board { IsPlanOf instance.now board.old }
+    requires board { ForSome board.old (IsPlanOf instance.now) }
     requires budget { 1 ≤ budget }
 {
     let cutting = Cutting::whole(alloc, instance)?;
@@ -194,7 +213,7 @@ fn search_piece(
     board: &mut Local,
 ) -> Result<Ended, NoMemory>
     requires piece { IsFront instance.now piece.now.word }
-    requires board { IsPlanOf instance.now board.old }
+    requires board { ForSome board.old (IsPlanOf instance.now) }
     requires budget { 1 ≤ budget }
 {
     let tables = Tables::over_all(alloc, instance)?;

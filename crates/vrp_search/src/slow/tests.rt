@@ -1,6 +1,6 @@
 //! The slow program beside the fast bodies: walks by children, values along a word, cuttings.
 
-use super::{Case, NODES, Small, begins_with};
+use super::{Case, NODES, Small, begins_with, routes};
 use crate::cutting::{Cutting, MAX_PIECES};
 use crate::partial::Partial;
 use std::alloc::{AllocError, Global};
@@ -33,7 +33,7 @@ const CASES: [Case; 12] = [
 #[test]
 fn walks_meet_all_fronts(rt: HostRuntime) -> Result<(), Fail> {
     for case in CASES {
-        for small in Small::both(case) {
+        for small in Small::kinds(case) {
             let instance = small.instance(&rt, rt.alloc())?;
             let fronts = small.fronts(rt.alloc())?;
             let walked = walked(&small, &rt, rt.alloc(), &instance)?;
@@ -71,7 +71,7 @@ fn no_plan_under_dead_fronts(rt: HostRuntime) -> Result<(), Fail> {
 #[test]
 fn cuttings_end_at_the_leaves(rt: HostRuntime) -> Result<(), Fail> {
     for case in CASES {
-        for small in Small::both(case) {
+        for small in Small::kinds(case) {
             let instance = small.instance(&rt, rt.alloc())?;
             let mut cutting = Cutting::whole(rt.alloc(), &instance)?;
             cutting.at_least(rt.alloc(), &instance, MAX_PIECES)?;
@@ -85,7 +85,7 @@ fn cuttings_end_at_the_leaves(rt: HostRuntime) -> Result<(), Fail> {
 #[test]
 fn children_stand_for_a_piece(rt: HostRuntime) -> Result<(), Fail> {
     for case in CASES {
-        for small in Small::both(case) {
+        for small in Small::kinds(case) {
             let instance = small.instance(&rt, rt.alloc())?;
             assert_all_refined(&small, &rt, rt.alloc(), &instance)?;
         }
@@ -127,6 +127,7 @@ fn assert_values(small: &Small, rt: &impl Abort, partial: &Partial<'_>) {
     assert_eq!(rt; partial.is_dead(), small.is_dead(word), "at {word:?}");
     assert_eq!(rt; partial.cost(), small.cost(word), "at {word:?}");
     assert_eq!(rt; partial.load(), small.open_load(word), "at {word:?}");
+    assert_eq!(rt; partial.routes(), routes(word), "at {word:?}");
     assert_eq!(rt; partial.rest(), small.rest(word), "at {word:?}");
     assert_eq!(rt;
         partial.at(),

@@ -22,24 +22,25 @@ fn filled(alloc: Global, front: &str, filling: &[u8], length: usize) -> Result<V
     Ok(bytes)
 }
 
+const LONG_FILES: [(&str, &[u8], TextError); 12] = [
+    ("", b"\0", DataOutside(1)),
+    ("", b"\xff", DataOutside(1)),
+    ("", b"NAME\n", UnknownKeyword(209_716)),
+    ("COMMENT : ", b"\xff", Missing(Key::Problem)),
+    ("CAPACITY : ", b"1", BadValue(1)),
+    ("TYPE", b" : CVRP", Missing(Key::Dimension)),
+    ("DEPOT_SECTION", b" ", Missing(Key::Problem)),
+    ("DEPOT_SECTION\n", b"0", BadNumber(2)),
+    ("DEPOT_SECTION\n", b"1 ", Missing(Key::Problem)),
+    ("DEMAND_SECTION\n", b"1\n", Missing(Key::Problem)),
+    ("DISPLAY_DATA_SECTION\n", b"\0\n", Missing(Key::Problem)),
+    ("TYPE : CVRP\n", b"TYPE : CVRP\n", Repeated(2)),
+];
+
 // Files of a million bytes: what stands at their front, and what fills them.
 #[test]
 fn long_files(rt: HostRuntime) -> Result<(), Fail> {
-    let table: [(&str, &[u8], TextError); 12] = [
-        ("", b"\0", DataOutside(1)),
-        ("", b"\xff", DataOutside(1)),
-        ("", b"NAME\n", UnknownKeyword(209_716)),
-        ("COMMENT : ", b"\xff", Missing(Key::Problem)),
-        ("CAPACITY : ", b"1", BadValue(1)),
-        ("TYPE", b" : CVRP", Missing(Key::Dimension)),
-        ("DEPOT_SECTION", b" ", Missing(Key::Problem)),
-        ("DEPOT_SECTION\n", b"0", BadNumber(2)),
-        ("DEPOT_SECTION\n", b"1 ", Missing(Key::Problem)),
-        ("DEMAND_SECTION\n", b"1\n", Missing(Key::Problem)),
-        ("DISPLAY_DATA_SECTION\n", b"\0\n", Missing(Key::Problem)),
-        ("TYPE : CVRP\n", b"TYPE : CVRP\n", Repeated(2)),
-    ];
-    for (front, filling, answer) in table {
+    for (front, filling, answer) in LONG_FILES {
         let bytes = filled(rt.alloc(), front, filling, 1_048_576)?;
         assert_eq!(rt; bytes.len(), 1_048_576);
         assert_eq!(rt;
@@ -103,21 +104,22 @@ fn longest_file_with_an_instance(rt: HostRuntime) -> Result<(), Fail> {
     Ok(())
 }
 
+const NO_TEXT: [(&str, &[u8], Option<TextError>); 9] = [
+    ("NAME", b"\0NAME", Some(DataOutside(1))),
+    ("NAME", b"\xef\xbb\xbfNAME", Some(DataOutside(1))),
+    ("three", b"\xff\0\x80", None),
+    ("EOF", b"EOF\xff", None),
+    ("EOF", b"\x0bEOF", Some(BadNumber(18))),
+    ("CVRP", b"CVRP\x0b", Some(BadValue(3))),
+    ("2 3 4", b"2\x0c3 4", Some(BadNumber(9))),
+    ("2 3 4", b"2\xa03 4", Some(BadNumber(9))),
+    ("CAPACITY : 2", b"CAPACITY\0: 2", Some(BadValue(6))),
+];
+
 // Bytes that are no blanks belong to a token or a remark.
 #[test]
 fn bytes_that_are_no_text(rt: HostRuntime) -> Result<(), Fail> {
-    let table: [(&str, &[u8], Option<TextError>); 9] = [
-        ("NAME", b"\0NAME", Some(DataOutside(1))),
-        ("NAME", b"\xef\xbb\xbfNAME", Some(DataOutside(1))),
-        ("three", b"\xff\0\x80", None),
-        ("EOF", b"EOF\xff", None),
-        ("EOF", b"\x0bEOF", Some(BadNumber(18))),
-        ("CVRP", b"CVRP\x0b", Some(BadValue(3))),
-        ("2 3 4", b"2\x0c3 4", Some(BadNumber(9))),
-        ("2 3 4", b"2\xa03 4", Some(BadNumber(9))),
-        ("CAPACITY : 2", b"CAPACITY\0: 2", Some(BadValue(6))),
-    ];
-    for (old, new, answer) in table {
+    for (old, new, answer) in NO_TEXT {
         let Some((before, after)) = SMALL.split_once(old) else {
             return Ok(assert!(rt; false, "at {old}"));
         };

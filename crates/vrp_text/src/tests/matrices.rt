@@ -1,8 +1,10 @@
 //! The layouts of a matrix.
-use super::{MATRIX, Places, matrix_places, places_of};
+use super::{MATRIX, Places, assert_singles_cost, matrix_places, places_of};
 use crate::read;
+use std::alloc::Global;
+use std::process::Abort;
 use std::test::*;
-use vrp_model::Plan;
+use vrp_model::Instance;
 
 // Four nodes, of which the first is the depot.
 const FOUR: &str =
@@ -13,8 +15,7 @@ const FOUR: &str =
 fn ways_there_and_back(rt: HostRuntime) -> Result<(), Fail> {
     let instance = read(rt.alloc(), MATRIX.as_bytes(), None)?;
     assert_eq!(rt; places_of(&rt, &instance), matrix_places());
-    assert_eq!(rt; Plan::singles(rt.alloc(), &instance)?.cost(), 11);
-    Ok(())
+    assert_singles_cost(&rt, rt.alloc(), &instance, 11)
 }
 
 // The greatest weight, demand and capacity.
@@ -61,33 +62,44 @@ fn layouts_of_four_nodes(rt: HostRuntime) -> Result<(), Fail> {
             36,
         ),
     ] {
-        let text = FOUR
-            .replace(rt.alloc(), "LAYOUT", layout)?
-            .replace(rt.alloc(), "ENTRIES", entries)?;
-        let instance = read(rt.alloc(), text.as_bytes(), None).expect(&rt, layout);
-        assert_eq!(rt; instance.customers(), 3, "at {layout}");
-        let there = [
-            instance.weight(0, 1),
-            instance.weight(0, 2),
-            instance.weight(0, 3),
-            instance.weight(1, 2),
-            instance.weight(1, 3),
-            instance.weight(2, 3),
-        ];
-        let back = [
-            instance.weight(1, 0),
-            instance.weight(2, 0),
-            instance.weight(3, 0),
-            instance.weight(2, 1),
-            instance.weight(3, 1),
-            instance.weight(3, 2),
-        ];
-        assert_eq!(rt; (there, back), weights, "at {layout}");
-        assert_eq!(rt;
-            Plan::singles(rt.alloc(), &instance)?.cost(),
-            cost,
-            "at {layout}"
-        );
+        let instance = four_nodes(&rt, rt.alloc(), layout, entries)?;
+        assert_eq!(rt; ways_of(&rt, &instance), weights, "at {layout}");
+        assert_singles_cost(&rt, rt.alloc(), &instance, cost)?;
     }
     Ok(())
+}
+
+// Four nodes with these weights.
+fn four_nodes(
+    rt: &impl Abort,
+    alloc: Global,
+    layout: &str,
+    entries: &str,
+) -> Result<Instance, Fail> {
+    let text = FOUR
+        .replace(alloc, "LAYOUT", layout)?
+        .replace(alloc, "ENTRIES", entries)?;
+    Ok(read(alloc, text.as_bytes(), None).expect(rt, layout))
+}
+
+// The weights between four places, there and back.
+fn ways_of(rt: &impl Abort, instance: &Instance) -> ([u64; 6], [u64; 6]) {
+    assert_eq!(rt; instance.customers(), 3);
+    let there = [
+        instance.weight(0, 1),
+        instance.weight(0, 2),
+        instance.weight(0, 3),
+        instance.weight(1, 2),
+        instance.weight(1, 3),
+        instance.weight(2, 3),
+    ];
+    let back = [
+        instance.weight(1, 0),
+        instance.weight(2, 0),
+        instance.weight(3, 0),
+        instance.weight(2, 1),
+        instance.weight(3, 1),
+        instance.weight(3, 2),
+    ];
+    (there, back)
 }

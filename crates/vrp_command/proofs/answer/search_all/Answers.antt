@@ -1,5 +1,6 @@
-use Rattle.std.proofs.Common.{◌≡◌, ◌∙◌, ◌+◌, List, ℕ, Some, min, ap, sym, subst, take}
+use Rattle.std.proofs.Common.{◌≡◌, ◌∙◌, ◌+◌, List, ℕ, Some, min, ap, sym, subst, take, arith}
 use Rattle.vrp_bound.specs.Tables.{TablesOf}
+use Rattle.vrp_model.specs.Cheapest.{cost_of}
 use Rattle.vrp_model.specs.Problem.{customers}
 use Rattle.vrp_model.specs.Word.{IsFront}
 use Rattle.vrp_model.proofs.UnservedCustomers.{unserved_are_customers}
@@ -12,7 +13,8 @@ use Rattle.vrp_command.proofs.answer.search_all.Goals as goal
 pub loop-piece-init : goal.loop-piece-init
 loop-piece-init c = record {
   plan = c.requires.board;
-  searched = none_searched c.args.instance.now c.args.cutting.now c.args.budget c.args.board.now.cost;
+  falls = omega arith;
+  searched = none_searched c.args.instance.now c.args.cutting.now c.args.budget (cost_of c.args.board.now);
 }
 
 pub search-requires-clause-covered : goal.search-requires-clause-covered
@@ -35,14 +37,15 @@ loop-piece-preserved c =
     let front = c.piece-item.result.word in
     let at = piece_at c.pieces-piece-items.result.now cutting i c.piece-item.result c.pieces-piece-items.ensures.words c.piece-item.is c.loop-piece-test.true in
     let so_far = c.loop-piece.invariant.searched in
-    let before = c.loop-piece.board.cost in
-    let new = c.search.new.board.cost in
+    let before = cost_of c.loop-piece.board in
+    let new = cost_of c.search.new.board in
     let falls = c.search.ensures.falls in
     let longer = sym (one_more cutting i front at) in
     let ended : EndsSearch p (customers p) front budget new c.in_ok-ended.ended =
     subst (λ (tables : TablesOf). EndsSearch p tables.among front budget new c.in_ok-ended.ended) c.requires.tables c.in_ok-ended.ensures.ended in
     record {
       plan = c.search.ensures.serves;
+      falls = omega (arith, falls, c.loop-piece.invariant.falls);
       searched = elim c.match-ended.branch [
         | in-Unfinished w ↦
             let low = w.in-Unfinished.low in

@@ -6,4 +6,4 @@ pub report-requires : goal.report-requires
 report-requires c =
     let p = c.args.instance.now in
     let lawful = answer_lawful p c.args.options.pieces c.args.options.budget c.in_ok-answer.answer.plan c.in_ok-answer.answer.verdict c.in_ok-answer.ensures in
-    stops_within p c.in_ok-answer.answer.plan.routes lawful.lawful
+    λ plan is. stops_within p plan.routes (lawful plan is).lawful

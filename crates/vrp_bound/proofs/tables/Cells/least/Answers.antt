@@ -32,9 +32,9 @@ least_way_home-requires-clause-rest c =
 pub returns-in-Some : goal.returns-in-Some
 returns-in-Some c =
     least_from_customer c.args.scope.instance.now c.new-units.result.instance.now c.args.scope.customers.now c.new-units.result.customers.now c.args.self.now.unit c.new-units.result.unit c.args.at c.args.load c.whole_units-free.result c.args.rest c.whole_units-carried.result (c.whole_units-carried.result * c.args.self.now.unit) c.looked_up.result
-    c.new-units.ensures.instance c.new-units.ensures.customers c.new-units.ensures.unit c.requires.cells.unit c.requires.load (omega (arith, c.whole_units-free.ensures, ap (λ n. (c.capacity.result - c.args.load) / n) (c.requires.cells.counted ∙ sym c.new-units.ensures.unit), ap (λ n. (n - c.args.load) / c.new-units.result.unit) c.capacity.ensures)) (c.whole_units-carried.ensures ∙ ap (λ n. c.args.rest / n) (c.requires.cells.counted ∙ sym c.new-units.ensures.unit)) refl c.if-whole-rest.false c.looked_up.ensures
+    c.new-units.ensures.instance c.new-units.ensures.customers c.new-units.ensures.unit c.requires.cells.unit c.requires.load (omega (arith, c.whole_units-free.ensures, ap (λ n. (c.capacity.result - c.args.load) / n) (c.requires.cells.counted ∙ sym c.new-units.ensures.unit), ap (λ n. (n - c.args.load) / c.new-units.result.unit) c.capacity.ensures.value)) (c.whole_units-carried.ensures ∙ ap (λ n. c.args.rest / n) (c.requires.cells.counted ∙ sym c.new-units.ensures.unit)) refl c.if-whole-rest.false c.looked_up.ensures
 
 pub returns-in-None : goal.returns-in-None
 returns-in-None c =
     least_from_customer c.args.scope.instance.now c.new-units.result.instance.now c.args.scope.customers.now c.new-units.result.customers.now c.args.self.now.unit c.new-units.result.unit c.args.at c.args.load c.whole_units-free.result c.args.rest c.whole_units-carried.result (c.whole_units-carried.result * c.args.self.now.unit) c.least_way_home.result
-    c.new-units.ensures.instance c.new-units.ensures.customers c.new-units.ensures.unit c.requires.cells.unit c.requires.load (omega (arith, c.whole_units-free.ensures, ap (λ n. (c.capacity.result - c.args.load) / n) (c.requires.cells.counted ∙ sym c.new-units.ensures.unit), ap (λ n. (n - c.args.load) / c.new-units.result.unit) c.capacity.ensures)) (c.whole_units-carried.ensures ∙ ap (λ n. c.args.rest / n) (c.requires.cells.counted ∙ sym c.new-units.ensures.unit)) refl c.if-whole-rest.false c.least_way_home.ensures.least
+    c.new-units.ensures.instance c.new-units.ensures.customers c.new-units.ensures.unit c.requires.cells.unit c.requires.load (omega (arith, c.whole_units-free.ensures, ap (λ n. (c.capacity.result - c.args.load) / n) (c.requires.cells.counted ∙ sym c.new-units.ensures.unit), ap (λ n. (n - c.args.load) / c.new-units.result.unit) c.capacity.ensures.value)) (c.whole_units-carried.ensures ∙ ap (λ n. c.args.rest / n) (c.requires.cells.counted ∙ sym c.new-units.ensures.unit)) refl c.if-whole-rest.false c.least_way_home.ensures.least

@@ -1,4 +1,4 @@
-use Rattle.std.proofs.Common.{◌≡◌, ◌*◌, ◌<◌, ℕ, List, length, subst, arith}
+use Rattle.std.proofs.Common.{◌≡◌, ◌*◌, ◌<◌, ℕ, None, List, length, subst, arith}
 use Rattle.std.specs.Prelude.{◌↔◌, IsTrue, slice_index}
 use Rattle.std.proofs.lemmas.Grind.{common_steps}
 use Rattle.vrp_model.specs.Inner.LeastWays.{IsLeastWay}
@@ -14,7 +14,7 @@ invariant_of-result c =
     let weights = c.in_ok-weights.weights.items in
     let square : length weights ≡ length places * length places = grind (arith, common_steps) in
     let problem = IsProblem-made c.args.depots.now c.args.demands.now places weights c.args.depot c.args.capacity c.nodes.result c.in_ok-nodes.ensures (omega arith) (omega arith) (omega arith) c.requires.acceptable.depots_empty c.requires.acceptable.chosen_listed c.requires.acceptable.customers_fit square c.in_ok-weights.ensures.small c.requires.small_capacity in
-    let made : Problem = record { nodes = places; demands = c.in_ok-demands.demands.items; weights = weights; capacity = c.args.capacity } in
+    let made : Problem = record { nodes = places; demands = c.in_ok-demands.demands.items; weights = weights; capacity = c.args.capacity; trucks = None } in
     let least = c.in_ok-least_in.least_in.items in
     let count : c.len.result ≡ length places = grind (arith, common_steps) in
     let one_each : length least ≡ c.len.result = grind (arith, common_steps) in

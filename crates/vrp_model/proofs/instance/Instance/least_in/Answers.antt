@@ -8,7 +8,7 @@ use Rattle.vrp_model.proofs.instance.Instance.least_in.Goals as goal
 
 pub returns-clause-least : goal.returns-clause-least
 returns-clause-least c =
-    let inside : Problem = record { nodes = c.self.inside.nodes.items; demands = c.self.inside.demands.items; weights = c.self.inside.weights.items; capacity = c.self.inside.capacity } in
+    let inside : Problem = record { nodes = c.self.inside.nodes.items; demands = c.self.inside.demands.items; weights = c.self.inside.weights.items; capacity = c.self.inside.capacity; trucks = c.self.inside.trucks } in
     let least = c.self.inside.least_in.items in
     let place : c.args.customer < place_count inside = subst (λ (p : Problem). c.args.customer < place_count p) (sym c.self.view_is) c.requires.within in
     let within : c.args.customer < length least = omega (arith, place, c.self.invariant.least.one_each) in
@@ -17,7 +17,7 @@ returns-clause-least c =
 
 pub returns-clause-small : goal.returns-clause-small
 returns-clause-small c =
-    let inside : Problem = record { nodes = c.self.inside.nodes.items; demands = c.self.inside.demands.items; weights = c.self.inside.weights.items; capacity = c.self.inside.capacity } in
+    let inside : Problem = record { nodes = c.self.inside.nodes.items; demands = c.self.inside.demands.items; weights = c.self.inside.weights.items; capacity = c.self.inside.capacity; trucks = c.self.inside.trucks } in
     let least = c.self.inside.least_in.items in
     let place : c.args.customer < place_count inside = subst (λ (p : Problem). c.args.customer < place_count p) (sym c.self.view_is) c.requires.within in
     let within : c.args.customer < length least = omega (arith, place, c.self.invariant.least.one_each) in

@@ -1,30 +1,26 @@
-use Rattle.std.proofs.Common.{◌≡◌, ◌-◌, arith}
-use Rattle.vrp_model.specs.Problem.{place_count}
-use Rattle.vrp_model.proofs.PlanLemmas.{IsLawful-singles, plan_cost_push, rising_with_single, singles_push}
-use Rattle.vrp_model.proofs.SinglesWord.{lawful_singles}
+use Rattle.std.proofs.Common.{◌≡◌, ◌∙◌, ◌-◌, ◌≤◌, length, sym, arith}
+use Rattle.std.proofs.lemmas.List.FromFn.{length-range_with_len}
+use Rattle.vrp_model.specs.Problem.{customers, place_count}
+use Rattle.vrp_model.proofs.FewTrucks.{same_number}
+use Rattle.vrp_model.proofs.plan.Plan.singles.Goals.{in_default-via-in-Some+else-trucks-customers, in_default-via-in_default}
 use Rattle.vrp_model.proofs.plan.Plan.singles.Goals as goal
 
-pub with_route-requires-clause-rising : goal.with_route-requires-clause-rising
-with_route-requires-clause-rising c = rising_with_single c.loop-index.plan.routes c.loop-index.index c.loop-index.invariant.0
-
-pub loop-index-preserved : goal.loop-index-preserved
-loop-index-preserved c =
-    let so_far = c.loop-index.invariant in (
-      rw c.in_ok-plan-2.ensures.routes (singles_push _ _ so_far.0),
-      rw (c.in_ok-plan-2.ensures.routes, plan_cost_push c.args.instance.now) (omega (arith, c.in_ok-plan-2.ensures.cost)),
-      omega (arith, c.in_ok-plan-2.ensures.cost),
-    )
-
-pub returns-clause-lawful : goal.returns-clause-lawful
-returns-clause-lawful c =
-    let all : c.loop-index.index ≡ place_count c.args.instance.now - 1 = omega arith in
-    record {
-      lawful = rw (c.loop-index.invariant.0, all) (IsLawful-singles _ c.customers-customers.ensures.problem);
-      priced = c.loop-index.invariant.1;
-    }
-
-pub returns-clause-word : goal.returns-clause-word
-returns-clause-word c =
+pub one_each-requires : goal.one_each-requires
+one_each-requires c trucks is =
     let p = c.args.instance.now in
-    let all : c.loop-index.index ≡ place_count p - 1 = omega arith in
-    rw (c.loop-index.invariant.0, all) (lawful_singles p c.customers-customers.ensures.problem)
+    let long : length (customers p) ≡ place_count p - 1 = length-range_with_len 1 (place_count p - 1) in
+    elim c.in_default.branch [
+      | in_default-via-in-Some+else-trucks-customers w ↦
+          omega (arith, long, w.customers.ensures.value, w.if-trucks-customers.false, same_number w.in-Some.trucks trucks (sym w.in-Some.is ∙ c.trucks.ensures.value ∙ is))
+      | in_default-via-in_default w ↦ absurd (w.in_default.not-Some trucks (c.trucks.ensures.value ∙ is))
+    ]
+
+pub returns-in-Some-clause-some : goal.returns-in-Some-clause-some
+returns-in-Some-clause-some c =
+    let p = c.args.instance.now in
+    let long : length (customers p) ≡ place_count p - 1 = length-range_with_len 1 (place_count p - 1) in (
+      λ never. absurd (cc),
+      λ may. absurd (
+          let here : length (customers p) ≤ c.in-Some.trucks = may c.in-Some.trucks (sym c.trucks.ensures.value ∙ c.in-Some.is) in
+          omega (arith, here, long, c.customers.ensures.value, c.if-trucks-customers.true)),
+    )

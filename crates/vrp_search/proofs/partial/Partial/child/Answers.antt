@@ -1,7 +1,8 @@
-use Rattle.std.proofs.Common.{◌≡◌, ◌∙◌, sym, subst, ap, ◌<◌, ◌≤◌, ◌+◌, [], ◌∷◌, ◌++◌, Bool, not, true, false, refl, arith}
+use Rattle.std.proofs.Common.{◌≡◌, ◌∙◌, sym, subst, ap, ◌<◌, ◌≤◌, ◌+◌, [], ◌∷◌, ◌++◌, Bool, not, true, false, length, refl, arith}
 use Rattle.std.proofs.lemmas.Bool.Decides.{nat_tests}
 use Rattle.std.specs.Prelude.{IsTrue, slice_index_or}
-use Rattle.vrp_model.specs.Word.{IsFront, last_symbol}
+use Rattle.vrp_model.specs.Problem.{HasTrucks}
+use Rattle.vrp_model.specs.Word.{IsFront, last_symbol, routes_of}
 use Rattle.vrp_model.proofs.FrontPlaces.{symbol_is_place}
 use Rattle.vrp_search.specs.Partial.{PartialPlan}
 use Rattle.vrp_search.proofs.Tallies.{depot_child, first_child, next_child, no_served_child}
@@ -69,19 +70,33 @@ returns-then-symbol-customers c = (
       ]),
 )
 
-pub returns-then-at-eq0 : goal.returns-then-at-eq0
-returns-then-at-eq0 c =
-    let at : last_symbol c.self.inside.word.items ≡ 0 = ap (λ (v : PartialPlan). last_symbol v.word) c.self.view_is ∙ sym c.at-at.ensures ∙ c.if-at-eq0.true in
+pub returns-then-self-symbol : goal.returns-then-self-symbol
+returns-then-self-symbol c =
+    let p = c.self.inside.instance.now in
+    let word = c.self.inside.word.items in
+    let k = c.args.symbol in
+    let at : last_symbol word ≡ 0 = ap (λ (v : PartialPlan). last_symbol v.word) c.self.view_is ∙ sym c.at-at.ensures ∙ c.if-at-eq0.true in
     let read : false ≡ slice_index_or c.self.inside.served.items c.from.result false = subst (λ (b : Bool). b ≡ slice_index_or c.self.inside.served.items c.from.result b) c.if-index.false c.index.ensures in
-    let isnt_served : slice_index_or c.self.inside.served.items c.args.symbol false ≡ false = ap (λ k. slice_index_or c.self.inside.served.items k false) (sym c.from.ensures) ∙ sym read in
-    let child = first_child c.self.inside.instance.now c.self.inside.word.items c.args.symbol c.self.inside.served.items c.self.inside.before.items c.self.inside.tally c.self.invariant.0
+    let isnt_served : slice_index_or c.self.inside.served.items k false ≡ false = ap (λ n. slice_index_or c.self.inside.served.items n false) (sym c.from.ensures) ∙ sym read in
+    let child = first_child p word k c.self.inside.served.items c.self.inside.before.items c.self.inside.tally c.self.invariant.0
     (omega (arith, c.if-symbol-eq0.false)) (omega (arith, c.if-symbol-customers.false, c.customers-customers.ensures.value)) isnt_served at in (
-      λ test.
-          let above : c.self.inside.tally.first < c.args.symbol = grind (arith, nat_tests, test) in
-          child_outside c.self.inside.instance.now c.self.inside.word.items c.args.symbol c.args.self.now c.self.view_is (child.0 above),
-      λ after.
-          let above : c.self.inside.tally.first < c.args.symbol = child.1 (child_inside c.self.inside.instance.now c.self.inside.word.items c.args.symbol c.args.self.now c.self.view_is after) in
-          grind (arith, nat_tests, above),
+      λ test. child_outside p word k c.args.self.now c.self.view_is
+          (child.0 (omega (arith, c.if-self-symbol.true), subst (λ (v : PartialPlan). HasTrucks v.problem (length (routes_of v.word) + 1)) (sym c.self.view_is) (c.has_truck.ensures.0 test))),
+      λ after. c.has_truck.ensures.1 (subst (λ (v : PartialPlan). HasTrucks v.problem (length (routes_of v.word) + 1)) c.self.view_is (child.1 (child_inside p word k c.args.self.now c.self.view_is after)).1),
+    )
+
+pub returns-else-self-symbol : goal.returns-else-self-symbol
+returns-else-self-symbol c =
+    let p = c.self.inside.instance.now in
+    let word = c.self.inside.word.items in
+    let k = c.args.symbol in
+    let at : last_symbol word ≡ 0 = ap (λ (v : PartialPlan). last_symbol v.word) c.self.view_is ∙ sym c.at-at.ensures ∙ c.if-at-eq0.true in
+    let read : false ≡ slice_index_or c.self.inside.served.items c.from.result false = subst (λ (b : Bool). b ≡ slice_index_or c.self.inside.served.items c.from.result b) c.if-index.false c.index.ensures in
+    let isnt_served : slice_index_or c.self.inside.served.items k false ≡ false = ap (λ n. slice_index_or c.self.inside.served.items n false) (sym c.from.ensures) ∙ sym read in
+    let child = first_child p word k c.self.inside.served.items c.self.inside.before.items c.self.inside.tally c.self.invariant.0
+    (omega (arith, c.if-symbol-eq0.false)) (omega (arith, c.if-symbol-customers.false, c.customers-customers.ensures.value)) isnt_served at in (
+      λ test. absurd (let above : c.self.inside.tally.first < k = grind (arith, nat_tests, test) in omega (arith, above, c.if-self-symbol.false)),
+      λ after. absurd (omega (arith, (child.1 (child_inside p word k c.args.self.now c.self.view_is after)).0, c.if-self-symbol.false)),
     )
 
 pub returns : goal.returns
@@ -93,9 +108,9 @@ returns c =
     (omega (arith, c.if-symbol-eq0.false)) (omega (arith, c.if-symbol-customers.false, c.customers-customers.ensures.value)) isnt_served (omega (arith, at, c.if-at-eq0.false)) in (
       λ test.
           let light : c.self.inside.tally.load + c.demand.result ≤ c.capacity.result = grind (arith, nat_tests, test) in
-          child_outside c.self.inside.instance.now c.self.inside.word.items c.args.symbol c.args.self.now c.self.view_is (child.0 (omega (arith, light, c.demand.ensures.value, c.capacity.ensures))),
+          child_outside c.self.inside.instance.now c.self.inside.word.items c.args.symbol c.args.self.now c.self.view_is (child.0 (omega (arith, light, c.demand.ensures.value, c.capacity.ensures.value))),
       λ after.
           let fits = child.1 (child_inside c.self.inside.instance.now c.self.inside.word.items c.args.symbol c.args.self.now c.self.view_is after) in
-          let light : c.self.inside.tally.load + c.demand.result ≤ c.capacity.result = omega (arith, fits, c.demand.ensures.value, c.capacity.ensures) in
+          let light : c.self.inside.tally.load + c.demand.result ≤ c.capacity.result = omega (arith, fits, c.demand.ensures.value, c.capacity.ensures.value) in
           grind (arith, nat_tests, light),
     )

@@ -1,7 +1,5 @@
-use Rattle.std.proofs.Common.{◌≡◌, ◌∙◌, [], ◌∷◌, ◌++◌, ap, false, subst, sym, true}
-use Rattle.std.specs.Prelude.{◌↔◌, IsTrue}
-use Rattle.vrp_model.specs.Problem.{IsSymmetric, Problem}
-use Rattle.vrp_model.specs.Word.{IsDead}
+use Rattle.std.proofs.Common.{◌≡◌, ◌∙◌, [], ◌∷◌, ◌++◌, false, subst, sym, true}
+use Rattle.vrp_model.specs.Problem.{IsSymmetric}
 use Rattle.vrp_model.proofs.LastRoute.{last_symbol_with}
 use Rattle.vrp_search.specs.Partial.{PartialPlan}
 use Rattle.vrp_search.proofs.GreatestUnserved.{dead_told, told_dead}

@@ -1,5 +1,4 @@
-use Rattle.std.proofs.Common.{◌≡◌, ◌∙◌, ap, false, subst, sym, true}
-use Rattle.std.specs.Prelude.{◌↔◌, IsTrue}
+use Rattle.std.proofs.Common.{◌≡◌, ◌∙◌, false, subst, sym, true}
 use Rattle.vrp_model.specs.Problem.{IsSymmetric}
 use Rattle.vrp_model.specs.Word.{IsDead}
 use Rattle.vrp_search.specs.Partial.{PartialPlan}

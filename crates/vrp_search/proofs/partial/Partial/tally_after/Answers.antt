@@ -5,12 +5,13 @@ use Rattle.vrp_model.proofs.FrontPlaces.{last_is_place, symbol_is_place}
 use Rattle.vrp_search.specs.Partial.{PartialPlan}
 use Rattle.vrp_search.specs.declared.tally.Tally.{Tally}
 use Rattle.vrp_search.specs.Inner.Tallied.{IsGreatestBelow, IsGreatestUnserved, IsTally}
+use Rattle.vrp_search.proofs.FrontLength.{routes_are_few}
 use Rattle.vrp_search.proofs.GreatestUnserved.{greatest_stays, next_greatest}
 use Rattle.vrp_search.proofs.Tallies.{added, cost_fits, room_left, tally_at_customer, tally_at_depot}
 use Rattle.vrp_model.proofs.FrontWithSymbol.{closed_is_open}
 use Rattle.vrp_search.proofs.WaysIn.{ins_with}
 use Rattle.vrp_search.proofs.PartialViews.{at_inside, child_inside}
-use Rattle.vrp_search.proofs.partial.Partial.tally_after.Goals.{then-at-eq0, else-at-eq0, then-symbol-tally, else-symbol-tally}
+use Rattle.vrp_search.proofs.partial.Partial.tally_after.Goals.{then-at-eq0, else-at-eq0, then-symbol-tally, else-symbol-tally, then-at-eq0-2, else-at-eq0-2}
 use Rattle.vrp_search.proofs.partial.Partial.tally_after.Goals as goal
 
 pub weight-requires-clause-from_within : goal.weight-requires-clause-from_within
@@ -57,6 +58,12 @@ overflow_sub-result-3 c =
     let facts = added c.self.inside.instance.now c.self.inside.word.items c.args.symbol c.self.inside.tally c.self.invariant.0.problem c.self.invariant.0.front (omega (arith, c.if-symbol-eq0.false)) after c.self.invariant.0.now in
     omega (arith, facts.some_left)
 
+pub overflow_add-routes : goal.overflow_add-routes
+overflow_add-routes c =
+    let p = c.self.inside.instance.now in
+    let word = c.self.inside.word.items in
+    omega (arith, c.self.invariant.0.now.routes, routes_are_few p word c.self.invariant.0.problem c.self.invariant.0.front)
+
 pub greatest_below-greatest-requires : goal.greatest_below-greatest-requires
 greatest_below-greatest-requires c =
     let after = child_inside c.self.inside.instance.now c.self.inside.word.items c.args.symbol c.args.self.now c.self.view_is c.requires in
@@ -68,7 +75,7 @@ returns-then-symbol-eq0-clause-tally c =
     let after : IsFront c.self.inside.instance.now (c.self.inside.word.items ++ 0 ∷ []) = subst (λ k. IsFront c.self.inside.instance.now (c.self.inside.word.items ++ k ∷ [])) c.if-symbol-eq0.true (child_inside c.self.inside.instance.now c.self.inside.word.items c.args.symbol c.args.self.now c.self.view_is c.requires) in
     let weight : c.weight.result ≡ weight_of c.self.inside.instance.now (last_symbol c.self.inside.word.items) 0 = c.weight.ensures.value ∙ ap (λ n. weight_of c.self.inside.instance.now n c.args.symbol) at ∙ ap (weight_of c.self.inside.instance.now (last_symbol c.self.inside.word.items)) c.if-symbol-eq0.true in
     let tally = tally_at_depot c.self.inside.instance.now c.self.inside.word.items c.self.inside.tally (c.self.inside.tally.cost + c.weight.result) c.self.invariant.0.problem c.self.invariant.0.front (closed_is_open c.self.inside.instance.now c.self.inside.word.items after) c.self.invariant.0.now (omega (arith, weight)) in
-    let new : Tally = record { cost = c.self.inside.tally.cost + c.weight.result; load = 0; rest = c.self.inside.tally.rest; ins = c.self.inside.tally.ins; first = c.self.inside.tally.first; unserved = c.self.inside.tally.unserved; greatest = c.self.inside.tally.greatest } in
+    let new : Tally = record { cost = c.self.inside.tally.cost + c.weight.result; load = 0; rest = c.self.inside.tally.rest; ins = c.self.inside.tally.ins; first = c.self.inside.tally.first; unserved = c.self.inside.tally.unserved; greatest = c.self.inside.tally.greatest; routes = c.self.inside.tally.routes } in
     subst (λ (v : PartialPlan). IsTally v.problem (v.word ++ c.args.symbol ∷ []) new) c.self.view_is (subst (λ k. IsTally c.self.inside.instance.now (c.self.inside.word.items ++ k ∷ []) new) (sym c.if-symbol-eq0.true) tally)
 
 pub returns-then-symbol-eq0-clause-short : goal.returns-then-symbol-eq0-clause-short
@@ -89,6 +96,8 @@ returns-clause-tally c =
           rw w.greatest-is (next_greatest c.self.inside.instance.now c.self.inside.word.items c.args.symbol c.self.inside.tally.greatest w.greatest_below-greatest.result w.if-symbol-tally.true c.self.invariant.0.now.greatest lower)
       | else-symbol-tally w ↦ rw w.greatest-is (greatest_stays c.self.inside.instance.now c.self.inside.word.items c.args.symbol c.self.inside.tally.greatest w.if-symbol-tally.false c.self.invariant.0.now.greatest)
     ] in
+    let one_more : last_symbol c.self.inside.word.items ≡ 0 → c.if-at-eq0-2.routes ≡ c.self.inside.tally.routes + 1 = λ none. elim c.if-at-eq0-2.branch [ then-at-eq0-2 w ↦ w.routes-is | else-at-eq0-2 w ↦ absurd (omega (arith, none, at, w.if-at-eq0-2.false)) ] in
+    let stays : 0 < last_symbol c.self.inside.word.items → c.if-at-eq0-2.routes ≡ c.self.inside.tally.routes = λ some. elim c.if-at-eq0-2.branch [ then-at-eq0-2 w ↦ absurd (omega (arith, some, at, w.if-at-eq0-2.true)) | else-at-eq0-2 w ↦ w.routes-is ] in
     let new : Tally = record {
       cost = c.self.inside.tally.cost + c.weight.result;
       load = c.self.inside.tally.load + c.demand-demand.result;
@@ -97,10 +106,11 @@ returns-clause-tally c =
       first = c.if-at-eq0.first;
       unserved = c.self.inside.tally.unserved - 1;
       greatest = c.if-symbol-tally.greatest;
+      routes = c.if-at-eq0-2.routes;
     } in
     subst (λ (v : PartialPlan). IsTally v.problem (v.word ++ c.args.symbol ∷ []) new) c.self.view_is
     (tally_at_customer c.self.inside.instance.now c.self.inside.word.items c.args.symbol c.least_in.result c.self.inside.tally new c.least_in.ensures.least refl c.self.invariant.0.problem c.self.invariant.0.front (omega (arith, c.if-symbol-eq0.false)) after c.self.invariant.0.now
-    (omega (arith, weight)) (omega (arith, c.demand-demand.ensures.value)) (omega (arith, c.demand-demand.ensures.value)) starts goes_on refl greatest)
+    (omega (arith, weight)) (omega (arith, c.demand-demand.ensures.value)) (omega (arith, c.demand-demand.ensures.value)) starts goes_on refl greatest one_more stays)
 
 pub returns-clause-place : goal.returns-clause-place
 returns-clause-place c =
