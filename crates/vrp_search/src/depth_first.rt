@@ -65,9 +65,10 @@ pub fn search<B: Board>(
             Some(symbol) => {
                 spent += 1;
                 let least = board.least();
-                let is_dead = partial.child_is_dead(symbol);
-                if !is_dead && partial.child_low(tables, symbol).unwrap_or(least) < least {
-                    partial.push(symbol);
+                let tally = partial.tally_after(symbol);
+                let is_dead = partial.child_is_dead(symbol, tally);
+                if !is_dead && partial.child_low(tables, symbol, tally).unwrap_or(least) < least {
+                    partial.push_counted(symbol, tally);
                     offer_complete(alloc, &partial, board)?;
                     next = 0;
                 } else {

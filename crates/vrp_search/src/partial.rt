@@ -129,12 +129,13 @@ impl<'a> Partial<'a> {
         self.instance.symmetric() && self.tally.is_dead(self.at())
     }
 
-    /// The same for a child's word.
-    pub(crate) fn child_is_dead(&self, symbol: u16) -> bool
-        requires { IsFront self.now.problem (self.now.word ++ symbol ∷ []) }
+    /// The same for a child's word, along which this is counted.
+    #[inline(always)]
+    pub(crate) fn child_is_dead(&self, symbol: u16, tally: Tally) -> bool
+        requires { IsTally self.now.problem (self.now.word ++ symbol ∷ []) tally }
         ensures { IsTrue result ↔ IsDead self.now.problem (self.now.word ++ symbol ∷ []) }
     {
-        self.instance.symmetric() && self.tally_after(symbol).is_dead(symbol)
+        self.instance.symmetric() && tally.is_dead(symbol)
     }
 
     /// What a plan under the word costs at least: what is paid along the word, and the bound on what is still to pay. `None`
@@ -149,33 +150,43 @@ impl<'a> Partial<'a> {
         self.tally.low(self.instance, tables, self.at())
     }
 
-    /// The same for a child's word.
-    pub(crate) fn child_low(&self, tables: &Tables<'_>, symbol: u16) -> Option<u64>
+    /// The same for a child's word, along which this is counted.
+    #[inline(always)]
+    pub(crate) fn child_low(&self, tables: &Tables<'_>, symbol: u16, tally: Tally) -> Option<u64>
         requires tables { tables.now.problem ≡ self.now.problem }
         requires covered { AreCovered self.now.problem tables.now.among self.now.word }
         requires child { IsFront self.now.problem (self.now.word ++ symbol ∷ []) }
+        requires tally { IsTally self.now.problem (self.now.word ++ symbol ∷ []) tally }
         ensures { IsLow self.now.problem tables.now.among (self.now.word ++ symbol ∷ []) result }
     {
-        self.tally_after(symbol).low(self.instance, tables, symbol)
+        tally.low(self.instance, tables, symbol)
     }
 
     /// Adds a symbol at the end.
-    // The search has computed the same tally for the bound just before: in its loop the two become one.
-    #[inline(always)]
     pub fn push(&mut self, symbol: u16)
         requires { IsFront self.old.problem (self.old.word ++ symbol ∷ []) }
         ensures { self.new ≡ record { problem = self.old.problem; word = self.old.word ++ symbol ∷ [] } }
     {
         let tally = self.tally_after(symbol);
+        self.push_counted(symbol, tally);
+    }
+
+    /// Adds a symbol at the end, where what is counted along the longer word is known.
+    #[inline(always)]
+    pub(crate) fn push_counted(&mut self, symbol: u16, tally: Tally)
+        requires child { IsFront self.old.problem (self.old.word ++ symbol ∷ []) }
+        requires tally { IsTally self.old.problem (self.old.word ++ symbol ∷ []) tally }
+        ensures { self.new ≡ record { problem = self.old.problem; word = self.old.word ++ symbol ∷ [] } }
+    {
         self.word.push_reserved(symbol);
         self.before.push_reserved(self.tally);
         self.served[usize::from(symbol)] = true;
         self.tally = tally;
     }
 
-    // The tally with one more symbol.
+    /// What is counted along the word with one more symbol.
     #[inline(always)]
-    fn tally_after(&self, symbol: u16) -> Tally
+    pub(crate) fn tally_after(&self, symbol: u16) -> Tally
         requires { IsFront self.now.problem (self.now.word ++ symbol ∷ []) }
         ensures tally { IsTally self.now.problem (self.now.word ++ symbol ∷ []) result }
         ensures place { symbol < place_count self.now.problem }

@@ -67,7 +67,7 @@ returns-then-least-low-clause-serves g c = c.least.ensures.serves c.args.instanc
 
 pub offer_complete-requires-then-unwrap_or-least : goal.offer_complete-requires-then-unwrap_or-least
 offer_complete-requires-then-unwrap_or-least g c =
-    let problem : c.push.new.self.problem ≡ c.args.instance.now = ap (λ (v : PartialPlan). v.problem) c.push.ensures ∙ c.loop-partial.invariant.problem in
+    let problem : c.push_counted.new.self.problem ≡ c.args.instance.now = ap (λ (v : PartialPlan). v.problem) c.push_counted.ensures ∙ c.loop-partial.invariant.problem in
     subst (λ (q : Problem). g.B.Board.serves c.least-least.new.self q) (sym problem) (c.least-least.ensures.serves c.args.instance.now c.loop-partial.invariant.serves)
 
 pub loop-partial-init : goal.loop-partial-init
@@ -122,12 +122,12 @@ loop-partial-preserved-then-unwrap_or-least g c =
     let old = g.B.Board.floor c.loop-partial.board in
     let floor = g.B.Board.floor c.offer_complete-then-unwrap_or-least.new.board in
     let child = subst (λ (q : Problem). IsNextChild q word c.loop-partial.next k) c.loop-partial.invariant.problem c.in-Some-next_child.ensures.next in
-    let problem : c.push.new.self.problem ≡ p = ap (λ (v : PartialPlan). v.problem) c.push.ensures ∙ c.loop-partial.invariant.problem in
-    let longer : c.push.new.self.word ≡ word ++ k ∷ [] = ap (λ (v : PartialPlan). v.word) c.push.ensures in
+    let problem : c.push_counted.new.self.problem ≡ p = ap (λ (v : PartialPlan). v.problem) c.push_counted.ensures ∙ c.loop-partial.invariant.problem in
+    let longer : c.push_counted.new.self.word ≡ word ++ k ∷ [] = ap (λ (v : PartialPlan). v.word) c.push_counted.ensures in
     let falls : floor ≤ old = omega (arith, c.offer_complete-then-unwrap_or-least.ensures.falls, c.least-least.ensures.falls) in
     let kept : IsLawfulWord p (word ++ k ∷ []) → floor ≤ word_cost p (word ++ k ∷ []) =
     subst (λ (w : List ℕ). IsLawfulWord p w → floor ≤ word_cost p w) longer
-    (subst (λ (q : Problem). IsLawfulWord q c.push.new.self.word → floor ≤ word_cost q c.push.new.self.word) problem c.in_ok-offer_complete-in-Some-2.ensures.offered) in
+    (subst (λ (q : Problem). IsLawfulWord q c.push_counted.new.self.word → floor ≤ word_cost q c.push_counted.new.self.word) problem c.in_ok-offer_complete-in-Some-2.ensures.offered) in
     record {
       problem = problem;
       progress = subst (λ (w : List ℕ). Progress p root w 0 (c.loop-partial.spent + 1) floor) (sym longer) (descended p root word c.loop-partial.next k c.loop-partial.spent old floor c.loop-partial.invariant.progress child falls kept);

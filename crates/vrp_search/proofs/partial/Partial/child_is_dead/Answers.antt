@@ -10,11 +10,11 @@ returns-then-symmetric c =
     let p = c.args.self.now.problem in
     let word = c.args.self.now.word in
     let k = c.args.symbol in
-    let t = c.tally_after.result in
+    let t = c.args.tally in
     let at = sym (last_symbol_with word k) in
     let symmetric : IsSymmetric p = subst (λ (v : PartialPlan). IsSymmetric v.problem) c.self.view_is (c.symmetric.ensures.0 c.if-symmetric.true) in (
-      λ told. told_dead p (word ++ k ∷ []) t k c.tally_after.ensures.tally at symmetric (c.is_dead.ensures.0 told),
-      λ dead. c.is_dead.ensures.1 (dead_told p (word ++ k ∷ []) t k c.tally_after.ensures.tally at dead),
+      λ told. told_dead p (word ++ k ∷ []) t k c.requires at symmetric (c.is_dead.ensures.0 told),
+      λ dead. c.is_dead.ensures.1 (dead_told p (word ++ k ∷ []) t k c.requires at dead),
     )
 
 pub returns-else-symmetric : goal.returns-else-symmetric
