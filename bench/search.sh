@@ -28,7 +28,7 @@ kernel_rate() {
     "$room/kernel" "$budget" < "$1" | sed 's/.* million\/s \([0-9.]*\) .*/\1/'
 }
 
-for name in P-n16-k8 E-n22-k4 20-euc12-tight; do
+for name in P-n16-k8 E-n22-k4 20-euc12-tight P-n19-k2; do
     ours=$(best proved_rate "$cases/$name.vrp")
     theirs=$(best kernel_rate "$cases/$name.vrp")
     ratio=$(awk -v a="$ours" -v b="$theirs" 'BEGIN { printf "%.2f", a / b }')
