@@ -17,8 +17,7 @@ pub fn relaxed_completions()
         × (word_cost p front + relaxed_cost p (last_symbol front) home tours ≡ word_cost p (front ++ more)) }
 {}
 
-/// No lawful word that begins with a front adds less to it than the lower bound, the greater of the two; and where the answer is `None`,
-/// there is no such word.
+/// No lawful word that begins with a front adds less to it than the lower bound; and where that is `None`, there is no such word.
 pub fn bounds_hold()
     ensures { (p : Problem) (front more among : List ℕ) (ins : ℕ) (answer : Option ℕ) → IsProblem p → IsLawfulWord p (front ++ more) → All (Contains among) (unserved_in p front) → IsInsOf p front ins
         → IsLowerBound p among (last_symbol front) (open_load p front) ins (load_of p (unserved_in p front)) (routes_left p front) answer

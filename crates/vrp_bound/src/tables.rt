@@ -87,7 +87,7 @@ impl<'a> Tables<'a> {
     }
 
     /// The least cost of what carries the rest from a place: the walk home of the open truck with this load, where one is out
-    /// at a customer, and tours. A walk may come to a customer again, but goes from none to itself. `None`: nothing carries
+    /// at a customer, and tours. A walk may come to a customer again, but not straight from itself. `None`: nothing carries
     /// exactly the rest. Where a customer has no demand, or the tables would be too large, the answer is 0.
     pub fn q_bound(&self, at: u16, load: u64, rest: u64) -> Option<u64>
         requires place { at < place_count self.now.problem }

@@ -19,8 +19,8 @@ use vrp_model::{Instance, NoMemory};
 use vrp_text::MAX_BYTES;
 
 /// Reads a CVRP file, and writes the report of a lawful plan of the problem that it means with the chosen node as its depot and
-/// the trucks that were asked for: a cheapest one, where the status is `Proven`; where it is `NoPlan` there is none. Reading ends at the end of the input or after one byte more than
-/// a file may have. On a fault other than `Write` nothing is written.
+/// the trucks that were asked for: a cheapest one, where the status is `Proven`; where it is `NoPlan` there is none. Reading ends
+/// at the end of the input or after one byte more than a file may have. On a fault other than `Write` nothing is written.
 pub fn run<R: Read, W: Write>(
     alloc: Global,
     options: Options,
