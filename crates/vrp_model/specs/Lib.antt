@@ -5,6 +5,7 @@ pub mod Grid
 pub mod Inner
 pub mod Layout
 pub mod LeastWay
+pub mod Order
 pub mod Problem
 pub mod Refusal
 pub mod Request
