@@ -1,8 +1,8 @@
 -- What a word under a front costs at least, by the tables.
-use Rattle.std.proofs.Common.{◌≡◌, ℕ, ◌+◌, ◌-◌, ◌≤◌, Option, Some, None, get_or, refl, List, [], ◌∷◌, ◌++◌, append-nil, append_assoc, sym, ap, subst, ◌∙◌, arith}
+use Rattle.std.proofs.Common.{◌≡◌, ◌⊎◌, inl, inr, ℕ, ◌+◌, ◌-◌, ◌≤◌, ◌<◌, Option, Some, None, get_or, refl, List, [], ◌∷◌, ◌++◌, append-nil, append_assoc, sym, ap, subst, ◌∙◌, arith}
 use Rattle.std.specs.List.{Contains}
 use Rattle.std.specs.Option.{option_map}
-use Rattle.std.specs.Prelude.{MatchOption, unwrap_or}
+use Rattle.std.specs.Prelude.{MatchOption}
 use Rattle.std.proofs.lemmas.List.Elements.{All-contains, Contains-get_or}
 use Rattle.vrp_bound.specs.Bound.{IsLowerBound}
 use Rattle.vrp_bound.specs.Capacity.{IsInsOf}
@@ -12,6 +12,7 @@ use Rattle.vrp_model.specs.Route.{load_of}
 use Rattle.vrp_model.specs.Word.{BeginsWith, IsLawfulWord, NoneCheaperUnder, last_symbol, unserved_in, word_cost}
 use Rattle.vrp_model.proofs.UnservedCustomers.{unserved_before, unserved_distinct}
 use Rattle.vrp_search.specs.Search.{AreCovered, IsLow}
+use Rattle.vrp_search.specs.Inner.Pruned.{NoneOfUse}
 use Rattle.vrp_search.specs.Inner.Tallied.{IsLowOf, IsTally}
 use Rattle.vrp_search.specs.declared.tally.Tally.{Tally}
 use Rattle.vrp_model.proofs.DistinctWithin.{sum_among}
@@ -63,11 +64,15 @@ by_bound law p among front ins (Some more) problem covered is_ins is_bound = λ 
 pub none_under : BoundsHold → (p : Problem) (among front : List ℕ) (low : Option ℕ) → IsProblem p → AreCovered p among front → IsLow p among front low → NoneUnder p front low
 none_under law p among front low problem covered is_low = subst (NoneUnder p front) (sym is_low.whole) (by_bound law p among front is_low.ins is_low.bound problem covered is_low.is_ins is_low.is_bound)
 
--- where a bound is not under this cost, or there is none
-pub none_cheaper : (p : Problem) (front : List ℕ) (low : Option ℕ) (least : ℕ) → NoneUnder p front low → least ≤ unwrap_or low least → NoneCheaperUnder p front least
-none_cheaper p front None least none above = λ w lawful begins. absurd (none w lawful begins)
-none_cheaper p front (Some low) least none above = λ w lawful begins. omega (arith, above, none w lawful begins)
-
 pub none_left : (p : Problem) (front : List ℕ) (low : Option ℕ) → NoneUnder p front low → ((least : ℕ) → low ≡ Some least → ⊥) → (w : List ℕ) → IsLawfulWord p w → BeginsWith w front → ⊥
 none_left p front None none not_some = none
 none_left p front (Some least) none not_some = absurd (not_some least refl)
+
+-- ---- no word under a front is of use
+
+pub none_if_dead : (p : Problem) (front : List ℕ) (least own : ℕ) → ((w : List ℕ) → IsLawfulWord p w → BeginsWith w front → ⊥) → NoneOfUse p front least own
+none_if_dead p front least own none = λ w lawful begins. absurd (none w lawful begins)
+
+pub none_if_dearer : (p : Problem) (front : List ℕ) (low least own : ℕ) → NoneCheaperUnder p front low → (least < low) ⊎ (own ≤ low) → NoneOfUse p front least own
+none_if_dearer p front low least own none (inl above) = λ w lawful begins. inl (omega (arith, above, none w lawful begins))
+none_if_dearer p front low least own none (inr no_less) = λ w lawful begins. inr (omega (arith, no_less, none w lawful begins))

@@ -1,13 +1,23 @@
 -- How far the search of a piece has come: the fronts that it has looked at, and the words that it still has to come by.
-use Rattle.std.proofs.Common.{◌≡◌, ◌≢◌, ℕ, ◌+◌, ◌≤◌, ◌⊎◌, inl, inr, List, [], ◌∷◌, ◌++◌, length, length-append, get_or, refl, sym, ap, subst, ◌∙◌, append_assoc, append-nil, arith}
+use Rattle.std.proofs.Common.{◌≡◌, ◌≢◌, ℕ, ◌+◌, ◌≤◌, ◌<◌, ◌⊎◌, inl, inr, Option, None, Some, List, [], ◌∷◌, ◌++◌, length, length-append, get_or, refl, sym, ap, subst, ◌∙◌, append_assoc, append-nil, arith}
 use Rattle.std.specs.List.{All, AllPairs}
 use Rattle.std.proofs.lemmas.List.Elements.{All-cons, All-nil, All-append}
 use Rattle.std.proofs.lemmas.List.Quantifiers.{all_pairs_push}
+use Rattle.std.proofs.lemmas.Bool.{cases_lt}
+use Rattle.std.specs.Option.{ForSome}
+use Rattle.std.specs.Prelude.{MatchOption}
+use Rattle.vrp_model.specs.Cheapest.{cost_of}
+use Rattle.vrp_model.specs.Order.{ComesBefore, IsEarlier}
 use Rattle.vrp_model.specs.Problem.{Problem}
-use Rattle.vrp_model.specs.Word.{BeginsWith, IsFront, IsLawfulWord, NoneCheaperUnder, TreeHasAtLeast, word_cost}
+use Rattle.vrp_model.specs.declared.limits.TheConstants.{NO_COST}
+use Rattle.vrp_model.specs.Route.{PricedPlan}
+use Rattle.vrp_model.specs.Word.{BeginsWith, IsFront, IsLawfulWord, NoneCheaperUnder, TreeHasAtLeast, word_cost, word_of}
 use Rattle.vrp_model.proofs.FrontsBefore.{fronts_before}
 use Rattle.vrp_search.specs.Child.{IsNextChild, NoChildFrom}
-use Rattle.vrp_search.proofs.WordOrder.{IsFrom, child_of_front, child_or_behind, from_itself, from_next, from_shorter, from_sibling, front_or_behind, not_from_longer, sibling_or_behind}
+use Rattle.vrp_search.specs.Inner.Found.{IsFoundAt, IsKept}
+use Rattle.vrp_search.specs.Inner.Pruned.{NoneOfUse}
+use Rattle.vrp_search.specs.Search.{IsFinished, IsFoundUnder, IsNotBefore}
+use Rattle.vrp_search.proofs.WordOrder.{IsFrom, child_of_front, child_or_behind, from_itself, from_next, from_shorter, from_sibling, front_or_behind, none_earlier, not_before_itself, not_from_longer, sibling_or_behind}
 
 -- so many fronts under the root, all of which come before the candidate
 pub record Seen (p : Problem) (root candidate : List ℕ) (count : ℕ) : Type 0 where
@@ -53,11 +63,15 @@ tree_of_seen p root candidate count seen = (seen.fronts, seen.distinct, λ i d l
 
 -- ---- progress
 
--- The words under the root that come from the candidate on are still to come. No other costs less than the floor.
-pub record Progress (p : Problem) (root word : List ℕ) (next spent floor : ℕ) : Type 0 where
+-- The words under the root that come from the candidate on are still to come. No other is of use beside what was found: each costs
+-- more than the floor, or is not before the plan that was found last. That plan's word has been looked at.
+pub record Progress (p : Problem) (root word : List ℕ) (next spent floor : ℕ) (first : Option PricedPlan) : Type 0 where
   pub under : BeginsWith word root
   pub seen : Seen p root (word ++ next ∷ []) spent
-  pub others : (w : List ℕ) → IsLawfulWord p w → BeginsWith w root → IsFrom (word ++ next ∷ []) w ⊎ (floor ≤ word_cost p w)
+  pub others : (w : List ℕ) → IsLawfulWord p w → BeginsWith w root → IsFrom (word ++ next ∷ []) w ⊎ IsNotBefore p floor first w
+  pub found : ForSome first (IsFoundUnder p root)
+  pub behind : ForSome first (λ plan. IsFrom (word ++ next ∷ []) (word_of plan.routes) → ⊥)
+  pub offered : ForSome first (λ plan. floor ≤ plan.cost)
 
 itself : (word : List ℕ) → BeginsWith word word
 itself word = ([], sym (append-nil word))
@@ -65,15 +79,95 @@ itself word = ([], sym (append-nil word))
 begins_more : (word root : List ℕ) (k : ℕ) → BeginsWith word root → BeginsWith (word ++ k ∷ []) root
 begins_more word root k begins = (begins.0 ++ k ∷ [], ap (λ (xs : List ℕ). xs ++ k ∷ []) begins.1 ∙ append_assoc root begins.0 (k ∷ []))
 
-pub opened : (p : Problem) (root : List ℕ) (floor : ℕ) → IsFront p root → (IsLawfulWord p root → floor ≤ word_cost p root) → Progress p root root 0 1 floor
-opened p root floor front kept = record {
-  under = itself root;
-  seen = seen_more p root root (root ++ 0 ∷ []) 0 front (itself root) (not_from_longer root [] 0) (λ w from. from_shorter root (0 ∷ []) w from) (none_seen p root root);
-  others = λ w lawful begins. elim (front_or_behind root w (rw begins.1 (from_shorter root begins.0 (root ++ begins.0) (from_itself (root ++ begins.0))))) [
-    | inl same ↦ inr (let cost : word_cost p w ≡ word_cost p root = ap (word_cost p) same in omega (arith, kept (subst (IsLawfulWord p) same lawful), cost))
-    | inr behind ↦ inl behind
-  ];
+-- ---- what is not before the plan that was found
+
+-- the floor falls
+floor_falls : (p : Problem) (floor lower : ℕ) (first : Option PricedPlan) (w : List ℕ) → lower ≤ floor → IsNotBefore p floor first w → IsNotBefore p lower first w
+floor_falls p floor lower first w falls (inl above) = inl (omega (arith, falls, above))
+floor_falls p floor lower first w falls (inr behind) = inr behind
+
+-- a cheaper plan is found
+cheaper_found : (p : Problem) (floor lower : ℕ) (old : Option PricedPlan) (plan : PricedPlan) (w : List ℕ) → lower ≤ floor → ForSome old (λ before. plan.cost < before.cost) → IsNotBefore p floor old w → IsNotBefore p lower (Some plan) w
+cheaper_found p floor lower old plan w falls less (inl above) = inl (omega (arith, falls, above))
+cheaper_found p floor lower None plan w falls less (inr never) = absurd never
+cheaper_found p floor lower (Some before) plan w falls less (inr behind) = inr (λ comes. elim comes [
+  | inl cheaper ↦ behind (inl (omega (arith, cheaper, less before refl)))
+  | inr as_much ↦ behind (inl (omega (arith, as_much.0, less before refl)))
+])
+
+-- the plan's own word is not before it
+found_itself : (p : Problem) (floor : ℕ) (word : List ℕ) (plan : PricedPlan) → IsFoundAt p word plan → IsNotBefore p floor (Some plan) word
+found_itself p floor word plan found = inr (λ comes. elim comes [
+  | inl cheaper ↦ omega (arith, cheaper, found.priced)
+  | inr as_much ↦ not_before_itself word (subst (IsEarlier word) found.is_word as_much.1)
+])
+
+-- words from the candidate on that are of no use are not before the plan: its word was looked at before
+pub no_use : (p : Problem) (candidate : List ℕ) (floor least own : ℕ) (first : Option PricedPlan) (w : List ℕ) → floor ≤ least → own ≡ cost_of first → word_cost p w < NO_COST → ForSome first (λ plan. IsFrom candidate (word_of plan.routes) → ⊥)
+    → IsFrom candidate w → (least < word_cost p w) ⊎ (own ≤ word_cost p w) → IsNotBefore p floor first w
+no_use p candidate floor least own first w answered is small passed from (inl above) = inl (omega (arith, answered, above))
+no_use p candidate floor least own None w answered is small passed from (inr no_less) = absurd (let most : own ≡ NO_COST = is in omega (arith, most, small, no_less))
+no_use p candidate floor least own (Some plan) w answered is small passed from (inr no_less) = inr (λ comes.
+    let cost : own ≡ plan.cost = is in
+    elim comes [
+      | inl cheaper ↦ omega (arith, cheaper, cost, no_less)
+      | inr as_much ↦ none_earlier candidate w (word_of plan.routes) from (passed plan refl) as_much.1
+    ])
+
+-- ---- steps
+
+found_under : (p : Problem) (root word : List ℕ) (plan : PricedPlan) → IsLawfulWord p word → BeginsWith word root → IsFoundAt p word plan → IsFoundUnder p root plan
+found_under p root word plan lawful under found = record {
+  plan_of = found.plan_of;
+  word = subst (IsLawfulWord p) (sym found.is_word) lawful;
+  under = subst (λ (w : List ℕ). BeginsWith w root) (sym found.is_word) under;
 }
+
+abbrev some_plan : PricedPlan → Option PricedPlan → PricedPlan
+some_plan other None = other
+some_plan other (Some plan) = plan
+
+-- a plan is itself
+one_plan : (plan other : PricedPlan) → Some plan ≡ Some other → plan ≡ other
+one_plan plan other is = ap (some_plan plan) is
+
+no_plan : (plan : PricedPlan) → None ≡ Some plan → ⊥
+no_plan plan is = absurd (cc)
+
+cost_is : (first : Option PricedPlan) (plan : PricedPlan) → first ≡ Some plan → cost_of first ≡ plan.cost
+cost_is first plan is = ap cost_of is
+
+pub opened : (p : Problem) (root : List ℕ) (floor : ℕ) (first : Option PricedPlan) → IsFront p root → IsKept p root floor None first → Progress p root root 0 1 floor first
+opened p root floor first front kept = elim kept [
+  | inl taken ↦ subst (Progress p root root 0 1 floor) (sym taken.is) (record {
+    under = itself root;
+    seen = once;
+    others = λ w lawful begins. elim (here_or_behind w begins) [
+      | inl same ↦ inr (subst (IsNotBefore p floor (Some taken.plan)) (sym same) (found_itself p floor root taken.plan taken.found_at))
+      | inr behind ↦ inl behind
+    ];
+    found = λ plan is. subst (IsFoundUnder p root) (one_plan taken.plan plan is) (found_under p root root taken.plan taken.lawful (itself root) taken.found_at);
+    behind = λ plan is from. not_from_longer root [] 0 (subst (IsFrom (root ++ 0 ∷ [])) (ap (λ (v : PricedPlan). word_of v.routes) (sym (one_plan taken.plan plan is)) ∙ taken.found_at.is_word) from);
+    offered = λ plan is. subst (λ (v : PricedPlan). floor ≤ v.cost) (one_plan taken.plan plan is) taken.below;
+  })
+  | inr nothing ↦ subst (Progress p root root 0 1 floor) (sym nothing.1) (record {
+    under = itself root;
+    seen = once;
+    others = λ w lawful begins. elim (here_or_behind w begins) [
+      | inl same ↦ absurd (nothing.0 (subst (IsLawfulWord p) same lawful))
+      | inr behind ↦ inl behind
+    ];
+    found = λ plan is. absurd (no_plan plan is);
+    behind = λ plan is. absurd (no_plan plan is);
+    offered = λ plan is. absurd (no_plan plan is);
+  })
+]
+  where
+    once : Seen p root (root ++ 0 ∷ []) 1
+    once = seen_more p root root (root ++ 0 ∷ []) 0 front (itself root) (not_from_longer root [] 0) (λ w from. from_shorter root (0 ∷ []) w from) (none_seen p root root)
+
+    here_or_behind : (w : List ℕ) → BeginsWith w root → (w ≡ root) ⊎ IsFrom (root ++ 0 ∷ []) w
+    here_or_behind w begins = front_or_behind root w (rw begins.1 (from_shorter root begins.0 (root ++ begins.0) (from_itself (root ++ begins.0))))
 
 no_word_under : (p : Problem) (front word : List ℕ) (k : ℕ) → IsLawfulWord p word → BeginsWith word (front ++ k ∷ []) → IsFront p (front ++ k ∷ [])
 no_word_under p front word k lawful begins = fronts_before p (front ++ k ∷ []) begins.0 (subst (IsFront p) begins.1 lawful.front)
@@ -85,11 +179,19 @@ from_child p word next k child w lawful from = elim (sibling_or_behind word next
   | inr behind ↦ behind
 ]
 
+not_behind : (front : List ℕ) (j : ℕ) → IsFrom (front ++ (j + 1) ∷ []) (front ++ j ∷ []) → ⊥
+not_behind [] j (inl above) = omega (arith, above)
+not_behind [] j (inr here) = omega (arith, here.0)
+not_behind (i ∷ front) j (inl above) = omega (arith, above)
+not_behind (i ∷ front) j (inr here) = not_behind front j here.1
+
 -- a child that isn't gone below
-pub pruned : (p : Problem) (root word : List ℕ) (next k spent floor lower : ℕ) → Progress p root word next spent floor → IsNextChild p word next k → lower ≤ floor → NoneCheaperUnder p (word ++ k ∷ []) lower
-    → Progress p root word (k + 1) (spent + 1) lower
-pruned p root word next k spent floor lower progress child falls none =
+pub pruned : (p : Problem) (root word : List ℕ) (next k spent floor lower : ℕ) (first : Option PricedPlan) → Progress p root word next spent floor first → IsNextChild p word next k → lower ≤ floor
+    → ((w : List ℕ) → IsLawfulWord p w → IsFrom (word ++ next ∷ []) w → BeginsWith w (word ++ k ∷ []) → IsNotBefore p lower first w)
+    → Progress p root word (k + 1) (spent + 1) lower first
+pruned p root word next k spent floor lower first progress child falls none =
     let to_child : (w : List ℕ) → IsFrom (word ++ k ∷ []) w → IsFrom (word ++ next ∷ []) w = λ w from. from_sibling word next k w child.within from in
+    let to_next : (w : List ℕ) → IsFrom (word ++ (k + 1) ∷ []) w → IsFrom (word ++ next ∷ []) w = λ w from. to_child w (from_sibling word k (k + 1) w (omega arith) from) in
     let at_child = seen_later p root (word ++ next ∷ []) (word ++ k ∷ []) spent to_child progress.seen in
     record {
       under = progress.under;
@@ -99,39 +201,60 @@ pruned p root word next k spent floor lower progress child falls none =
       others = λ w lawful begins. elim (progress.others w lawful begins) [
         | inl from ↦ elim (sibling_or_behind word k (k + 1) w (from_child p word next k child w lawful from)) [
           | inl between ↦ inr (let same : between.under.symbol ≡ k = omega (arith, between.under.within, between.before) in
-              none w lawful (subst (λ j. BeginsWith w (word ++ j ∷ [])) same between.under.begins))
+              none w lawful from (subst (λ j. BeginsWith w (word ++ j ∷ [])) same between.under.begins))
           | inr behind ↦ inl behind
         ]
-        | inr done ↦ inr (omega (arith, done, falls))
+        | inr done ↦ inr (floor_falls p floor lower first w falls done)
       ];
+      found = progress.found;
+      behind = λ plan is from. progress.behind plan is (to_next (word_of plan.routes) from);
+      offered = λ plan is. omega (arith, falls, progress.offered plan is);
     }
-  where
-    not_behind : (front : List ℕ) (j : ℕ) → IsFrom (front ++ (j + 1) ∷ []) (front ++ j ∷ []) → ⊥
-    not_behind [] j (inl above) = omega (arith, above)
-    not_behind [] j (inr here) = omega (arith, here.0)
-    not_behind (i ∷ front) j (inl above) = omega (arith, above)
-    not_behind (i ∷ front) j (inr here) = not_behind front j here.1
 
--- a child that is gone below
-pub descended : (p : Problem) (root word : List ℕ) (next k spent floor lower : ℕ) → Progress p root word next spent floor → IsNextChild p word next k → lower ≤ floor
-    → (IsLawfulWord p (word ++ k ∷ []) → lower ≤ word_cost p (word ++ k ∷ [])) → Progress p root (word ++ k ∷ []) 0 (spent + 1) lower
-descended p root word next k spent floor lower progress child falls kept =
-    let to_child : (w : List ℕ) → IsFrom (word ++ k ∷ []) w → IsFrom (word ++ next ∷ []) w = λ w from. from_sibling word next k w child.within from in
-    let at_child = seen_later p root (word ++ next ∷ []) (word ++ k ∷ []) spent to_child progress.seen in
-    let under = begins_more word root k progress.under in
-    record {
-      under = under;
-      seen = seen_more p root (word ++ k ∷ []) ((word ++ k ∷ []) ++ 0 ∷ []) spent child.child under
-          (not_from_longer (word ++ k ∷ []) [] 0)
-          (λ w from. from_shorter (word ++ k ∷ []) (0 ∷ []) w from) at_child;
-      others = λ w lawful begins. elim (progress.others w lawful begins) [
-        | inl from ↦ elim (front_or_behind (word ++ k ∷ []) w (from_child p word next k child w lawful from)) [
-          | inl same ↦ inr (let cost : word_cost p w ≡ word_cost p (word ++ k ∷ []) = ap (word_cost p) same in omega (arith, kept (subst (IsLawfulWord p) same lawful), cost))
-          | inr behind ↦ inl behind
-        ]
-        | inr done ↦ inr (omega (arith, done, falls))
-      ];
-    }
+-- a child that is gone below: less is paid along it than for the plan that was found before
+pub descended : (p : Problem) (root word : List ℕ) (next k spent floor lower : ℕ) (first new : Option PricedPlan) → Progress p root word next spent floor first → IsNextChild p word next k → lower ≤ floor
+    → word_cost p (word ++ k ∷ []) < cost_of first → IsKept p (word ++ k ∷ []) lower first new → Progress p root (word ++ k ∷ []) 0 (spent + 1) lower new
+descended p root word next k spent floor lower first new progress child falls cheaper kept = elim kept [
+  | inl taken ↦ subst (Progress p root (word ++ k ∷ []) 0 (spent + 1) lower) (sym taken.is) (record {
+    under = under;
+    seen = more;
+    others = λ w lawful begins. elim (progress.others w lawful begins) [
+      | inl from ↦ elim (front_or_behind (word ++ k ∷ []) w (from_child p word next k child w lawful from)) [
+        | inl same ↦ inr (subst (IsNotBefore p lower (Some taken.plan)) (sym same) (found_itself p lower (word ++ k ∷ []) taken.plan taken.found_at))
+        | inr behind ↦ inl behind
+      ]
+      | inr done ↦ inr (cheaper_found p floor lower first taken.plan w falls (λ before is. omega (arith, taken.found_at.priced, cheaper, cost_is first before is)) done)
+    ];
+    found = λ plan is. subst (IsFoundUnder p root) (one_plan taken.plan plan is) (found_under p root (word ++ k ∷ []) taken.plan taken.lawful under taken.found_at);
+    behind = λ plan is from. not_from_longer (word ++ k ∷ []) [] 0 (subst (IsFrom ((word ++ k ∷ []) ++ 0 ∷ [])) (ap (λ (v : PricedPlan). word_of v.routes) (sym (one_plan taken.plan plan is)) ∙ taken.found_at.is_word) from);
+    offered = λ plan is. subst (λ (v : PricedPlan). lower ≤ v.cost) (one_plan taken.plan plan is) taken.below;
+  })
+  | inr nothing ↦ subst (Progress p root (word ++ k ∷ []) 0 (spent + 1) lower) (sym nothing.1) (record {
+    under = under;
+    seen = more;
+    others = λ w lawful begins. elim (progress.others w lawful begins) [
+      | inl from ↦ elim (front_or_behind (word ++ k ∷ []) w (from_child p word next k child w lawful from)) [
+        | inl same ↦ absurd (nothing.0 (subst (IsLawfulWord p) same lawful))
+        | inr behind ↦ inl behind
+      ]
+      | inr done ↦ inr (floor_falls p floor lower first w falls done)
+    ];
+    found = progress.found;
+    behind = λ plan is from. progress.behind plan is (to_child (word_of plan.routes) (from_shorter (word ++ k ∷ []) (0 ∷ []) (word_of plan.routes) from));
+    offered = λ plan is. omega (arith, falls, progress.offered plan is);
+  })
+]
+  where
+    to_child : (w : List ℕ) → IsFrom (word ++ k ∷ []) w → IsFrom (word ++ next ∷ []) w
+    to_child w from = from_sibling word next k w child.within from
+
+    under : BeginsWith (word ++ k ∷ []) root
+    under = begins_more word root k progress.under
+
+    more : Seen p root ((word ++ k ∷ []) ++ 0 ∷ []) (spent + 1)
+    more = seen_more p root (word ++ k ∷ []) ((word ++ k ∷ []) ++ 0 ∷ []) spent child.child under
+        (not_from_longer (word ++ k ∷ []) [] 0)
+        (λ w from. from_shorter (word ++ k ∷ []) (0 ∷ []) w from) (seen_later p root (word ++ next ∷ []) (word ++ k ∷ []) spent to_child progress.seen)
 
 begins_less : (word rest root : List ℕ) (k : ℕ) → word ++ k ∷ [] ≡ root ++ rest → length root ≤ length word → BeginsWith word root
 begins_less word rest [] k is le = (word, refl)
@@ -143,9 +266,9 @@ begins_less (j ∷ word) rest (i ∷ root) k is le =
     (more.0, let whole = more.1 in cc)
 
 -- no child is left: back to the front that is one symbol shorter
-pub returned : (p : Problem) (root word : List ℕ) (last next spent floor : ℕ) → Progress p root (word ++ last ∷ []) next spent floor → NoChildFrom p (word ++ last ∷ []) next → length root ≤ length word
-    → Progress p root word (last + 1) spent floor
-returned p root word last next spent floor progress none longer =
+pub returned : (p : Problem) (root word : List ℕ) (last next spent floor : ℕ) (first : Option PricedPlan) → Progress p root (word ++ last ∷ []) next spent floor first → NoChildFrom p (word ++ last ∷ []) next → length root ≤ length word
+    → Progress p root word (last + 1) spent floor first
+returned p root word last next spent floor first progress none longer =
     record {
       under = begins_less word progress.under.0 root last progress.under.1 longer;
       seen = seen_later p root ((word ++ last ∷ []) ++ next ∷ []) (word ++ (last + 1) ∷ []) spent (λ w from. from_next word last next w from) progress.seen;
@@ -156,6 +279,9 @@ returned p root word last next spent floor progress none longer =
         ]
         | inr done ↦ inr done
       ];
+      found = progress.found;
+      behind = λ plan is from. progress.behind plan is (from_next word last next (word_of plan.routes) from);
+      offered = progress.offered;
     }
 
 same_as_root : (word root rest : List ℕ) → word ≡ root ++ rest → length word ≡ length root → word ≡ root
@@ -163,8 +289,9 @@ same_as_root word root [] is as_long = is ∙ append-nil root
 same_as_root word root (k ∷ rest) is as_long = absurd (omega (arith, as_long, ap length is, length-append root (k ∷ rest)))
 
 -- no child is left, and none of the root's
-pub finished : (p : Problem) (root word : List ℕ) (next spent floor : ℕ) → Progress p root word next spent floor → NoChildFrom p word next → length word ≡ length root → NoneCheaperUnder p root floor
-finished p root word next spent floor progress none as_long = λ w lawful begins.
+pub finished : (p : Problem) (root word : List ℕ) (next spent floor : ℕ) (first : Option PricedPlan) → Progress p root word next spent floor first → NoChildFrom p word next → length word ≡ length root
+    → (w : List ℕ) → IsLawfulWord p w → BeginsWith w root → IsNotBefore p floor first w
+finished p root word next spent floor first progress none as_long = λ w lawful begins.
     let same : word ≡ root = same_as_root word root progress.under.0 progress.under.1 as_long in
     elim (progress.others w lawful begins) [
       | inl from ↦
@@ -175,8 +302,43 @@ finished p root word next spent floor progress none as_long = λ w lawful begins
       | inr done ↦ done
     ]
 
+-- what is not before the plan that was found costs no less than the floor
+pub costs_floor : (p : Problem) (floor : ℕ) (first : Option PricedPlan) (w : List ℕ) → ForSome first (λ plan. floor ≤ plan.cost) → IsNotBefore p floor first w → floor ≤ word_cost p w
+costs_floor p floor first w offered (inl above) = omega (arith, above)
+costs_floor p floor None w offered (inr never) = absurd never
+costs_floor p floor (Some plan) w offered (inr behind) = elim (cases_lt (word_cost p w) plan.cost) [
+  | inl cheaper ↦ absurd (behind (inl cheaper))
+  | inr no_less ↦ omega (arith, no_less, offered plan refl)
+]
+
 -- a child is left
-pub unfinished : (p : Problem) (root word : List ℕ) (next k spent floor : ℕ) → Progress p root word next spent floor → IsNextChild p word next k → TreeHasAtLeast p root (spent + 1)
-unfinished p root word next k spent floor progress child =
-    let more = pruned p root word next k spent floor 0 progress child (omega arith) (λ w lawful begins. omega arith) in
-    tree_of_seen p root (word ++ (k + 1) ∷ []) (spent + 1) more.seen
+pub unfinished : (p : Problem) (root word : List ℕ) (next k spent floor : ℕ) (first : Option PricedPlan) → Progress p root word next spent floor first → IsNextChild p word next k → TreeHasAtLeast p root (spent + 1)
+unfinished p root word next k spent floor first progress child =
+    let to_child : (w : List ℕ) → IsFrom (word ++ k ∷ []) w → IsFrom (word ++ next ∷ []) w = λ w from. from_sibling word next k w child.within from in
+    let at_child = seen_later p root (word ++ next ∷ []) (word ++ k ∷ []) spent to_child progress.seen in
+    tree_of_seen p root (word ++ (k + 1) ∷ []) (spent + 1) (seen_more p root (word ++ k ∷ []) (word ++ (k + 1) ∷ []) spent child.child (begins_more word root k progress.under)
+        (λ from. not_behind word k from)
+        (λ w from. from_sibling word k (k + 1) w (omega arith) from) at_child)
+
+-- the search of a piece that ends at the piece's own word: no word under it costs as little as the floor
+pub ends_at_root : (p : Problem) (root : List ℕ) (budget floor : ℕ) → IsFront p root → 1 ≤ budget → ((w : List ℕ) → IsLawfulWord p w → BeginsWith w root → floor < word_cost p w) → IsFinished p root budget floor 1 None
+ends_at_root p root budget floor front some above = record {
+  some = omega arith;
+  within = some;
+  tree = tree_of_seen p root (root ++ 0 ∷ []) 1 (seen_more p root root (root ++ 0 ∷ []) 0 front (itself root) (not_from_longer root [] 0) (λ w from. from_shorter root (0 ∷ []) w from) (none_seen p root root));
+  found = λ plan is. absurd (no_plan plan is);
+  none_before = λ w lawful begins. inl (above w lawful begins);
+  none_cheaper = λ w lawful begins. omega (arith, above w lawful begins);
+}
+
+-- the search of a piece that has come by all words
+pub ends_at_last : (p : Problem) (root word : List ℕ) (next spent floor budget : ℕ) (first : Option PricedPlan) → Progress p root word next spent floor first → NoChildFrom p word next → length word ≡ length root → 1 ≤ spent → spent ≤ budget
+    → IsFinished p root budget floor spent first
+ends_at_last p root word next spent floor budget first progress none as_long some within = record {
+  some = some;
+  within = within;
+  tree = tree_of_seen p root (word ++ next ∷ []) spent progress.seen;
+  found = progress.found;
+  none_before = finished p root word next spent floor first progress none as_long;
+  none_cheaper = λ w lawful begins. costs_floor p floor first w progress.offered (finished p root word next spent floor first progress none as_long w lawful begins);
+}

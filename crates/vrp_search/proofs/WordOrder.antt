@@ -1,6 +1,7 @@
 -- The order in which a search comes by words: symbol by symbol, and a word before the longer ones that begin with it.
 use Rattle.std.proofs.Common.{◌≡◌, ℕ, ◌+◌, ◌≤◌, ◌<◌, ◌⊎◌, inl, inr, List, [], ◌∷◌, ◌++◌, refl, arith}
 use Rattle.std.proofs.lemmas.Bool.{cases_lt}
+use Rattle.vrp_model.specs.Order.{IsEarlier}
 use Rattle.vrp_model.specs.Word.{BeginsWith}
 
 -- the second word is the first one, or comes behind it
@@ -123,3 +124,24 @@ child_of_front [] (j ∷ rest) from is =
     record { symbol = j; within = within; begins = (rest, refl) }
 child_of_front (k ∷ front) rest from (inl above) = absurd (omega (arith, above))
 child_of_front (k ∷ front) rest from (inr here) = one_longer k k (front ++ rest) front from refl (child_of_front front rest from here.1)
+
+-- ---- earlier words
+
+-- what is behind a word that comes from a front on comes from it on too
+from_later : (front word later : List ℕ) → IsFrom front word → IsEarlier word later → IsFrom front later
+from_later [] word later from earlier = tt
+from_later (k ∷ front) [] later from earlier = absurd from
+from_later (k ∷ front) (j ∷ word) [] from earlier = absurd earlier
+from_later (k ∷ front) (j ∷ word) (i ∷ later) (inl above) (inl less) = inl (omega (arith, above, less))
+from_later (k ∷ front) (j ∷ word) (i ∷ later) (inl above) (inr same) = inl (omega (arith, above, same.0))
+from_later (k ∷ front) (j ∷ word) (i ∷ later) (inr here) (inl less) = inl (omega (arith, here.0, less))
+from_later (k ∷ front) (j ∷ word) (i ∷ later) (inr here) (inr same) = inr (omega (arith, here.0, same.0), from_later front word later here.1 same.1)
+
+-- so no word that comes from a front on is earlier than one that doesn't
+pub none_earlier : (front word passed : List ℕ) → IsFrom front word → (IsFrom front passed → ⊥) → IsEarlier word passed → ⊥
+none_earlier front word passed from behind earlier = behind (from_later front word passed from earlier)
+
+pub not_before_itself : (word : List ℕ) → IsEarlier word word → ⊥
+not_before_itself [] earlier = earlier
+not_before_itself (k ∷ word) (inl less) = omega (arith, less)
+not_before_itself (k ∷ word) (inr same) = not_before_itself word same.1

@@ -1,3 +1,5 @@
 -- What inner contracts alone cite: nobody has to believe it.
+pub mod Found
 pub mod Pass
+pub mod Pruned
 pub mod Tallied

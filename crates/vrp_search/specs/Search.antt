@@ -1,13 +1,14 @@
 -- What is known of the words under a front, and how the search of a piece ends.
-use Rattle.std.specs.Prelude.{◌≡◌, ℕ, ◌+◌, ◌≤◌, Option, Some, List}
+use Rattle.std.specs.Prelude.{◌≡◌, ◌⊎◌, ℕ, ◌+◌, ◌≤◌, ◌<◌, MatchOption, Option, Some, List}
 use Rattle.std.specs.List.{All, Contains}
-use Rattle.std.specs.Option.{option_map}
+use Rattle.std.specs.Option.{ForSome, option_map}
 use Rattle.vrp_bound.specs.Bound.{IsLowerBound}
 use Rattle.vrp_bound.specs.Capacity.{IsInsOf}
 use Rattle.vrp_model.specs.Front.{open_load, routes_left}
 use Rattle.vrp_model.specs.Problem.{Problem}
-use Rattle.vrp_model.specs.Route.{load_of}
-use Rattle.vrp_model.specs.Word.{NoneCheaperUnder, TreeHasAtLeast, last_symbol, unserved_in, word_cost}
+use Rattle.vrp_model.specs.Order.{ComesBefore}
+use Rattle.vrp_model.specs.Route.{IsPlanOf, PricedPlan, load_of}
+use Rattle.vrp_model.specs.Word.{BeginsWith, IsLawfulWord, NoneCheaperUnder, TreeHasAtLeast, last_symbol, unserved_in, word_cost, word_of}
 use Rattle.vrp_search.specs.declared.depth_first.Ended.{Ended}
 use Rattle.vrp_search.specs.declared.depth_first.Ended.TheVariants.{Finished, Unfinished}
 
@@ -24,11 +25,24 @@ pub record IsLow (p : Problem) (among front : List ℕ) (low : Option ℕ) : Typ
   pub is_bound : IsLowerBound p among (last_symbol front) (open_load p front) ins (load_of p (unserved_in p front)) (routes_left p front) bound
   pub whole : low ≡ option_map (λ more. word_cost p front + more) bound
 
--- no word under the front costs less than the floor
-pub record IsFinished (p : Problem) (front : List ℕ) (budget floor spent : ℕ) : Type 0 where
+-- a lawful plan with its true cost, whose word is a lawful one under the front
+pub record IsFoundUnder (p : Problem) (front : List ℕ) (plan : PricedPlan) : Type 0 where
+  pub plan_of : IsPlanOf p plan
+  pub word : IsLawfulWord p (word_of plan.routes)
+  pub under : BeginsWith (word_of plan.routes) front
+
+-- the word costs more than the floor, or is not before the plan, if there is one
+abbrev pub IsNotBefore : Problem → ℕ → Option PricedPlan → List ℕ → Type 0
+IsNotBefore p floor first word = (floor < word_cost p word) ⊎ MatchOption first ⊥ (λ plan. ComesBefore (word_cost p word) word plan.cost (word_of plan.routes) → ⊥)
+
+-- each word under the front costs more than the floor, or is not before the first plan found there, if there is one
+pub record IsFinished (p : Problem) (front : List ℕ) (budget floor spent : ℕ) (first : Option PricedPlan) : Type 0 where
   pub some : 1 ≤ spent
   pub within : spent ≤ budget
   pub tree : TreeHasAtLeast p front spent
+  pub found : ForSome first (IsFoundUnder p front)
+  pub none_before : (word : List ℕ) → IsLawfulWord p word → BeginsWith word front → IsNotBefore p floor first word
+  -- so none costs less than the floor
   pub none_cheaper : NoneCheaperUnder p front floor
 
 -- the budget is spent, and the front's tree is above it
@@ -39,5 +53,5 @@ pub record IsUnfinished (p : Problem) (among front : List ℕ) (budget spent low
   pub none_cheaper : NoneCheaperUnder p front low
 
 abbrev pub EndsSearch : Problem → List ℕ → List ℕ → ℕ → ℕ → Ended → Type 0
-EndsSearch p among front budget floor (Finished spent) = IsFinished p front budget floor spent
+EndsSearch p among front budget floor (Finished spent first) = IsFinished p front budget floor spent first
 EndsSearch p among front budget floor (Unfinished spent low) = IsUnfinished p among front budget spent low

@@ -1,30 +1,33 @@
-//! The search of a piece, depth first: it goes below a partial plan only where that may lead to a cheaper plan.
-ghost use Rattle.std.specs.Prelude.{◌≡◌, ◌≤◌, IfOk, OnOk};
-ghost use Rattle.vrp_model.specs.Word.{IsFront, IsLawfulWord, word_cost};
+//! The search of a piece, depth first: it goes below a partial plan only where a plan under it may be of use.
+ghost use Rattle.std.specs.Prelude.{◌≡◌, ◌≤◌, IfOk};
+ghost use Rattle.vrp_model.specs.Word.{IsFront};
 ghost use Rattle.vrp_search.specs.Search.{AreCovered, EndsSearch};
 
 use crate::board::Board;
+use crate::found::Found;
 use crate::partial::Partial;
 use crate::piece::Piece;
 use std::alloc::Global;
 use vrp_bound::{Tables, bounds_hold};
-use vrp_model::{Instance, NoMemory, dead_fronts};
+use vrp_model::{Instance, NoMemory, Plan, dead_fronts, plans_cost_less, words_are_plans};
 
 /// How the search of a piece ended.
-#[derive(Clone, Copy, Debug, PartialEq, Eq)]
+#[derive(Debug, Drop)]
 pub enum Ended {
-    /// No plan under the piece costs less than the board's floor. So many partial plans were looked at.
-    Finished { spent: u64 },
+    /// Each plan under the piece costs more than the board's floor, or is not before `first`: the last plan that the search
+    /// offered, which is before all others that it offered. So none costs less than the floor. So many partial plans were looked
+    /// at.
+    Finished { spent: u64, first: Option<Plan> },
     /// The budget was spent before the whole tree was looked at. No plan under the piece costs less than `low`, which is what
     /// is paid along the piece's word, and the bound on what is still to pay there.
     Unfinished { spent: u64, low: u64 },
 }
 
-/// Searches the plans under a piece, and offers those to the board that may be cheaper than all that it knows. It looks at
-/// no more partial plans than the budget says, at each at most once, and at the piece's own word first. It doesn't go below
-/// one whose cost and bound together are not under what the board answers, or whose bound says that no plan is under it, or that
-/// is dead. The tables are over all customers that the piece leaves unserved, and may be over more. Where memory is refused the
-/// board has the offers that were made before.
+/// Searches the plans under a piece, and offers those to the board that may be before all that it knows. It looks at no more
+/// partial plans than the budget says, at each at most once, at the piece's own word first, and at children by rising symbol. It
+/// doesn't go below one whose cost and bound together are above what the board answers, or not under the cost of the last plan that
+/// it offered, or whose bound says that no plan is under it, or that is dead. The tables are over all customers that the piece
+/// leaves unserved, and may be over more. Where memory is refused the board has the offers that were made before.
 pub fn search<B: Board>(
     alloc: Global,
     instance: &Instance,
@@ -45,19 +48,23 @@ pub fn search<B: Board>(
     let front = piece.word();
     let mut partial = Partial::at_front(alloc, instance, front)?;
     let mut spent = 1;
-    // Below no front is anything cheaper than its cost and bound, and below a dead one there is nothing.
+    // Below no front is anything cheaper than its cost and bound, below a dead one there is nothing, and all plans cost less than
+    // `NO_COST`.
     bounds_hold();
     dead_fronts();
+    words_are_plans();
+    plans_cost_less();
     if partial.is_dead() {
-        return Ok(Ended::Finished { spent });
+        return Ok(Ended::Finished { spent, first: None });
     }
     let Some(low) = partial.low(tables) else {
-        return Ok(Ended::Finished { spent });
+        return Ok(Ended::Finished { spent, first: None });
     };
-    if board.least() <= low {
-        return Ok(Ended::Finished { spent });
+    if board.least() < low {
+        return Ok(Ended::Finished { spent, first: None });
     }
-    offer_complete(alloc, &partial, board)?;
+    let mut found = Found::nothing();
+    found.offer_complete(alloc, &partial, board)?;
     let mut next = 0;
     loop {
         match partial.next_child(next) {
@@ -65,39 +72,21 @@ pub fn search<B: Board>(
             Some(symbol) => {
                 spent += 1;
                 let least = board.least();
-                let tally = partial.tally_after(symbol);
-                let is_dead = partial.child_is_dead(symbol, tally);
-                if !is_dead && partial.child_low(tables, symbol, tally).unwrap_or(least) < least {
+                if let Some(tally) = partial.promising(tables, symbol, least, found.cost()) {
                     partial.push_counted(symbol, tally);
-                    offer_complete(alloc, &partial, board)?;
+                    found.offer_complete(alloc, &partial, board)?;
                     next = 0;
                 } else {
                     next = symbol + 1;
                 }
             }
-            None if partial.word().len() == front.len() => return Ok(Ended::Finished { spent }),
+            None if partial.word().len() == front.len() => {
+                let first = found.into_plan();
+                return Ok(Ended::Finished { spent, first });
+            }
             None => next = partial.pop() + 1,
         }
     }
-}
-
-// Offers the plan of a complete word. Few are complete, and the test comes at each push.
-#[inline(always)]
-fn offer_complete<B: Board>(
-    alloc: Global,
-    partial: &Partial<'_>,
-    board: &mut B,
-) -> Result<(), NoMemory>
-    requires { B.serves board.old partial.now.problem }
-    ensures serves { B.serves board.new partial.now.problem }
-    ensures falls { B.floor board.new ≤ B.floor board.old }
-    ensures offered { OnOk result (IsLawfulWord partial.now.problem partial.now.word → B.floor board.new ≤ word_cost partial.now.problem partial.now.word) }
-{
-    if partial.complete() {
-        let plan = partial.plan(alloc)?;
-        board.offer(alloc, &plan)?;
-    }
-    Ok(())
 }
 
 #[cfg(test)]

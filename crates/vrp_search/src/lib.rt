@@ -4,6 +4,7 @@
 mod board;
 mod cutting;
 mod depth_first;
+mod found;
 mod law;
 mod local;
 mod partial;

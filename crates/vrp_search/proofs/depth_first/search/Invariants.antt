@@ -2,15 +2,15 @@ use Rattle.std.proofs.Common.{◌≡◌, ◌≤◌, ◌+◌, ◌*◌, ◌-◌, l
 use Rattle.vrp_search.proofs.SearchProgress.{Progress}
 use Rattle.vrp_search.proofs.depth_first.search.Given as goal
 
-abbrev pub invariant-loop-partial : goal.invariant-loop-partial
-invariant-loop-partial g l = record {
+abbrev pub invariant-loop-found : goal.invariant-loop-found
+invariant-loop-found g l = record {
   problem : l.partial.problem ≡ l.instance;
-  progress : Progress l.instance l.piece.word l.partial.word l.next l.spent (g.B.Board.floor l.board);
+  progress : Progress l.instance l.piece.word l.partial.word l.next l.spent (g.B.Board.floor l.board) l.found.plan;
   serves : g.B.Board.serves l.board l.instance;
   falls : g.B.Board.floor l.board ≤ g.B.Board.floor l.fn.board;
   some : 1 ≤ l.spent;
   within : l.spent ≤ l.budget;
 }
 
-abbrev pub decreases-loop-partial : goal.decreases-loop-partial
-decreases-loop-partial g l = 2 * (l.budget - l.spent) + length l.partial.word
+abbrev pub decreases-loop-found : goal.decreases-loop-found
+decreases-loop-found g l = 2 * (l.budget - l.spent) + length l.partial.word

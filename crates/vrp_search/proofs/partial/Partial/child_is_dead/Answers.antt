@@ -5,8 +5,8 @@ use Rattle.vrp_search.specs.Partial.{PartialPlan}
 use Rattle.vrp_search.proofs.GreatestUnserved.{dead_told, told_dead}
 use Rattle.vrp_search.proofs.partial.Partial.child_is_dead.Goals as goal
 
-pub returns-then-symmetric : goal.returns-then-symmetric
-returns-then-symmetric c =
+pub returns-then-symmetric-clause-dead : goal.returns-then-symmetric-clause-dead
+returns-then-symmetric-clause-dead c =
     let p = c.args.self.now.problem in
     let word = c.args.self.now.word in
     let k = c.args.symbol in
@@ -17,8 +17,8 @@ returns-then-symmetric c =
       λ dead. c.is_dead.ensures.1 (dead_told p (word ++ k ∷ []) t k c.requires at dead),
     )
 
-pub returns-else-symmetric : goal.returns-else-symmetric
-returns-else-symmetric c = (
+pub returns-else-symmetric-clause-dead : goal.returns-else-symmetric-clause-dead
+returns-else-symmetric-clause-dead c = (
   λ told. absurd (let never : false ≡ true = sym c.if-symmetric.false ∙ told in cc),
   λ dead. c.symmetric.ensures.1 (subst (λ (v : PartialPlan). IsSymmetric v.problem) (sym c.self.view_is) dead.symmetric),
 )

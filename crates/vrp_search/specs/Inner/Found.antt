@@ -1,0 +1,24 @@
+-- What a search knows of the plan that it found last.
+use Rattle.std.specs.Prelude.{◌≡◌, ◌⊎◌, ℕ, ◌≤◌, Option, Some, List}
+use Rattle.vrp_model.specs.Cheapest.{cost_of}
+use Rattle.vrp_model.specs.Problem.{Problem}
+use Rattle.vrp_model.specs.Route.{IsPlanOf, PricedPlan}
+use Rattle.vrp_model.specs.Word.{IsLawfulWord, word_cost, word_of}
+
+-- the plan of this word, and what it costs
+pub record IsFoundAt (p : Problem) (word : List ℕ) (plan : PricedPlan) : Type 0 where
+  pub plan_of : IsPlanOf p plan
+  pub is_word : word_of plan.routes ≡ word
+  pub priced : plan.cost ≡ word_cost p word
+
+-- the plan of this word is found, and a floor is not above what it costs
+pub record IsTaken (p : Problem) (word : List ℕ) (floor : ℕ) (found : Option PricedPlan) : Type 0 where
+  pub lawful : IsLawfulWord p word
+  pub plan : PricedPlan
+  pub is : found ≡ Some plan
+  pub found_at : IsFoundAt p word plan
+  pub below : floor ≤ plan.cost
+
+-- a complete word's plan is found; at any other word what was found before stays
+abbrev pub IsKept : Problem → List ℕ → ℕ → Option PricedPlan → Option PricedPlan → Type 0
+IsKept p word floor old new = IsTaken p word floor new ⊎ ((IsLawfulWord p word → ⊥) × (new ≡ old))

@@ -1,0 +1,15 @@
+-- When a plan under a front may be of use to a search, and when none is.
+use Rattle.std.specs.Prelude.{◌⊎◌, ℕ, ◌≤◌, ◌<◌, List}
+use Rattle.vrp_model.specs.Problem.{Problem}
+use Rattle.vrp_model.specs.Word.{BeginsWith, IsLawfulWord, word_cost}
+use Rattle.vrp_search.specs.Inner.Tallied.{IsTally}
+use Rattle.vrp_search.specs.declared.tally.Tally.{Tally}
+
+-- each plan under the front costs more than what was answered, or no less than the plan that this search has found
+abbrev pub NoneOfUse : Problem → List ℕ → ℕ → ℕ → Type 0
+NoneOfUse p front least own = (word : List ℕ) → IsLawfulWord p word → BeginsWith word front → (least < word_cost p word) ⊎ (own ≤ word_cost p word)
+
+-- this is counted along the front, and less is paid along it than for the plan that this search has found
+pub record IsPromising (p : Problem) (front : List ℕ) (own : ℕ) (tally : Tally) : Type 0 where
+  pub counted : IsTally p front tally
+  pub cheaper : tally.cost < own

@@ -1,0 +1,68 @@
+//! The plan that a search has found: the last one that it offered to its board.
+ghost use Rattle.std.specs.Prelude.{◌≡◌, ◌≤◌, OnOk, None};
+ghost use Rattle.vrp_model.specs.Cheapest.{cost_of};
+ghost use Rattle.vrp_search.specs.Inner.Found.{IsKept};
+
+use crate::board::Board;
+use crate::partial::Partial;
+use std::alloc::Global;
+use vrp_model::{NO_COST, NoMemory, Plan};
+
+/// The last plan that a search offered, if any. It costs less than those that were offered before.
+#[derive(Drop)]
+pub(crate) struct Found {
+    plan: Option<Plan>,
+    // What the plan costs, `NO_COST` where there is none: asked at each partial plan that is looked at.
+    cost: u64,
+    ghost priced: { cost ≡ cost_of plan },
+}
+
+impl Found {
+    /// Nothing is found yet.
+    pub(crate) fn nothing() -> Found
+        ensures { result.plan ≡ None }
+    {
+        Found {
+            plan: None,
+            cost: NO_COST,
+        }
+    }
+
+    /// What the plan costs, `NO_COST` where there is none.
+    #[inline(always)]
+    pub(crate) fn cost(&self) -> u64
+        ensures { result ≡ cost_of self.now.plan }
+    {
+        self.cost
+    }
+
+    /// The plan.
+    pub(crate) fn into_plan(self) -> Option<Plan>
+        ensures { result ≡ self.plan }
+    {
+        self.plan
+    }
+
+    /// Offers the plan of a complete word to the board, and keeps it.
+    // Few are complete, and the test comes at each push.
+    #[inline(always)]
+    pub(crate) fn offer_complete<B: Board>(
+        &mut self,
+        alloc: Global,
+        partial: &Partial<'_>,
+        board: &mut B,
+    ) -> Result<(), NoMemory>
+        requires { B.serves board.old partial.now.problem }
+        ensures serves { B.serves board.new partial.now.problem }
+        ensures falls { B.floor board.new ≤ B.floor board.old }
+        ensures kept { OnOk result (IsKept partial.now.problem partial.now.word (B.floor board.new) self.old.plan self.new.plan) }
+    {
+        if partial.complete() {
+            let plan = partial.plan(alloc)?;
+            board.offer(alloc, &plan)?;
+            self.cost = plan.cost();
+            self.plan = Some(plan);
+        }
+        Ok(())
+    }
+}
