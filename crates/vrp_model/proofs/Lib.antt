@@ -17,6 +17,7 @@ pub mod FrontsBefore
 pub mod InstanceLemmas
 pub mod LastRoute
 pub mod LeastWayLemmas
+pub mod Ordered
 pub mod PlacesLemmas
 pub mod PlanLemmas
 pub mod PlanWords
