@@ -10,6 +10,7 @@ pub mod DistinctLists
 pub mod DistinctWithin
 pub mod Euclid
 pub mod FilledSquare
+pub mod FirstPlans
 pub mod FewTrucks
 pub mod FrontPlaces
 pub mod FrontWithSymbol

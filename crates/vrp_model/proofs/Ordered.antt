@@ -1,11 +1,12 @@
 -- The order of words, and of plans by cost and then by word: strict and total.
-use Rattle.std.proofs.Common.{◌≡◌, ℕ, ◌<◌, Less, Equal, Greater, Bool, true, nat_lt, ◌==◌, List, [], ◌∷◌, refl, sym, ◌∙◌, inl, inr, ◌⊎◌, arith}
+use Rattle.std.proofs.Common.{◌≡◌, ℕ, ◌<◌, Less, Equal, Greater, Bool, true, nat_lt, ◌==◌, List, [], ◌∷◌, ◌++◌, length, subst, ap, refl, sym, ◌∙◌, inl, inr, ◌⊎◌, arith}
 use Rattle.std.specs.Cmp.Lexicographic.{slice_cmp}
 use Rattle.std.specs.Ordering.{is_lt, nat_cmp}
-use Rattle.std.specs.Prelude.{IsTrue, ◌↔◌}
+use Rattle.std.specs.Prelude.{IsTrue, ◌↔◌, slice_index}
 use Rattle.std.proofs.lemmas.Bool.{cases_Bool}
 use Rattle.std.proofs.lemmas.Bool.Decides.{nat_tests}
 use Rattle.vrp_model.specs.Order.{ComesBefore, IsEarlier}
+use Rattle.vrp_model.specs.Word.{word_of}
 
 -- one of two numbers is less, or they are equal
 pub three_ways : (j k : ℕ) → (j < k) ⊎ ((j ≡ k) ⊎ (k < j))
@@ -50,6 +51,35 @@ earlier_total (j ∷ word) (k ∷ other) =
         | inr (inr later) ↦ inr (inr (inr (sym same, later)))
       ]
     ]
+
+-- a word is the same as another or earlier
+abbrev pub IsNoLater : List ℕ → List ℕ → Type 0
+IsNoLater word other = (word ≡ other) ⊎ IsEarlier word other
+
+pub not_earlier : (word other : List ℕ) → IsNoLater word other → IsEarlier other word → ⊥
+not_earlier word other (inl same) later = earlier_irreflexive other (subst (λ (xs : List ℕ). IsEarlier other xs) same later)
+not_earlier word other (inr earlier) later = earlier_irreflexive word (earlier_transitive word other word earlier later)
+
+pub no_later_transitive : (word other third : List ℕ) → IsNoLater word other → IsNoLater other third → IsNoLater word third
+no_later_transitive word other third (inl same) (inl level) = inl (same ∙ level)
+no_later_transitive word other third (inl same) (inr later) = inr (subst (λ (xs : List ℕ). IsEarlier xs third) (sym same) later)
+no_later_transitive word other third (inr earlier) (inl level) = inr (subst (IsEarlier word) level earlier)
+no_later_transitive word other third (inr earlier) (inr later) = inr (earlier_transitive word other third earlier later)
+
+-- the same symbols before two words change nothing
+earlier_behind : (front word other : List ℕ) → IsEarlier word other → IsEarlier (front ++ word) (front ++ other)
+earlier_behind [] word other earlier = earlier
+earlier_behind (k ∷ front) word other earlier = inr (refl, earlier_behind front word other earlier)
+
+pub no_later_behind : (front word other : List ℕ) → IsNoLater word other → IsNoLater (front ++ word) (front ++ other)
+no_later_behind front word other (inl same) = inl (ap (λ (xs : List ℕ). front ++ xs) same)
+no_later_behind front word other (inr earlier) = inr (earlier_behind front word other earlier)
+
+-- where the first route begins with a lesser customer, the word is earlier
+pub begins_lower : (route other : List ℕ) (routes others : List (List ℕ)) → 0 < length route → 0 < length other → slice_index route 0 < slice_index other 0 → IsEarlier (word_of (route ∷ routes)) (word_of (other ∷ others))
+begins_lower [] other routes others some more lower = absurd (omega arith)
+begins_lower (j ∷ route) [] routes others some more lower = absurd (omega arith)
+begins_lower (j ∷ route) (k ∷ other) routes others some more lower = inl lower
 
 -- ---- costs and words: a cost and then a word is a list too
 
