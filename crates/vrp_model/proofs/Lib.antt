@@ -6,10 +6,12 @@ pub mod CostLimit
 pub mod CustomerPlaces
 pub mod DeadFronts
 pub mod Distances
+pub mod DecidedPlans
 pub mod DistinctLists
 pub mod DistinctWithin
 pub mod Euclid
 pub mod FilledSquare
+pub mod FirstAmong
 pub mod FirstPlans
 pub mod FewTrucks
 pub mod FrontPlaces

@@ -105,3 +105,8 @@ pub fn equal_words_equal_plans()
 pub fn one_first()
     ensures { (p : Problem) (plan other : PricedPlan) → IsFirst p plan → IsFirst p other → plan ≡ other }
 {}
+
+/// A problem that has a lawful plan has a first one.
+pub fn some_first()
+    ensures { (p : Problem) (routes : List (List ℕ)) → IsProblem p → IsLawful p routes → (plan : PricedPlan) × IsFirst p plan }
+{}
