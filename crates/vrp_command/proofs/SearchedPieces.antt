@@ -10,9 +10,10 @@ use Rattle.std.proofs.lemmas.Bool.Decides.{not_from_Decides}
 use Rattle.std.proofs.lemmas.Slice.Eq.{bytes_eq-Decides}
 use Rattle.std.proofs.lemmas.List.{get_or-map, length-map, take_more}
 use Rattle.vrp_model.specs.Cheapest.{HasNoPlan, IsCheapest, NoneCheaper, cost_of}
+use Rattle.vrp_model.specs.Order.{IsEarlier}
 use Rattle.vrp_model.specs.Problem.{HasTrucks, IsProblem, Problem, customers}
 use Rattle.vrp_model.specs.Route.{IsLawful, IsPlanOf, PricedPlan, plan_cost}
-use Rattle.vrp_model.specs.Word.{BeginsWith, IsLawfulWord, NoneCheaperUnder, word_cost}
+use Rattle.vrp_model.specs.Word.{BeginsWith, IsLawfulWord, NoneCheaperUnder, word_cost, word_of}
 use Rattle.vrp_model.specs.declared.limits.TheConstants.{MAX_NODES, NO_COST}
 use Rattle.vrp_search.specs.Cutting.{HasNoChild, IsCutting, NumberedWord}
 use Rattle.vrp_search.specs.Search.{IsUnfinished}
@@ -204,13 +205,13 @@ abbrev pub OnePiece : Type 0
 OnePiece = (p : Problem) (fronts : List (List ℕ)) (word : List ℕ) → IsCutting p fronts → IsLawfulWord p word
     → (k : ℕ) × (k < length fronts) × BeginsWith word (slice_index_or fronts k []) × ((j : ℕ) → j < length fronts → BeginsWith word (slice_index_or fronts j []) → j ≡ k)
 
--- each lawful plan has a lawful word of the same cost
+-- each lawful plan has a lawful word of the same cost that is no later than its own
 abbrev pub PlansHaveWords : Type 0
-PlansHaveWords = (p : Problem) (routes : List (List ℕ)) → IsLawful p routes → (word : List ℕ) × IsLawfulWord p word × (word_cost p word ≡ plan_cost p routes)
+PlansHaveWords = (p : Problem) (routes : List (List ℕ)) → IsLawful p routes → (word : List ℕ) × IsLawfulWord p word × (word_cost p word ≡ plan_cost p routes) × (IsEarlier (word_of routes) word → ⊥)
 
 words_to_plans : PlansHaveWords → (p : Problem) (cost : ℕ) → ((word : List ℕ) → IsLawfulWord p word → cost ≤ word_cost p word) → NoneCheaper p cost
 words_to_plans have p cost none = λ routes lawful.
-    let (word, lawful_word, price) = have p routes lawful in
+    let (word, lawful_word, price, no_later) = have p routes lawful in
     omega (arith, none word lawful_word, price)
 
 -- no word costs less than the plan and all that is unfinished

@@ -14,5 +14,5 @@ cost_at_most p at (symbol ∷ word) problem = omega (arith, problem.small_weight
 -- no lawful plan costs as much as none
 pub below_no_cost : (p : Problem) (routes : List (List ℕ)) → IsProblem p → IsLawful p routes → plan_cost p routes < NO_COST
 below_no_cost p routes problem lawful =
-    let (word, lawful_word, same) = word_for_plan p routes lawful in
+    let (word, lawful_word, same, no_later) = word_for_plan p routes lawful in
     omega (arith, same, cost_at_most p 0 word problem, word_is_short p word problem lawful_word)

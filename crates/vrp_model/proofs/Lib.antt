@@ -6,10 +6,13 @@ pub mod CostLimit
 pub mod CustomerPlaces
 pub mod DeadFronts
 pub mod Distances
+pub mod DecidedPlans
 pub mod DistinctLists
 pub mod DistinctWithin
 pub mod Euclid
 pub mod FilledSquare
+pub mod FirstAmong
+pub mod FirstPlans
 pub mod FewTrucks
 pub mod FrontPlaces
 pub mod FrontWithSymbol
@@ -17,6 +20,7 @@ pub mod FrontsBefore
 pub mod InstanceLemmas
 pub mod LastRoute
 pub mod LeastWayLemmas
+pub mod Ordered
 pub mod PlacesLemmas
 pub mod PlanLemmas
 pub mod PlanWords

@@ -22,7 +22,7 @@ all_stops_kept (k ∷ stops) free =
     rw here (ap (λ rest. k ∷ rest) (all_stops_kept stops (λ i d lt. free (suc i) d (omega arith))))
 
 -- the customers of closed routes
-served_by : (routes : List (List ℕ)) → AreClosed routes → served_in (word_of routes) ≡ concat routes
+pub served_by : (routes : List (List ℕ)) → AreClosed routes → served_in (word_of routes) ≡ concat routes
 served_by [] are = refl
 served_by (route ∷ routes) are =
     filter-append (λ k. not (k == 0)) (route ++ 0 ∷ []) (word_of routes)

@@ -11,7 +11,9 @@ use Rattle.std.proofs.lemmas.List.Elements.{All-cons, All-nil, Contains-append_l
 use Rattle.std.proofs.lemmas.List.Sorted.{All-permutation, IsPermutation-append_comm, IsPermutation-append_left, IsPermutation-append_right, IsPermutation-cons, IsPermutation-middle, IsPermutation-refl, IsPermutation-sym, IsPermutation-trans, length_permutation, sum_by-IsPermutation}
 use Rattle.vrp_model.specs.Problem.{HasTrucks, Problem, customers}
 use Rattle.vrp_model.specs.Route.{IsLawful, load_of, plan_cost, route_cost}
-use Rattle.vrp_model.specs.Word.{first_stops}
+use Rattle.vrp_model.specs.Word.{first_stops, word_of}
+use Rattle.vrp_model.proofs.Ordered.{IsNoLater, begins_lower, no_later_behind, no_later_transitive}
+use Rattle.vrp_model.proofs.PlanWords.{has_length}
 use Rattle.vrp_model.proofs.DistinctLists.{AreDistinct, AreDistinct-permutation, customers_distinct}
 
 abbrev first_stop : List ℕ → ℕ
@@ -149,3 +151,32 @@ rising_plan p routes lawful =
       rising_firsts (sort_routes routes) (sort_rises routes (distinct_firsts routes distinct lawful.stops)),
       sum_by-IsPermutation (route_cost p) routes (sort_routes routes) moved,
     )
+
+-- ---- the word of the routes in order is no later
+
+insert_no_later : (route : List ℕ) (routes : List (List ℕ)) → 0 < length route → All (λ r. r ≢ []) routes → All (λ r. first_stop route ≢ first_stop r) routes
+    → IsNoLater (word_of (insert_route route routes)) (word_of (route ∷ routes))
+insert_no_later route [] long some differ = inl refl
+insert_no_later route (next ∷ routes) long some differ =
+    elim (cases_Bool (nat_lt (first_stop route) (first_stop next))) [
+      | inl below ↦ rw below (inl refl)
+      | inr above ↦
+          let other : first_stop route ≢ first_stop next = differ 0 next (omega arith) in
+          let lt : first_stop next < first_stop route = grind (arith, nat_tests, above, other) in
+          rw above (inr (begins_lower next route (insert_route route routes) (next ∷ routes) (has_length next (some 0 next (omega arith))) long lt))
+    ]
+
+sort_no_later : (routes : List (List ℕ)) → All (λ r. r ≢ []) routes → DifferInFirsts routes → IsNoLater (word_of (sort_routes routes)) (word_of routes)
+sort_no_later [] some differ = inl refl
+sort_no_later (route ∷ routes) some differ =
+    let later : All (λ r. r ≢ []) routes = λ k d lt. some (suc k) d (omega (arith, lt)) in
+    let moved = sort_moves routes in
+    let rest = no_later_behind (route ++ 0 ∷ []) (word_of (sort_routes routes)) (word_of routes) (sort_no_later routes later differ.1) in
+    let first = insert_no_later route (sort_routes routes) (has_length route (some 0 route (omega arith))) (All-permutation (λ r. r ≢ []) routes (sort_routes routes) moved later) (All-permutation (λ r. first_stop route ≢ first_stop r) routes (sort_routes routes) moved differ.0) in
+    no_later_transitive (word_of (insert_route route (sort_routes routes))) (word_of (route ∷ sort_routes routes)) (word_of (route ∷ routes)) first rest
+
+pub rising_no_later : (p : Problem) (routes : List (List ℕ)) (lawful : IsLawful p routes) → IsNoLater (word_of (rising_plan p routes lawful).0) (word_of routes)
+unfolding rising_plan
+rising_no_later p routes lawful =
+    let distinct : AreDistinct (concat routes) = AreDistinct-permutation (customers p) (concat routes) (IsPermutation-sym (concat routes) (customers p) lawful.served) (customers_distinct p) in
+    sort_no_later routes lawful.stops (distinct_firsts routes distinct lawful.stops)

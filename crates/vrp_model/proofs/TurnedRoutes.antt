@@ -9,13 +9,15 @@ use Rattle.std.proofs.lemmas.List.{length-map, length-reverse, reverse-append, r
 use Rattle.std.proofs.lemmas.List.Elements.{All-cons, All-contains_itself, All-nil}
 use Rattle.std.proofs.lemmas.List.Sorted.{All-permutation, Contains-permutation, IsPermutation-append_left, IsPermutation-append_right, IsPermutation-refl, IsPermutation-reverse, IsPermutation-sym, IsPermutation-trans, sum_by-IsPermutation}
 use Rattle.std.proofs.lemmas.List.Sums.{sum_by-cons}
+use Rattle.vrp_model.specs.Order.{IsEarlier}
 use Rattle.vrp_model.specs.Problem.{HasTrucks, IsSymmetric, Problem, customers, demand_of, place_count, weight_of}
 use Rattle.vrp_model.specs.Route.{AreTurned, IsLawful, cost_along, load_of, plan_cost, route_cost}
 use Rattle.vrp_model.specs.Word.{IsLawfulWord, RunsForward, last_symbol, word_cost, word_of}
 use Rattle.vrp_model.proofs.CustomerPlaces.{customer_below}
 use Rattle.vrp_model.proofs.LastRoute.{last_symbol_with}
+use Rattle.vrp_model.proofs.Ordered.{IsNoLater, begins_lower, no_later_behind, no_later_transitive, not_earlier}
 use Rattle.vrp_model.proofs.PlanWords.{cost_parts, has_length, word_of_plan}
-use Rattle.vrp_model.proofs.Rising.{rising_plan}
+use Rattle.vrp_model.proofs.Rising.{rising_no_later, rising_plan}
 use Rattle.vrp_model.proofs.WordReading.{all_left, all_right}
 use Rattle.vrp_model.proofs.Words.{last_behind, last_behind-append}
 
@@ -58,9 +60,10 @@ record Turned (p : Problem) (route other : List ℕ) : Type 0 where
   pub priced : route_cost p other ≡ route_cost p route
   pub some : 0 < length other
   pub forward : IsSymmetric p → RunsForward other
+  pub begins : (other ≡ route) ⊎ (slice_index other 0 < slice_index route 0)
 
 stays : (p : Problem) (route : List ℕ) → 0 < length route → (IsSymmetric p → RunsForward route) → Turned p route route
-stays p route some forward = record { is = inl refl; moved = IsPermutation-refl route; priced = refl; some = some; forward = forward }
+stays p route some forward = record { is = inl refl; moved = IsPermutation-refl route; priced = refl; some = some; forward = forward; begins = inl refl }
 
 goes_back : (p : Problem) (route : List ℕ) → 0 < length route → last_symbol route < slice_index route 0 → route_cost p (reverse route) ≡ route_cost p route → Turned p route (reverse route)
 goes_back p route some backward same = record {
@@ -69,6 +72,7 @@ goes_back p route some backward same = record {
   priced = same;
   some = omega (arith, some, length-reverse route);
   forward = λ symmetric. omega (arith, backward, first_of_reversed route some, last_of_reversed route some);
+  begins = inr (omega (arith, backward, first_of_reversed route some));
 }
 
 turned_one : (p : Problem) (route : List ℕ) → 0 < length route → 0 < place_count p → All (λ k. k < place_count p) route → Turned p route (turn p route)
@@ -94,12 +98,13 @@ record AllTurned (p : Problem) (routes others : List (List ℕ)) : Type 0 where
   pub fits : All (λ r. load_of p r ≤ p.capacity) others
   pub forward : IsSymmetric p → All RunsForward others
   pub priced : plan_cost p others ≡ plan_cost p routes
+  pub no_later : IsNoLater (word_of others) (word_of routes)
 
 not_nil : (route : List ℕ) → 0 < length route → route ≢ []
 not_nil route some none = omega (arith, some, ap length none)
 
-one_more_turned : (p : Problem) (route other : List ℕ) (routes others : List (List ℕ)) → load_of p route ≤ p.capacity → Turned p route other → AllTurned p routes others → AllTurned p (route ∷ routes) (other ∷ others)
-one_more_turned p route other routes others light one rest = record {
+one_more_turned : (p : Problem) (route other : List ℕ) (routes others : List (List ℕ)) → 0 < length route → load_of p route ≤ p.capacity → Turned p route other → AllTurned p routes others → AllTurned p (route ∷ routes) (other ∷ others)
+one_more_turned p route other routes others long light one rest = record {
   turned = (one.is, rest.turned);
   moved = IsPermutation-trans (route ++ concat routes) (other ++ concat routes) (other ++ concat others)
       (IsPermutation-append_left (concat routes) route other one.moved)
@@ -108,6 +113,10 @@ one_more_turned p route other routes others light one rest = record {
   fits = All-cons (λ r. load_of p r ≤ p.capacity) other others (omega (arith, light, sum_by-IsPermutation (demand_of p) route other one.moved)) rest.fits;
   forward = λ symmetric. All-cons RunsForward other others (one.forward symmetric) (rest.forward symmetric);
   priced = omega (arith, one.priced, rest.priced, sum_by-cons (route_cost p) route routes, sum_by-cons (route_cost p) other others);
+  no_later = elim one.begins [
+    | inl same ↦ rw same (no_later_behind (route ++ 0 ∷ []) (word_of others) (word_of routes) rest.no_later)
+    | inr lower ↦ inr (begins_lower other route others routes one.some long lower)
+  ];
 }
 
 all_turned : (p : Problem) (routes : List (List ℕ)) → 0 < place_count p → All (λ r. r ≢ []) routes → All (λ r. load_of p r ≤ p.capacity) routes → All (λ k. k < place_count p) (concat routes) → AllTurned p routes (map (turn p) routes)
@@ -118,11 +127,13 @@ all_turned p [] places stops fits within = record {
   fits = All-nil (λ r. load_of p r ≤ p.capacity);
   forward = λ symmetric. All-nil RunsForward;
   priced = refl;
+  no_later = inl refl;
 }
 all_turned p (route ∷ routes) places stops fits within =
-    let one = turned_one p route (has_length route (stops 0 route (omega arith))) places (all_left (λ k. k < place_count p) route (concat routes) within) in
+    let long = has_length route (stops 0 route (omega arith)) in
+    let one = turned_one p route long places (all_left (λ k. k < place_count p) route (concat routes) within) in
     let rest = all_turned p routes places (λ k d lt. stops (suc k) d (omega (arith, lt))) (λ k d lt. fits (suc k) d (omega (arith, lt))) (all_right (λ k. k < place_count p) route (concat routes) within) in
-    one_more_turned p route (turn p route) routes (map (turn p) routes) (fits 0 route (omega arith)) one rest
+    one_more_turned p route (turn p route) routes (map (turn p) routes) long (fits 0 route (omega arith)) one rest
 
 -- ---- the laws
 
@@ -136,22 +147,41 @@ no_place p (route ∷ routes) lawful =
     let within = all_left (λ k. k < place_count p) route (concat routes) (some_place p (route ∷ routes) lawful) in
     inl (omega (arith, within 0 0 some))
 
--- the routes of a lawful plan, turned so that they run forward
-pub forward_plan : (p : Problem) (routes : List (List ℕ)) → IsLawful p routes
-    → (others : List (List ℕ)) × AreTurned routes others × IsLawful p others × (IsSymmetric p → All RunsForward others) × (plan_cost p others ≡ plan_cost p routes)
-forward_plan p routes lawful =
+-- the routes of a lawful plan, turned so that they run forward: the word is no later
+record ForwardPlan (p : Problem) (routes : List (List ℕ)) : Type 0 where
+  pub others : List (List ℕ)
+  pub turned : AreTurned routes others
+  pub lawful : IsLawful p others
+  pub forward : IsSymmetric p → All RunsForward others
+  pub priced : plan_cost p others ≡ plan_cost p routes
+  pub no_later : IsNoLater (word_of others) (word_of routes)
+
+turned_plan : (p : Problem) (routes : List (List ℕ)) → IsLawful p routes → ForwardPlan p routes
+turned_plan p routes lawful =
     elim (no_place p routes lawful) [
       | inl places ↦
           let all = all_turned p routes places lawful.stops lawful.fits (some_place p routes lawful) in
           let others = map (turn p) routes in
-          (others, all.turned, record { served = IsPermutation-trans (concat others) (concat routes) (customers p) (IsPermutation-sym (concat routes) (concat others) all.moved) lawful.served; stops = all.stops; fits = all.fits; few = subst (λ n. HasTrucks p n) (sym (length-map routes (turn p))) lawful.few }, all.forward, all.priced)
-      | inr none ↦ (routes, rw none tt, lawful, (λ symmetric. rw none (All-nil RunsForward)), refl)
+          record {
+            others = others;
+            turned = all.turned;
+            lawful = record { served = IsPermutation-trans (concat others) (concat routes) (customers p) (IsPermutation-sym (concat routes) (concat others) all.moved) lawful.served; stops = all.stops; fits = all.fits; few = subst (λ n. HasTrucks p n) (sym (length-map routes (turn p))) lawful.few };
+            forward = all.forward;
+            priced = all.priced;
+            no_later = all.no_later;
+          }
+      | inr none ↦ record { others = routes; turned = rw none tt; lawful = lawful; forward = λ symmetric. rw none (All-nil RunsForward); priced = refl; no_later = inl refl }
     ]
 
--- each lawful plan has a lawful word of the same cost
-pub word_for_plan : (p : Problem) (routes : List (List ℕ)) → IsLawful p routes → (word : List ℕ) × IsLawfulWord p word × (word_cost p word ≡ plan_cost p routes)
+pub forward_plan : (p : Problem) (routes : List (List ℕ)) → IsLawful p routes
+    → (others : List (List ℕ)) × AreTurned routes others × IsLawful p others × (IsSymmetric p → All RunsForward others) × (plan_cost p others ≡ plan_cost p routes)
+forward_plan p routes lawful = let plan = turned_plan p routes lawful in (plan.others, plan.turned, plan.lawful, plan.forward, plan.priced)
+
+-- each lawful plan has a lawful word of the same cost that is no later than its own
+pub word_for_plan : (p : Problem) (routes : List (List ℕ)) → IsLawful p routes → (word : List ℕ) × IsLawfulWord p word × (word_cost p word ≡ plan_cost p routes) × (IsEarlier (word_of routes) word → ⊥)
 word_for_plan p routes lawful =
-    let (turned, are_turned, lawful_too, forward, same) = forward_plan p routes lawful in
-    let (others, moved, still_lawful, rising, priced) = rising_plan p turned lawful_too in
-    let (lawful_word, cost) = word_of_plan p others still_lawful rising (λ symmetric. All-permutation RunsForward turned others moved (forward symmetric)) in
-    (word_of others, lawful_word, cost ∙ priced ∙ same)
+    let turned = turned_plan p routes lawful in
+    let (others, moved, still_lawful, rising, priced) = rising_plan p turned.others turned.lawful in
+    let (lawful_word, cost) = word_of_plan p others still_lawful rising (λ symmetric. All-permutation RunsForward turned.others others moved (turned.forward symmetric)) in
+    let no_later = no_later_transitive (word_of others) (word_of turned.others) (word_of routes) (rising_no_later p turned.others turned.lawful) turned.no_later in
+    (word_of others, lawful_word, cost ∙ priced ∙ turned.priced, not_earlier (word_of others) (word_of routes) no_later)

@@ -152,7 +152,7 @@ all_left P xs ys all = λ k d lt. subst P (get_or-append xs ys d k lt) (all k d 
 pub all_right : (P : ℕ → Type 0) (xs ys : List ℕ) → All P (xs ++ ys) → All P ys
 all_right P xs ys all = λ k d lt. subst P (get_or-append-add xs ys k d) (all (length xs + k) d (omega (arith, lt, length-append xs ys)))
 
-symbol_places : (p : Problem) (word : List ℕ) → 0 < place_count p → All (Contains (customers p)) (served_in word) → All (λ k. k < place_count p) word
+pub symbol_places : (p : Problem) (word : List ℕ) → 0 < place_count p → All (Contains (customers p)) (served_in word) → All (λ k. k < place_count p) word
 symbol_places p [] some known = All-nil (λ k. k < place_count p)
 symbol_places p (zero ∷ word) some known = All-cons (λ k. k < place_count p) 0 word some (symbol_places p word some known)
 symbol_places p (suc j ∷ word) some known =
@@ -188,7 +188,7 @@ one_route_more p word routes cost rest route behind more so_far is free some end
       places = all_right (λ k. k < place_count p) (route ++ 0 ∷ []) behind (subst (All (λ k. k < place_count p)) (is ∙ sym (append_assoc route (0 ∷ []) behind)) so_far.places);
     }
 
-concat_length : (routes : List (List ℕ)) → AreClosed routes → (length (word_of routes) ≡ length (concat routes) + length routes) × (length routes ≤ length (concat routes))
+pub concat_length : (routes : List (List ℕ)) → AreClosed routes → (length (word_of routes) ≡ length (concat routes) + length routes) × (length routes ≤ length (concat routes))
 concat_length [] are = (refl, omega arith)
 concat_length (route ∷ routes) are =
     let rest = concat_length routes are.2 in

@@ -1,10 +1,11 @@
 //! What is true of the definitions, whatever the code does.
-ghost use Rattle.std.specs.Prelude.{◌≡◌, ◌≢◌, ◌↔◌, ℕ, ℤ, ◌+◌, ◌≤◌, ◌<◌, List, [], ◌∷◌, ◌++◌};
+ghost use Rattle.std.specs.Prelude.{◌≡◌, ◌≢◌, ◌⊎◌, ◌↔◌, ℕ, ℤ, ◌+◌, ◌≤◌, ◌<◌, List, [], ◌∷◌, ◌++◌};
 ghost use Rattle.std.specs.List.{All, Contains, sum_by};
 ghost use Rattle.std.specs.List.Sorted.{IsPermutation, IsStrictlyIncreasing};
 ghost use Rattle.vrp_model.specs.Distance.{IsDistance};
+ghost use Rattle.vrp_model.specs.Order.{IsBefore, IsEarlier, IsFirst};
 ghost use Rattle.vrp_model.specs.Problem.{IsProblem, IsSymmetric, Problem};
-ghost use Rattle.vrp_model.specs.Route.{AreTurned, IsLawful, plan_cost};
+ghost use Rattle.vrp_model.specs.Route.{AreTurned, IsLawful, PricedPlan, plan_cost};
 ghost use Rattle.vrp_model.specs.Word.{BeginsWith, IsDead, IsFront, IsLawfulWord, MakesChild, RunsForward, TreeHas, TreeHasAtLeast, first_stops, word_cost, word_of};
 ghost use Rattle.vrp_model.specs.declared.limits.TheConstants.{NO_COST};
 ghost use Rattle.vrp_model.specs.declared.metric.Metric.{Metric};
@@ -41,9 +42,9 @@ pub fn plans_can_turn()
         → (others : List (List ℕ)) × AreTurned routes others × IsLawful p others × (IsSymmetric p → All RunsForward others) × (plan_cost p others ≡ plan_cost p routes) }
 {}
 
-/// So every lawful plan has a lawful word of the same cost.
+/// So every lawful plan has a lawful word of the same cost, which is no later than its own.
 pub fn plans_have_words()
-    ensures { (p : Problem) (routes : List (List ℕ)) → IsLawful p routes → (word : List ℕ) × IsLawfulWord p word × (word_cost p word ≡ plan_cost p routes) }
+    ensures { (p : Problem) (routes : List (List ℕ)) → IsLawful p routes → (word : List ℕ) × IsLawfulWord p word × (word_cost p word ≡ plan_cost p routes) × (IsEarlier (word_of routes) word → ⊥) }
 {}
 
 /// No lawful plan costs as much as `NO_COST`.
@@ -82,4 +83,30 @@ pub fn longer_trees()
 /// No lawful word begins with a dead front.
 pub fn dead_fronts()
     ensures { (p : Problem) (front word : List ℕ) → IsProblem p → IsDead p front → IsLawfulWord p word → BeginsWith word front → ⊥ }
+{}
+
+/// Of two plans one is before the other, or they have the same cost and the same word.
+pub fn order_is_total()
+    ensures { (plan other : PricedPlan) → IsBefore plan other ⊎ ((plan.cost ≡ other.cost) × (word_of plan.routes ≡ word_of other.routes)) ⊎ IsBefore other plan }
+{}
+
+/// No plan is before itself, and what is before one plan is before all that this one is before.
+pub fn order_is_strict()
+    ensures irreflexive { (plan : PricedPlan) → IsBefore plan plan → ⊥ }
+    ensures transitive { (plan other third : PricedPlan) → IsBefore plan other → IsBefore other third → IsBefore plan third }
+{}
+
+/// Lawful plans with the same word have the same routes.
+pub fn equal_words_equal_plans()
+    ensures { (p : Problem) (routes others : List (List ℕ)) → IsLawful p routes → IsLawful p others → word_of routes ≡ word_of others → routes ≡ others }
+{}
+
+/// A problem has one first plan at most.
+pub fn one_first()
+    ensures { (p : Problem) (plan other : PricedPlan) → IsFirst p plan → IsFirst p other → plan ≡ other }
+{}
+
+/// A problem that has a lawful plan has a first one.
+pub fn some_first()
+    ensures { (p : Problem) (routes : List (List ℕ)) → IsProblem p → IsLawful p routes → (plan : PricedPlan) × IsFirst p plan }
 {}

@@ -2,6 +2,7 @@
 ghost use Rattle.std.specs.Prelude.{◌≡◌, ℕ, ◌+◌, ◌*◌, ◌<◌, ◌≤◌, ◌==◌, false, Some, IfOk, IfSome, IsTrue, is_some, OnOk, ◌↔◌, List, [], ◌∷◌, ◌++◌, ◌^◌, length, map, slice_get};
 ghost use Rattle.std.specs.List.{All, position_or_len};
 ghost use Rattle.std.specs.List.Sorted.{IsStrictlyIncreasing};
+ghost use Rattle.vrp_model.specs.Order.{IsBefore};
 ghost use Rattle.vrp_model.specs.Problem.{HasTrucks, IsProblem, IsSymmetric, Problem, customers, place_count};
 ghost use Rattle.vrp_model.specs.Route.{IsPlanOf, plan_cost, route_cost};
 ghost use Rattle.vrp_model.specs.Inner.Stops.{routes_in, IsWordEnd};
@@ -12,6 +13,9 @@ use crate::limits::{MAX_NODES, MAX_WEIGHT};
 use crate::memory::NoMemory;
 use std::alloc::Global;
 use std::marker::Model;
+
+#[cfg(test)]
+mod tests;
 
 // The stops of one route, by their indexes in the plan's word.
 #[derive(Clone, Copy, Debug, PartialEq, Eq)]
@@ -152,6 +156,13 @@ impl Plan {
         self.word.as_slice()
     }
 
+    /// Whether this plan is before the other: it costs less, or as much and its word is earlier.
+    pub fn is_before(&self, other: &Plan) -> bool
+        ensures { IsTrue result ↔ IsBefore self.now other.now }
+    {
+        (self.cost, self.word()) < (other.cost, other.word())
+    }
+
     /// What the routes cost.
     pub fn cost(&self) -> u64
         ensures { result ≡ self.now.cost }
@@ -219,151 +230,4 @@ fn route_cost(instance: &Instance, stops: &[u16]) -> u64
         at = *stop;
     }
     cost + instance.weight(at, 0)
-}
-
-#[cfg(test)]
-mod tests {
-    use super::*;
-    use crate::fixture::{Case, three_nodes};
-    use crate::metric::Metric;
-    use crate::weights::Weights;
-    use std::test::Fail;
-
-    #[test]
-    fn one_truck_for_each_customer(rt: HostRuntime) -> Result<(), Fail> {
-        let case = Case {
-            demands: [0, 1, 1],
-            depots: &[1],
-            chosen: None,
-        };
-        let instance = three_nodes(&rt, rt.alloc(), case)?;
-        let plan = Plan::singles(rt.alloc(), &instance)?.expect(&rt, "a truck for each");
-        let copy = plan.copy(rt.alloc())?;
-        for plan in [&plan, &copy] {
-            assert_eq!(rt; plan.routes(), 2);
-            assert_eq!(rt; plan.route(0), [1].as_slice());
-            assert_eq!(rt; plan.route(1), [2].as_slice());
-            assert_eq!(rt; plan.cost(), 30);
-        }
-        Ok(())
-    }
-
-    // The word of a lawful plan is read back.
-    #[test]
-    fn words(rt: HostRuntime) -> Result<(), Fail> {
-        let case = Case {
-            demands: [0, 1, 1],
-            depots: &[1],
-            chosen: None,
-        };
-        let instance = three_nodes(&rt, rt.alloc(), case)?;
-        let singles = Plan::singles(rt.alloc(), &instance)?.expect(&rt, "a truck for each");
-        let plan = Plan::of_word(rt.alloc(), &instance, singles.word())?;
-        assert_eq!(rt; plan.word(), [1, 0, 2, 0].as_slice());
-        assert_eq!(rt; plan.routes(), 2);
-        assert_eq!(rt; plan.route(0), [1].as_slice());
-        assert_eq!(rt; plan.cost(), 30);
-        Ok(())
-    }
-
-    // Both customers are served by one truck, whose route runs forward.
-    #[test]
-    fn one_truck_for_all(rt: HostRuntime) -> Result<(), Fail> {
-        let case = Case {
-            demands: [0, 1, 1],
-            depots: &[1],
-            chosen: None,
-        };
-        let instance = three_nodes(&rt, rt.alloc(), case)?;
-        assert!(rt; instance.customers() == 2);
-        assert!(rt; instance.demand(1) + instance.demand(2) <= instance.capacity());
-        let plan = Plan::of_word(rt.alloc(), &instance, &[1, 2, 0])?;
-        assert_eq!(rt; plan.word(), [1, 2, 0].as_slice());
-        assert_eq!(rt; plan.routes(), 1);
-        assert_eq!(rt; plan.route(0), [1, 2].as_slice());
-        assert_eq!(rt; plan.cost(), 20);
-        Ok(())
-    }
-
-    #[test]
-    fn costs_of_singles(rt: HostRuntime) -> Result<(), Fail> {
-        let table: [([u64; 3], &[u16], Option<u16>, usize, u64); 5] = [
-            ([1, 0, 1], &[2], None, 2, 20),
-            ([0, 0, 1], &[1, 2], Some(2), 1, 10),
-            ([0, 0, 1], &[1, 2], None, 1, 20),
-            ([0, 0, 1], &[1, 1, 2, 2, 1], None, 1, 20),
-            ([0, 0, 0], &[3, 1, 2], None, 0, 0),
-        ];
-        for (demands, depots, chosen, routes, cost) in table {
-            let case = Case {
-                demands,
-                depots,
-                chosen,
-            };
-            let instance = three_nodes(&rt, rt.alloc(), case)?;
-            let plan = Plan::singles(rt.alloc(), &instance)?.expect(&rt, "a truck for each");
-            assert_eq!(rt; plan.routes(), routes, "{case:?}");
-            assert_eq!(rt; plan.cost(), cost, "{case:?}");
-        }
-        Ok(())
-    }
-
-    #[test]
-    fn singles_of_so_many_trucks(rt: HostRuntime) -> Result<(), Fail> {
-        // the listed depots, how many trucks there are, and the routes
-        let table: [(&[u16], u16, Option<usize>); 8] = [
-            // two customers
-            (&[1], 1, None),
-            (&[1], 2, Some(2)),
-            (&[1], 3, Some(2)),
-            (&[1], 1_200, Some(2)),
-            // one
-            (&[1, 2], 1, Some(1)),
-            (&[1, 2], 2, Some(1)),
-            // the depot alone
-            (&[3, 1, 2], 1, Some(0)),
-            (&[3, 1, 2], 1_200, Some(0)),
-        ];
-        for (depots, trucks, routes) in table {
-            assert!(rt; 1 <= trucks && trucks <= 1_200);
-            let case = Case {
-                demands: [0; 3],
-                depots,
-                chosen: None,
-            };
-            let instance = three_nodes(&rt, rt.alloc(), case)?.with_trucks(trucks);
-            let plan = Plan::singles(rt.alloc(), &instance)?;
-            assert_eq!(rt;
-                plan.as_ref().map(Plan::routes),
-                routes,
-                "{depots:?} {trucks}"
-            );
-        }
-        Ok(())
-    }
-
-    #[test]
-    fn depot_alone(rt: HostRuntime) -> Result<(), Fail> {
-        let weights = Weights::points(rt.alloc(), Metric::Euc2d, &[(3, 4)])?;
-        let instance = Instance::new(rt.alloc(), weights, &[0], 2, &[1], None)?;
-        assert_eq!(rt; instance.customers(), 0);
-        let plan = Plan::singles(rt.alloc(), &instance)?.expect(&rt, "a truck for each");
-        let copy = plan.copy(rt.alloc())?;
-        for plan in [&plan, &copy] {
-            assert_eq!(rt; plan.routes(), 0);
-            assert!(rt; plan.word().is_empty());
-            assert_eq!(rt; plan.cost(), 0);
-        }
-        Ok(())
-    }
-
-    #[test]
-    fn customer_at_the_far_corner(rt: HostRuntime) -> Result<(), Fail> {
-        let points = [(-100_000_000, -100_000_000), (100_000_000, 100_000_000)];
-        let weights = Weights::points(rt.alloc(), Metric::Euc2d, &points)?;
-        let instance = Instance::new(rt.alloc(), weights, &[0, 1], 2, &[1], None)?;
-        let plan = Plan::singles(rt.alloc(), &instance)?.expect(&rt, "a truck for each");
-        assert_eq!(rt; plan.cost(), 565_685_424);
-        Ok(())
-    }
 }
