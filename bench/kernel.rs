@@ -5,7 +5,7 @@
 //!
 //! It reads lawful files of the plainest spelling alone: EUC_2D or CEIL_2D with whole coordinates, or a matrix as LOWER_ROW or
 //! FULL_MATRIX; one depot, node 1. It opens with one route for each customer, looks at children by rising symbol, and does not
-//! go below a child whose cost plus bound is not under the best cost.
+//! go below a child whose cost plus bound is above that plan's cost, or not under the cost of the last plan found.
 //! Where there and back weigh the same between any two nodes, two more rules hold, or those that RULES names (`both`, `forward`,
 //! `none`). `forward`: a route is closed only if its first customer is not above its last. The other: it does not go below a
 //! dead child, one whose unserved customers are all below the first customer of the last route, so that no route can be opened
@@ -108,7 +108,9 @@ struct Step { symbol: usize, load: usize, first: usize, high: usize, cost: u64, 
 
 fn search(p: &Problem, t: Option<&Tables>, budget: u64, forward: bool, past_dead: bool) -> (u64, u64) {
     let m = p.n - 1;
-    let mut best: u64 = (1..p.n).map(|c| p.weight[c] + p.weight[c * p.n]).sum();
+    // what the plan of one route for each customer costs, and the last plan found
+    let floor: u64 = (1..p.n).map(|c| p.weight[c] + p.weight[c * p.n]).sum();
+    let mut own = u64::MAX;
     let mut free = vec![true; p.n];
     let mut stack = vec![Step { symbol: 0, load: 0, first: 0, high: m, cost: 0, ins: p.least_in[1..].iter().sum(), rest: p.demand.iter().sum() }];
     let mut next = 0;
@@ -132,7 +134,7 @@ fn search(p: &Problem, t: Option<&Tables>, budget: u64, forward: bool, past_dead
                 if k == high { high -= 1; while !free[high] { high -= 1 } }
                 Step { symbol: k, load: load + p.demand[k], first, high, cost: here.cost + p.weight[here.symbol * p.n + k], ins: here.ins - p.least_in[k], rest: here.rest - p.demand[k] }
             };
-            if looked == budget { return (best, looked) }
+            if looked == budget { return (floor.min(own), looked) }
             looked += 1;
             let is_open = child.symbol != 0;
             if past_dead && child.high < child.first && (child.high > 0 || is_open && child.symbol < child.first) { continue }
@@ -148,8 +150,8 @@ fn search(p: &Problem, t: Option<&Tables>, budget: u64, forward: bool, past_dead
                 }
                 None => child.ins + ways_home(p, child.load + child.rest).max(out),
             };
-            if child.cost + bound >= best { continue }
-            if !is_open && left == 0 { best = child.cost; continue }
+            if child.cost + bound > floor || child.cost + bound >= own { continue }
+            if !is_open && left == 0 { own = child.cost; continue }
             if is_open { free[child.symbol] = false; left -= 1 }
             stack.push(child);
             next = 0;
@@ -158,7 +160,7 @@ fn search(p: &Problem, t: Option<&Tables>, budget: u64, forward: bool, past_dead
         }
         if gone { continue }
         let done = stack.pop().unwrap();
-        if stack.is_empty() { return (best, looked) }
+        if stack.is_empty() { return (floor.min(own), looked) }
         if done.symbol != 0 { free[done.symbol] = true; left += 1 }
         next = done.symbol + 1;
     }

@@ -47,7 +47,7 @@ fn measure<R: Clock + Print + Eprint + AllocGlobal>(
     let start = Instant::now(rt)?;
     let ended = search_all(rt.alloc(), instance, &tables, budget, &mut board)?;
     let time = start.elapsed(rt)?;
-    let looked = looked_at(ended);
+    let looked = looked_at(&ended);
     let cost = board.plan().context("no plan")?.cost();
     println!(rt; "{name}: {looked} partial plans looked at, cost {cost}")?;
     print_rate(rt, looked, time)?;
@@ -72,10 +72,9 @@ fn search_all(
     search(alloc, instance, tables, &cutting.pieces()[0], budget, board)
 }
 
-fn looked_at(ended: Ended) -> u64 {
+fn looked_at(ended: &Ended) -> u64 {
     match ended {
-        Ended::Finished { spent } => spent,
-        Ended::Unfinished { spent, .. } => spent,
+        Ended::Finished { spent, .. } | Ended::Unfinished { spent, .. } => *spent,
     }
 }
 

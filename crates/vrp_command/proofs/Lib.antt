@@ -1,3 +1,4 @@
+pub mod BestPlan
 pub mod PlaceLemmas
 pub mod RefusalLemmas
 pub mod ReportLemmas

@@ -10,51 +10,61 @@ use Rattle.std.proofs.lemmas.Bool.Decides.{not_from_Decides}
 use Rattle.std.proofs.lemmas.Slice.Eq.{bytes_eq-Decides}
 use Rattle.std.proofs.lemmas.List.{get_or-map, length-map, take_more}
 use Rattle.vrp_model.specs.Cheapest.{HasNoPlan, IsCheapest, NoneCheaper, cost_of}
-use Rattle.vrp_model.specs.Order.{IsEarlier}
+use Rattle.vrp_model.specs.Order.{ComesBefore, IsEarlier, IsFirst}
 use Rattle.vrp_model.specs.Problem.{HasTrucks, IsProblem, Problem, customers}
 use Rattle.vrp_model.specs.Route.{IsLawful, IsPlanOf, PricedPlan, plan_cost}
 use Rattle.vrp_model.specs.Word.{BeginsWith, IsLawfulWord, NoneCheaperUnder, word_cost, word_of}
 use Rattle.vrp_model.specs.declared.limits.TheConstants.{MAX_NODES, NO_COST}
 use Rattle.vrp_search.specs.Cutting.{HasNoChild, IsCutting, NumberedWord}
-use Rattle.vrp_search.specs.Search.{IsUnfinished}
+use Rattle.vrp_search.specs.Search.{IsFinished, IsUnfinished, NoneBeforeUnder}
 use Rattle.vrp_command.specs.Answer.{IsAnswer, IsLeftOpen}
+use Rattle.vrp_command.proofs.BestPlan.{PlansCostLess, costs_no_less, no_later_itself, no_later_transitive, none_among, not_before_plan, still_none, word_before}
 use Rattle.vrp_command.specs.declared.verdict.Verdict.{Verdict}
 use Rattle.vrp_command.specs.declared.verdict.Verdict.TheVariants.{Proven, Open, NoPlan}
-use Rattle.vrp_command.specs.Searched.{AreSearched, IsLeastOfAll, IsLeft, least_of}
+use Rattle.vrp_command.specs.Searched.{AreSearched, IsLeastOfAll, IsLeft, IsNoLater, least_of}
 
 -- ---- piece by piece
 
-pub none_searched : (p : Problem) (cutting : List (List ℕ)) (budget cost : ℕ) → AreSearched p cutting budget cost [] None
-none_searched p cutting budget cost = record {
+pub none_searched : (p : Problem) (cutting : List (List ℕ)) (budget floor : ℕ) (best : Option PricedPlan) → AreSearched p cutting budget floor best [] None
+none_searched p cutting budget floor best = record {
   unfinished = [];
   low = λ _. 0;
   left = All-nil (λ front. IsLeft p cutting budget front 0);
   bounds = All-nil (λ front. NoneCheaperUnder p front 0);
-  others = All-nil (λ front. Contains {X = List ℕ} [] front ⊎ NoneCheaperUnder p front cost);
+  others = All-nil (λ front. Contains {X = List ℕ} [] front ⊎ NoneBeforeUnder p front floor best);
   least = refl;
 }
 
-none_lower : (p : Problem) (front : List ℕ) (cost lower : ℕ) → lower ≤ cost → NoneCheaperUnder p front cost → NoneCheaperUnder p front lower
-none_lower p front cost lower falls none = λ w lawful begins. omega (arith, falls, none w lawful begins)
-
-others_lower : (p : Problem) (unfinished searched : List (List ℕ)) (cost lower : ℕ) → lower ≤ cost → All (λ front. Contains unfinished front ⊎ NoneCheaperUnder p front cost) searched
-    → All (λ front. Contains unfinished front ⊎ NoneCheaperUnder p front lower) searched
-others_lower p unfinished searched cost lower falls others = λ k d lt. elim (others k d lt) [
+others_later : (p : Problem) (unfinished searched : List (List ℕ)) (floor lower : ℕ) (old new : Option PricedPlan) → lower ≤ floor → IsNoLater new old → All (λ front. Contains unfinished front ⊎ NoneBeforeUnder p front floor old) searched
+    → All (λ front. Contains unfinished front ⊎ NoneBeforeUnder p front lower new) searched
+others_later p unfinished searched floor lower old new falls later others = λ k d lt. elim (others k d lt) [
   | inl left ↦ inl left
-  | inr none ↦ inr (none_lower p (get_or searched k d) cost lower falls none)
+  | inr none ↦ inr (still_none p (get_or searched k d) floor lower old new falls later none)
 ]
 
-pub piece_finished : (p : Problem) (cutting : List (List ℕ)) (budget cost falls_to : ℕ) (searched : List (List ℕ)) (front : List ℕ) (lower : Option ℕ)
-    → AreSearched p cutting budget cost searched lower → falls_to ≤ cost → NoneCheaperUnder p front falls_to → AreSearched p cutting budget falls_to (searched ++ front ∷ []) lower
-piece_finished p cutting budget cost falls_to searched front lower so_far falls none = record {
+-- another piece's search lowered the floor, and the best plan is no later than it was
+pub searched_later : (p : Problem) (cutting : List (List ℕ)) (budget floor lower : ℕ) (old new : Option PricedPlan) (searched : List (List ℕ)) (least : Option ℕ)
+    → AreSearched p cutting budget floor old searched least → lower ≤ floor → IsNoLater new old → AreSearched p cutting budget lower new searched least
+searched_later p cutting budget floor lower old new searched least so_far falls later = record {
+  unfinished = so_far.unfinished;
+  low = so_far.low;
+  left = so_far.left;
+  bounds = so_far.bounds;
+  others = let fronts = so_far.unfinished in others_later p fronts searched floor lower old new falls later so_far.others;
+  least = so_far.least;
+}
+
+pub piece_finished : (p : Problem) (cutting : List (List ℕ)) (budget floor : ℕ) (best : Option PricedPlan) (searched : List (List ℕ)) (front : List ℕ) (lower : Option ℕ)
+    → AreSearched p cutting budget floor best searched lower → NoneBeforeUnder p front floor best → AreSearched p cutting budget floor best (searched ++ front ∷ []) lower
+piece_finished p cutting budget floor best searched front lower so_far none = record {
   unfinished = so_far.unfinished;
   low = so_far.low;
   left = so_far.left;
   bounds = so_far.bounds;
   others =
       let fronts = so_far.unfinished in
-      All-append (λ f. Contains fronts f ⊎ NoneCheaperUnder p f falls_to) searched (front ∷ []) (others_lower p fronts searched cost falls_to falls so_far.others)
-      (All-cons (λ f. Contains fronts f ⊎ NoneCheaperUnder p f falls_to) front [] (inr none) (All-nil (λ f. Contains fronts f ⊎ NoneCheaperUnder p f falls_to)));
+      All-append (λ f. Contains fronts f ⊎ NoneBeforeUnder p f floor best) searched (front ∷ []) so_far.others
+      (All-cons (λ f. Contains fronts f ⊎ NoneBeforeUnder p f floor best) front [] (inr none) (All-nil (λ f. Contains fronts f ⊎ NoneBeforeUnder p f floor best)));
   least = so_far.least;
 }
 
@@ -70,9 +80,9 @@ least_with (Some least) low costs news least_is some with = (some, λ other. ome
 contains_more : (front other : List ℕ) (fronts : List (List ℕ)) → Contains fronts other → Contains (front ∷ fronts) other
 contains_more front other fronts (k, lt, is) = (suc k, omega (arith, lt), is)
 
-others_more : (p : Problem) (front : List ℕ) (unfinished searched : List (List ℕ)) (cost : ℕ) → All (λ f. Contains unfinished f ⊎ NoneCheaperUnder p f cost) searched
-    → All (λ f. Contains (front ∷ unfinished) f ⊎ NoneCheaperUnder p f cost) searched
-others_more p front unfinished searched cost others = λ k d lt. elim (others k d lt) [
+others_more : (p : Problem) (front : List ℕ) (unfinished searched : List (List ℕ)) (floor : ℕ) (best : Option PricedPlan) → All (λ f. Contains unfinished f ⊎ NoneBeforeUnder p f floor best) searched
+    → All (λ f. Contains (front ∷ unfinished) f ⊎ NoneBeforeUnder p f floor best) searched
+others_more p front unfinished searched floor best others = λ k d lt. elim (others k d lt) [
   | inl left ↦ inl (contains_more front (get_or searched k d) unfinished left)
   | inr none ↦ inr none
 ]
@@ -164,10 +174,10 @@ has_number p cutting budget number front low (f ∷ fronts) here none left bound
       }
     ]
 
-pub piece_left : (p : Problem) (cutting : List (List ℕ)) (budget cost falls_to spent low : ℕ) (searched : List (List ℕ)) (front : List ℕ) (lower : Option ℕ)
-    → AreSearched p cutting budget cost searched lower → falls_to ≤ cost → Contains cutting front → IsUnfinished p (customers p) front budget spent low
-    → AreSearched p cutting budget falls_to (searched ++ front ∷ []) (Some (with_one lower low))
-piece_left p cutting budget cost falls_to spent low searched front lower so_far falls within left =
+pub piece_left : (p : Problem) (cutting : List (List ℕ)) (budget floor spent low : ℕ) (best : Option PricedPlan) (searched : List (List ℕ)) (front : List ℕ) (lower : Option ℕ)
+    → AreSearched p cutting budget floor best searched lower → Contains cutting front → IsUnfinished p (customers p) front budget spent low
+    → AreSearched p cutting budget floor best (searched ++ front ∷ []) (Some (with_one lower low))
+piece_left p cutting budget floor spent low best searched front lower so_far within left =
     let is_left : IsLeft p cutting budget front low = record { among = within; large = left.tree; is_low = left.is_low } in
     let before = so_far.unfinished in
     let has = has_number p cutting budget low front so_far.low before is_left left.none_cheaper so_far.left so_far.bounds in
@@ -180,14 +190,56 @@ piece_left p cutting budget cost falls_to spent low searched front lower so_far 
       low = lows;
       left = All-cons (λ f. IsLeft p cutting budget f (lows f)) front before (subst (IsLeft p cutting budget front) (sym at_front) has.left) (all_with_low (IsLeft p cutting budget) so_far.low front has.is before has.left so_far.left);
       bounds = All-cons (λ f. NoneCheaperUnder p f (lows f)) front before (subst (NoneCheaperUnder p front) (sym at_front) has.bound) (all_with_low (NoneCheaperUnder p) so_far.low front has.is before has.bound so_far.bounds);
-      others = All-append (λ f. Contains fronts f ⊎ NoneCheaperUnder p f falls_to) searched (front ∷ [])
-          (others_more p front before searched falls_to (others_lower p before searched cost falls_to falls so_far.others))
-          (All-cons (λ f. Contains fronts f ⊎ NoneCheaperUnder p f falls_to) front [] (inl here) (All-nil (λ f. Contains fronts f ⊎ NoneCheaperUnder p f falls_to)));
+      others = All-append (λ f. Contains fronts f ⊎ NoneBeforeUnder p f floor best) searched (front ∷ [])
+          (others_more p front before searched floor best so_far.others)
+          (All-cons (λ f. Contains fronts f ⊎ NoneBeforeUnder p f floor best) front [] (inl here) (All-nil (λ f. Contains fronts f ⊎ NoneBeforeUnder p f floor best)));
       least = least_with lower low (map so_far.low before) (map lows fronts) so_far.least (omega arith)
           (λ other. omega (arith, at_front, least_with_low so_far.low front has.is other before has.less, has.least other));
     }
 
+-- ---- what a search adds
+
+-- after one more piece
+pub record AreKept (p : Problem) (cutting : List (List ℕ)) (budget floor : ℕ) (first old new : Option PricedPlan) (searched : List (List ℕ)) (lower : Option ℕ) : Type 0 where
+  pub best : ForSome new (IsPlanOf p)
+  pub later : IsNoLater new first
+  pub pieces : AreSearched p cutting budget floor new searched lower
+
+-- it is finished, and what it found was offered
+pub after_finished : (p : Problem) (cutting : List (List ℕ)) (budget floor new_floor spent : ℕ) (opening old new found : Option PricedPlan) (searched : List (List ℕ)) (front : List ℕ) (lower : Option ℕ)
+    → AreSearched p cutting budget floor old searched lower → new_floor ≤ floor → IsFinished p front budget new_floor spent found → IsNoLater old opening → ForSome new (IsPlanOf p) → IsNoLater new old → IsNoLater new found
+    → AreKept p cutting budget new_floor opening old new (searched ++ front ∷ []) lower
+after_finished p cutting budget floor new_floor spent opening old new found searched front lower so_far falls finished first plan_of later offered = record {
+  best = plan_of;
+  later = no_later_transitive new old opening later first;
+  pieces = piece_finished p cutting budget new_floor new searched front lower (searched_later p cutting budget floor new_floor old new searched lower so_far falls later)
+      (still_none p front new_floor new_floor found new (omega arith) offered finished.none_before);
+}
+
 -- ---- all pieces
+
+-- What follows where the best plan costs no more than the floor: no word under another piece costs less than it
+record AreDearer (p : Problem) (cutting : List (List ℕ)) (budget cost : ℕ) (searched : List (List ℕ)) (lower : Option ℕ) : Type 0 where
+  unfinished : List (List ℕ)
+  low : List ℕ → ℕ
+  left : All (λ front. IsLeft p cutting budget front (low front)) unfinished
+  bounds : All (λ front. NoneCheaperUnder p front (low front)) unfinished
+  others : All (λ front. Contains unfinished front ⊎ NoneCheaperUnder p front cost) searched
+  least : IsLeastOfAll lower (map low unfinished)
+
+are_dearer : (p : Problem) (cutting : List (List ℕ)) (budget floor : ℕ) (best : Option PricedPlan) (searched : List (List ℕ)) (lower : Option ℕ)
+    → AreSearched p cutting budget floor best searched lower → cost_of best ≤ floor → AreDearer p cutting budget (cost_of best) searched lower
+are_dearer p cutting budget floor best searched lower so_far falls = record {
+  unfinished = so_far.unfinished;
+  low = so_far.low;
+  left = so_far.left;
+  bounds = so_far.bounds;
+  others = λ k d lt. elim (so_far.others k d lt) [
+    | inl left ↦ inl left
+    | inr none ↦ inr (λ word lawful begins. costs_no_less p floor best word falls (none word lawful begins))
+  ];
+  least = so_far.least;
+}
 
 least_is_low : (number : ℕ) (numbers : List ℕ) → least_of number numbers ≤ number
 least_is_low number [] = omega arith
@@ -215,7 +267,7 @@ words_to_plans have p cost none = λ routes lawful.
     omega (arith, none word lawful_word, price)
 
 -- no word costs less than the plan and all that is unfinished
-no_word_cheaper : OnePiece → (p : Problem) (cutting : List (List ℕ)) (budget cost : ℕ) (lower : Option ℕ) → IsCutting p cutting → (so_far : AreSearched p cutting budget cost cutting lower)
+no_word_cheaper : OnePiece → (p : Problem) (cutting : List (List ℕ)) (budget cost : ℕ) (lower : Option ℕ) → IsCutting p cutting → (so_far : AreDearer p cutting budget cost cutting lower)
     → (word : List ℕ) → IsLawfulWord p word → least_of cost (map so_far.low so_far.unfinished) ≤ word_cost p word
 no_word_cheaper piece p cutting budget cost lower is_cutting so_far word lawful =
     let (k, lt, begins, only) = piece p cutting word is_cutting lawful in
@@ -224,33 +276,55 @@ no_word_cheaper piece p cutting budget cost lower is_cutting so_far word lawful 
       | inr none ↦ omega (arith, least_is_low cost (map so_far.low so_far.unfinished), none word lawful begins)
     ]
 
--- no lawful plan costs as much as none
-abbrev pub PlansCostLess : Type 0
-PlansCostLess = (p : Problem) (routes : List (List ℕ)) → IsProblem p → IsLawful p routes → plan_cost p routes < NO_COST
-
 -- no word costs less than what is known, where all pieces are finished
-none_cheaper_than : OnePiece → PlansHaveWords → (p : Problem) (cutting : List (List ℕ)) (budget cost : ℕ) → IsCutting p cutting → AreSearched p cutting budget cost cutting None → NoneCheaper p cost
+none_cheaper_than : OnePiece → PlansHaveWords → (p : Problem) (cutting : List (List ℕ)) (budget cost : ℕ) → IsCutting p cutting → AreDearer p cutting budget cost cutting None → NoneCheaper p cost
 none_cheaper_than piece have p cutting budget cost is_cutting so_far =
     words_to_plans have p cost (λ word lawful.
     let none = no_word_cheaper piece p cutting budget cost None is_cutting so_far word lawful in
     subst (λ (costs : List ℕ). least_of cost costs ≤ word_cost p word) so_far.least none)
 
-pub proven : OnePiece → PlansHaveWords → (p : Problem) (cutting : List (List ℕ)) (budget : ℕ) (plan : PricedPlan) → IsCutting p cutting → IsPlanOf p plan
-    → AreSearched p cutting budget plan.cost cutting None → IsCheapest p plan
+proven : OnePiece → PlansHaveWords → (p : Problem) (cutting : List (List ℕ)) (budget : ℕ) (plan : PricedPlan) → IsCutting p cutting → IsPlanOf p plan
+    → AreDearer p cutting budget plan.cost cutting None → IsCheapest p plan
 proven piece have p cutting budget plan is_cutting plan_of so_far = record {
   plan_of = plan_of;
   none_cheaper = none_cheaper_than piece have p cutting budget plan.cost is_cutting so_far;
 }
 
-pub no_plan : OnePiece → PlansHaveWords → PlansCostLess → (p : Problem) (cutting : List (List ℕ)) (budget : ℕ) → IsProblem p → IsCutting p cutting → AreSearched p cutting budget NO_COST cutting None → HasNoPlan p
+no_plan : OnePiece → PlansHaveWords → PlansCostLess → (p : Problem) (cutting : List (List ℕ)) (budget : ℕ) → IsProblem p → IsCutting p cutting → AreDearer p cutting budget NO_COST cutting None → HasNoPlan p
 no_plan piece have less p cutting budget problem is_cutting so_far = λ routes lawful.
     omega (arith, none_cheaper_than piece have p cutting budget NO_COST is_cutting so_far routes lawful, less p routes problem lawful)
 
+-- all pieces are finished: no lawful word is before the best plan
+none_before : OnePiece → (p : Problem) (cutting : List (List ℕ)) (budget floor : ℕ) (plan : PricedPlan) → IsCutting p cutting → AreSearched p cutting budget floor (Some plan) cutting None → plan.cost ≤ floor
+    → (word : List ℕ) → IsLawfulWord p word → ComesBefore (word_cost p word) word plan.cost (word_of plan.routes) → ⊥
+none_before piece p cutting budget floor plan is_cutting so_far falls word lawful before =
+    let (k, lt, begins, only) = piece p cutting word is_cutting lawful in
+    elim (so_far.others k [] lt) [
+      | inl left ↦ none_among so_far.low so_far.unfinished (get_or cutting k []) so_far.least left
+      | inr none ↦ not_before_plan p floor plan word falls (none word lawful begins) before
+    ]
+
+-- all pieces are finished: no lawful plan is before the best one
+is_first : OnePiece → PlansHaveWords → (p : Problem) (cutting : List (List ℕ)) (budget floor : ℕ) (plan : PricedPlan) → IsCutting p cutting → IsPlanOf p plan
+    → AreSearched p cutting budget floor (Some plan) cutting None → plan.cost ≤ floor → IsFirst p plan
+is_first piece have p cutting budget floor plan is_cutting plan_of so_far falls = record {
+  plan_of = plan_of;
+  none_before = λ other other_of before.
+      let (word, lawful, price, no_later) = have p other.routes other_of.lawful in
+      none_before piece p cutting budget floor plan is_cutting so_far falls word lawful (word_before other plan (word_cost p word) word (price ∙ sym other_of.priced) no_later before);
+}
+
 -- all pieces are finished, and a plan was found, or none
-pub found_or_none : OnePiece → PlansHaveWords → PlansCostLess → (p : Problem) (cutting : List (List ℕ)) (pieces budget : ℕ) (plan : Option PricedPlan) → IsProblem p → IsCutting p cutting → ForSome plan (IsPlanOf p)
-    → AreSearched p cutting budget (cost_of plan) cutting None → (is_some plan ≡ true → IsAnswer p pieces budget plan Proven) × (is_some plan ≡ false → IsAnswer p pieces budget plan NoPlan)
-found_or_none piece have less p cutting pieces budget None problem is_cutting plan_of so_far = (λ found. absurd (let never : false ≡ true = found in cc), λ none. (refl, no_plan piece have less p cutting budget problem is_cutting so_far))
-found_or_none piece have less p cutting pieces budget (Some plan) problem is_cutting plan_of so_far = (λ found. (plan, refl, proven piece have p cutting budget plan is_cutting (plan_of plan refl) so_far), λ none. absurd (let never : true ≡ false = none in cc))
+pub found_or_none : OnePiece → PlansHaveWords → PlansCostLess → (p : Problem) (cutting : List (List ℕ)) (pieces budget floor : ℕ) (plan : Option PricedPlan) → IsProblem p → IsCutting p cutting → ForSome plan (IsPlanOf p) → cost_of plan ≤ floor
+    → AreSearched p cutting budget floor plan cutting None → (is_some plan ≡ true → IsAnswer p pieces budget plan Proven) × (is_some plan ≡ false → IsAnswer p pieces budget plan NoPlan)
+found_or_none piece have less p cutting pieces budget floor None problem is_cutting plan_of falls so_far =
+    let dearer = are_dearer p cutting budget floor None cutting None so_far falls in
+    (λ found. absurd (let never : false ≡ true = found in cc), λ none. (refl, no_plan piece have less p cutting budget problem is_cutting dearer))
+found_or_none piece have less p cutting pieces budget floor (Some plan) problem is_cutting plan_of falls so_far =
+    let dearer = are_dearer p cutting budget floor (Some plan) cutting None so_far falls in (
+      λ found. (plan, refl, proven piece have p cutting budget plan is_cutting (plan_of plan refl) dearer, is_first piece have p cutting budget floor plan is_cutting (plan_of plan refl) so_far falls),
+      λ none. absurd (let never : true ≡ false = none in cc),
+    )
 
 -- what is said of a plan, if there is one, is said of each that it is
 pub for_some : (found : Option PricedPlan) (P : PricedPlan → Type 0) → IfSome found P → ForSome found P
@@ -264,10 +338,11 @@ missing less p (Some first) last problem first_of told falls none trucks =
     let plan_of = first_of first refl in
     omega (arith, falls, ap cost_of none, less p first.routes problem plan_of.lawful, plan_of.priced)
 
-pub left_open : OnePiece → PlansHaveWords → (p : Problem) (cutting : List (List ℕ)) (pieces budget : ℕ) (plan : Option PricedPlan) (lower : ℕ) → IsCutting p cutting
+pub left_open : OnePiece → PlansHaveWords → (p : Problem) (cutting : List (List ℕ)) (pieces budget floor : ℕ) (plan : Option PricedPlan) (lower : ℕ) → IsCutting p cutting
     → (pieces ≤ length cutting) ⊎ All (HasNoChild p) cutting → length cutting ≤ pieces + (MAX_NODES - 1) → ForSome plan (IsPlanOf p) → (plan ≡ None → HasTrucks p (length (customers p)) → ⊥)
-    → AreSearched p cutting budget (cost_of plan) cutting (Some lower) → IsLeftOpen p pieces budget plan (min lower (cost_of plan))
-left_open piece have p cutting pieces budget plan lower is_cutting enough few plan_of none so_far =
+    → cost_of plan ≤ floor → AreSearched p cutting budget floor plan cutting (Some lower) → IsLeftOpen p pieces budget plan (min lower (cost_of plan))
+left_open piece have p cutting pieces budget floor plan lower is_cutting enough few plan_of none falls searched =
+    let so_far = are_dearer p cutting budget floor plan cutting (Some lower) searched falls in
     let least : min lower (cost_of plan) ≡ least_of (cost_of plan) (map so_far.low so_far.unfinished) = omega (arith, so_far.least.1 (cost_of plan)) in
     record {
       plan_of = plan_of;
@@ -308,6 +383,6 @@ one_more cutting i word at = take_more cutting i word at.within ∙ ap (λ (w : 
 -- ---- answers
 
 pub answer_lawful : (p : Problem) (pieces budget : ℕ) (plan : Option PricedPlan) (verdict : Verdict) → IsAnswer p pieces budget plan verdict → ForSome plan (IsPlanOf p)
-answer_lawful p pieces budget plan Proven (cheapest, is, plan_of) = λ other same. (let one : Some cheapest ≡ Some other = sym is ∙ same in subst (IsPlanOf p) (cc) plan_of.plan_of)
+answer_lawful p pieces budget plan Proven (cheapest, is, none_cheaper, first) = λ other same. (let one : Some cheapest ≡ Some other = sym is ∙ same in subst (IsPlanOf p) (cc) first.plan_of)
 answer_lawful p pieces budget plan (Open lower) left = left.plan_of
 answer_lawful p pieces budget plan NoPlan (none, no_plan) = λ other same. absurd (let never : None ≡ Some other = sym none ∙ same in cc)

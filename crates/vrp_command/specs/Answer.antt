@@ -3,6 +3,7 @@ use Rattle.std.specs.Prelude.{◌≡◌, ◌⊎◌, ℕ, ◌+◌, ◌-◌, ◌�
 use Rattle.std.specs.List.{All, Contains}
 use Rattle.std.specs.Option.{ForSome}
 use Rattle.vrp_model.specs.Cheapest.{HasNoPlan, IsCheapest, NoneCheaper, cost_of}
+use Rattle.vrp_model.specs.Order.{IsFirst}
 use Rattle.vrp_model.specs.Problem.{HasTrucks, Problem, customers}
 use Rattle.vrp_model.specs.Route.{IsPlanOf, PricedPlan}
 use Rattle.vrp_model.specs.Word.{NoneCheaperUnder}
@@ -35,7 +36,8 @@ pub record IsLeftOpen (p : Problem) (pieces budget : ℕ) (plan : Option PricedP
   pub none_cheaper : NoneCheaper p lower
   pub unfinished : HasUnfinished p pieces budget (cost_of plan) lower
 
+-- Proven: the plan is a cheapest one, and of those the one with the earliest word
 abbrev pub IsAnswer : Problem → ℕ → ℕ → Option PricedPlan → Verdict → Type 0
-IsAnswer p pieces budget plan Proven = (cheapest : PricedPlan) × (plan ≡ Some cheapest) × IsCheapest p cheapest
+IsAnswer p pieces budget plan Proven = (cheapest : PricedPlan) × (plan ≡ Some cheapest) × IsCheapest p cheapest × IsFirst p cheapest
 IsAnswer p pieces budget plan (Open lower) = IsLeftOpen p pieces budget plan lower
 IsAnswer p pieces budget plan NoPlan = (plan ≡ None) × HasNoPlan p

@@ -36,16 +36,19 @@ pub record ReportsAnswer (options : Options) (problem : Problem) (report : List 
   pub text : report ≡ report_of problem plan judged
   pub status : ended ≡ status_of judged
 
--- What was read means a problem, and what was written is the report of such an answer to it, with the trucks that were asked for,
--- and nothing else. What is known of a
--- reader's bytes, and of a writer's, comes before the call and after it.
+-- the bytes mean a problem, and this is the report of such an answer to it, with the trucks that were asked for
+pub record AnswersBytes (options : Options) (bytes report : List ℕ) (ended : Status) : Type 0 where
+  pub problem : Problem
+  pub meant : MeansProblem bytes options.depot problem
+  pub reported : ReportsAnswer options (limited options.trucks problem) report ended
+
+-- What was written is the report of an answer to what was read, and nothing else. What is known of a reader's bytes, and of a
+-- writer's, comes before the call and after it.
 pub record PrintsAnswer (options : Options) (unread_old unread_new written_old written_new : Option (List ℕ)) (ended : Status) : Type 0 where
   pub bytes : List ℕ
   pub input : IsInput unread_old unread_new bytes
-  pub problem : Problem
-  pub meant : MeansProblem bytes options.depot problem
   pub report : List ℕ
-  pub reported : ReportsAnswer options (limited options.trucks problem) report ended
+  pub answers : AnswersBytes options bytes report ended
   pub output : Appends written_old written_new report
 
 -- what was read is refused for this

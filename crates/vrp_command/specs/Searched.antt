@@ -1,9 +1,11 @@
 -- What is known of the pieces that were searched.
 use Rattle.std.specs.Prelude.{◌≡◌, ◌⊎◌, ℕ, ◌+◌, ◌<◌, Option, Some, None, min, List, [], ◌∷◌, length, map}
 use Rattle.std.specs.List.{All, Contains}
+use Rattle.vrp_model.specs.Order.{IsBefore}
 use Rattle.vrp_model.specs.Problem.{Problem, customers}
+use Rattle.vrp_model.specs.Route.{PricedPlan}
 use Rattle.vrp_model.specs.Word.{NoneCheaperUnder, TreeHasAtLeast}
-use Rattle.vrp_search.specs.Search.{IsLow}
+use Rattle.vrp_search.specs.Search.{IsLow, NoneBeforeUnder}
 
 -- the least of a number and those of a list
 abbrev pub least_of : ℕ → List ℕ → ℕ
@@ -22,12 +24,16 @@ pub record IsLeft (p : Problem) (cutting : List (List ℕ)) (budget : ℕ) (fron
   pub large : TreeHasAtLeast p front (budget + 1)
   pub is_low : IsLow p (customers p) front (Some low)
 
--- Some pieces are left unfinished, and the lower number is the least of their lows. No word under any other of the pieces
--- searched costs less than this cost.
-pub record AreSearched (p : Problem) (cutting : List (List ℕ)) (budget cost : ℕ) (searched : List (List ℕ)) (lower : Option ℕ) : Type 0 where
+-- where there was a plan there is one, and the old one is not before the new one
+abbrev pub IsNoLater : Option PricedPlan → Option PricedPlan → Type 0
+IsNoLater new old = (plan : PricedPlan) → old ≡ Some plan → (kept : PricedPlan) × (new ≡ Some kept) × (IsBefore plan kept → ⊥)
+
+-- Some pieces are left unfinished, and the lower number is the least of their lows. Each word under any other of the pieces
+-- searched costs more than the floor, or is not before the best plan, if there is one.
+pub record AreSearched (p : Problem) (cutting : List (List ℕ)) (budget floor : ℕ) (best : Option PricedPlan) (searched : List (List ℕ)) (lower : Option ℕ) : Type 0 where
   pub unfinished : List (List ℕ)
   pub low : List ℕ → ℕ
   pub left : All (λ front. IsLeft p cutting budget front (low front)) unfinished
   pub bounds : All (λ front. NoneCheaperUnder p front (low front)) unfinished
-  pub others : All (λ front. Contains unfinished front ⊎ NoneCheaperUnder p front cost) searched
+  pub others : All (λ front. Contains unfinished front ⊎ NoneBeforeUnder p front floor best) searched
   pub least : IsLeastOfAll lower (map low unfinished)

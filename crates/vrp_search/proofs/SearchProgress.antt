@@ -13,11 +13,12 @@ use Rattle.vrp_model.specs.declared.limits.TheConstants.{NO_COST}
 use Rattle.vrp_model.specs.Route.{PricedPlan}
 use Rattle.vrp_model.specs.Word.{BeginsWith, IsFront, IsLawfulWord, NoneCheaperUnder, TreeHasAtLeast, word_cost, word_of}
 use Rattle.vrp_model.proofs.FrontsBefore.{fronts_before}
+use Rattle.vrp_model.proofs.Ordered.{earlier_irreflexive}
 use Rattle.vrp_search.specs.Child.{IsNextChild, NoChildFrom}
 use Rattle.vrp_search.specs.Inner.Found.{IsFoundAt, IsKept}
 use Rattle.vrp_search.specs.Inner.Pruned.{NoneOfUse}
 use Rattle.vrp_search.specs.Search.{IsFinished, IsFoundUnder, IsNotBefore}
-use Rattle.vrp_search.proofs.WordOrder.{IsFrom, child_of_front, child_or_behind, from_itself, from_next, from_shorter, from_sibling, front_or_behind, none_earlier, not_before_itself, not_from_longer, sibling_or_behind}
+use Rattle.vrp_search.proofs.WordOrder.{IsFrom, child_of_front, child_or_behind, from_itself, from_next, from_shorter, from_sibling, front_or_behind, none_earlier, not_from_longer, sibling_or_behind}
 
 -- so many fronts under the root, all of which come before the candidate
 pub record Seen (p : Problem) (root candidate : List ℕ) (count : ℕ) : Type 0 where
@@ -99,7 +100,7 @@ cheaper_found p floor lower (Some before) plan w falls less (inr behind) = inr (
 found_itself : (p : Problem) (floor : ℕ) (word : List ℕ) (plan : PricedPlan) → IsFoundAt p word plan → IsNotBefore p floor (Some plan) word
 found_itself p floor word plan found = inr (λ comes. elim comes [
   | inl cheaper ↦ omega (arith, cheaper, found.priced)
-  | inr as_much ↦ not_before_itself word (subst (IsEarlier word) found.is_word as_much.1)
+  | inr as_much ↦ earlier_irreflexive word (subst (IsEarlier word) found.is_word as_much.1)
 ])
 
 -- words from the candidate on that are of no use are not before the plan: its word was looked at before

@@ -140,8 +140,3 @@ from_later (k ∷ front) (j ∷ word) (i ∷ later) (inr here) (inr same) = inr 
 -- so no word that comes from a front on is earlier than one that doesn't
 pub none_earlier : (front word passed : List ℕ) → IsFrom front word → (IsFrom front passed → ⊥) → IsEarlier word passed → ⊥
 none_earlier front word passed from behind earlier = behind (from_later front word passed from earlier)
-
-pub not_before_itself : (word : List ℕ) → IsEarlier word word → ⊥
-not_before_itself [] earlier = earlier
-not_before_itself (k ∷ word) (inl less) = omega (arith, less)
-not_before_itself (k ∷ word) (inr same) = not_before_itself word same.1

@@ -1,3 +1,4 @@
+pub mod Board
 pub mod Child
 pub mod Cutting
 pub mod Inner

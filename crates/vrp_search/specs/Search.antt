@@ -35,13 +35,17 @@ pub record IsFoundUnder (p : Problem) (front : List ℕ) (plan : PricedPlan) : T
 abbrev pub IsNotBefore : Problem → ℕ → Option PricedPlan → List ℕ → Type 0
 IsNotBefore p floor first word = (floor < word_cost p word) ⊎ MatchOption first ⊥ (λ plan. ComesBefore (word_cost p word) word plan.cost (word_of plan.routes) → ⊥)
 
+-- that is so of each word under the front
+abbrev pub NoneBeforeUnder : Problem → List ℕ → ℕ → Option PricedPlan → Type 0
+NoneBeforeUnder p front floor first = (word : List ℕ) → IsLawfulWord p word → BeginsWith word front → IsNotBefore p floor first word
+
 -- each word under the front costs more than the floor, or is not before the first plan found there, if there is one
 pub record IsFinished (p : Problem) (front : List ℕ) (budget floor spent : ℕ) (first : Option PricedPlan) : Type 0 where
   pub some : 1 ≤ spent
   pub within : spent ≤ budget
   pub tree : TreeHasAtLeast p front spent
   pub found : ForSome first (IsFoundUnder p front)
-  pub none_before : (word : List ℕ) → IsLawfulWord p word → BeginsWith word front → IsNotBefore p floor first word
+  pub none_before : NoneBeforeUnder p front floor first
   -- so none costs less than the floor
   pub none_cheaper : NoneCheaperUnder p front floor
 

@@ -1,17 +1,18 @@
-//! The board of one thread: it keeps the cheapest plan, if there is one.
-ghost use Rattle.std.specs.Prelude.{◌≡◌, ℕ, ◌≤◌, ◌<◌, Some, OnOk, OnErr};
+//! The board of one thread: it keeps the first plan by cost and then by word, if there is one.
+ghost use Rattle.std.specs.Prelude.{◌≡◌, ◌↔◌, ℕ, ◌≤◌, IsTrue, Some, OnOk, OnErr};
 ghost use Rattle.std.specs.Option.{ForSome, option_map};
 ghost use Rattle.vrp_model.specs.Problem.{Problem};
 ghost use Rattle.vrp_model.specs.Route.{IsPlanOf};
 ghost use Rattle.vrp_model.specs.Cheapest.{cost_of};
+ghost use Rattle.vrp_search.specs.Board.{IsBeforeKept};
 
 use crate::board::Board;
 use std::alloc::Global;
 use std::marker::Model;
 use vrp_model::{NO_COST, NoMemory, Plan};
 
-/// The cheapest plan so far, or none. Its floor is what the plan costs, `NO_COST` where there is none, and it serves the problems
-/// whose lawful plan it is.
+/// The first plan so far, by cost and then by word, or none. Its floor is what the plan costs, `NO_COST` where there is none, and
+/// it serves the problems whose lawful plan it is.
 #[derive(Debug, Drop)]
 pub struct Local {
     plan: Option<Plan>,
@@ -34,11 +35,28 @@ impl Local {
         Local { plan }
     }
 
-    /// The cheapest plan: the one that it was opened with, or one that was offered.
+    /// The first plan of all: the one that it was opened with, or one that was offered.
     pub fn plan(&self) -> Option<&Plan>
         ensures { option_map (λ plan. plan.now) result ≡ self.now }
     {
         self.plan.as_ref()
+    }
+
+    /// The plan, where nothing more is offered.
+    pub fn into_plan(self) -> Option<Plan>
+        ensures { result ≡ self }
+    {
+        self.plan
+    }
+
+    // Whether a plan is before the one that is kept.
+    fn would_keep(&self, plan: &Plan) -> bool
+        ensures { IsTrue result ↔ IsBeforeKept plan.now self.now }
+    {
+        match &self.plan {
+            Some(kept) => plan.is_before(kept),
+            None => plan.cost() < NO_COST,
+        }
     }
 }
 
@@ -65,11 +83,11 @@ impl Board for Local {
         ensures serves { (p : Problem) → ForSome self.old (IsPlanOf p) → IsPlanOf p plan.now → ForSome self.new (IsPlanOf p) }
         ensures falls { cost_of self.new ≤ cost_of self.old }
         ensures taken { OnOk result (cost_of self.new ≤ plan.now.cost) }
-        ensures cheaper { OnOk result (plan.now.cost < cost_of self.old → self.new ≡ Some plan.now) }
-        ensures kept { cost_of self.old ≤ plan.now.cost → self.new ≡ self.old }
+        ensures first { OnOk result (IsBeforeKept plan.now self.old → self.new ≡ Some plan.now) }
+        ensures kept { (IsBeforeKept plan.now self.old → ⊥) → self.new ≡ self.old }
         ensures err { OnErr result (self.new ≡ self.old) }
     {
-        if plan.cost() < self.least() {
+        if self.would_keep(plan) {
             self.plan = Some(plan.copy(alloc)?);
         }
         Ok(())

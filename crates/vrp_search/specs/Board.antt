@@ -1,0 +1,10 @@
+-- What the board of one thread keeps.
+use Rattle.std.specs.Prelude.{◌<◌, None, Option, Some}
+use Rattle.vrp_model.specs.Order.{IsBefore}
+use Rattle.vrp_model.specs.Route.{PricedPlan}
+use Rattle.vrp_model.specs.declared.limits.TheConstants.{NO_COST}
+
+-- A plan is before the one that is kept. Where none is kept each plan of a problem is: they all cost less than `NO_COST`
+abbrev pub IsBeforeKept : PricedPlan → Option PricedPlan → Type 0
+IsBeforeKept plan None = plan.cost < NO_COST
+IsBeforeKept plan (Some kept) = IsBefore plan kept
