@@ -5,6 +5,7 @@ mod answer;
 mod command;
 mod fault;
 mod input;
+mod law;
 mod options;
 mod refusal;
 mod report;
@@ -14,5 +15,6 @@ mod verdict;
 
 pub use command::run;
 pub use fault::{RunError, exit_status, fault_line};
+pub use law::one_report;
 pub use options::{MAX_BUDGET, MAX_WORKERS, Options, Status};
 pub use vrp_search::MAX_PIECES;

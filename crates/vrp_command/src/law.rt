@@ -1,0 +1,19 @@
+//! What is true of runs, whatever the code does.
+ghost use Rattle.std.specs.Prelude.{◌≡◌, ℕ, List};
+ghost use Rattle.vrp_command.specs.Run.{AnswersBytes};
+ghost use Rattle.vrp_command.specs.declared.options.Options.{Options};
+ghost use Rattle.vrp_command.specs.declared.options.Status.TheVariants.{Proven};
+
+use vrp_model::one_first;
+use vrp_text::one_meaning;
+
+/// Where runs over the same bytes, with the same depot and as many trucks, answer `Proven`, they print the same report: whatever
+/// their pieces, budgets and workers are.
+pub fn one_report()
+    ensures { (options others : Options) (bytes report other : List ℕ) → options.depot ≡ others.depot → options.trucks ≡ others.trucks
+        → AnswersBytes options bytes report Proven → AnswersBytes others bytes other Proven → report ≡ other }
+{
+    // The bytes mean one problem, which has one first plan.
+    one_meaning();
+    one_first();
+}
