@@ -1,5 +1,5 @@
 //! The board of one thread: it keeps the first plan by cost and then by word, if there is one.
-ghost use Rattle.std.specs.Prelude.{◌≡◌, ◌↔◌, ℕ, ◌≤◌, IsTrue, Some, OnOk, OnErr};
+ghost use Rattle.std.specs.Prelude.{◌≡◌, ◌↔◌, ℕ, ◌≤◌, IsTrue, Some, IfOk, OnOk, OnErr};
 ghost use Rattle.std.specs.Option.{ForSome, option_map};
 ghost use Rattle.vrp_model.specs.Problem.{Problem};
 ghost use Rattle.vrp_model.specs.Route.{IsPlanOf};
@@ -97,9 +97,10 @@ impl Board for Local {
 #[cfg(test)]
 mod tests {
     use super::*;
+    use crate::partial::Partial;
     use std::process::Abort;
     use std::test::Fail;
-    use vrp_model::{Instance, Metric, Weights};
+    use vrp_model::{Instance, Layout, Metric, Weights};
 
     #[test]
     fn keeps_its_plan(rt: HostRuntime) -> Result<(), Fail> {
@@ -118,6 +119,56 @@ mod tests {
         board.offer(rt.alloc(), &singles)?;
         assert_eq!(rt; board.least(), 30);
         Ok(())
+    }
+
+    // Both ways round the two customers cost the same: the earlier word is kept, and the later one is not taken again.
+    #[test]
+    fn keeps_the_earlier_word(rt: HostRuntime) -> Result<(), Fail> {
+        let instance = either_way_round(&rt, rt.alloc())?;
+        let earlier = plan_of(&rt, rt.alloc(), &instance, [1, 2, 0])?;
+        let later = plan_of(&rt, rt.alloc(), &instance, [2, 1, 0])?;
+        assert_eq!(rt; earlier.cost(), 6);
+        assert_eq!(rt; later.cost(), 6);
+        let mut board = Local::open(Some(later.copy(rt.alloc())?));
+        for plan in [&earlier, &later, &earlier] {
+            board.offer(rt.alloc(), plan)?;
+            assert_eq!(rt; board.least(), 6);
+            assert_eq!(rt; board.plan().map(Plan::word), Some(earlier.word()));
+        }
+        Ok(())
+    }
+
+    fn either_way_round(rt: &impl Abort, alloc: Global) -> Result<Instance, Fail> {
+        let ways = [0, 1, 2, 2, 0, 1, 4, 2, 0];
+        assert!(rt; ways.len() == Layout::FullMatrix.entries(3));
+        assert!(rt; ways.iter().all(|&way| way <= 4));
+        let weights = Weights::matrix(alloc, Layout::FullMatrix, &ways, 3)?;
+        Ok(Instance::new(alloc, weights, &[0, 1, 1], 2, &[1], None)?)
+    }
+
+    // The plan of a word of three symbols.
+    fn plan_of(
+        rt: &impl Abort,
+        alloc: Global,
+        instance: &Instance,
+        word: [u16; 3],
+    ) -> Result<Plan, NoMemory>
+        ensures { IfOk result (IsPlanOf instance.now) }
+    {
+        let mut partial = Partial::root(alloc, instance)?;
+        let [first, second, third] = word;
+        push(rt, &mut partial, first);
+        push(rt, &mut partial, second);
+        push(rt, &mut partial, third);
+        assert!(rt; partial.complete());
+        partial.plan(alloc)
+    }
+
+    fn push(rt: &impl Abort, partial: &mut Partial<'_>, symbol: u16)
+        ensures { partial.new.problem ≡ partial.old.problem }
+    {
+        assert!(rt; partial.child(symbol));
+        partial.push(symbol);
     }
 
     fn three_nodes(alloc: Global) -> Result<Instance, Fail> {

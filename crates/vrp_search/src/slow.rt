@@ -221,6 +221,19 @@ impl Small {
         word.last().copied().unwrap_or(0) == 0
     }
 
+    // The lawful word of least cost, and of those the one that is listed first; and what it costs.
+    fn first(&self, alloc: Global) -> Result<Option<(u64, Vec<u16>)>, AllocError> {
+        let mut first: Option<(u64, Vec<u16>)> = None;
+        for word in self.fronts(alloc)? {
+            let cost = self.cost(&word);
+            let is_cheaper = first.as_ref().is_none_or(|(least, _)| cost < *least);
+            if self.is_complete(&word) && is_cheaper {
+                first = Some((cost, word));
+            }
+        }
+        Ok(first)
+    }
+
     // Adds the fronts that have one symbol more, and tells whether there are any.
     fn push_children(
         &self,

@@ -13,21 +13,19 @@ use vrp_model::{Layout, MAX_NODES, Metric, NO_COST, Plan, Weights};
 
 #[test]
 fn three_nodes_on_a_line(rt: HostRuntime) -> Result<(), Fail> {
-    let open = |spent| Ended::Unfinished { spent, low: 20 };
-    // a capacity and a budget, how the search ends, and the cost of the plan
     let table = [
-        (2, 1, open(1), 30),
-        (2, 5, open(5), 30),
-        (2, 6, open(6), 20),
-        (2, 7, Ended::Finished { spent: 7 }, 20),
-        (2, 1_000, Ended::Finished { spent: 7 }, 20),
-        (1, 4, open(4), 30),
-        (1, 5, Ended::Finished { spent: 5 }, 30),
+        (2, 1, unfinished(1, 20), 30),
+        (2, 6, unfinished(6, 20), 30),
+        (2, 7, unfinished(7, 20), 20),
+        (2, 8, finished(8, &[1, 2, 0]), 20),
+        (2, 1_000, finished(8, &[1, 2, 0]), 20),
+        (1, 5, unfinished(5, 20), 30),
+        (1, 6, finished(6, &[1, 0, 2, 0]), 30),
     ];
-    for (capacity, budget, ended, cost) in table {
+    for (capacity, budget, end, cost) in table {
         let instance = three_on_a_line(&rt, rt.alloc(), capacity)?;
         let plan = Plan::singles(rt.alloc(), &instance)?;
-        let wanted = Wanted { ended, cost };
+        let wanted = Wanted { end, cost };
         assert_search(&rt, rt.alloc(), &instance, plan, budget, wanted)?;
     }
     Ok(())
@@ -36,16 +34,15 @@ fn three_nodes_on_a_line(rt: HostRuntime) -> Result<(), Fail> {
 // Two customers to a truck, and one truck: the plan is the one that serves both. With a truck for each demand there is none.
 #[test]
 fn one_truck_for_two(rt: HostRuntime) -> Result<(), Fail> {
-    // a capacity, how the search ends, and the cost of the plan
     let table = [
-        (2, Ended::Finished { spent: 6 }, 20),
-        (1, Ended::Finished { spent: 1 }, NO_COST),
+        (2, finished(6, &[1, 2, 0]), 20),
+        (1, finished(1, &[]), NO_COST),
     ];
-    for (capacity, ended, cost) in table {
+    for (capacity, end, cost) in table {
         let instance = three_on_a_line(&rt, rt.alloc(), capacity)?.with_trucks(1);
         let plan = Plan::singles(rt.alloc(), &instance)?;
         assert!(rt; plan.is_none());
-        let wanted = Wanted { ended, cost };
+        let wanted = Wanted { end, cost };
         assert_search(&rt, rt.alloc(), &instance, plan, 1_000, wanted)?;
     }
     Ok(())
@@ -55,20 +52,18 @@ fn one_truck_for_two(rt: HostRuntime) -> Result<(), Fail> {
 // The dear plan stays until a cheaper one is looked at, the fifth.
 #[test]
 fn opened_with_a_dear_plan(rt: HostRuntime) -> Result<(), Fail> {
-    let open = |spent| Ended::Unfinished { spent, low: 4 };
-    // a budget, how the search ends, and the cost of the plan
     let table = [
-        (1, open(1), 11),
-        (4, open(4), 11),
-        (5, open(5), 4),
-        (6, open(6), 4),
-        (7, Ended::Finished { spent: 7 }, 4),
+        (1, unfinished(1, 4), 11),
+        (4, unfinished(4, 4), 11),
+        (5, unfinished(5, 4), 4),
+        (6, unfinished(6, 4), 4),
+        (7, finished(7, &[1, 0, 2, 0]), 4),
     ];
     let instance = two_far_apart(&rt, rt.alloc())?;
-    for (budget, ended, cost) in table {
+    for (budget, end, cost) in table {
         let plan = one_truck(&rt, rt.alloc(), &instance)?;
         assert_eq!(rt; plan.cost(), 11);
-        let wanted = Wanted { ended, cost };
+        let wanted = Wanted { end, cost };
         assert_search(&rt, rt.alloc(), &instance, Some(plan), budget, wanted)?;
     }
     Ok(())
@@ -82,21 +77,50 @@ fn deep_piece_at_the_limits(rt: HostRuntime) -> Result<(), Fail> {
     let piece = singles_front(&rt, rt.alloc(), &instance, MAX_NODES - 3)?;
     assert_eq!(rt; piece.word().len(), 2_394);
     let mut board = Local::open(Plan::singles(rt.alloc(), &instance)?);
-    let found = search_piece(rt.alloc(), &instance, &piece, 1, &mut board)?;
+    let ended = search_piece(rt.alloc(), &instance, &piece, 1, &mut board)?;
     let paid = 1_197 * 1_198;
-    let ended = Ended::Unfinished {
-        spent: 1,
-        low: paid + 4,
-    };
-    assert_eq!(rt; found, ended);
+    assert_end(&rt, &ended, unfinished(1, paid + 4));
     assert_eq!(rt; board.least(), 1_199 * 1_200);
     Ok(())
+}
+
+// How a search is to end: how many partial plans it looks at, and then the word of the plan that it found, which is empty where it
+// found none; or, where it is left unfinished, the low.
+#[derive(Clone, Copy, Debug, PartialEq, Eq)]
+enum End {
+    Finished(u64, &'static [u16]),
+    Unfinished(u64, u64),
+}
+
+fn finished(spent: u64, first: &'static [u16]) -> End {
+    End::Finished(spent, first)
+}
+
+fn unfinished(spent: u64, low: u64) -> End {
+    End::Unfinished(spent, low)
+}
+
+fn assert_end(rt: &impl Abort, ended: &Ended, end: End) {
+    match (ended, end) {
+        (Ended::Finished { spent, first }, End::Finished(looked, word)) => {
+            assert_eq!(rt; *spent, looked);
+            match first {
+                Some(plan) => assert_eq!(rt; plan.word(), word),
+                None => assert!(rt; word.is_empty()),
+            }
+        }
+        (Ended::Unfinished { spent, low }, End::Unfinished(looked, bound)) => {
+            assert_eq!(rt; *spent, looked);
+            assert_eq!(rt; *low, bound);
+        }
+        _ => panic!(rt; "{ended:?} is not {end:?}"),
+    }
 }
 
 // How a search is to end, and what the plan is to cost that the board has then.
 #[derive(Clone, Copy)]
 struct Wanted {
-    ended: Ended,
+    end: End,
     cost: u64,
 }
 
@@ -114,7 +138,7 @@ fn assert_search(
     assert!(rt; budget >= 1);
     let mut board = Local::open(plan);
     let ended = search_all(alloc, instance, budget, &mut board)?;
-    assert_eq!(rt; ended, wanted.ended, "budget {budget}");
+    assert_end(rt, &ended, wanted.end);
     assert_eq!(rt; board.least(), wanted.cost, "budget {budget}");
     Ok(())
 }

@@ -1,12 +1,17 @@
 //! The slow program beside the fast bodies: walks by children, values along a word, cuttings.
+ghost use Rattle.std.specs.Option.{ForSome};
+ghost use Rattle.vrp_model.specs.Route.{IsPlanOf};
 
 use super::{Case, NODES, Small, begins_with, routes};
 use crate::cutting::{Cutting, MAX_PIECES};
+use crate::depth_first::{Ended, search};
+use crate::local::Local;
 use crate::partial::Partial;
 use std::alloc::{AllocError, Global};
 use std::process::Abort;
 use std::test::Fail;
-use vrp_model::{Instance, NoMemory};
+use vrp_bound::Tables;
+use vrp_model::{Instance, NoMemory, Plan};
 
 // More steps than a walk through any of the trees takes.
 const MOST_STEPS: u32 = 10_000;
@@ -90,6 +95,42 @@ fn children_stand_for_a_piece(rt: HostRuntime) -> Result<(), Fail> {
             assert_all_refined(&small, &rt, rt.alloc(), &instance)?;
         }
     }
+    Ok(())
+}
+
+// The search of the whole tree finds the first word of all, whichever plan the board is opened with.
+#[test]
+fn the_first_word_is_found(rt: HostRuntime) -> Result<(), Fail> {
+    for case in CASES {
+        for small in Small::kinds(case) {
+            let instance = small.instance(&rt, rt.alloc())?;
+            let singles = Plan::singles(rt.alloc(), &instance)?;
+            for mut board in [Local::open(singles), Local::open(None)] {
+                search_whole(&rt, rt.alloc(), &instance, &mut board)?;
+                let first = small.first(rt.alloc())?;
+                let wanted = first.as_ref().map(|(cost, word)| (*cost, word.as_slice()));
+                let kept = board.plan().map(|plan| (plan.cost(), plan.word()));
+                assert_eq!(rt; kept, wanted, "{small:?}");
+            }
+        }
+    }
+    Ok(())
+}
+
+// Searches the whole tree to its end.
+fn search_whole(
+    rt: &impl Abort,
+    alloc: Global,
+    instance: &Instance,
+    board: &mut Local,
+) -> Result<(), Fail>
+    requires { ForSome board.old (IsPlanOf instance.now) }
+{
+    let cutting = Cutting::whole(alloc, instance)?;
+    let tables = Tables::over_all(alloc, instance)?;
+    let piece = &cutting.pieces()[0];
+    let ended = search(alloc, instance, &tables, piece, u64::MAX, board)?;
+    assert!(rt; matches!(&ended, Ended::Finished { .. }));
     Ok(())
 }
 
