@@ -90,7 +90,7 @@ pays_by_symbol p least_in home problem way_home =
     }
 
 -- the truck that is out and those that a lawful word sends out behind a front carry what the front leaves
-carries_behind : (p : Problem) (front more : List ℕ) → IsProblem p → IsLawfulWord p (front ++ more)
+pub carries_behind : (p : Problem) (front more : List ℕ) → IsProblem p → IsLawfulWord p (front ++ more)
     → load_of p (unserved_in p front) ≤ free_room p (last_symbol front) (open_load p front) + opened (last_symbol front) more * p.capacity
 carries_behind p front more problem lawful = omega (arith, by_symbols p (Carries p) (carries_by_symbol p) problem front more lawful, sum_behind (demand_of p) p front more lawful)
 

@@ -3,3 +3,4 @@ pub mod Cells
 pub mod Filled
 pub mod Scope
 pub mod Units
+pub mod Ways

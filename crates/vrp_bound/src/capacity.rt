@@ -25,8 +25,8 @@ pub fn cap_bound(instance: &Instance, at: u16, load: u64, ins: u64, rest: u64) -
     ins + returns * home
 }
 
-// The least number of trucks that carry so much.
-fn trucks(capacity: u64, amount: u64) -> u64
+/// The least number of trucks that carry so much.
+pub(crate) fn trucks(capacity: u64, amount: u64) -> u64
     requires { 0 < amount → 0 < capacity }
     ensures { IsTrucks capacity amount result }
 {

@@ -1,4 +1,4 @@
-//! What is true of the definitions, whatever the code does: both bounds are bounds.
+//! What is true of the definitions, whatever the code does: the bounds are bounds.
 ghost use Rattle.std.specs.Prelude.{◌≡◌, ℕ, ◌+◌, ◌≤◌, Option, MatchOption, List, ◌++◌};
 ghost use Rattle.std.specs.List.{All, Contains};
 ghost use Rattle.vrp_model.specs.Front.{open_load, routes_left};
@@ -7,6 +7,7 @@ ghost use Rattle.vrp_model.specs.Route.{load_of};
 ghost use Rattle.vrp_model.specs.Word.{IsLawfulWord, last_symbol, unserved_in, word_cost};
 ghost use Rattle.vrp_bound.specs.Bound.{IsLowerBound};
 ghost use Rattle.vrp_bound.specs.Capacity.{CanCarry, IsCapacityBound, IsInsOf};
+ghost use Rattle.vrp_bound.specs.TreeBound.{IsTreeBound};
 ghost use Rattle.vrp_bound.specs.Walk.{IsRelaxed, relaxed_cost};
 
 /// What a lawful word adds to a front that it begins with is a relaxed completion of the front, of the same cost, over any
@@ -28,6 +29,17 @@ pub fn bounds_hold()
 pub fn capacity_bounds()
     ensures { (p : Problem) (front more : List ℕ) (ins bound : ℕ) → IsProblem p → IsLawfulWord p (front ++ more) → IsInsOf p front ins
         → IsCapacityBound p (last_symbol front) (open_load p front) ins (load_of p (unserved_in p front)) bound → word_cost p front + bound ≤ word_cost p (front ++ more) }
+{}
+
+/// No lawful word that begins with a front adds less to it than the tree bound.
+pub fn tree_bounds()
+    ensures { (p : Problem) (front more : List ℕ) (bound : ℕ) → IsProblem p → IsLawfulWord p (front ++ more)
+        → IsTreeBound p (last_symbol front) (open_load p front) (unserved_in p front) (load_of p (unserved_in p front)) bound → word_cost p front + bound ≤ word_cost p (front ++ more) }
+{}
+
+/// The tree bound is one number.
+pub fn one_tree_bound()
+    ensures { (p : Problem) (at load : ℕ) (unserved : List ℕ) (rest bound other : ℕ) → IsTreeBound p at load unserved rest bound → IsTreeBound p at load unserved rest other → bound ≡ other }
 {}
 
 /// Where a lawful word begins with a front, the trucks that the front leaves can carry what it leaves.

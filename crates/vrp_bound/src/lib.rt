@@ -1,5 +1,5 @@
-//! A lower bound on what is still to pay on a partial plan: the q-routes of Christofides, Mingozzi and Toth (1981), and a
-//! capacity bound.
+//! Lower bounds on what is still to pay on a partial plan: the q-routes of Christofides, Mingozzi and Toth (1981), a capacity
+//! bound, and the least spanning tree.
 #![tactic(auto)]
 
 mod capacity;
@@ -9,15 +9,26 @@ mod fixture;
 mod greater;
 mod homes;
 mod law;
+mod least_homes;
 mod quotients;
 mod scope;
+#[cfg(test)]
+mod slow_tree;
+mod spanning;
 mod tables;
 mod tours;
+mod tree;
 mod trucks_left;
 mod units;
 mod walks;
+mod way;
+mod ways;
 
 pub use capacity::cap_bound;
 pub use greater::bound;
-pub use law::{bounds_hold, capacity_bounds, relaxed_completions, trucks_left_carry};
+pub use law::{
+    bounds_hold, capacity_bounds, one_tree_bound, relaxed_completions, tree_bounds,
+    trucks_left_carry,
+};
 pub use tables::Tables;
+pub use tree::TreeRoom;

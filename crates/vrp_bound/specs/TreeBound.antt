@@ -1,0 +1,49 @@
+-- The tree bound: a least spanning tree over the places that are still to be joined, and the least ways home.
+use Rattle.std.specs.Prelude.{◌≡◌, ℕ, zero, suc, ◌+◌, ◌-◌, ◌≤◌, max, min, List, [], ◌∷◌, ◌++◌, length}
+use Rattle.std.specs.List.{sum_by}
+use Rattle.std.specs.List.Sorted.{IsPermutation}
+use Rattle.vrp_model.specs.Problem.{Problem, weight_of}
+use Rattle.vrp_bound.specs.Capacity.{IsTrucks, free_room}
+use Rattle.vrp_bound.specs.SpanningTree.{IsLeastTree}
+
+-- what the tree joins to the last place: the unserved customers, and the depot where a route is open
+abbrev pub to_join : ℕ → List ℕ → List ℕ
+to_join zero unserved = unserved
+to_join (suc k) unserved = 0 ∷ unserved
+
+-- a route has yet to be opened, whatever is demanded: none is open, and a customer is unserved
+abbrev pub first_route : ℕ → List ℕ → ℕ
+first_route zero [] = 0
+first_route zero (customer ∷ unserved) = 1
+first_route (suc k) unserved = 0
+
+-- How many routes must still be opened: those that carry what the open one can't take, and at least one where none is open and a
+-- customer is unserved
+pub record IsLaterRoutes (p : Problem) (at load : ℕ) (unserved : List ℕ) (rest later : ℕ) : Type 0 where
+  pub trucks : ℕ
+  pub carry : IsTrucks p.capacity (rest - free_room p at load) trucks
+  pub all : later ≡ max trucks (first_route at unserved)
+
+-- so many of these customers, or all where there are fewer
+pub record AreSomeOf (customers : List ℕ) (most : ℕ) (chosen : List ℕ) : Type 0 where
+  pub others : List ℕ
+  pub parts : IsPermutation (chosen ++ others) customers
+  pub count : length chosen ≡ min most (length customers)
+
+abbrev pub homes_cost : Problem → List ℕ → ℕ
+homes_cost p chosen = sum_by (λ customer. weight_of p customer 0) chosen
+
+-- so many customers' ways home have this weight, and no others have less
+pub record AreLeastHomes (p : Problem) (customers : List ℕ) (most weight : ℕ) : Type 0 where
+  pub met : (chosen : List ℕ) × AreSomeOf customers most chosen × (homes_cost p chosen ≡ weight)
+  pub least : (chosen : List ℕ) → AreSomeOf customers most chosen → weight ≤ homes_cost p chosen
+
+-- the least tree, and a way home for each route that must still be opened, from different customers
+pub record IsTreeBound (p : Problem) (at load : ℕ) (unserved : List ℕ) (rest bound : ℕ) : Type 0 where
+  pub tree : ℕ
+  pub least_tree : IsLeastTree p (at ∷ []) (to_join at unserved) tree
+  pub later : ℕ
+  pub count : IsLaterRoutes p at load unserved rest later
+  pub homes : ℕ
+  pub least_homes : AreLeastHomes p unserved later homes
+  pub is : bound ≡ tree + homes

@@ -1,0 +1,90 @@
+//! The tree bound: what is still to pay joins all places that are left, and each later route drives home.
+ghost use Rattle.std.specs.Prelude.{◌≡◌, ◌*◌, ◌≤◌, ◌<◌, All, Contains, IfOk};
+ghost use Rattle.std.specs.List.Sorted.{IsStrictlyIncreasing};
+ghost use Rattle.vrp_model.specs.Problem.{IsProblem, customers, place_count};
+ghost use Rattle.vrp_model.specs.Route.{load_of};
+ghost use Rattle.vrp_bound.specs.TreeBound.{IsLaterRoutes, IsTreeBound};
+
+use crate::capacity::trucks;
+use crate::least_homes::least_homes;
+use crate::spanning::least_tree;
+use crate::way::Way;
+use std::alloc::Global;
+use std::marker::Model;
+use vrp_model::{Instance, MAX_WAYS, NoMemory};
+
+/// Room to find the least trees and ways home in, so that no bound asks for memory. As a value it is for how many places.
+#[derive(Debug, Drop)]
+pub struct TreeRoom {
+    ways: Vec<Way>,
+}
+
+impl Model for TreeRoom {
+    ghost use Rattle.std.specs.Prelude.{ℕ, vec_capacity};
+
+    ghost Value = { ℕ };
+
+    ghost view = { λ a. vec_capacity a.ways };
+}
+
+impl TreeRoom {
+    /// Room for all places of an instance.
+    pub fn new(alloc: Global, instance: &Instance) -> Result<TreeRoom, NoMemory>
+        ensures { IfOk result (λ room. place_count instance.now ≤ room) }
+    {
+        let places = usize::from(instance.customers()) + 1;
+        Ok(TreeRoom {
+            ways: Vec::with_capacity(alloc, places)?,
+        })
+    }
+
+    /// What is at least still to pay from a place, with this load on the truck that is out there: the weight of a least spanning
+    /// tree over the last place, the unserved customers and the depot, where the weight between two places is the lesser of the
+    /// two ways; and for each route that must still be opened a way home, the least ones from different customers. `unserved` is
+    /// by rising place, and `rest` what they demand. No route is open where the place is the depot.
+    pub fn tree_bound(
+        &mut self,
+        instance: &Instance,
+        at: u16,
+        load: u64,
+        unserved: &[u16],
+        rest: u64,
+    ) -> u64
+        requires room { place_count instance.now ≤ self.old }
+        requires place { at < place_count instance.now }
+        requires load { load ≤ instance.now.capacity }
+        requires rising { IsStrictlyIncreasing unserved.now }
+        requires customers { All (Contains (customers instance.now)) unserved.now }
+        requires rest { rest ≤ load_of instance.now (customers instance.now) }
+        ensures bound { IsTreeBound instance.now at load unserved.now rest result }
+        ensures small { result ≤ 2 * MAX_WAYS }
+        ensures room { self.new ≡ self.old }
+    {
+        let later = later_routes(instance, at, load, unserved, rest);
+        let tree = least_tree(&mut self.ways, instance, at, unserved);
+        tree + least_homes(&mut self.ways, instance, unserved, later)
+    }
+}
+
+// How many routes must still be opened.
+fn later_routes(instance: &Instance, at: u16, load: u64, unserved: &[u16], rest: u64) -> u64
+    requires load { load ≤ instance.now.capacity }
+    requires place { at < place_count instance.now }
+    requires rest { rest ≤ load_of instance.now (customers instance.now) }
+    ensures later { IsLaterRoutes instance.now at load unserved.now rest result }
+    // What is known of every instance.
+    ensures problem { IsProblem instance.now }
+{
+    prove!(at <= instance.customers());
+    let capacity = instance.capacity();
+    let room = if at == 0 { 0 } else { capacity - load };
+    let trucks = trucks(capacity, rest.saturating_sub(room));
+    if at == 0 && !unserved.is_empty() {
+        trucks.max(1)
+    } else {
+        trucks
+    }
+}
+
+#[cfg(test)]
+mod tests;
