@@ -12,5 +12,7 @@ pub mod PartialViews
 pub mod PieceRefined
 pub mod SearchProgress
 pub mod Tallies
+pub mod TreePruned
+pub mod UnservedListed
 pub mod WaysIn
 pub mod WordOrder

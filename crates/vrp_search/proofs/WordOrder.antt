@@ -1,8 +1,8 @@
 -- The order in which a search comes by words: symbol by symbol, and a word before the longer ones that begin with it.
-use Rattle.std.proofs.Common.{◌≡◌, ℕ, ◌+◌, ◌≤◌, ◌<◌, ◌⊎◌, inl, inr, List, [], ◌∷◌, ◌++◌, refl, arith}
+use Rattle.std.proofs.Common.{◌≡◌, ℕ, ◌+◌, ◌≤◌, ◌<◌, ◌⊎◌, inl, inr, List, [], ◌∷◌, ◌++◌, length, length-append, ap, refl, arith}
 use Rattle.std.proofs.lemmas.Bool.{cases_lt}
 use Rattle.vrp_model.specs.Order.{IsEarlier}
-use Rattle.vrp_model.specs.Word.{BeginsWith}
+use Rattle.vrp_model.specs.Word.{BeginsWith, last_symbol}
 
 -- the second word is the first one, or comes behind it
 abbrev pub IsFrom : List ℕ → List ℕ → Type 0
@@ -140,3 +140,16 @@ from_later (k ∷ front) (j ∷ word) (i ∷ later) (inr here) (inr same) = inr 
 -- so no word that comes from a front on is earlier than one that doesn't
 pub none_earlier : (front word passed : List ℕ) → IsFrom front word → (IsFrom front passed → ⊥) → IsEarlier word passed → ⊥
 none_earlier front word passed from behind earlier = behind (from_later front word passed from earlier)
+
+-- ---- the last symbol
+
+-- words with one symbol more each are equal only where both parts are
+pub without_last : (front other : List ℕ) (j k : ℕ) → front ++ j ∷ [] ≡ other ++ k ∷ [] → (front ≡ other) × (j ≡ k)
+without_last [] [] j k same = (refl, ap (λ (w : List ℕ). last_symbol w) same)
+without_last [] (i ∷ other) j k same = absurd (let long = ap length same in omega (arith, long, length-append other (k ∷ [])))
+without_last (h ∷ front) [] j k same = absurd (let long = ap length same in omega (arith, long, length-append front (j ∷ [])))
+without_last (h ∷ front) (i ∷ other) j k same =
+    let head : h ≡ i = cc in
+    let tail : front ++ j ∷ [] ≡ other ++ k ∷ [] = cc in
+    let parts = without_last front other j k tail in
+    (let rest = parts.0 in cc, parts.1)

@@ -7,6 +7,7 @@ use crate::board::Board;
 use crate::found::Found;
 use crate::partial::Partial;
 use crate::piece::Piece;
+use crate::tree_pruning::TreePruning;
 use std::alloc::Global;
 use vrp_bound::{Tables, bounds_hold};
 use vrp_model::{Instance, NoMemory, Plan, dead_fronts, plans_cost_less, words_are_plans};
@@ -63,6 +64,7 @@ pub fn search<B: Board>(
     if board.least() < low {
         return Ok(Ended::Finished { spent, first: None });
     }
+    let mut trees = TreePruning::new(alloc, instance)?;
     let mut found = Found::nothing();
     found.offer_complete(alloc, &partial, board)?;
     let mut next = 0;
@@ -74,8 +76,12 @@ pub fn search<B: Board>(
                 let least = board.least();
                 if let Some(tally) = partial.promising(tables, symbol, least, found.cost()) {
                     partial.push_counted(symbol, tally);
-                    found.offer_complete(alloc, &partial, board)?;
-                    next = 0;
+                    if trees.prunes(&partial, least, found.cost()) {
+                        next = partial.pop() + 1;
+                    } else {
+                        found.offer_complete(alloc, &partial, board)?;
+                        next = 0;
+                    }
                 } else {
                     next = symbol + 1;
                 }

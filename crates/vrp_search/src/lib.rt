@@ -12,6 +12,7 @@ mod piece;
 #[cfg(test)]
 mod slow;
 mod tally;
+mod tree_pruning;
 
 pub use board::Board;
 pub use cutting::{Cutting, MAX_PIECES, MAX_REFINED};

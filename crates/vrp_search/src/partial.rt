@@ -1,9 +1,9 @@
 //! Partial plans: a word that grows and shrinks by one symbol, with what the search asks of it kept in step.
-ghost use Rattle.std.specs.Prelude.{◌≡◌, ◌<◌, ◌≤◌, ◌+◌, ◌*◌, ◌↔◌, [], ◌∷◌, ◌++◌, length, IsTrue, IfOk, IfSome, MatchOption};
+ghost use Rattle.std.specs.Prelude.{◌≡◌, ◌<◌, ◌≤◌, ◌+◌, ◌*◌, ◌↔◌, [], ◌∷◌, ◌++◌, length, IsTrue, IfOk, vec_capacity};
 ghost use Rattle.vrp_model.specs.Problem.{HasTrucks, IsProblem, place_count};
 ghost use Rattle.vrp_model.specs.Route.{IsPlanOf, load_of};
-ghost use Rattle.vrp_model.specs.Word.{IsDead, IsFront, IsLawfulWord, last_symbol, routes_of, unserved_in, word_cost, word_of};
-ghost use Rattle.vrp_model.specs.declared.limits.TheConstants.{MAX_NODES};
+ghost use Rattle.vrp_model.specs.Word.{IsDead, IsFront, IsLawfulWord, last_symbol, routes_of, served_in, unserved_in, word_cost, word_of};
+ghost use Rattle.vrp_model.specs.declared.limits.TheConstants.{MAX_NODES, MAX_WAYS};
 ghost use Rattle.vrp_search.specs.Partial.{PartialPlan};
 ghost use Rattle.vrp_model.specs.Front.{open_load};
 ghost use Rattle.vrp_search.specs.Child.{IsNextChild, NoChildFrom};
@@ -132,7 +132,8 @@ impl<'a> Partial<'a> {
 
     /// What is paid along the word.
     pub fn cost(&self) -> u64
-        ensures { result ≡ word_cost self.now.problem self.now.word }
+        ensures value { result ≡ word_cost self.now.problem self.now.word }
+        ensures small { result ≤ 2 * MAX_WAYS }
     {
         self.tally.cost
     }
@@ -150,7 +151,8 @@ impl<'a> Partial<'a> {
 
     /// What is on the truck of the open route, 0 where none is open.
     pub fn load(&self) -> u64
-        ensures { result ≡ open_load self.now.problem self.now.word }
+        ensures value { result ≡ open_load self.now.problem self.now.word }
+        ensures fits { result ≤ self.now.problem.capacity }
     {
         self.tally.load
     }
@@ -167,6 +169,30 @@ impl<'a> Partial<'a> {
         ensures { result ≡ load_of self.now.problem (unserved_in self.now.problem self.now.word) }
     {
         self.tally.rest
+    }
+
+    /// How many customers are unserved.
+    pub(crate) fn unserved(&self) -> u16
+        ensures { result + length (served_in self.now.word) + 1 ≡ place_count self.now.problem }
+    {
+        self.tally.unserved
+    }
+
+    /// Puts the unserved customers into a list that has room for all, by rising place, in place of what stands there.
+    pub(crate) fn list_unserved(&self, list: &mut Vec<u16>)
+        requires { place_count self.now.problem ≤ vec_capacity list.old + 1 }
+        ensures listed { list.new.items ≡ unserved_in self.now.problem self.now.word }
+        ensures room { vec_capacity list.new ≡ vec_capacity list.old }
+        // What is known of every partial plan.
+        ensures problem { IsProblem self.now.problem }
+        ensures front { IsFront self.now.problem self.now.word }
+    {
+        list.clear();
+        for customer in 1..self.instance.customers() + 1 {
+            if !self.served[usize::from(customer)] {
+                list.push_reserved(customer);
+            }
+        }
     }
 
     /// The plan of a complete word.

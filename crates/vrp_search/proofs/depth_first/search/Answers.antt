@@ -10,6 +10,7 @@ use Rattle.vrp_search.specs.Partial.{PartialPlan}
 use Rattle.vrp_search.specs.Search.{AreCovered, IsFinished, IsLow}
 use Rattle.vrp_search.proofs.LowBounds.{NoneUnder, covered_under, none_left, none_under}
 use Rattle.vrp_search.proofs.SearchProgress.{Progress, descended, ends_at_last, ends_at_root, no_use, opened, pruned, returned, unfinished}
+use Rattle.vrp_search.proofs.WordOrder.{without_last}
 use Rattle.vrp_search.proofs.depth_first.search.Goals as goal
 
 pub low-requires-clause-covered : goal.low-requires-clause-covered
@@ -64,6 +65,7 @@ loop-found-init g c =
     (subst (λ (q : Problem). IsKept q c.in_ok-partial.partial.word floor c.nothing-found.result.plan c.offer_complete.new.self.plan) problem c.in_ok-offer_complete.ensures.kept) in
     record {
       problem = problem;
+      trees = c.in_ok-trees.ensures;
       progress = subst (λ (w : List ℕ). Progress p root w 0 1 floor c.offer_complete.new.self.plan) (sym word)
           (opened p root floor c.offer_complete.new.self.plan c.requires.piece (subst (λ f. IsKept p root floor f c.offer_complete.new.self.plan) c.nothing-found.ensures kept));
       serves = subst (λ (q : Problem). g.B.Board.serves c.offer_complete.new.board q) problem c.offer_complete.ensures.serves;
@@ -95,28 +97,29 @@ promising-requires-clause-covered g c =
     let covered = covered_under c.args.instance.now c.args.tables.now.among c.args.piece.now.word c.loop-found.partial.word c.requires.covered c.loop-found.invariant.progress.under in
     subst (λ (q : Problem). AreCovered q c.args.tables.now.among c.loop-found.partial.word) (sym c.loop-found.invariant.problem) covered
 
-pub loop-found-preserved-in-Some-promising : goal.loop-found-preserved-in-Some-promising
-loop-found-preserved-in-Some-promising g c =
+pub loop-found-preserved-else-prunes : goal.loop-found-preserved-else-prunes
+loop-found-preserved-else-prunes g c =
     let p = c.args.instance.now in
     let root = c.args.piece.now.word in
     let word = c.loop-found.partial.word in
     let k = c.in-Some-next_child.field-0 in
     let old = g.B.Board.floor c.loop-found.board in
-    let floor = g.B.Board.floor c.offer_complete-in-Some-promising.new.board in
+    let floor = g.B.Board.floor c.offer_complete-else-prunes.new.board in
     let first = c.loop-found.found.plan in
-    let new = c.offer_complete-in-Some-promising.new.self.plan in
+    let new = c.offer_complete-else-prunes.new.self.plan in
     let child = subst (λ (q : Problem). IsNextChild q word c.loop-found.next k) c.loop-found.invariant.problem c.in-Some-next_child.ensures.next in
     let problem : c.push_counted.new.self.problem ≡ p = ap (λ (v : PartialPlan). v.problem) c.push_counted.ensures ∙ c.loop-found.invariant.problem in
     let longer : c.push_counted.new.self.word ≡ word ++ k ∷ [] = ap (λ (v : PartialPlan). v.word) c.push_counted.ensures in
-    let falls : floor ≤ old = omega (arith, c.offer_complete-in-Some-promising.ensures.falls, c.least-least.ensures.falls) in
+    let falls : floor ≤ old = omega (arith, c.offer_complete-else-prunes.ensures.falls, c.least-least.ensures.falls) in
     let promising = subst (λ (q : Problem). IsPromising q (word ++ k ∷ []) c.cost.result c.in-Some-promising.tally) c.loop-found.invariant.problem c.in-Some-promising.ensures in
     let cheaper : word_cost p (word ++ k ∷ []) < cost_of first = omega (arith, promising.counted.cost, promising.cheaper, c.cost.ensures) in
     let kept = subst (λ (w : List ℕ). IsKept p w floor first new) longer (subst (λ (q : Problem). IsKept q c.push_counted.new.self.word floor first new) problem c.in_ok-offer_complete-in-Some-2.ensures.kept) in
     record {
       problem = problem;
+      trees = c.prunes.ensures.instance ∙ c.loop-found.invariant.trees;
       progress = subst (λ (w : List ℕ). Progress p root w 0 (c.loop-found.spent + 1) floor new) (sym longer)
           (descended p root word c.loop-found.next k c.loop-found.spent old floor first new c.loop-found.invariant.progress child falls cheaper kept);
-      serves = subst (λ (q : Problem). g.B.Board.serves c.offer_complete-in-Some-promising.new.board q) problem c.offer_complete-in-Some-promising.ensures.serves;
+      serves = subst (λ (q : Problem). g.B.Board.serves c.offer_complete-else-prunes.new.board q) problem c.offer_complete-else-prunes.ensures.serves;
       falls = omega (arith, falls, c.loop-found.invariant.falls);
       some = omega arith;
       within = omega (arith, c.if-spent-budget.false, c.loop-found.invariant.within);
@@ -136,6 +139,7 @@ loop-found-preserved-in_default-promising g c =
     let none : NoneOfUse p (word ++ k ∷ []) c.least-least.result c.cost.result = subst (λ (q : Problem). NoneOfUse q (word ++ k ∷ []) c.least-least.result c.cost.result) c.loop-found.invariant.problem c.in_default-promising.ensures in
     record {
       problem = c.loop-found.invariant.problem;
+      trees = c.loop-found.invariant.trees;
       progress = pruned p root word c.loop-found.next k c.loop-found.spent old floor first c.loop-found.invariant.progress child c.least-least.ensures.falls
           (λ w lawful from begins.
               let plan = c.words_are_plans.ensures p w lawful in
@@ -164,17 +168,55 @@ loop-found-preserved g c =
     let floor = g.B.Board.floor c.loop-found.board in
     let first = c.loop-found.found.plan in
     let none = subst (λ (q : Problem). NoChildFrom q c.loop-found.partial.word c.loop-found.next) c.loop-found.invariant.problem c.in-None.ensures.next in
-    let word = c.pop-next.ensures.word in
+    let word = c.pop-next-in-None-2.ensures.word in
     let differs : length c.loop-found.partial.word ≢ length root = λ same. c.if-word-front.false (ap length c.word.ensures.value ∙ same ∙ ap length (sym c.word-front.ensures)) in
     let under = c.loop-found.invariant.progress.under in
-    let longer : length root ≤ length c.pop-next.new.self.word = omega (arith, differs, ap length under.1, length-append root under.0, ap length word, length-append c.pop-next.new.self.word (c.pop-next.result ∷ [])) in
+    let longer : length root ≤ length c.pop-next-in-None-2.new.self.word = omega (arith, differs, ap length under.1, length-append root under.0, ap length word, length-append c.pop-next-in-None-2.new.self.word (c.pop-next-in-None-2.result ∷ [])) in
     record {
-      problem = c.pop-next.ensures.problem ∙ c.loop-found.invariant.problem;
-      progress = returned p root c.pop-next.new.self.word c.pop-next.result c.loop-found.next c.loop-found.spent floor first
+      problem = c.pop-next-in-None-2.ensures.problem ∙ c.loop-found.invariant.problem;
+      trees = c.loop-found.invariant.trees;
+      progress = returned p root c.pop-next-in-None-2.new.self.word c.pop-next-in-None-2.result c.loop-found.next c.loop-found.spent floor first
           (subst (λ (w : List ℕ). Progress p root w c.loop-found.next c.loop-found.spent floor first) word c.loop-found.invariant.progress)
           (subst (λ (w : List ℕ). NoChildFrom p w c.loop-found.next) word none) longer;
       serves = c.loop-found.invariant.serves;
       falls = c.loop-found.invariant.falls;
       some = c.loop-found.invariant.some;
       within = c.loop-found.invariant.within;
+    }
+
+pub offer_complete-requires-else-prunes : goal.offer_complete-requires-else-prunes
+offer_complete-requires-else-prunes g c =
+    let problem : c.push_counted.new.self.problem ≡ c.args.instance.now = ap (λ (v : PartialPlan). v.problem) c.push_counted.ensures ∙ c.loop-found.invariant.problem in
+    subst (λ (q : Problem). g.B.Board.serves c.least-least.new.self q) (sym problem) (c.least-least.ensures.serves c.args.instance.now c.loop-found.invariant.serves)
+
+pub loop-found-preserved-then-prunes : goal.loop-found-preserved-then-prunes
+loop-found-preserved-then-prunes g c =
+    let p = c.args.instance.now in
+    let root = c.args.piece.now.word in
+    let word = c.loop-found.partial.word in
+    let k = c.in-Some-next_child.field-0 in
+    let old = g.B.Board.floor c.loop-found.board in
+    let floor = g.B.Board.floor c.least-least.new.self in
+    let first = c.loop-found.found.plan in
+    let child = subst (λ (q : Problem). IsNextChild q word c.loop-found.next k) c.loop-found.invariant.problem c.in-Some-next_child.ensures.next in
+    let is_problem : IsProblem p = subst IsProblem (ap (λ (v : PartialPlan). v.problem) c.in_ok-partial.ensures) c.low.ensures.problem in
+    let problem : c.push_counted.new.self.problem ≡ p = ap (λ (v : PartialPlan). v.problem) c.push_counted.ensures ∙ c.loop-found.invariant.problem in
+    let longer : c.push_counted.new.self.word ≡ word ++ k ∷ [] = ap (λ (v : PartialPlan). v.word) c.push_counted.ensures in
+    let none = subst (λ (w : List ℕ). NoneOfUse p w c.least-least.result c.cost-in-Some-promising.result) longer
+    (subst (λ (q : Problem). NoneOfUse q c.push_counted.new.self.word c.least-least.result c.cost-in-Some-promising.result) problem (c.prunes.ensures.none c.if-prunes.true)) in
+    let parts = without_last c.pop-next.new.self.word word c.pop-next.result k (sym c.pop-next.ensures.word ∙ longer) in
+    let progress = pruned p root word c.loop-found.next k c.loop-found.spent old floor first c.loop-found.invariant.progress child c.least-least.ensures.falls
+    (λ w lawful from begins.
+        let plan = c.words_are_plans.ensures p w lawful in
+        let small : word_cost p w < NO_COST = omega (arith, c.plans_cost_less.ensures p plan.0 is_problem plan.2, plan.5) in
+        no_use p (word ++ c.loop-found.next ∷ []) floor c.least-least.result c.cost-in-Some-promising.result first w c.least-least.ensures.answered c.cost-in-Some-promising.ensures small c.loop-found.invariant.progress.behind from (none w lawful begins)) in
+    record {
+      problem = c.pop-next.ensures.problem ∙ problem;
+      trees = c.prunes.ensures.instance ∙ c.loop-found.invariant.trees;
+      progress = subst (λ (w : List ℕ). Progress p root w (c.pop-next.result + 1) (c.loop-found.spent + 1) floor first) (sym parts.0)
+          (subst (λ n. Progress p root word (n + 1) (c.loop-found.spent + 1) floor first) (sym parts.1) progress);
+      serves = c.least-least.ensures.serves p c.loop-found.invariant.serves;
+      falls = omega (arith, c.least-least.ensures.falls, c.loop-found.invariant.falls);
+      some = omega arith;
+      within = omega (arith, c.if-spent-budget.false, c.loop-found.invariant.within);
     }

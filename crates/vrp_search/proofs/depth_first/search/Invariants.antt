@@ -5,6 +5,7 @@ use Rattle.vrp_search.proofs.depth_first.search.Given as goal
 abbrev pub invariant-loop-found : goal.invariant-loop-found
 invariant-loop-found g l = record {
   problem : l.partial.problem ≡ l.instance;
+  trees : l.trees.instance.now ≡ l.instance;
   progress : Progress l.instance l.piece.word l.partial.word l.next l.spent (g.B.Board.floor l.board) l.found.plan;
   serves : g.B.Board.serves l.board l.instance;
   falls : g.B.Board.floor l.board ≤ g.B.Board.floor l.fn.board;

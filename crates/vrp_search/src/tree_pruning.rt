@@ -1,0 +1,78 @@
+//! Pruning by the tree bound: it takes longer than the other bounds, and is tried where it pays.
+ghost use Rattle.std.specs.Prelude.{◌≡◌, ℕ, ◌+◌, ◌≤◌, IfOk, IsTrue, vec_capacity};
+ghost use Rattle.vrp_model.specs.Problem.{place_count};
+ghost use Rattle.vrp_search.specs.Inner.Pruned.{NoneOfUse};
+
+use crate::partial::Partial;
+use std::alloc::Global;
+use vrp_bound::{TreeRoom, tree_bounds};
+use vrp_model::{Instance, NoMemory};
+
+// With fewer unserved customers there is little left to prune below.
+const LEAST_CLOSED: u16 = 5;
+
+const LEAST_OPEN: u16 = 4;
+
+// With more unserved customers a tree takes too long.
+const MOST: u16 = 100;
+
+// Where fewer customers fill a truck, the bound costs more at open routes than it saves.
+const LONG_ROUTE: u64 = 4;
+
+/// The tree bound of an instance's partial plans, with room to find it in.
+#[derive(Drop)]
+pub(crate) struct TreePruning<'a> {
+    instance: &'a Instance,
+    room: TreeRoom,
+    // Reserved for all customers.
+    unserved: Vec<u16>,
+    // Whether the bound is tried where a route is open too.
+    has_long_routes: bool,
+    ghost places: { place_count instance.now ≤ room },
+    ghost customers: { place_count instance.now ≤ vec_capacity unserved + 1 },
+}
+
+impl<'a> TreePruning<'a> {
+    /// Room for all partial plans of an instance.
+    pub(crate) fn new(alloc: Global, instance: &'a Instance) -> Result<TreePruning<'a>, NoMemory>
+        ensures { IfOk result (λ pruning. pruning.instance.now ≡ instance.now) }
+    {
+        let customers = instance.customers();
+        let room = TreeRoom::new(alloc, instance)?;
+        let unserved = Vec::with_capacity(alloc, usize::from(customers))?;
+        let filled = u64::from(customers) * instance.capacity();
+        Ok(TreePruning {
+            instance,
+            room,
+            unserved,
+            has_long_routes: LONG_ROUTE * instance.whole_demand() <= filled,
+        })
+    }
+
+    /// Whether the bound is tried, and tells that each plan under a partial plan costs more than `least`, or `own` or more. Where
+    /// it doesn't, nothing is said.
+    pub(crate) fn prunes(&mut self, partial: &Partial<'_>, least: u64, own: u64) -> bool
+        requires { partial.now.problem ≡ self.old.instance.now }
+        ensures none { IsTrue result → NoneOfUse partial.now.problem partial.now.word least own }
+        ensures instance { self.new.instance.now ≡ self.old.instance.now }
+    {
+        let at = partial.at();
+        if !self.is_tried(at, partial.unserved()) {
+            return false;
+        }
+        tree_bounds();
+        partial.list_unserved(&mut self.unserved);
+        let (load, rest) = (partial.load(), partial.rest());
+        let more = self.room.tree_bound(self.instance, at, load, &self.unserved, rest);
+        let low = partial.cost() + more;
+        low > least || low >= own
+    }
+
+    // Whether the bound is likely to pay at this place, with so many customers unserved.
+    fn is_tried(&self, at: u16, unserved: u16) -> bool {
+        if at == 0 {
+            return LEAST_CLOSED <= unserved && unserved <= MOST;
+        }
+        self.has_long_routes && LEAST_OPEN <= unserved && unserved <= MOST
+    }
+}
