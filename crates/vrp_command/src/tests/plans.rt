@@ -25,23 +25,45 @@ const LARGE: &str =
 const SAME_POINT: &str =
     "TYPE : CVRP\nDIMENSION : 3\nEDGE_WEIGHT_TYPE : EUC_2D\nCAPACITY : 2\nNODE_COORD_SECTION\n1 7 7\n2 7 7\n3 7 7\nDEMAND_SECTION\n1 0\n2 1\n3 1\nDEPOT_SECTION\n1\n-1\nEOF\n";
 
-const PROVEN_COSTS: [(&str, &str, &str); 8] = [
-    ("EOF", "EOF", "Cost 20\nProven\n"),
-    ("CAPACITY : 2", "CAPACITY : 1", "Cost 30\nProven\n"),
-    ("\n2 1\n", "\n2 2\n", "Cost 30\nProven\n"),
+// Four nodes, a step from each to each: many plans cost the same.
+const STEPS: &str =
+    "TYPE : CVRP\nDIMENSION : 4\nEDGE_WEIGHT_TYPE : EXPLICIT\nEDGE_WEIGHT_FORMAT : UPPER_ROW\nCAPACITY : 2\nEDGE_WEIGHT_SECTION\n1 1 1\n1 1\n1\nDEMAND_SECTION\n1 0\n2 1\n3 1\n4 1\nDEPOT_SECTION\n1\n-1\nEOF\n";
+
+// A change of the small file, and the report: the first plan by cost and then by word.
+const FIRST_PLANS: [(&str, &str, &str); 9] = [
+    ("EOF", "EOF", "Route #1: 2 3\nCost 20\nProven\n"),
+    (
+        "CAPACITY : 2",
+        "CAPACITY : 1",
+        "Route #1: 2\nRoute #2: 3\nCost 30\nProven\n",
+    ),
+    (
+        "\n2 1\n",
+        "\n2 2\n",
+        "Route #1: 2\nRoute #2: 3\nCost 30\nProven\n",
+    ),
     (SMALL, ONE_WAY, "Route #1: 2 3\nCost 3\nProven\n"),
     (SMALL, SECOND_FIRST, "Route #1: 3 2\nCost 3\nProven\n"),
-    (SMALL, FOUR, "Cost 20\nProven\n"),
-    (SMALL, SAME_POINT, "Cost 0\nProven\n"),
-    (SMALL, LARGE, "Cost 20\nProven\n"),
+    (SMALL, FOUR, "Route #1: 2 3 4\nCost 20\nProven\n"),
+    (
+        SMALL,
+        SAME_POINT,
+        "Route #1: 2\nRoute #2: 3\nCost 0\nProven\n",
+    ),
+    (SMALL, LARGE, "Route #1: 2 3\nCost 20\nProven\n"),
+    (
+        SMALL,
+        STEPS,
+        "Route #1: 2\nRoute #2: 3 4\nCost 5\nProven\n",
+    ),
 ];
 
-// However many pieces there are, the least cost is found and proved.
+// However many pieces there are, the first plan is found and proved.
 #[test]
-fn proven_costs(rt: HostRuntime) -> Result<(), Fail> {
-    for (old, new, end) in PROVEN_COSTS {
+fn first_plans(rt: HostRuntime) -> Result<(), Fail> {
+    for (old, new, report) in FIRST_PLANS {
         let text = SMALL.replacen(rt.alloc(), old, new, 1)?;
-        assert_proven(&rt, rt.alloc(), text.as_str(), end);
+        assert_proven(&rt, rt.alloc(), text.as_str(), report);
     }
     Ok(())
 }
@@ -53,7 +75,7 @@ fn assert_proven(rt: &impl Abort, alloc: Global, text: &str, end: &str) {
     }
 }
 
-const SMALL_BUDGETS: [(&str, &str, u32, u64, Status, &str); 14] = [
+const SMALL_BUDGETS: [(&str, &str, u32, u64, Status, &str); 16] = [
     // two trucks, each to a customer and back, cost 30; both customers by walks of one truck cost at least 20
     (
         "EOF",
@@ -64,9 +86,10 @@ const SMALL_BUDGETS: [(&str, &str, u32, u64, Status, &str); 14] = [
         "Route #1: 2\nRoute #2: 3\nCost 30\nOpen 20\n",
     ),
     ("EOF", "EOF", 1, 2, Status::Open, "Cost 30\nOpen 20\n"),
-    // the sixth is the complete word of the cheaper plan
-    ("EOF", "EOF", 1, 6, Status::Open, "Cost 20\nOpen 20\n"),
-    ("EOF", "EOF", 1, 7, Status::Proven, "Cost 20\nProven\n"),
+    // the fifth is the complete word of the first plan again, the seventh that of the cheaper one
+    ("EOF", "EOF", 1, 6, Status::Open, "Cost 30\nOpen 20\n"),
+    ("EOF", "EOF", 1, 7, Status::Open, "Cost 20\nOpen 20\n"),
+    ("EOF", "EOF", 1, 8, Status::Proven, "Cost 20\nProven\n"),
     ("EOF", "EOF", 1, 11, Status::Proven, "Cost 20\nProven\n"),
     // the pieces are the first customers: 5 paid and 15 to pay, 10 paid and 10 to pay
     ("EOF", "EOF", 2, 1, Status::Open, "Cost 30\nOpen 20\n"),
@@ -87,12 +110,20 @@ const SMALL_BUDGETS: [(&str, &str, u32, u64, Status, &str); 14] = [
         Status::Open,
         "Cost 30\nOpen 20\n",
     ),
-    // the bound is what the first plan costs
+    // the bound is what the first plan costs: another plan may cost as much
     (
         "\n2 1\n",
         "\n2 2\n",
         1,
+        5,
+        Status::Open,
+        "Cost 30\nOpen 30\n",
+    ),
+    (
+        "\n2 1\n",
+        "\n2 2\n",
         1,
+        6,
         Status::Proven,
         "Cost 30\nProven\n",
     ),
@@ -106,7 +137,7 @@ const SMALL_BUDGETS: [(&str, &str, u32, u64, Status, &str); 14] = [
     (SMALL, SECOND_FIRST, 2, 4, Status::Open, "Cost 3\nOpen 3\n"),
 ];
 
-// What is left open with a small budget. The whole tree of the small file has ten partial plans: seven are looked at.
+// What is left open with a small budget. The whole tree of the small file has ten partial plans: eight are looked at.
 #[test]
 fn small_budgets(rt: HostRuntime) -> Result<(), Fail> {
     for (old, new, pieces, budget, status, end) in SMALL_BUDGETS {
