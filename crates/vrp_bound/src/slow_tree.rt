@@ -1,6 +1,4 @@
 //! A plain slow program beside the tree bound: it tries every tree, every choice of ways home and every completion.
-ghost use Rattle.std.specs.Prelude.{◌<◌, All};
-ghost use Rattle.vrp_model.specs.Problem.{place_count};
 
 use std::alloc::{AllocError, Global};
 use vrp_model::Instance;
@@ -161,8 +159,8 @@ fn least_of_homes(instance: &Instance, customers: &[u16], count: u64) -> u64 {
     least
 }
 
-/// The least cost of a completion, by each next stop and each behind it, with so many steps at most; the greatest number where there
-/// is none.
+/// The least cost of a completion, by each next stop and each behind it, with so many steps at most; the greatest number where
+/// there is none.
 pub(crate) fn least_completion(instance: &Instance, situation: Situation, steps: u16) -> u64 {
     let at = situation.at;
     if at == 0 && situation.unserved == 0 {

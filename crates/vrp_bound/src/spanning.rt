@@ -10,7 +10,7 @@ use crate::way::Way;
 use crate::ways::take_least;
 use vrp_model::Instance;
 
-/// The weight of a least spanning tree over a place, these customers, and the depot. The list has room for all but the first place.
+/// The weight of a least spanning tree over a place, these customers and the depot. The list has room for all but that place.
 pub(crate) fn least_tree(ways: &mut Vec<Way>, instance: &Instance, at: u16, unserved: &[u16]) -> u64
     requires place { at < place_count instance.now }
     requires known { All (λ customer. customer < place_count instance.now) unserved.now }
@@ -49,6 +49,7 @@ fn push_links(ways: &mut Vec<Way>, instance: &Instance, at: u16, unserved: &[u16
 }
 
 // A place has been taken in: those that wait may be linked to it too.
+#[inline(always)]
 fn join(ways: &mut [Way], instance: &Instance, taken: u16)
     requires place { taken < place_count instance.now }
     requires small { All (IsSmallWay instance.now) ways.old }
@@ -62,6 +63,7 @@ fn join(ways: &mut [Way], instance: &Instance, taken: u16)
 }
 
 // A place that waits, with its link to one that is taken: the lesser of the two ways.
+#[inline(always)]
 fn link_between(instance: &Instance, taken: u16, place: u16) -> Way
     requires taken { taken < place_count instance.now }
     requires place { place < place_count instance.now }

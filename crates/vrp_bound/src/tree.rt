@@ -13,7 +13,7 @@ use std::alloc::Global;
 use std::marker::Model;
 use vrp_model::{Instance, MAX_WAYS, NoMemory};
 
-/// Room to find the least trees and ways home in, so that no bound asks for memory. As a value it is for how many places.
+/// Room in which least trees and least ways home are found, so that no bound asks for memory. As a value: for how many places.
 #[derive(Debug, Drop)]
 pub struct TreeRoom {
     ways: Vec<Way>,
@@ -75,6 +75,7 @@ fn later_routes(instance: &Instance, at: u16, load: u64, unserved: &[u16], rest:
     // What is known of every instance.
     ensures problem { IsProblem instance.now }
 {
+    // The number of customers comes with what is known of every instance.
     prove!(at <= instance.customers());
     let capacity = instance.capacity();
     let room = if at == 0 { 0 } else { capacity - load };

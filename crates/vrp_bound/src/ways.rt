@@ -5,6 +5,7 @@ ghost use Rattle.std.specs.List.Sorted.{IsPermutation};
 use crate::way::Way;
 
 /// Takes out a way of the least weight; the others may change their order.
+#[inline(always)]
 pub(crate) fn take_least(ways: &mut Vec<Way>) -> Way
     requires { 0 < vec_len ways.old }
     ensures taken { IsPermutation ways.old.items (result ∷ ways.new.items) }
