@@ -6,6 +6,8 @@ mod caller;
 mod cost_word;
 mod counted;
 mod entry;
+#[cfg(test)]
+mod fixture;
 mod law;
 mod register;
 mod view;

@@ -16,6 +16,9 @@ use std::sync::ledger::{Blank, Ledger, Share};
 use std::sync::{Mutex, Wait};
 use vrp_model::{NO_COST, NoMemory, Plan};
 
+#[cfg(test)]
+mod tests;
+
 /// Keeps the first plan that any caller has offered, by cost and then by word, and the least cost in a word that is read without
 /// the lock.
 #[derive(Drop)]
