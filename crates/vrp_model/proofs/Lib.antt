@@ -20,6 +20,7 @@ pub mod FrontsBefore
 pub mod InstanceLemmas
 pub mod LastRoute
 pub mod LeastWayLemmas
+pub mod OneRoute
 pub mod Ordered
 pub mod PlacesLemmas
 pub mod PlanLemmas

@@ -1,46 +1,14 @@
-use Rattle.std.proofs.Common.{◌≡◌, ◌≢◌, ℕ, ◌+◌, ◌-◌, ◌≤◌, ◌<◌, true, false, List, [], ◌∷◌, refl, sym, ap, subst, inl, inr, ◌⊎◌, arith}
-use Rattle.std.specs.List.{All, range_with_len}
-use Rattle.std.specs.List.Sorted.{IsPermutation}
-use Rattle.std.proofs.lemmas.List.Elements.{All-cons, All-nil}
-use Rattle.std.proofs.lemmas.List.Sorted.{IsPermutation-append_comm, IsPermutation-refl}
-use Rattle.vrp_model.specs.Problem.{IsProblem, IsSymmetric, Problem, customers, demand_of, place_count}
-use Rattle.vrp_model.specs.Route.{load_of}
-use Rattle.vrp_model.specs.Word.{IsLawfulWord, RunsForward}
-use Rattle.vrp_model.proofs.Ordered.{three_ways}
-use Rattle.vrp_model.proofs.PlanWords.{word_of_plan}
+use Rattle.std.proofs.Common.{◌≡◌, true, arith}
+use Rattle.vrp_model.specs.Problem.{place_count}
+use Rattle.vrp_model.proofs.OneRoute.{joined_word}
 use Rattle.vrp_model.proofs.plan.tests.joined.Goals as goal
 use Rattle.vrp_model.proofs.plan.tests.joined.Goals.{then-first-eq2+else-assert-5, else-first-eq2}
-
-both_ways : (first : ℕ) → 1 ≤ first → first ≤ 2 → IsPermutation (first ∷ (3 - first) ∷ []) (1 ∷ 2 ∷ [])
-both_ways first from to =
-    elim (three_ways first 2) [
-      | inl less ↦ let one : first ≡ 1 = omega arith in rw one (IsPermutation-refl (1 ∷ 2 ∷ []))
-      | inr (inl two) ↦ rw two (IsPermutation-append_comm (2 ∷ []) (1 ∷ []))
-      | inr (inr more) ↦ absurd (omega arith)
-    ]
-
--- the word of one route through both customers is lawful where a truck can carry both demands
-lawful_route : (p : Problem) (first second : ℕ) → IsProblem p → IsPermutation (first ∷ second ∷ []) (customers p) → demand_of p first + demand_of p second ≤ p.capacity → (IsSymmetric p → first ≤ second)
-    → IsLawfulWord p (first ∷ second ∷ 0 ∷ [])
-lawful_route p first second problem served fits forward =
-    let route : List ℕ = first ∷ second ∷ [] in
-    let light : load_of p route ≤ p.capacity = omega (arith, fits) in
-    (word_of_plan p (route ∷ []) record {
-      served = served;
-      stops = All-cons (λ r. r ≢ []) route [] (λ none. cc) (All-nil (λ r. r ≢ []));
-      fits = All-cons (λ r. load_of p r ≤ p.capacity) route [] light (All-nil (λ r. load_of p r ≤ p.capacity));
-      few = problem.some_trucks;
-    } (λ k more. absurd (omega (arith, more))) (λ symmetric. All-cons RunsForward route [] (forward symmetric) (All-nil RunsForward))).0
 
 pub of_word-requires : goal.of_word-requires
 of_word-requires g c =
     let p = c.args.instance.now in
-    let first = c.args.first in
     let three : place_count p ≡ 3 = omega (arith, c.customers.ensures.value, c.customers.ensures.problem.some_places) in
-    let all : customers p ≡ 1 ∷ 2 ∷ [] = ap (λ n. range_with_len 1 (n - 1)) three in
-    let served : IsPermutation (first ∷ (3 - first) ∷ []) (customers p) = subst (IsPermutation (first ∷ (3 - first) ∷ [])) (sym all) (both_ways first (omega arith) (omega arith)) in
-    let fits : demand_of p first + demand_of p (3 - first) ≤ p.capacity = omega (arith, c.demand.ensures.value, c.demand-2.ensures.value, c.capacity.ensures.value) in
-    lawful_route p first (3 - first) c.customers.ensures.problem served fits (λ symmetric. elim c.if-first-eq2.branch [
+    joined_word p c.args.first c.customers.ensures.problem three (omega arith) (omega arith) (omega (arith, c.demand.ensures.value, c.demand-2.ensures.value, c.capacity.ensures.value)) (λ symmetric. elim c.if-first-eq2.branch [
       | then-first-eq2+else-assert-5 w ↦ absurd (let told : w.symmetric.result ≡ true = w.symmetric.ensures.1 symmetric in cc)
       | else-first-eq2 w ↦ omega arith
     ])

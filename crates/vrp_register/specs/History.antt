@@ -1,0 +1,36 @@
+-- The sequential register: of the opening plan and the plans that were offered it keeps the first by cost and then by word, and
+-- it answers each offer.
+use Rattle.std.specs.Prelude.{◌≡◌, ◌↔◌, ℕ, IsTrue, Option, Some, MatchOption, List, [], ◌∷◌, ◌++◌, map, slice_get, take}
+use Rattle.std.specs.List.{All}
+use Rattle.std.specs.Option.{option_to_list}
+use Rattle.vrp_model.specs.Order.{IsBefore}
+use Rattle.vrp_model.specs.Route.{PricedPlan}
+use Rattle.vrp_register.specs.declared.entry.Entry.{Entry}
+
+-- what a book shows: the plan that it was opened with and the one that it keeps, if there is one, and all accepted offers in order
+pub record BookState : Type 0 where
+  pub opening : Option PricedPlan
+  pub plan : Option PricedPlan
+  pub entries : List Entry
+
+-- the opening plan, if there is one, and then the plans that were offered
+abbrev pub plans_of : Option PricedPlan → List Entry → List PricedPlan
+plans_of opening entries = option_to_list opening ++ map (λ entry. entry.plan) entries
+
+-- the first plan of a list by cost and then by word, and of equal ones the earliest: it is before all that stand in front of it, and
+-- none behind it is before it
+pub record IsFirstOf (plans : List PricedPlan) (plan : PricedPlan) : Type 0 where
+  pub ahead : List PricedPlan
+  pub behind : List PricedPlan
+  pub stands : plans ≡ ahead ++ plan ∷ behind
+  pub before_all : All (IsBefore plan) ahead
+  pub none_before : All (λ other. IsBefore other plan → ⊥) behind
+
+-- what is kept of these plans: the first, and nothing where there is none
+abbrev pub IsKeptOf : List PricedPlan → Option PricedPlan → Type 0
+IsKeptOf plans kept = MatchOption kept (plans ≡ []) (IsFirstOf plans)
+
+-- each offer was answered by whether its plan is before all that stood in the history then
+abbrev pub AreAnswers : Option PricedPlan → List Entry → Type 0
+AreAnswers opening entries =
+    (place : ℕ) (entry : Entry) → slice_get entries place ≡ Some entry → (IsTrue entry.kept ↔ All (IsBefore entry.plan) (plans_of opening (take place entries)))

@@ -1,0 +1,67 @@
+-- The seats at the cost word: what contracts see of them, and the views that they hold.
+use Rattle.std.specs.Prelude.{◌≡◌, ℕ, ◌+◌, List, [], ◌∷◌, ◌++◌, true, false}
+use Rattle.atomic_table.specs.Seated.{TableId}
+use Rattle.atomic_table.specs.Table.{Step, Me}
+use Rattle.vrp_register.specs.Costs.{IsOffered, IsSeen, newcomer}
+use Rattle.vrp_register.specs.declared.view.Known.{Known}
+use Rattle.vrp_register.specs.declared.view.View.{View}
+
+pub record WordState : Type 0 where
+  pub table : TableId
+  pub opening : ℕ
+  -- how many callers there may be
+  pub count : ℕ
+
+pub record SeatState : Type 0 where
+  pub table : TableId
+  pub known : Known
+
+pub record MakerState : Type 0 where
+  pub table : TableId
+  pub opening : ℕ
+  -- how many callers it has made
+  pub next : ℕ
+
+pub record GatheredState : Type 0 where
+  pub table : TableId
+  pub callers : List Known
+
+-- the view of a seat that has taken in these callers
+abbrev pub seat_with : List Known → View
+seat_with callers = record { makes = false; next = 0; opening = 0; callers = callers }
+
+-- the view of a caller's seat
+abbrev pub seat_of : Known → View
+seat_of known = seat_with (known ∷ [])
+
+-- the view of the first seat, which has made the callers below a number
+abbrev pub maker : ℕ → ℕ → View
+maker opening next = record { makes = true; next = next; opening = opening; callers = [] }
+
+abbrev pub spent : View
+spent = seat_with []
+
+abbrev pub first_caller : List Known → Known
+first_caller [] = newcomer 0 0
+first_caller (known ∷ callers) = known
+
+abbrev pub caller_of : View → Known
+caller_of view = first_caller view.callers
+
+-- what a step tells its caller
+abbrev pub Offers : Step ℕ → Me ℕ View → ℕ → Me ℕ View → Type 0
+Offers s v found w = (w ≡ (seat_of (caller_of w.0), [])) × IsOffered (caller_of v.0) s.first found (caller_of w.0)
+
+abbrev pub Looks : Step ℕ → Me ℕ View → ℕ → Me ℕ View → Type 0
+Looks s v found w = (w ≡ (seat_of (caller_of w.0), [])) × IsSeen (caller_of v.0) found (caller_of w.0)
+
+-- the first seat makes the next caller
+abbrev pub made_left : View → View
+made_left v = maker v.opening (v.next + 1)
+
+abbrev pub made_right : View → View
+made_right v = seat_of (newcomer v.next v.opening)
+
+-- a seat takes in the callers of another, before its own
+abbrev pub taken_in : View → View → View
+taken_in v w = seat_with (w.callers ++ v.callers)

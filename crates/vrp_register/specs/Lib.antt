@@ -1,0 +1,4 @@
+pub mod Caller
+pub mod Costs
+pub mod History
+pub mod Inner

@@ -1,0 +1,205 @@
+//! The cost word: the least cost that any caller has offered, read and lowered without a lock.
+ghost use Rattle.std.specs.Prelude.{◌≡◌, ◌≢◌, ℕ, ◌+◌, ◌<◌, IfOk, [], ◌∷◌, ◌++◌, length, List};
+ghost use Rattle.std.specs.List.{sum_by};
+ghost use Rattle.vrp_register.specs.Costs.{newcomer, IsHistoryOf, IsOffered, IsSeen, least_of};
+
+use crate::view::View;
+use atomic_table::{Join, Play, Seat, Split, Table, TableRule};
+use std::alloc::{AllocError, Global};
+use std::marker::Model;
+
+// The rule of the word. Its key is the opening cost, and how many callers there may be.
+struct Costs;
+
+impl TableRule<u8, View, (u64, u64)> for Costs {
+    ghost use Rattle.vrp_register.specs.Inner.Seats.{maker};
+    ghost use Rattle.vrp_register.specs.Inner.Kept.{IsKept};
+
+    ghost holds = { IsKept };
+
+    ghost first = { λ key. maker key.0 0 };
+}
+
+// A step that lowers the word.
+struct Offering;
+
+impl Play<u8, View> for Offering {
+    ghost use Rattle.vrp_register.specs.Inner.Seats.{Offers};
+
+    ghost then = { Offers };
+}
+
+// A step that reads the word.
+struct Looking;
+
+impl Play<u8, View> for Looking {
+    ghost use Rattle.vrp_register.specs.Inner.Seats.{Looks};
+
+    ghost then = { Looks };
+}
+
+// How the first seat makes callers, and how a seat takes in others.
+struct Numbering;
+
+impl Split<View> for Numbering {
+    ghost use Rattle.vrp_register.specs.Inner.Seats.{made_left, made_right};
+
+    ghost left = { made_left };
+
+    ghost right = { made_right };
+}
+
+impl Join<View> for Numbering {
+    ghost use Rattle.vrp_register.specs.Inner.Seats.{taken_in, spent};
+
+    ghost both = { taken_in };
+
+    ghost spent = { spent };
+}
+
+/// The least cost that was offered, in one word.
+#[derive(Drop)]
+pub(crate) struct CostWord {
+    table: Table<u8, View, (u64, u64), Costs, Global>,
+}
+
+impl Model for CostWord {
+    ghost use Rattle.std.specs.Prelude.{◌≡◌};
+    ghost use Rattle.vrp_register.specs.Inner.Seats.{WordState};
+
+    ghost Value = { WordState };
+
+    ghost view = { λ w. record { table = w.table.shared.table_id; opening = w.table.shared.key.0; count = w.table.shared.key.1 } };
+
+    ghost invariant = { λ w. (w.table.shared.table_id.words ≡ 1) × (w.table.shared.table_id.slots ≡ 0) };
+}
+
+/// A caller's seat at the word.
+#[derive(Drop)]
+pub(crate) struct CostSeat {
+    seat: Seat<u8, View>,
+}
+
+impl Model for CostSeat {
+    ghost use Rattle.std.specs.Prelude.{◌≡◌, []};
+    ghost use Rattle.vrp_register.specs.Inner.Seats.{SeatState, caller_of, seat_of};
+
+    ghost Value = { SeatState };
+
+    ghost view = { λ s. record { table = s.seat.table_id; known = caller_of s.seat.me.0 } };
+
+    ghost invariant = { λ s. s.seat.me ≡ (seat_of (caller_of s.seat.me.0), []) };
+}
+
+/// The first seat, which makes the callers' seats.
+#[derive(Drop)]
+pub(crate) struct Maker {
+    seat: Seat<u8, View>,
+}
+
+impl Model for Maker {
+    ghost use Rattle.std.specs.Prelude.{◌≡◌, []};
+    ghost use Rattle.vrp_register.specs.Inner.Seats.{MakerState, maker};
+
+    ghost Value = { MakerState };
+
+    ghost view = { λ s. record { table = s.seat.table_id; opening = s.seat.me.0.opening; next = s.seat.me.0.next } };
+
+    ghost invariant = { λ s. s.seat.me ≡ (maker s.seat.me.0.opening s.seat.me.0.next, []) };
+}
+
+/// A seat that has taken in callers.
+#[derive(Drop)]
+pub(crate) struct Gathered {
+    seat: Seat<u8, View>,
+}
+
+impl Model for Gathered {
+    ghost use Rattle.std.specs.Prelude.{◌≡◌, []};
+    ghost use Rattle.vrp_register.specs.Inner.Seats.{GatheredState, seat_with};
+
+    ghost Value = { GatheredState };
+
+    ghost view = { λ s. record { table = s.seat.table_id; callers = s.seat.me.0.callers } };
+
+    ghost invariant = { λ s. s.seat.me ≡ (seat_with s.seat.me.0.callers, []) };
+}
+
+impl CostSeat {
+    /// The seat, to take in others.
+    pub(crate) fn gather(self) -> Gathered
+        ensures { result ≡ record { table = self.table; callers = self.known ∷ [] } }
+    {
+        Gathered { seat: self.seat }
+    }
+}
+
+impl CostWord {
+    /// A word that holds this cost, and the seat that makes the others.
+    pub(crate) fn new(
+        alloc: Global,
+        opening: u64,
+        count: u64,
+    ) -> Result<(CostWord, Maker), AllocError>
+        ensures word { IfOk result (λ made. (made.0.opening ≡ opening) × (made.0.count ≡ count)) }
+        ensures seat { IfOk result (λ made. made.1 ≡ record { table = made.0.table; opening = opening; next = 0 }) }
+    {
+        let (table, seat) = Table::of_words(alloc, &[opening], &(opening, count))?;
+        Ok((CostWord { table }, Maker { seat }))
+    }
+
+    /// Lowers the word to a cost, unless it is lower, and answers what it held.
+    pub(crate) fn offer(&self, seat: &mut CostSeat, cost: u64) -> u64
+        requires { seat.old.table ≡ self.now.table }
+        ensures table { seat.new.table ≡ seat.old.table }
+        ensures offered { IsOffered seat.old.known cost result seat.new.known }
+    {
+        self.table
+            .shared
+            .fetch_min::<Offering>(&mut seat.seat, 0, cost)
+    }
+
+    /// What the word holds.
+    pub(crate) fn least(&self, seat: &mut CostSeat) -> u64
+        requires { seat.old.table ≡ self.now.table }
+        ensures table { seat.new.table ≡ seat.old.table }
+        ensures seen { IsSeen seat.old.known result seat.new.known }
+    {
+        self.table.shared.load::<Looking>(&mut seat.seat, 0)
+    }
+
+    /// The seat of the next caller.
+    pub(crate) fn make(&self, maker: &mut Maker) -> CostSeat
+        requires table { maker.old.table ≡ self.now.table }
+        requires room { maker.old.next < self.now.count }
+        ensures seat { result ≡ record { table = self.now.table; known = newcomer maker.old.next maker.old.opening } }
+        ensures maker { maker.new ≡ record { table = maker.old.table; opening = maker.old.opening; next = maker.old.next + 1 } }
+    {
+        CostSeat {
+            seat: self.table.shared.split_seat::<Numbering>(&mut maker.seat),
+        }
+    }
+
+    /// Takes a caller in, before the others.
+    pub(crate) fn take_in(&self, gathered: &mut Gathered, caller: CostSeat)
+        requires gathered { gathered.old.table ≡ self.now.table }
+        requires caller { caller.table ≡ self.now.table }
+        ensures { gathered.new ≡ record { table = gathered.old.table; callers = caller.known ∷ gathered.old.callers } }
+    {
+        self.table
+            .shared
+            .join_seat::<Numbering>(&mut gathered.seat, caller.seat)
+    }
+
+    /// What the word holds at the end, once all callers were taken in: the least cost of their one history.
+    pub(crate) fn close(self, gathered: Gathered) -> u64
+        requires table { gathered.table ≡ self.table }
+        requires all { length gathered.callers ≡ self.count }
+        ensures { (history : List _) × IsHistoryOf self.opening gathered.callers history × (length history ≡ sum_by (λ k. length k.mine) gathered.callers) × (result ≡ least_of self.opening history) }
+    {
+        let closed = self.table.close_with(gathered.seat);
+        let least = closed.word(0);
+        closed.free();
+        least
+    }
+}

@@ -1,0 +1,69 @@
+//! What lies under the register's lock: the book, and how many offers its callers had accepted.
+ghost use Rattle.std.specs.Prelude.{◌≡◌, ◌↔◌, ℕ, ◌+◌, ◌<◌, if◌then◌else◌, IfOk, IsTrue, OnOk, OnErr, Some, [], ◌∷◌, ◌++◌, length};
+ghost use Rattle.std.specs.Option.{ForSome};
+ghost use Rattle.vrp_model.specs.Order.{IsBefore};
+
+use crate::book::Book;
+use std::alloc::Global;
+use std::sync::ledger;
+use std::sync::ledger::{Ledger, Share};
+use vrp_model::{NoMemory, Plan};
+
+/// The book, and the total of the callers' accepted offers, which is the number of its entries.
+#[derive(Drop)]
+pub(crate) struct CountedBook<L: Ledger> {
+    pub(crate) book: Book,
+    accepted: ledger::Book<L>,
+    ghost counted: { length book.entries ≡ accepted.total },
+}
+
+impl<L: Ledger> CountedBook<L> {
+    /// A book that opens with a plan, or without one.
+    pub(crate) fn open(
+        alloc: Global,
+        plan: Option<Plan>,
+        accepted: ledger::Book<L>,
+    ) -> Result<CountedBook<L>, NoMemory>
+        requires { accepted.total ≡ 0 }
+        ensures { IfOk result (λ counted. counted.book ≡ record { opening = plan; plan = plan; entries = [] }) }
+    {
+        Ok(CountedBook {
+            book: Book::open(alloc, plan)?,
+            accepted,
+        })
+    }
+
+    /// One offer: an entry of the book, and one more accepted offer of the caller.
+    pub(crate) fn offer(
+        &mut self,
+        alloc: Global,
+        caller: u32,
+        share: &mut Share<L>,
+        plan: &Plan,
+    ) -> Result<bool, NoMemory>
+        requires { 0 < share.old.parts }
+        ensures parts { share.new.parts ≡ share.old.parts }
+        ensures accepted { OnOk result (share.new.amount ≡ share.old.amount + 1) }
+        ensures kept { IfOk result (λ kept. IsTrue kept ↔ ForSome self.old.book.plan (IsBefore plan.now)) }
+        ensures plan { IfOk result (λ kept. self.new.book.plan ≡ (if kept then Some plan.now else self.old.book.plan)) }
+        ensures entry { IfOk result (λ kept. self.new.book.entries ≡ self.old.book.entries ++ record { caller = caller; plan = plan.now; kept = kept } ∷ []) }
+        ensures opening { self.new.book.opening ≡ self.old.book.opening }
+        ensures err { OnErr result ((self.new.book ≡ self.old.book) × (share.new ≡ share.old)) }
+    {
+        let kept = self.book.offer(alloc, caller, plan)?;
+        self.accepted.add(share, 1);
+        Ok(kept)
+    }
+
+    /// The book, which has as many entries as all parts of the ledger count.
+    pub(crate) fn close(self, shares: Share<L>) -> Book
+        requires { shares.parts ≡ L.parts }
+        ensures book { result ≡ self.book }
+        ensures count { length result.entries ≡ shares.amount }
+    {
+        let CountedBook { book, mut accepted } = self;
+        let mut shares = shares;
+        accepted.audit(&mut shares);
+        book
+    }
+}

@@ -1,0 +1,25 @@
+//! What callers know of the costs. No value of these types is made: they exist in proofs alone.
+use std::collections::LinkedList;
+
+/// A caller has offered a cost.
+pub struct Offer {
+    pub caller: u64,
+    pub cost: u64,
+}
+
+/// What a caller knows: its number, the opening cost, the history that it has seen, and its own offers in it.
+pub struct Known {
+    pub number: u64,
+    pub opening: u64,
+    pub seen: LinkedList<Offer>,
+    pub mine: LinkedList<Offer>,
+}
+
+/// The view of a seat at the cost word: what its callers know. A caller's seat has its own alone, until it takes in others. The
+/// first seat makes the callers, by rising number.
+pub struct View {
+    pub makes: bool,
+    pub next: u64,
+    pub opening: u64,
+    pub callers: LinkedList<Known>,
+}
