@@ -385,4 +385,4 @@ one_more cutting i word at = take_more cutting i word at.within ∙ ap (λ (w : 
 pub answer_lawful : (p : Problem) (pieces budget : ℕ) (plan : Option PricedPlan) (verdict : Verdict) → IsAnswer p pieces budget plan verdict → ForSome plan (IsPlanOf p)
 answer_lawful p pieces budget plan Proven (cheapest, is, none_cheaper, first) = λ other same. (let one : Some cheapest ≡ Some other = sym is ∙ same in subst (IsPlanOf p) (cc) first.plan_of)
 answer_lawful p pieces budget plan (Open lower) left = left.plan_of
-answer_lawful p pieces budget plan NoPlan (none, no_plan) = λ other same. absurd (let never : None ≡ Some other = sym none ∙ same in cc)
+answer_lawful p pieces budget plan NoPlan (none, nothing) = λ other same. absurd (let never : None ≡ Some other = sym none ∙ same in cc)

@@ -5,5 +5,5 @@ use Rattle.vrp_command.proofs.command.answer_to.Goals as goal
 pub report-requires : goal.report-requires
 report-requires c =
     let p = c.args.instance.now in
-    let lawful = answer_lawful p c.args.options.pieces c.args.options.budget c.in_ok-answer.answer.plan c.in_ok-answer.answer.verdict c.in_ok-answer.ensures in
+    let lawful = answer_lawful p _ _ c.in_ok-answer.answer.plan c.in_ok-answer.answer.verdict c.in_ok-answer.ensures in
     λ plan is. stops_within p plan.routes (lawful plan is).lawful
