@@ -8,8 +8,9 @@ use Rattle.std.proofs.lemmas.List.Sums.{sum_by-cons, sum_by_push}
 use Rattle.vrp_model.specs.Problem.{Problem}
 use Rattle.vrp_bound.specs.SpanningTree.{Grows, Step, link_weight, tree_weight}
 
-abbrev pub places_of : List Step → List ℕ
-places_of steps = map (λ step. step.place) steps
+-- what the steps take in
+abbrev pub new_places : List Step → List ℕ
+new_places steps = map (λ step. step.place) steps
 
 -- all that the first list has, the second has too
 abbrev pub AreWithin : List ℕ → List ℕ → Type 0
@@ -34,10 +35,6 @@ within_cons a xs ys within = λ k has. elim (first_or_rest a xs k has) [
   | inr rest ↦ behind a ys k (within k rest)
 ]
 
--- the first two in the other order
-pub swapped : (a b : ℕ) (xs : List ℕ) → AreWithin (a ∷ b ∷ xs) (b ∷ a ∷ xs)
-swapped a b xs = λ k has. Contains-permutation (a ∷ b ∷ xs) (b ∷ a ∷ xs) k (IsPermutation-middle (a ∷ []) b xs) has
-
 -- what grows from some places grows from more
 pub grows_within : (xs ys : List ℕ) (steps : List Step) → AreWithin xs ys → Grows xs steps → Grows ys steps
 grows_within xs ys [] within grows = tt
@@ -52,19 +49,19 @@ moved_out : (a : ℕ) (xs ys : List ℕ) → AreWithin (xs ++ a ∷ ys) (a ∷ (
 moved_out a xs ys = λ k has. Contains-permutation (xs ++ a ∷ ys) (a ∷ (xs ++ ys)) k (IsPermutation-middle xs a ys) has
 
 -- one step more at the end
-pub grows_then : (taken : List ℕ) (steps : List Step) (step : Step) → Grows taken steps → Contains (places_of steps ++ taken) step.joined → Grows taken (steps ++ step ∷ [])
+pub grows_then : (taken : List ℕ) (steps : List Step) (step : Step) → Grows taken steps → Contains (new_places steps ++ taken) step.joined → Grows taken (steps ++ step ∷ [])
 grows_then taken [] step grows joined = (joined, tt)
 grows_then taken (first ∷ steps) step grows joined =
-    (grows.0, grows_then (first.place ∷ taken) steps step grows.1 (moved_in first.place (places_of steps) taken step.joined joined))
+    (grows.0, grows_then (first.place ∷ taken) steps step grows.1 (moved_in first.place (new_places steps) taken step.joined joined))
 
 -- and without it
-pub grows_before : (taken : List ℕ) (steps : List Step) (step : Step) → Grows taken (steps ++ step ∷ []) → Grows taken steps × Contains (places_of steps ++ taken) step.joined
+pub grows_before : (taken : List ℕ) (steps : List Step) (step : Step) → Grows taken (steps ++ step ∷ []) → Grows taken steps × Contains (new_places steps ++ taken) step.joined
 grows_before taken [] step grows = (tt, grows.0)
 grows_before taken (first ∷ steps) step grows =
     let rest = grows_before (first.place ∷ taken) steps step grows.1 in
-    ((grows.0, rest.0), moved_out first.place (places_of steps) taken step.joined rest.1)
+    ((grows.0, rest.0), moved_out first.place (new_places steps) taken step.joined rest.1)
 
-pub places_then : (steps : List Step) (step : Step) → places_of (steps ++ step ∷ []) ≡ places_of steps ++ step.place ∷ []
+pub places_then : (steps : List Step) (step : Step) → new_places (steps ++ step ∷ []) ≡ new_places steps ++ step.place ∷ []
 places_then steps step = map-append (λ step. step.place) steps (step ∷ [])
 
 pub weight_then : (p : Problem) (steps : List Step) (step : Step) → tree_weight p (steps ++ step ∷ []) ≡ tree_weight p steps + link_weight p step.joined step.place

@@ -10,7 +10,7 @@ use Rattle.vrp_model.specs.Word.{served_in}
 use Rattle.vrp_model.proofs.Words.{serves_customer}
 use Rattle.vrp_bound.specs.SpanningTree.{IsTree, Step, link_weight, tree_weight}
 use Rattle.vrp_bound.specs.TreeBound.{homes_cost, to_join}
-use Rattle.vrp_bound.proofs.GrownTrees.{behind, grows_within, here, places_of, weight_first, within_cons}
+use Rattle.vrp_bound.proofs.GrownTrees.{behind, grows_within, here, new_places, weight_first, within_cons}
 use Rattle.vrp_bound.proofs.RoutesOpened.{opened}
 use Rattle.vrp_bound.proofs.SymbolBySymbol.{HoldsBySymbol}
 
@@ -64,7 +64,7 @@ home_tree p j more rest =
       steps = step ∷ rest.steps;
       tree = record {
         grows = (here (suc j) [], grows_within (0 ∷ []) (0 ∷ suc j ∷ []) rest.steps (within_cons 0 [] (suc j ∷ []) (λ k has. behind (suc j) [] k has)) rest.tree.grows);
-        spans = IsPermutation-cons 0 (places_of rest.steps) (served_in more) rest.tree.spans;
+        spans = IsPermutation-cons 0 (new_places rest.steps) (served_in more) rest.tree.spans;
       };
       last_stops = rest.last_stops;
       others = rest.others;
@@ -94,7 +94,7 @@ leaving_tree p k more rest =
       steps = step ∷ rest.steps;
       tree = record {
         grows = (here 0 [], rest.tree.grows);
-        spans = subst (IsPermutation (suc k ∷ places_of rest.steps)) (sym served) (IsPermutation-cons (suc k) (places_of rest.steps) (served_in more) rest.tree.spans);
+        spans = subst (IsPermutation (suc k ∷ new_places rest.steps)) (sym served) (IsPermutation-cons (suc k) (new_places rest.steps) (served_in more) rest.tree.spans);
       };
       last_stops = rest.last_stops;
       others = rest.others;
@@ -109,9 +109,9 @@ onward_tree : (p : Problem) (j k : ℕ) (more : List ℕ) → HasTree p (suc k) 
 onward_tree p j k more rest =
     let step : Step = record { place = suc k; joined = suc j } in
     let served = serves_customer k more in
-    let all : IsPermutation (suc k ∷ places_of rest.steps) (0 ∷ suc k ∷ served_in more) =
-    IsPermutation-trans (suc k ∷ places_of rest.steps) (suc k ∷ 0 ∷ served_in more) (0 ∷ suc k ∷ served_in more)
-    (IsPermutation-cons (suc k) (places_of rest.steps) (0 ∷ served_in more) rest.tree.spans)
+    let all : IsPermutation (suc k ∷ new_places rest.steps) (0 ∷ suc k ∷ served_in more) =
+    IsPermutation-trans (suc k ∷ new_places rest.steps) (suc k ∷ 0 ∷ served_in more) (0 ∷ suc k ∷ served_in more)
+    (IsPermutation-cons (suc k) (new_places rest.steps) (0 ∷ served_in more) rest.tree.spans)
     (IsPermutation-middle (suc k ∷ []) 0 (served_in more)) in
     let one_more : IsPermutation (rest.last_stops ++ (suc k ∷ rest.others)) (suc k ∷ served_in more) =
     IsPermutation-trans (rest.last_stops ++ (suc k ∷ rest.others)) (suc k ∷ (rest.last_stops ++ rest.others)) (suc k ∷ served_in more)
@@ -121,7 +121,7 @@ onward_tree p j k more rest =
       steps = step ∷ rest.steps;
       tree = record {
         grows = (here (suc j) [], grows_within (suc k ∷ []) (suc k ∷ suc j ∷ []) rest.steps (within_cons (suc k) [] (suc j ∷ []) (λ i has. behind (suc j) [] i has)) rest.tree.grows);
-        spans = subst (λ (xs : List ℕ). IsPermutation (suc k ∷ places_of rest.steps) (0 ∷ xs)) (sym served) all;
+        spans = subst (λ (xs : List ℕ). IsPermutation (suc k ∷ new_places rest.steps) (0 ∷ xs)) (sym served) all;
       };
       last_stops = rest.last_stops;
       others = suc k ∷ rest.others;
@@ -142,7 +142,7 @@ onward_later p j k more rest =
       steps = step ∷ rest.steps;
       tree = record {
         grows = (here (suc j) (0 ∷ []), grows_within (suc k ∷ 0 ∷ []) (suc k ∷ suc j ∷ 0 ∷ []) rest.steps (within_cons (suc k) (0 ∷ []) (suc j ∷ 0 ∷ []) (behind (suc j) (0 ∷ []))) rest.tree.grows);
-        spans = subst (IsPermutation (suc k ∷ places_of rest.steps)) (sym served) (IsPermutation-cons (suc k) (places_of rest.steps) (served_in more) rest.tree.spans);
+        spans = subst (IsPermutation (suc k ∷ new_places rest.steps)) (sym served) (IsPermutation-cons (suc k) (new_places rest.steps) (served_in more) rest.tree.spans);
       };
       last_stops = rest.last_stops;
       others = suc j ∷ rest.others;

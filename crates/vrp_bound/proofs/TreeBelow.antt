@@ -14,7 +14,7 @@ use Rattle.vrp_model.proofs.DistinctLists.{AreDistinct, same_elements}
 use Rattle.vrp_model.proofs.UnservedCustomers.{unserved_differs, unserved_distinct, unserved_is_customer}
 use Rattle.vrp_bound.specs.TreeBound.{AreSomeOf, IsLaterRoutes, IsTreeBound, first_route, to_join}
 use Rattle.vrp_bound.proofs.CapacityBelow.{carries_behind}
-use Rattle.vrp_bound.proofs.GrownTrees.{places_of}
+use Rattle.vrp_bound.proofs.GrownTrees.{new_places}
 use Rattle.vrp_bound.proofs.JoinedBehind.{HasTree, HasTrees, trees_by_symbol}
 use Rattle.vrp_bound.proofs.RoutesOpened.{opened}
 use Rattle.vrp_bound.proofs.ServedBehind.{cost_behind, served_more}
@@ -92,7 +92,7 @@ none_adds_less_than_tree p front more bound problem lawful is_bound =
     let served = served_in more in
     let moved = served_are_unserved p front more lawful in
     let driven : HasTree p at more = (by_symbols p (HasTrees p) (trees_by_symbol p) problem front more lawful).0 in
-    let spans = IsPermutation-trans (places_of driven.steps) (to_join at served) (to_join at unserved) driven.tree.spans (joined_moved at served unserved moved) in
+    let spans = IsPermutation-trans (new_places driven.steps) (to_join at served) (to_join at unserved) driven.tree.spans (joined_moved at served unserved moved) in
     let tree = is_bound.least_tree.least driven.steps (record { grows = driven.tree.grows; spans = spans }) in
     let later : is_bound.later ≤ length driven.last_stops = omega (arith, later_are_opened p front more is_bound.later problem lawful is_bound.count, driven.one_each) in
     let parts = IsPermutation-trans (driven.last_stops ++ driven.others) served unserved driven.parts moved in

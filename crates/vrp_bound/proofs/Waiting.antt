@@ -6,7 +6,7 @@ use Rattle.std.proofs.lemmas.List.{drop_all, get_or_default, map_more}
 use Rattle.std.proofs.lemmas.List.Edits.{map_over_more}
 use Rattle.std.proofs.lemmas.List.Elements.{All-head, All-tail}
 use Rattle.std.proofs.lemmas.List.Sorted.{All-permutation}
-use Rattle.vrp_model.specs.Problem.{Problem, weight_of}
+use Rattle.vrp_model.specs.Problem.{Problem}
 use Rattle.vrp_bound.specs.declared.way.Way.{Way}
 use Rattle.vrp_bound.specs.Inner.Ways.{IsSmallWay, linked, links_to, ways_home}
 use Rattle.vrp_bound.specs.SpanningTree.{link_weight}
@@ -24,9 +24,6 @@ way_is way place weight here heavy =
 abbrev link_to : Problem → ℕ → ℕ → Way
 link_to p at place = record { place = place; weight = link_weight p at place }
 
-abbrev way_home : Problem → ℕ → Way
-way_home p place = record { place = place; weight = weight_of p place 0 }
-
 -- one more behind what stands already
 pub links_more : (p : Problem) (at : ℕ) (before items : List Way) (xs : List ℕ) (i : ℕ) (way : Way) → i < length xs → items ≡ before ++ links_to p at (take i xs)
     → way.place ≡ get_or xs i 0 → way.weight ≡ link_weight p at (get_or xs i 0) → items ++ way ∷ [] ≡ before ++ links_to p at (take (i + 1) xs)
@@ -34,13 +31,6 @@ links_more p at before items xs i way lt so_far here heavy =
     let next : way ≡ link_to p at (get_or xs i 0) = way_is way (get_or xs i 0) (link_weight p at (get_or xs i 0)) here heavy in
     let more : links_to p at (take (i + 1) xs) ≡ links_to p at (take i xs) ++ link_to p at (get_or xs i 0) ∷ [] = map_more (link_to p at) xs i 0 lt in
     ap (λ (s : List Way). s ++ way ∷ []) so_far ∙ append_assoc before (links_to p at (take i xs)) (way ∷ []) ∙ ap (λ (w : Way). before ++ (links_to p at (take i xs) ++ w ∷ [])) next ∙ ap (λ (s : List Way). before ++ s) (sym more)
-
-pub homes_more : (p : Problem) (items : List Way) (xs : List ℕ) (i : ℕ) (way : Way) → i < length xs → items ≡ ways_home p (take i xs)
-    → way.place ≡ get_or xs i 0 → way.weight ≡ weight_of p (get_or xs i 0) 0 → items ++ way ∷ [] ≡ ways_home p (take (i + 1) xs)
-homes_more p items xs i way lt so_far here heavy =
-    let next : way ≡ way_home p (get_or xs i 0) = way_is way (get_or xs i 0) (weight_of p (get_or xs i 0) 0) here heavy in
-    let more : ways_home p (take (i + 1) xs) ≡ ways_home p (take i xs) ++ way_home p (get_or xs i 0) ∷ [] = map_more (way_home p) xs i 0 lt in
-    ap (λ (s : List Way). s ++ way ∷ []) so_far ∙ ap (λ (w : Way). ways_home p (take i xs) ++ w ∷ []) next ∙ sym more
 
 -- the depot first, where it is another place
 pub joins_depot : (at : ℕ) (xs : List ℕ) → at ≢ 0 → to_join at xs ≡ 0 ∷ xs
