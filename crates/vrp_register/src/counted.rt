@@ -56,13 +56,12 @@ impl<L: Ledger> CountedBook<L> {
     }
 
     /// The book, which has as many entries as all parts of the ledger count.
-    pub(crate) fn close(self, shares: Share<L>) -> Book
+    pub(crate) fn close(self, mut shares: Share<L>) -> Book
         requires { shares.parts ≡ L.parts }
         ensures book { result ≡ self.book }
         ensures count { length result.entries ≡ shares.amount }
     {
         let CountedBook { book, mut accepted } = self;
-        let mut shares = shares;
         accepted.audit(&mut shares);
         book
     }

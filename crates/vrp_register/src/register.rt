@@ -111,7 +111,7 @@ impl<L: Ledger> Register<L> {
         Ok(Reply { kept, before })
     }
 
-    /// A copy of the plan that is kept, if there is one. What it is at that moment no clause can name.
+    /// A copy of the plan that is kept, if there is one. No clause says which it is, since other callers may offer meanwhile.
     pub fn look<R: Wait>(&self, rt: &R, alloc: Global) -> Result<Option<Plan>, NoMemory> {
         copied(alloc, self.book.lock(rt).book.plan())
     }
@@ -153,14 +153,13 @@ fn opening_cost(plan: Option<&Plan>) -> u64
 }
 
 // All shares as one, and a seat that has taken in all callers.
-fn merged<L: Ledger>(least: &CostWord, callers: Vec<Caller<L>>) -> (Share<L>, Gathered)
+fn merged<L: Ledger>(least: &CostWord, mut callers: Vec<Caller<L>>) -> (Share<L>, Gathered)
     requires some { 1 ≤ vec_len callers }
     requires table { All (λ c. c.table ≡ least.now.table) callers.items }
     ensures parts { result.0.parts ≡ vec_len callers }
     ensures amount { result.0.amount ≡ sum_by (λ c. length c.known.mine) callers.items }
     ensures seats { result.1 ≡ record { table = least.now.table; callers = map (λ c. c.known) callers.items } }
 {
-    let mut callers = callers;
     let Some(last) = callers.pop() else {
         unreachable!()
     };

@@ -152,14 +152,13 @@ fn offer_both<L: Ledger, R: Wait>(
     rt: &R,
     alloc: Global,
     register: &Register<L>,
-    caller: Caller<L>,
+    mut caller: Caller<L>,
     first: &Plan,
     second: &Plan,
 ) -> (Caller<L>, Result<(), NoMemory>)
     requires { IsCallerOf register.now caller }
     ensures { IsCallerOf register.now result.0 }
 {
-    let mut caller = caller;
     if let Err(refusal) = register.offer(rt, alloc, &mut caller, first) {
         return (caller, Err(refusal));
     }
@@ -226,11 +225,10 @@ fn closed_while_asked<L: Ledger + Send + Sync, R: Threads + Wait + Sync>(
 }
 
 // Asks 1,000 times, and tells whether the answers were 30 or 20 and never rose.
-fn ask_often<L: Ledger>(register: &Register<L>, caller: Caller<L>) -> (Caller<L>, bool)
+fn ask_often<L: Ledger>(register: &Register<L>, mut caller: Caller<L>) -> (Caller<L>, bool)
     requires { IsCallerOf register.now caller }
     ensures { IsCallerOf register.now result.0 }
 {
-    let mut caller = caller;
     let mut falls = true;
     let mut last = 30;
     for _ in 0..1_000 {
