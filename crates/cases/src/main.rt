@@ -1,8 +1,8 @@
 //! Instances whose cheapest plan is known, over four cuttings of the tree each. A word of the command line is a file, a file
 //! and a number of trucks, as `P-n16-k8.vrp/8`, or a file and what a cheapest plan costs, as `P-n16-k8.vrp:450`. With no cost
 //! the file is solved, and each line has the number of pieces that were asked for and the end of the report: the cost and the
-//! verdict, or that there is no plan. With a cost the search is given little, and each line says whether that cost lies
-//! between the bound and the cost that are printed.
+//! verdict, or that there is no plan; a last line says how many different reports there were. With a cost the search is given
+//! little, and each line says whether that cost lies between the bound and the cost that are printed.
 #![tactic(auto)]
 
 use anyhow::{Context, Result, ensure};
@@ -52,17 +52,24 @@ fn print_endings<R: Files + Print + AllocGlobal>(
     name: &str,
     trucks: Option<u16>,
 ) -> Result<()> {
+    let mut reports: Vec<Vec<u8>> = Vec::new(rt.alloc());
     for pieces in CUTTINGS {
-        let ending = ending(rt, name, trucks, pieces, AMPLE)?;
+        let report = report(rt, name, trucks, pieces, AMPLE)?;
+        let ending = last_two(rt.alloc(), str::from_utf8(&report)?)?;
         println!(rt; "{word}, {pieces} pieces: {ending}")?;
+        if !reports.contains(&report) {
+            reports.push(report)?;
+        }
     }
+    println!(rt; "{word}: {} report", reports.len())?;
     Ok(())
 }
 
 // Prints for each number of pieces where the cost of a cheapest plan of a file lies.
 fn print_ranges<R: Files + Print + AllocGlobal>(rt: &R, name: &str, least: u64) -> Result<()> {
     for pieces in CUTTINGS {
-        let range = read_range(ending(rt, name, None, pieces, LITTLE)?.as_str())?;
+        let report = report(rt, name, None, pieces, LITTLE)?;
+        let range = read_range(last_two(rt.alloc(), str::from_utf8(&report)?)?.as_str())?;
         let lies = if range.lower <= least && least <= range.cost {
             "lies"
         } else {
@@ -90,14 +97,14 @@ fn read_range(ending: &str) -> Result<Range> {
     Ok(Range { lower, cost })
 }
 
-// The end of the report on a file, with so many trucks and this budget for each piece.
-fn ending<R: Files + AllocGlobal>(
+// The report on a file, with so many trucks and this budget for each piece.
+fn report<R: Files + AllocGlobal>(
     rt: &R,
     name: &str,
     trucks: Option<u16>,
     pieces: u32,
     budget: u64,
-) -> Result<String> {
+) -> Result<Vec<u8>> {
     ensure!(1 <= pieces && pieces <= MAX_PIECES, "{pieces} pieces");
     ensure!(1 <= budget && budget <= AMPLE, "a budget of {budget}");
     if let Some(trucks) = trucks {
@@ -114,7 +121,7 @@ fn ending<R: Files + AllocGlobal>(
     let mut input = file.as_slice();
     let mut report = Vec::new(rt.alloc());
     run(rt.alloc(), options, &mut input, &mut report)?;
-    last_two(rt.alloc(), str::from_utf8(&report)?)
+    Ok(report)
 }
 
 // The last two lines of a text as one, or its one line. A report has one line where it has no plan.

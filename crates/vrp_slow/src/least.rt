@@ -1,4 +1,4 @@
-//! The least cost of a plan, by trying every plan.
+//! The first plan by cost and then by word, by trying every plan.
 
 use crate::problem::Problem;
 use crate::weights::find;
@@ -14,10 +14,13 @@ struct Ways<'a> {
     weights: Vec<((i64, i64), u64)>,
 }
 
-/// What a cheapest plan costs.
-#[derive(Clone, Copy, Debug)]
+/// A cheapest plan, and of those the one with the earliest word: compared stop by stop, the way home before all customers.
+#[derive(Debug, Drop)]
 pub(crate) enum Cheapest {
-    Cost(u64),
+    Plan {
+        cost: u64,
+        routes: Vec<Vec<i64>>,
+    },
     /// The trucks are too few.
     NoPlan,
     /// There are too many customers to say.
@@ -35,7 +38,21 @@ struct Truck {
     left: u16,
 }
 
-/// The least cost of a plan, where there are few customers.
+// What the rest of a plan costs, and its stops, with a 0 for each way home.
+#[derive(Debug, Drop)]
+struct Rest {
+    cost: u64,
+    word: Vec<i64>,
+}
+
+impl Rest {
+    // By cost and then by stops.
+    fn is_before(&self, other: &Rest) -> bool {
+        (self.cost, self.word.as_slice()) < (other.cost, other.word.as_slice())
+    }
+}
+
+/// The first plan, where there are few customers.
 pub(crate) fn least(alloc: Global, problem: &Problem) -> Result<Cheapest, AllocError> {
     let mut customers = Vec::new(alloc);
     for node in 1..=problem.nodes {
@@ -56,12 +73,25 @@ pub(crate) fn least(alloc: Global, problem: &Problem) -> Result<Cheapest, AllocE
         load: 0,
         left: problem.trucks.unwrap_or(u16::from(MOST_CUSTOMERS)),
     };
-    Ok(
-        match ways.least_from(alloc, start, &customers, MOST_CUSTOMERS)? {
-            NO_PLAN => Cheapest::NoPlan,
-            cost => Cheapest::Cost(cost),
-        },
-    )
+    let first = ways.first_from(alloc, start, &customers, MOST_CUSTOMERS)?;
+    if first.cost == NO_PLAN {
+        return Ok(Cheapest::NoPlan);
+    }
+    Ok(Cheapest::Plan {
+        cost: first.cost,
+        routes: routes_of(alloc, &first.word)?,
+    })
+}
+
+// What stands between the ways home.
+fn routes_of(alloc: Global, word: &[i64]) -> Result<Vec<Vec<i64>>, AllocError> {
+    let mut routes = Vec::new(alloc);
+    for route in word.split(|stop| *stop == 0) {
+        if !route.is_empty() {
+            routes.push(Vec::from_slice(alloc, route)?)?;
+        }
+    }
+    Ok(routes)
 }
 
 // The weight from each node to each other one, looked up once.
@@ -91,21 +121,25 @@ fn push_weights(
 }
 
 impl Ways<'_> {
-    // The least cost of serving the unserved customers and coming home, where this truck is on its way. Each of them may be
-    // next: on the same truck where it has room, and on a new one where one is left. There are no more of them than `most`.
-    fn least_from(
+    // The first way to serve the unserved customers and come home, where this truck is on its way. Each of them may be next: on
+    // the same truck where it has room, and on a new one where one is left. There are no more of them than `most`.
+    fn first_from(
         &self,
         alloc: Global,
         truck: Truck,
         unserved: &[i64],
         most: u8,
-    ) -> Result<u64, AllocError> {
+    ) -> Result<Rest, AllocError> {
         let depot = self.problem.depot();
         let home = self.weight(truck.at, depot);
         if unserved.is_empty() || most == 0 {
-            return Ok(home);
+            let word = Vec::from_slice(alloc, &[0])?;
+            return Ok(Rest { cost: home, word });
         }
-        let mut least = NO_PLAN;
+        let mut first = Rest {
+            cost: NO_PLAN,
+            word: Vec::new(alloc),
+        };
         for next in unserved {
             let at = *next;
             let others = without(alloc, unserved, at)?;
@@ -117,23 +151,39 @@ impl Ways<'_> {
                     load: demand,
                     left,
                 };
-                let behind = self.least_from(alloc, new, &others, most - 1)?;
-                let start = self.weight(depot, at);
-                least = least.min(home.saturating_add(start).saturating_add(behind));
+                let behind = self.first_from(alloc, new, &others, most - 1)?;
+                let start = home.saturating_add(self.weight(depot, at));
+                let rest = with(alloc, start, &[0, at], &behind)?;
+                if rest.is_before(&first) {
+                    first = rest;
+                }
             }
             let load = truck.load.saturating_add(demand);
             if truck.at != depot && load <= self.problem.capacity {
                 let same = Truck { at, load, ..truck };
-                let behind = self.least_from(alloc, same, &others, most - 1)?;
-                least = least.min(self.weight(truck.at, at).saturating_add(behind));
+                let behind = self.first_from(alloc, same, &others, most - 1)?;
+                let rest = with(alloc, self.weight(truck.at, at), &[at], &behind)?;
+                if rest.is_before(&first) {
+                    first = rest;
+                }
             }
         }
-        Ok(least)
+        Ok(first)
     }
 
     fn weight(&self, from: i64, to: i64) -> u64 {
         find(&self.weights, (from, to)).unwrap_or(u64::MAX)
     }
+}
+
+// What costs so much and has these stops, and then goes on so.
+fn with(alloc: Global, cost: u64, stops: &[i64], behind: &Rest) -> Result<Rest, AllocError> {
+    let mut word = Vec::from_slice(alloc, stops)?;
+    word.extend_from_slice(&behind.word)?;
+    Ok(Rest {
+        cost: cost.saturating_add(behind.cost),
+        word,
+    })
 }
 
 // The customers without one.

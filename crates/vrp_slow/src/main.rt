@@ -98,10 +98,13 @@ fn evaluated(alloc: Global, problem: &Problem, text: &str) -> Result<String> {
             let same = agreement(is_same && is_bound);
             Ok(format!(in alloc; "{finding}; {same}")?)
         }
-        Cheapest::Cost(least) => {
-            let is_bound = is_same && lower <= least;
-            let same = agreement(is_bound && is_solved(alloc, problem, text, least)?);
-            Ok(format!(in alloc; "{finding}; least {least}; {same}")?)
+        Cheapest::Plan { cost, routes } => {
+            let is_bound = is_same && lower <= cost;
+            let wanted = report::text(alloc, &routes, cost, report::PROVEN)?;
+            let is_plan = plan::is_lawful(problem, &routes) && plan::cost(problem, &routes) == cost;
+            let is_solved = is_plan && is_solved(alloc, problem, text, wanted.as_str())?;
+            let same = agreement(is_bound && is_solved);
+            Ok(format!(in alloc; "{finding}; least {cost}; {same}")?)
         }
         Cheapest::NoPlan => {
             let is_bound = is_same && lower <= report::NO_COST;
@@ -140,13 +143,10 @@ fn status(verdict: &str) -> Status {
     }
 }
 
-// Whether the command, given time, prints a lawful plan of the least cost, and says that it is proven.
-fn is_solved(alloc: Global, problem: &Problem, text: &str, least: u64) -> Result<bool> {
+// Whether the command, given time, prints just this report of a plan, and says that it is proven.
+fn is_solved(alloc: Global, problem: &Problem, text: &str, wanted: &str) -> Result<bool> {
     let answer = ask(alloc, text, problem.trucks, Time::Enough)?;
-    let routes = report::routes(alloc, str::from_utf8(&answer.printed)?)?;
-    let is_cheapest = plan::is_lawful(problem, &routes) && plan::cost(problem, &routes) == least;
-    let wanted = report::text(alloc, &routes, least, report::PROVEN)?;
-    Ok(is_cheapest && answer.is(Status::Proven, wanted.as_str()))
+    Ok(answer.is(Status::Proven, wanted))
 }
 
 // Whether the command, given time, says that there is no plan.

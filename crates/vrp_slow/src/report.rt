@@ -1,7 +1,5 @@
-//! Reports: their text, and the routes that one lists.
+//! Reports: their text, and what their last line says.
 
-use crate::lines::tokens;
-use crate::number::whole;
 use std::alloc::{AllocError, Global};
 
 /// The verdict on a plan that is known to be a cheapest one.
@@ -49,26 +47,4 @@ pub(crate) fn text(
 /// The verdict alone.
 pub(crate) fn text_without_plan(alloc: Global, verdict: &str) -> Result<String, AllocError> {
     format!(in alloc; "{verdict}\n")
-}
-
-/// The stops of each route that a report lists.
-pub(crate) fn routes(alloc: Global, text: &str) -> Result<Vec<Vec<i64>>, AllocError> {
-    let mut routes = Vec::new(alloc);
-    for line in text.lines() {
-        if let Some((head, stops)) = line.split_once(':') {
-            if head.starts_with("Route #") {
-                routes.push(numbers(alloc, stops)?)?;
-            }
-        }
-    }
-    Ok(routes)
-}
-
-// The numbers in a text; a token that is none counts as 0, which is no node.
-fn numbers(alloc: Global, text: &str) -> Result<Vec<i64>, AllocError> {
-    let mut numbers = Vec::new(alloc);
-    for token in tokens(alloc, text)? {
-        numbers.push(whole(token, i64::MIN, i64::MAX).unwrap_or(0))?;
-    }
-    Ok(numbers)
 }
