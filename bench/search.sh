@@ -1,7 +1,8 @@
 #!/usr/bin/env bash
 # Times the proved search (crates/bench_search) beside a plain kernel in Rust (bench/kernel.rs), with the same budget.
-# Prints for each file how many million partial plans each looks at in a second, and the ratio. Both prune by the same bounds and,
-# in symmetric instances, close routes in one direction alone and stop at dead partial plans, so the two look at the same ones.
+# Prints for each file how many million partial plans each looks at in a second, and the ratio. Both prune by the same three bounds,
+# keep ties and, in symmetric instances, close routes in one direction alone and stop at dead partial plans, so the two look at the
+# same ones.
 # Needs the Rattle kit's command rt, rustc and awk.
 set -eu
 top=$(cd "$(dirname "$0")/.." && pwd)
