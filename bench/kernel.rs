@@ -13,7 +13,8 @@
 //! Demands are divided by their greatest common divisor. The bound is looked up in one flat table by place, room and rest; where
 //! a customer demands nothing, or the numbers are large, there is no such table and the capacity bound stands alone. Where these
 //! bounds don't prune a child, a least spanning tree and the least ways home may: with at least 5 customers unserved where no route
-//! is open, and with at least 4 at an open route where a truck carries four customers or more on average; not with more than 100.
+//! is open and a truck carries three customers or more on average, and with at least 4 at an open route where it carries four or
+//! more; not with more than 100.
 use std::io::Read;
 use std::time::Instant;
 
@@ -147,7 +148,8 @@ fn search(p: &Problem, t: Option<&Tables>, budget: u64, forward: bool, past_dead
     let mut left = m;
     let mut looked = 1;
     let mut room = Vec::with_capacity(p.n);
-    let long_routes = 4 * p.demand.iter().sum::<usize>() <= m * p.capacity;
+    let demand = p.demand.iter().sum::<usize>();
+    let (for_closed, for_open) = (3 * demand <= m * p.capacity, 4 * demand <= m * p.capacity);
     // an open route is one whose last symbol is a customer
     loop {
         let here = *stack.last().unwrap();
@@ -185,7 +187,7 @@ fn search(p: &Problem, t: Option<&Tables>, budget: u64, forward: bool, past_dead
             if child.cost + bound > floor || child.cost + bound >= own { continue }
             if !is_open && left == 0 { own = child.cost; continue }
             let unserved = left - is_open as usize;
-            if unserved <= 100 && if is_open { long_routes && unserved >= 4 } else { unserved >= 5 } {
+            if unserved <= 100 && if is_open { for_open && unserved >= 4 } else { for_closed && unserved >= 5 } {
                 let low = child.cost + tree(p, child.symbol, child.load, child.rest, &free, &mut room);
                 if low > floor || low >= own { continue }
             }

@@ -16,7 +16,9 @@ const LEAST_OPEN: u16 = 4;
 // With more unserved customers a tree takes too long.
 const MOST: u16 = 100;
 
-// Where fewer customers fill a truck, the bound costs more at open routes than it saves.
+// Where so few customers fill a truck, the bound takes longer than it saves: less than 3 of them at all, less than 4 at open routes.
+const SHORT_ROUTE: u64 = 3;
+
 const LONG_ROUTE: u64 = 4;
 
 /// The tree bound of an instance's partial plans, with room to find it in.
@@ -26,8 +28,9 @@ pub(crate) struct TreePruning<'a> {
     room: TreeRoom,
     // Reserved for all customers.
     unserved: Vec<u16>,
-    // Whether the bound is tried where a route is open too.
-    has_long_routes: bool,
+    // Whether the bound is tried where no route is open, and where one is.
+    is_for_closed: bool,
+    is_for_open: bool,
     ghost places: { place_count instance.now ≤ room },
     ghost customers: { place_count instance.now ≤ vec_capacity unserved + 1 },
 }
@@ -40,17 +43,21 @@ impl<'a> TreePruning<'a> {
         let customers = instance.customers();
         let room = TreeRoom::new(alloc, instance)?;
         let unserved = Vec::with_capacity(alloc, usize::from(customers))?;
+        let demand = instance.whole_demand();
         let filled = u64::from(customers) * instance.capacity();
         Ok(TreePruning {
             instance,
             room,
             unserved,
-            has_long_routes: LONG_ROUTE * instance.whole_demand() <= filled,
+            is_for_closed: SHORT_ROUTE * demand <= filled,
+            is_for_open: LONG_ROUTE * demand <= filled,
         })
     }
 
     /// Whether the bound is tried, and tells that each plan under a partial plan costs more than `least`, or `own` or more. Where
     /// it doesn't, nothing is said.
+    // Kept out of the loop that calls it: there it would take the registers that the other bounds need.
+    #[inline(never)]
     pub(crate) fn prunes(&mut self, partial: &Partial<'_>, least: u64, own: u64) -> bool
         requires { partial.now.problem ≡ self.old.instance.now }
         ensures none { IsTrue result → NoneOfUse partial.now.problem partial.now.word least own }
@@ -71,8 +78,8 @@ impl<'a> TreePruning<'a> {
     // Whether the bound is likely to pay at this place, with so many customers unserved.
     fn is_tried(&self, at: u16, unserved: u16) -> bool {
         if at == 0 {
-            return LEAST_CLOSED <= unserved && unserved <= MOST;
+            return self.is_for_closed && LEAST_CLOSED <= unserved && unserved <= MOST;
         }
-        self.has_long_routes && LEAST_OPEN <= unserved && unserved <= MOST
+        self.is_for_open && LEAST_OPEN <= unserved && unserved <= MOST
     }
 }
