@@ -101,11 +101,14 @@ not_before_plan p floor plan word falls (inr behind) before = behind before
 -- a word of a plan's cost that is no later than the plan's own comes before what the plan is before
 pub word_before : (other plan : PricedPlan) (cost : ℕ) (word : List ℕ) → cost ≡ other.cost → (IsEarlier (word_of other.routes) word → ⊥) → IsBefore other plan → ComesBefore cost word plan.cost (word_of plan.routes)
 word_before other plan cost word price no_later (inl cheaper) = inl (omega (arith, price, cheaper))
-word_before other plan cost word price no_later (inr as_much) = inr (price ∙ as_much.0, elim (earlier_total word (word_of other.routes)) [
-  | inl less ↦ earlier_transitive word (word_of other.routes) (word_of plan.routes) less as_much.1
-  | inr (inl same) ↦ rw same as_much.1
-  | inr (inr more) ↦ absurd (no_later more)
-])
+word_before other plan cost word price no_later (inr as_much) = inr (
+  price ∙ as_much.0,
+  elim (earlier_total word (word_of other.routes)) [
+    | inl less ↦ earlier_transitive word (word_of other.routes) (word_of plan.routes) less as_much.1
+    | inr (inl same) ↦ rw same as_much.1
+    | inr (inr more) ↦ absurd (no_later more)
+  ],
+)
 
 -- no front is among none
 pub none_among : {R : Type 0} (low : List ℕ → ℕ) (fronts : List (List ℕ)) (front : List ℕ) → map low fronts ≡ [] → Contains fronts front → R

@@ -40,7 +40,9 @@ pub(crate) fn solve(
     let singles = Plan::singles(alloc, instance)?;
     let mut board = Local::open(copy_of(alloc, singles.as_ref())?);
     let mut best = Local::open(singles);
-    let lower = search_all(alloc, instance, &tables, &cutting, budget, &mut board, &mut best)?;
+    let lower = search_all(
+        alloc, instance, &tables, &cutting, budget, &mut board, &mut best,
+    )?;
     // Then the best plan costs no more than any word that a search let pass.
     offer_some(alloc, instance, &mut best, board.plan())?;
     // What is known of words holds of plans.

@@ -318,8 +318,8 @@ unfinished p root word next k spent floor first progress child =
     let to_child : (w : List ℕ) → IsFrom (word ++ k ∷ []) w → IsFrom (word ++ next ∷ []) w = λ w from. from_sibling word next k w child.within from in
     let at_child = seen_later p root (word ++ next ∷ []) (word ++ k ∷ []) spent to_child progress.seen in
     tree_of_seen p root (word ++ (k + 1) ∷ []) (spent + 1) (seen_more p root (word ++ k ∷ []) (word ++ (k + 1) ∷ []) spent child.child (begins_more word root k progress.under)
-        (λ from. not_behind word k from)
-        (λ w from. from_sibling word k (k + 1) w (omega arith) from) at_child)
+    (λ from. not_behind word k from)
+    (λ w from. from_sibling word k (k + 1) w (omega arith) from) at_child)
 
 -- the search of a piece that ends at the piece's own word: no word under it costs as little as the floor
 pub ends_at_root : (p : Problem) (root : List ℕ) (budget floor : ℕ) → IsFront p root → 1 ≤ budget → ((w : List ℕ) → IsLawfulWord p w → BeginsWith w root → floor < word_cost p w) → IsFinished p root budget floor 1 None

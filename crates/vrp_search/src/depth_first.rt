@@ -96,4 +96,4 @@ pub fn search<B: Board>(
 }
 
 #[cfg(test)]
-mod tests;
+pub(crate) mod tests;

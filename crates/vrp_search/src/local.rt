@@ -130,11 +130,27 @@ mod tests {
         assert_eq!(rt; earlier.cost(), 6);
         assert_eq!(rt; later.cost(), 6);
         let mut board = Local::open(Some(later.copy(rt.alloc())?));
-        for plan in [&earlier, &later, &earlier] {
-            board.offer(rt.alloc(), plan)?;
-            assert_eq!(rt; board.least(), 6);
-            assert_eq!(rt; board.plan().map(Plan::word), Some(earlier.word()));
-        }
+        assert_kept(&rt, rt.alloc(), &instance, &mut board, &earlier)?;
+        board.offer(rt.alloc(), &later)?;
+        assert_kept(&rt, rt.alloc(), &instance, &mut board, &earlier)?;
+        Ok(())
+    }
+
+    // Offers a plan, which the board has then.
+    fn assert_kept(
+        rt: &impl Abort,
+        alloc: Global,
+        instance: &Instance,
+        board: &mut Local,
+        plan: &Plan,
+    ) -> Result<(), NoMemory>
+        requires plan { IsPlanOf instance.now plan.now }
+        requires board { ForSome board.old (IsPlanOf instance.now) }
+        ensures { ForSome board.new (IsPlanOf instance.now) }
+    {
+        board.offer(alloc, plan)?;
+        assert_eq!(rt; board.least(), plan.cost());
+        assert_eq!(rt; board.plan().map(Plan::word), Some(plan.word()));
         Ok(())
     }
 

@@ -70,7 +70,9 @@ impl<'a> TreePruning<'a> {
         tree_bounds();
         partial.list_unserved(&mut self.unserved);
         let (load, rest) = (partial.load(), partial.rest());
-        let more = self.room.tree_bound(self.instance, at, load, &self.unserved, rest);
+        let more = self
+            .room
+            .tree_bound(self.instance, at, load, &self.unserved, rest);
         let low = partial.cost() + more;
         low > least || low >= own
     }

@@ -17,10 +17,7 @@ struct Ways<'a> {
 /// A cheapest plan, and of those the one with the earliest word: compared stop by stop, the way home before all customers.
 #[derive(Debug, Drop)]
 pub(crate) enum Cheapest {
-    Plan {
-        cost: u64,
-        routes: Vec<Vec<i64>>,
-    },
+    Plan { cost: u64, routes: Vec<Vec<i64>> },
     /// The trucks are too few.
     NoPlan,
     /// There are too many customers to say.

@@ -51,11 +51,7 @@ const FIRST_PLANS: [(&str, &str, &str); 9] = [
         "Route #1: 2\nRoute #2: 3\nCost 0\nProven\n",
     ),
     (SMALL, LARGE, "Route #1: 2 3\nCost 20\nProven\n"),
-    (
-        SMALL,
-        STEPS,
-        "Route #1: 2\nRoute #2: 3 4\nCost 5\nProven\n",
-    ),
+    (SMALL, STEPS, "Route #1: 2\nRoute #2: 3 4\nCost 5\nProven\n"),
 ];
 
 // However many pieces there are, the first plan is found and proved.

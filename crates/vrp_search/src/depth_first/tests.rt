@@ -214,8 +214,8 @@ fn push(rt: &impl Abort, partial: &mut Partial<'_>, symbol: u16)
     partial.push(symbol);
 }
 
-// Searches the whole tree.
-fn search_all(
+/// Searches the whole tree with tables over all customers.
+pub(crate) fn search_all(
     alloc: Global,
     instance: &Instance,
     budget: u64,

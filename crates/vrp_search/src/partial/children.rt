@@ -148,5 +148,4 @@ impl<'a> Partial<'a> {
         }
         0
     }
-
 }

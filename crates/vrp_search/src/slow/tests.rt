@@ -4,13 +4,13 @@ ghost use Rattle.vrp_model.specs.Route.{IsPlanOf};
 
 use super::{Case, NODES, Small, begins_with, routes};
 use crate::cutting::{Cutting, MAX_PIECES};
-use crate::depth_first::{Ended, search};
+use crate::depth_first::Ended;
+use crate::depth_first::tests::search_all;
 use crate::local::Local;
 use crate::partial::Partial;
 use std::alloc::{AllocError, Global};
 use std::process::Abort;
 use std::test::Fail;
-use vrp_bound::Tables;
 use vrp_model::{Instance, NoMemory, Plan};
 
 // More steps than a walk through any of the trees takes.
@@ -105,32 +105,30 @@ fn the_first_word_is_found(rt: HostRuntime) -> Result<(), Fail> {
         for small in Small::kinds(case) {
             let instance = small.instance(&rt, rt.alloc())?;
             let singles = Plan::singles(rt.alloc(), &instance)?;
-            for mut board in [Local::open(singles), Local::open(None)] {
-                search_whole(&rt, rt.alloc(), &instance, &mut board)?;
-                let first = small.first(rt.alloc())?;
-                let wanted = first.as_ref().map(|(cost, word)| (*cost, word.as_slice()));
-                let kept = board.plan().map(|plan| (plan.cost(), plan.word()));
-                assert_eq!(rt; kept, wanted, "{small:?}");
-            }
+            assert_first(&rt, rt.alloc(), &small, &instance, singles)?;
+            assert_first(&rt, rt.alloc(), &small, &instance, None)?;
         }
     }
     Ok(())
 }
 
-// Searches the whole tree to its end.
-fn search_whole(
+// The board that was opened with this plan, or with none, has the first one in the end.
+fn assert_first(
     rt: &impl Abort,
     alloc: Global,
+    small: &Small,
     instance: &Instance,
-    board: &mut Local,
+    opening: Option<Plan>,
 ) -> Result<(), Fail>
-    requires { ForSome board.old (IsPlanOf instance.now) }
+    requires { ForSome opening (IsPlanOf instance.now) }
 {
-    let cutting = Cutting::whole(alloc, instance)?;
-    let tables = Tables::over_all(alloc, instance)?;
-    let piece = &cutting.pieces()[0];
-    let ended = search(alloc, instance, &tables, piece, u64::MAX, board)?;
+    let mut board = Local::open(opening);
+    let ended = search_all(alloc, instance, u64::MAX, &mut board)?;
     assert!(rt; matches!(&ended, Ended::Finished { .. }));
+    let first = small.first(alloc)?;
+    let wanted = first.as_ref().map(|(cost, word)| (*cost, word.as_slice()));
+    let kept = board.plan().map(|plan| (plan.cost(), plan.word()));
+    assert_eq!(rt; kept, wanted, "{small:?}");
     Ok(())
 }
 

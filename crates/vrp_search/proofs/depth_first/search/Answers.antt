@@ -142,9 +142,9 @@ loop-found-preserved-in_default-promising g c =
       trees = c.loop-found.invariant.trees;
       progress = pruned p root word c.loop-found.next k c.loop-found.spent old floor first c.loop-found.invariant.progress child c.least-least.ensures.falls
           (λ w lawful from begins.
-              let plan = c.words_are_plans.ensures p w lawful in
-              let small : word_cost p w < NO_COST = omega (arith, c.plans_cost_less.ensures p plan.0 is_problem plan.2, plan.5) in
-              no_use p (word ++ c.loop-found.next ∷ []) floor c.least-least.result c.cost.result first w c.least-least.ensures.answered c.cost.ensures small c.loop-found.invariant.progress.behind from (none w lawful begins));
+          let plan = c.words_are_plans.ensures p w lawful in
+          let small : word_cost p w < NO_COST = omega (arith, c.plans_cost_less.ensures p plan.0 is_problem plan.2, plan.5) in
+          no_use p (word ++ c.loop-found.next ∷ []) floor c.least-least.result c.cost.result first w c.least-least.ensures.answered c.cost.ensures small c.loop-found.invariant.progress.behind from (none w lawful begins));
       serves = c.least-least.ensures.serves p c.loop-found.invariant.serves;
       falls = omega (arith, c.least-least.ensures.falls, c.loop-found.invariant.falls);
       some = omega arith;
@@ -207,9 +207,9 @@ loop-found-preserved-then-prunes g c =
     let parts = without_last c.pop-next.new.self.word word c.pop-next.result k (sym c.pop-next.ensures.word ∙ longer) in
     let progress = pruned p root word c.loop-found.next k c.loop-found.spent old floor first c.loop-found.invariant.progress child c.least-least.ensures.falls
     (λ w lawful from begins.
-        let plan = c.words_are_plans.ensures p w lawful in
-        let small : word_cost p w < NO_COST = omega (arith, c.plans_cost_less.ensures p plan.0 is_problem plan.2, plan.5) in
-        no_use p (word ++ c.loop-found.next ∷ []) floor c.least-least.result c.cost-in-Some-promising.result first w c.least-least.ensures.answered c.cost-in-Some-promising.ensures small c.loop-found.invariant.progress.behind from (none w lawful begins)) in
+    let plan = c.words_are_plans.ensures p w lawful in
+    let small : word_cost p w < NO_COST = omega (arith, c.plans_cost_less.ensures p plan.0 is_problem plan.2, plan.5) in
+    no_use p (word ++ c.loop-found.next ∷ []) floor c.least-least.result c.cost-in-Some-promising.result first w c.least-least.ensures.answered c.cost-in-Some-promising.ensures small c.loop-found.invariant.progress.behind from (none w lawful begins)) in
     record {
       problem = c.pop-next.ensures.problem ∙ problem;
       trees = c.prunes.ensures.instance ∙ c.loop-found.invariant.trees;

@@ -52,7 +52,7 @@ loop-customer-preserved c =
       | else-first-customer-via-then-first-customer+else-not-index w ↦
           let read : true ≡ slice_index_or c.self.inside.served.items w.from.result true = subst (λ (b : Bool). b ≡ slice_index_or c.self.inside.served.items w.from.result b) w.if-not-index.false w.index.ensures in
           no_served_child p word j c.self.inside.served.items c.self.inside.before.items c.self.inside.tally c.self.invariant.0 (omega (arith, w.if-first-customer.true)) (omega (arith, c.loop-customer-test.true, c.customers-customer-end.ensures.value))
-              (ap (λ k. slice_index_or c.self.inside.served.items k true) (sym w.from.ensures) ∙ sym read)
+          (ap (λ k. slice_index_or c.self.inside.served.items k true) (sym w.from.ensures) ∙ sym read)
       | else-first-customer-via-else-first-customer w ↦ λ after.
           let opens = opens_route p word j c.self.inside.served.items c.self.inside.before.items c.self.inside.tally c.self.invariant.0 at_depot after in
           omega (arith, opens.0, w.if-first-customer.false)

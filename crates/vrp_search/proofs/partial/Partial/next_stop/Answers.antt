@@ -48,7 +48,7 @@ loop-customer-preserved c =
       | else-not-index-via-else-not-index w ↦
           let read : true ≡ slice_index_or c.self.inside.served.items c.from.result true = subst (λ (b : Bool). b ≡ slice_index_or c.self.inside.served.items c.from.result b) w.if-not-index.false c.index.ensures in
           no_served_child p word j c.self.inside.served.items c.self.inside.before.items c.self.inside.tally c.self.invariant.0 some (omega (arith, c.loop-customer-test.true, c.customers-customer-end.ensures.value))
-              (ap (λ k. slice_index_or c.self.inside.served.items k true) (sym c.from.ensures) ∙ sym read)
+          (ap (λ k. slice_index_or c.self.inside.served.items k true) (sym c.from.ensures) ∙ sym read)
     ] in
     record {
       none = λ k from below after. elim (cases_lt k j) [
