@@ -6,8 +6,8 @@ ghost use Rattle.vrp_model.specs.Route.{IsPlanOf};
 use std::alloc::Global;
 use vrp_model::{NoMemory, Plan};
 
-/// Is offered plans of one problem, and answers what a plan must cost less than to be of use. Of a board is known which
-/// problems it serves, and a number, its floor: no plan is looked for that costs as much, or more.
+/// Is offered plans of one problem, and answers what a plan may cost at most to be of use. Of a board is known which problems it
+/// serves, and a number, its floor: no plan is looked for that costs more.
 pub trait Board {
     ghost serves: { Self → Problem → Type 0 };
 

@@ -27,8 +27,9 @@ pub enum Ended {
 /// Searches the plans under a piece, and offers those to the board that may be before all that it knows. It looks at no more
 /// partial plans than the budget says, at each at most once, at the piece's own word first, and at children by rising symbol. It
 /// doesn't go below one whose cost and bound together are above what the board answers, or not under the cost of the last plan that
-/// it offered, or whose bound says that no plan is under it, or that is dead. The tables are over all customers that the piece
-/// leaves unserved, and may be over more. Where memory is refused the board has the offers that were made before.
+/// it offered, or whose bound says that no plan is under it, or that is dead, or of which the tree bound says the same. The tables
+/// are over all customers that the piece leaves unserved, and may be over more. Where memory is refused the board has the offers
+/// that were made before.
 pub fn search<B: Board>(
     alloc: Global,
     instance: &Instance,

@@ -36,7 +36,7 @@ pub(crate) struct TreePruning<'a> {
 }
 
 impl<'a> TreePruning<'a> {
-    /// Room for all partial plans of an instance.
+    /// Room for all partial plans of an instance. Where the bound is tried is left open.
     pub(crate) fn new(alloc: Global, instance: &'a Instance) -> Result<TreePruning<'a>, NoMemory>
         ensures { IfOk result (λ pruning. pruning.instance.now ≡ instance.now) }
     {
