@@ -16,6 +16,11 @@ use Rattle.vrp_search.specs.Board.{IsBeforeKept}
 use Rattle.vrp_search.specs.Search.{IsNotBefore, NoneBeforeUnder}
 use Rattle.vrp_command.specs.Searched.{IsNoLater}
 
+-- the plan, if there is one
+abbrev some_of : PricedPlan → Option PricedPlan → PricedPlan
+some_of other None = other
+some_of other (Some found) = found
+
 -- ---- a plan that is no later than another
 
 pub no_later_itself : (kept : Option PricedPlan) → IsNoLater kept kept
@@ -73,12 +78,8 @@ still_not p floor lower None new word falls later (inr never) = absurd never
 still_not p floor lower (Some plan) None word falls later (inr behind) = let (kept, is, not_before) = later plan refl in absurd (let never : None ≡ Some kept = is in cc)
 still_not p floor lower (Some plan) (Some best) word falls later (inr behind) =
     let (kept, is, not_before) = later plan refl in
-    let same : best ≡ kept = ap (λ (found : Option PricedPlan). some_plan best found) is in
+    let same : best ≡ kept = ap (λ (found : Option PricedPlan). some_of best found) is in
     inr (λ before. behind (before_later (word_cost p word) word kept plan not_before (rw (sym same) before)))
-  where
-    some_plan : PricedPlan → Option PricedPlan → PricedPlan
-    some_plan other None = other
-    some_plan other (Some found) = found
 
 pub still_none : (p : Problem) (front : List ℕ) (floor lower : ℕ) (old new : Option PricedPlan) → lower ≤ floor → IsNoLater new old → NoneBeforeUnder p front floor old → NoneBeforeUnder p front lower new
 still_none p front floor lower old new falls later none = λ word lawful begins. still_not p floor lower old new word falls later (none word lawful begins)
@@ -115,10 +116,6 @@ pub none_among : {R : Type 0} (low : List ℕ → ℕ) (fronts : List (List ℕ)
 none_among low fronts front none (k, lt, is) = absurd (let few : length fronts ≡ 0 = sym (length-map fronts low) ∙ ap length none in omega (arith, few, lt))
 
 -- ---- an offer
-
-abbrev some_of : PricedPlan → Option PricedPlan → PricedPlan
-some_of other None = other
-some_of other (Some found) = found
 
 not_before_itself : (plan : PricedPlan) → IsBefore plan plan → ⊥
 not_before_itself plan before = before_irreflexive plan.cost (word_of plan.routes) before
