@@ -130,12 +130,17 @@ served_at_depot word = filter-append (λ n. not (n == 0)) word (0 ∷ []) ∙ ap
 
 -- ---- the depot
 
+-- the depot behind an open route opens none
+pub routes_at_depot : (word : List ℕ) → HasStops 0 word → IsOpen word → routes_of (word ++ 0 ∷ []) ≡ routes_of word
+routes_at_depot word has is_open =
+    let s = shape_of word has in
+    let some : 0 < length s.open_stops = open_is_some s.closed s.open_stops (subst (λ (w : List ℕ). 0 < last_symbol w) s.is is_open) in
+    ap (λ (w : List ℕ). routes_of (w ++ 0 ∷ [])) s.is ∙ routes_when_closed s.closed s.open_stops s.are_closed s.are_stops some ∙ sym (ap routes_of s.is)
+
 -- a front with an open route may be closed
 pub front_closed : (p : Problem) (front : List ℕ) → IsFront p front → IsOpen front → (IsSymmetric p → RunsForward (last_route front)) → IsFront p (front ++ 0 ∷ [])
 front_closed p front is_front is_open forward =
-    let s = shape_of front is_front.stops in
-    let some : 0 < length s.open_stops = open_is_some s.closed s.open_stops (subst (λ (w : List ℕ). 0 < last_symbol w) s.is is_open) in
-    let routes : routes_of (front ++ 0 ∷ []) ≡ routes_of front = ap (λ (w : List ℕ). routes_of (w ++ 0 ∷ [])) s.is ∙ routes_when_closed s.closed s.open_stops s.are_closed s.are_stops some ∙ sym (ap routes_of s.is) in
+    let routes = routes_at_depot front is_front.stops is_open in
     record {
       known = subst (All (Contains (customers p))) (sym (served_at_depot front)) is_front.known;
       once = subst (AllPairs (λ a b. a ≢ b)) (sym (served_at_depot front)) is_front.once;

@@ -1,5 +1,5 @@
 -- What a front begins with is a front, and a lawful word is under one child of each front that it goes on behind.
-use Rattle.std.proofs.Common.{◌≡◌, ◌≢◌, ℕ, zero, suc, ◌+◌, ◌≤◌, ◌<◌, List, [], ◌∷◌, ◌++◌, length, length-append, refl, sym, ap, subst, ◌∙◌, append_assoc, append-nil, arith}
+use Rattle.std.proofs.Common.{◌≡◌, ◌≢◌, ℕ, zero, suc, ◌+◌, ◌≤◌, ◌<◌, List, [], ◌∷◌, ◌++◌, length, length-append, sym, ap, subst, ◌∙◌, append_assoc, append-nil, arith}
 use Rattle.std.specs.List.{All, AllPairs, Contains}
 use Rattle.std.specs.List.Sorted.{IsStrictlyIncreasing}
 use Rattle.std.specs.Prelude.{slice_index, not, ◌==◌}
@@ -7,9 +7,9 @@ use Rattle.std.proofs.Math.ListN.{get_or-append}
 use Rattle.std.proofs.lemmas.List.Elements.{All-cons, All-nil, All-append, filter-append}
 use Rattle.vrp_model.specs.Problem.{HasTrucks, IsSymmetric, Problem, customers}
 use Rattle.vrp_model.specs.Route.{load_of}
-use Rattle.vrp_model.specs.Word.{BeginsWith, IsFront, IsLawfulWord, RunsForward, TreeHasAtLeast, closed_routes, first_stops, last_route, last_symbol, routes_of, served_in, word_of}
-use Rattle.vrp_model.proofs.Words.{AreClosed, HasStops-parts, IsStops, last_is, routes_are, shape_of}
-use Rattle.vrp_model.proofs.FrontWithSymbol.{All-last, All-left, closed_at_depot, closed_is_open, closed_with_customer, open_is_some, pairs_left, routes_when_closed, routes_with_stop}
+use Rattle.vrp_model.specs.Word.{BeginsWith, IsFront, IsLawfulWord, RunsForward, TreeHasAtLeast, closed_routes, first_stops, last_route, routes_of, served_in, word_of}
+use Rattle.vrp_model.proofs.Words.{AreClosed, HasStops-parts, IsStops, routes_are, shape_of}
+use Rattle.vrp_model.proofs.FrontWithSymbol.{All-last, All-left, closed_at_depot, closed_is_open, closed_with_customer, pairs_left, routes_at_depot, routes_with_stop}
 use Rattle.vrp_model.proofs.ChildCases.{firsts_with}
 use Rattle.vrp_model.proofs.CustomerPlaces.{load_with}
 use Rattle.vrp_model.proofs.FewTrucks.{fewer_routes}
@@ -58,11 +58,7 @@ routes_before p front k closed (stop ∷ stops) is are free some after =
 
 routes_before_depot : (p : Problem) (front : List ℕ) → IsFront p (front ++ 0 ∷ []) → RoutesFit p front
 routes_before_depot p front after =
-    let parts = HasStops-parts 0 front (0 ∷ []) after.stops in
-    let s = shape_of front parts.0 in
-    let is_open : 0 < last_symbol front = rw (last_is front) (parts.1.0 refl) in
-    let some : 0 < length s.open_stops = open_is_some s.closed s.open_stops (subst (λ (w : List ℕ). 0 < last_symbol w) s.is is_open) in
-    let same : routes_of (front ++ 0 ∷ []) ≡ routes_of front = ap (λ (w : List ℕ). routes_of (w ++ 0 ∷ [])) s.is ∙ routes_when_closed s.closed s.open_stops s.are_closed s.are_stops some ∙ sym (ap routes_of s.is) in
+    let same = routes_at_depot front (HasStops-parts 0 front (0 ∷ []) after.stops).0 (closed_is_open p front after) in
     from_routes p front (routes_of (front ++ 0 ∷ [])) (sym same) after.fits after.rising after.few
 
 routes_fit : (p : Problem) (front : List ℕ) (k : ℕ) → IsFront p (front ++ k ∷ []) → RoutesFit p front

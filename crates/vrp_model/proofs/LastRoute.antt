@@ -1,5 +1,5 @@
 -- The last route of a front with one more symbol.
-use Rattle.std.proofs.Common.{◌≡◌, ℕ, ◌+◌, ◌-◌, ◌<◌, ◌≤◌, ◌==◌, inl, inr, false, List, [], ◌∷◌, ◌++◌, length, length-append, append-nil, refl, sym, ap, subst, ◌∙◌, arith}
+use Rattle.std.proofs.Common.{◌≡◌, ℕ, ◌+◌, ◌-◌, ◌<◌, ◌≤◌, ◌==◌, inl, inr, false, List, [], ◌∷◌, ◌++◌, length, length-append, append-nil, refl, sym, ap, ◌∙◌, arith}
 use Rattle.std.proofs.lemmas.Bool.Decides.{nat_tests}
 use Rattle.std.specs.Prelude.{slice_index, slice_index_or}
 use Rattle.vrp_model.specs.Front.{open_load}
@@ -8,19 +8,12 @@ use Rattle.vrp_model.specs.Route.{load_of}
 use Rattle.vrp_model.specs.Word.{HasStops, IsFront, IsOpen, MakesChild, last_route, last_symbol, routes_of, word_of}
 use Rattle.vrp_model.proofs.ChildCases.{cases_of_child}
 use Rattle.vrp_model.proofs.Words.{AreClosed, IsStops, last_behind-append, last_is, routes_are, shape_of}
-use Rattle.vrp_model.proofs.FrontWithSymbol.{last_of, last_of_shape, last_stop, open_is_some, routes_when_closed, routes_with_stop}
+use Rattle.vrp_model.proofs.FrontWithSymbol.{last_of, last_of_shape, last_stop, routes_at_depot, routes_with_stop}
 use Rattle.vrp_model.proofs.CustomerPlaces.{load_with}
 
 -- the last symbol of a word with one more
 pub last_symbol_with : (word : List ℕ) (k : ℕ) → last_symbol (word ++ k ∷ []) ≡ k
 last_symbol_with word k = last_is (word ++ k ∷ []) ∙ last_behind-append 0 word (k ∷ [])
-
--- the depot behind an open route opens none
-pub routes_at_depot : (word : List ℕ) → HasStops 0 word → IsOpen word → routes_of (word ++ 0 ∷ []) ≡ routes_of word
-routes_at_depot word has is_open =
-    let s = shape_of word has in
-    let some : 0 < length s.open_stops = open_is_some s.closed s.open_stops (subst (λ (w : List ℕ). 0 < last_symbol w) s.is is_open) in
-    ap (λ (w : List ℕ). routes_of (w ++ 0 ∷ [])) s.is ∙ routes_when_closed s.closed s.open_stops s.are_closed s.are_stops some ∙ sym (ap routes_of s.is)
 
 -- behind the depot the last route stays
 pub last_route_closed : (word : List ℕ) → HasStops 0 word → IsOpen word → last_route (word ++ 0 ∷ []) ≡ last_route word

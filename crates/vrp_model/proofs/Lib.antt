@@ -13,6 +13,7 @@ pub mod Euclid
 pub mod FilledSquare
 pub mod FirstAmong
 pub mod FirstPlans
+pub mod FittingPlans
 pub mod FewTrucks
 pub mod FrontPlaces
 pub mod FrontWithSymbol

@@ -50,7 +50,7 @@ kept_passes test xs x kept = All-contains (λ y. test y ≡ true) (filter test x
 
 -- ---- a customer stands in a word exactly where the word serves it
 
-stands_behind : (symbol k : ℕ) (word : List ℕ) → symbol ≢ k → stands_in (symbol ∷ word) k ≡ stands_in word k
+pub stands_behind : (symbol k : ℕ) (word : List ℕ) → symbol ≢ k → stands_in (symbol ∷ word) k ≡ stands_in word k
 stands_behind symbol k word differs = let test : (symbol == k) ≡ false = grind (arith, nat_tests, differs) in rw test refl
 
 stands_here : (k : ℕ) (word : List ℕ) → stands_in (k ∷ word) k ≡ true

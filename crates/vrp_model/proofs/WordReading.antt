@@ -15,7 +15,7 @@ use Rattle.vrp_model.specs.Route.{cost_along, plan_cost, route_cost}
 use Rattle.vrp_model.specs.Inner.Stops.{IsWordEnd}
 use Rattle.vrp_model.specs.Word.{HasStops, IsLawfulWord, first_stops, routes_of, served_in, word_of}
 use Rattle.vrp_model.proofs.FrontsBefore.{rising_left}
-use Rattle.vrp_model.proofs.Words.{AreClosed, AreClosed-append, IsStops, is_stop, last_behind, last_behind-append, last_is, open_routes, routes_are, shape_of, word_of-append}
+use Rattle.vrp_model.proofs.Words.{AreClosed, length_of_word, AreClosed-append, IsStops, is_stop, last_behind, last_behind-append, last_is, open_routes, routes_are, shape_of, word_of-append}
 use Rattle.vrp_model.proofs.PlanWords.{closed_plan, cost_parts, plan_of_word}
 use Rattle.vrp_model.proofs.PlanLemmas.{plan_cost_push}
 use Rattle.vrp_model.proofs.CustomerPlaces.{customer_below}
@@ -188,14 +188,14 @@ one_route_more p word routes cost rest route behind more so_far is free some end
       places = all_right (λ k. k < place_count p) (route ++ 0 ∷ []) behind (subst (All (λ k. k < place_count p)) (is ∙ sym (append_assoc route (0 ∷ []) behind)) so_far.places);
     }
 
+no_more_routes : (routes : List (List ℕ)) → AreClosed routes → length routes ≤ length (concat routes)
+no_more_routes [] are = omega arith
+no_more_routes (route ∷ routes) are =
+    let joined : length (route ++ concat routes) ≡ length route + length (concat routes) = length-append route (concat routes) in
+    omega (arith, joined, no_more_routes routes are.2, are.1)
+
 pub concat_length : (routes : List (List ℕ)) → AreClosed routes → (length (word_of routes) ≡ length (concat routes) + length routes) × (length routes ≤ length (concat routes))
-concat_length [] are = (refl, omega arith)
-concat_length (route ∷ routes) are =
-    let rest = concat_length routes are.2 in
-    let a : length ((route ++ 0 ∷ []) ++ word_of routes) ≡ length (route ++ 0 ∷ []) + length (word_of routes) = length-append (route ++ 0 ∷ []) (word_of routes) in
-    let b : length (route ++ 0 ∷ []) ≡ length route + 1 = length-append route (0 ∷ []) in
-    let d : length (route ++ concat routes) ≡ length route + length (concat routes) = length-append route (concat routes) in
-    (omega (arith, a, b, d, rest.0), omega (arith, d, rest.1, are.1))
+concat_length routes are = (length_of_word routes, no_more_routes routes are)
 
 -- a lawful word has at most two symbols for each customer
 pub word_is_short : (p : Problem) (word : List ℕ) → IsProblem p → IsLawfulWord p word → length word ≤ 2400

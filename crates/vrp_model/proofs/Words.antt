@@ -1,6 +1,6 @@
 -- The routes of a word: closed ones, each followed by 0, and behind them the open one.
-use Rattle.std.proofs.Common.{◌≡◌, ℕ, zero, suc, ◌-◌, ◌<◌, true, false, not, ◌==◌, List, [], ◌∷◌, ◌++◌, length, length-append, take, refl, sym, ap, ◌∙◌, append_assoc, append-nil, arith}
-use Rattle.std.specs.List.{All, filter, slice_split}
+use Rattle.std.proofs.Common.{◌≡◌, ℕ, zero, suc, ◌+◌, ◌-◌, ◌<◌, true, false, not, ◌==◌, List, [], ◌∷◌, ◌++◌, length, length-append, take, refl, sym, ap, ◌∙◌, append_assoc, append-nil, arith}
+use Rattle.std.specs.List.{All, concat, filter, slice_split}
 use Rattle.std.specs.Prelude.{count_by, slice_index}
 use Rattle.std.proofs.Math.Seq.{take-append_seam}
 use Rattle.std.proofs.lemmas.Bool.Decides.{nat_tests}
@@ -130,3 +130,13 @@ last_is (symbol ∷ word) = let e : length (symbol ∷ word) - 1 ≡ length word
 -- a customer at the front is served first
 pub serves_customer : (k : ℕ) (word : List ℕ) → served_in (suc k ∷ word) ≡ suc k ∷ served_in word
 serves_customer k word = let test : not (suc k == 0) ≡ true = grind (arith, nat_tests) in rw test refl
+
+-- the word of any routes has a symbol for each stop, and one for each route
+pub length_of_word : (routes : List (List ℕ)) → length (word_of routes) ≡ length (concat routes) + length routes
+length_of_word [] = refl
+length_of_word (route ∷ routes) =
+    let rest = length_of_word routes in
+    let a : length ((route ++ 0 ∷ []) ++ word_of routes) ≡ length (route ++ 0 ∷ []) + length (word_of routes) = length-append (route ++ 0 ∷ []) (word_of routes) in
+    let b : length (route ++ 0 ∷ []) ≡ length route + 1 = length-append route (0 ∷ []) in
+    let d : length (route ++ concat routes) ≡ length route + length (concat routes) = length-append route (concat routes) in
+    omega (arith, a, b, d, rest)

@@ -14,6 +14,7 @@ use crate::memory::NoMemory;
 use std::alloc::Global;
 use std::marker::Model;
 
+mod fits;
 #[cfg(test)]
 mod tests;
 

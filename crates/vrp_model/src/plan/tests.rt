@@ -44,7 +44,7 @@ fn words(rt: HostRuntime) -> Result<(), Fail> {
 }
 
 // The plan of one truck that serves this one of two customers first, and then the other.
-fn joined(
+pub(super) fn joined(
     rt: &impl Abort,
     alloc: Global,
     instance: &Instance,
