@@ -3,8 +3,8 @@ use Rattle.std.proofs.Common.{◌≡◌, ℕ, zero, suc, ◌+◌, ◌<◌, List,
 use Rattle.std.proofs.lemmas.Bool.{cases_lt}
 use Rattle.vrp_model.specs.Problem.{Problem}
 use Rattle.vrp_model.specs.Word.{IsLawfulWord, last_symbol, routes_of}
-use Rattle.vrp_model.proofs.FrontWithSymbol.{closed_is_open}
-use Rattle.vrp_model.proofs.LastRoute.{last_symbol_with, routes_at_depot, routes_with}
+use Rattle.vrp_model.proofs.FrontWithSymbol.{closed_is_open, routes_at_depot}
+use Rattle.vrp_model.proofs.LastRoute.{last_symbol_with, routes_with}
 use Rattle.vrp_bound.proofs.ServedBehind.{front_of, with_symbol}
 
 -- the routes that are opened by symbols behind this place

@@ -46,12 +46,48 @@ impl Situation {
     }
 }
 
-/// The tree bound by its definition.
+/// Every situation in an instance of at most six customers: each place, each choice of the other customers, and each load.
+pub(crate) fn situations(alloc: Global, instance: &Instance) -> Result<Vec<Situation>, AllocError> {
+    let mut listed = Vec::new(alloc);
+    let choices = 1u32 << instance.customers().min(6);
+    for at in 0..instance.customers() + 1 {
+        for choice in 0..choices {
+            let unloaded = Situation {
+                at,
+                load: 0,
+                unserved: 2 * choice,
+            };
+            if !unloaded.leaves(at) {
+                push_loads(&mut listed, instance, unloaded)?;
+            }
+        }
+    }
+    Ok(listed)
+}
+
+// A situation with each load; at the depot there is none.
+fn push_loads(
+    listed: &mut Vec<Situation>,
+    instance: &Instance,
+    unloaded: Situation,
+) -> Result<(), AllocError> {
+    let loads = if unloaded.at == 0 {
+        1
+    } else {
+        instance.capacity() + 1
+    };
+    for load in 0..loads {
+        listed.push(Situation { load, ..unloaded })?;
+    }
+    Ok(())
+}
+
+/// The tree bound by its definition; `None` where there are more than five places to join.
 pub(crate) fn slow_bound(
     alloc: Global,
     instance: &Instance,
     situation: Situation,
-) -> Result<u64, AllocError> {
+) -> Result<Option<u64>, AllocError> {
     let customers = situation.customers(alloc, instance)?;
     let mut places = Vec::new(alloc);
     places.push(0)?;
@@ -63,10 +99,13 @@ pub(crate) fn slow_bound(
         places.push(*customer)?;
         rest = rest.saturating_add(demand(instance, *customer));
     }
+    if places.len() > 5 {
+        return Ok(None);
+    }
     let later = later_routes(instance, situation, &customers, rest);
     let tree = least_of_trees(instance, &places);
     let homes = least_of_homes(instance, &customers, later.min(customers.len() as u64));
-    Ok(tree.saturating_add(homes))
+    Ok(Some(tree.saturating_add(homes)))
 }
 
 // The first number of routes that is enough.

@@ -4,7 +4,7 @@ ghost use Rattle.vrp_model.specs.Problem.{place_count};
 
 use super::*;
 use crate::fixture::are_customers;
-use crate::slow_tree::{Situation, least_completion, slow_bound};
+use crate::slow_tree::{Situation, least_completion, situations, slow_bound};
 use std::process::Abort;
 use std::test::Fail;
 use vrp_model::{Layout, MAX_NODES, Metric, Weights};
@@ -104,48 +104,86 @@ fn assert_bound(
     Ok(())
 }
 
-// At every place, load and choice of unserved customers: with no demand, with some, and where each truck carries one customer.
+// Where nothing is demanded, where each truck carries one customer, where some demand nothing and some all that a truck carries,
+// and where trucks have room to spare.
 #[test]
-fn the_same_as_every_tree(rt: HostRuntime) -> Result<(), Fail> {
+fn every_completion_of_four_customers(rt: HostRuntime) -> Result<(), Fail> {
     let table = [
         ([0, 0, 0, 0, 0], 1),
+        ([0, 3, 3, 3, 3], 3),
         ([0, 1, 2, 0, 1], 2),
         ([0, 1, 1, 2, 3], 4),
-        ([0, 3, 3, 3, 3], 3),
     ];
     for (demands, capacity) in table {
         for seed in 1..4 {
-            for symmetric in [false, true] {
-                let instance = five_places(&rt, rt.alloc(), seed, symmetric, &demands, capacity)?;
-                assert_same(&rt, rt.alloc(), &instance)?;
-            }
+            assert_scattered(&rt, rt.alloc(), seed, &demands, capacity)?;
         }
     }
     Ok(())
 }
 
-// The same number as the slow program's, and no more than the least completion costs.
-fn assert_same(rt: &impl Abort, alloc: Global, instance: &Instance) -> Result<(), Fail> {
+// In the same cases.
+#[test]
+fn every_completion_of_five_customers(rt: HostRuntime) -> Result<(), Fail> {
+    let table = [
+        ([0, 0, 0, 0, 0, 0], 1),
+        ([0, 2, 2, 2, 2, 2], 3),
+        ([0, 1, 2, 0, 3, 2], 3),
+        ([0, 2, 1, 0, 1, 2], 5),
+    ];
+    for (demands, capacity) in table {
+        for seed in 1..4 {
+            assert_scattered(&rt, rt.alloc(), seed, &demands, capacity)?;
+        }
+    }
+    Ok(())
+}
+
+// In the same cases, and where one truck can carry all.
+#[test]
+fn every_completion_of_six_customers(rt: HostRuntime) -> Result<(), Fail> {
+    let table = [
+        ([0, 0, 0, 0, 0, 0, 0], 1),
+        ([0, 1, 1, 1, 1, 1, 1], 1),
+        ([0, 2, 1, 3, 0, 1, 2], 3),
+        ([0, 1, 2, 1, 1, 0, 2], 4),
+        ([0, 1, 0, 1, 0, 1, 0], 3),
+    ];
+    for (demands, capacity) in table {
+        for seed in 1..3 {
+            assert_scattered(&rt, rt.alloc(), seed, &demands, capacity)?;
+        }
+    }
+    Ok(())
+}
+
+// Of instances whose ways cost the same there and back, and don't.
+fn assert_scattered(
+    rt: &impl Abort,
+    alloc: Global,
+    seed: u64,
+    demands: &[u64],
+    capacity: u64,
+) -> Result<(), Fail> {
+    for symmetric in [false, true] {
+        let instance = scattered(rt, alloc, seed, symmetric, demands, capacity)?;
+        assert_bounds(rt, alloc, &instance)?;
+    }
+    Ok(())
+}
+
+// At every place, load and choice of unserved customers.
+fn assert_bounds(rt: &impl Abort, alloc: Global, instance: &Instance) -> Result<(), Fail> {
     let mut room = TreeRoom::new(alloc, instance)?;
-    for at in 0..5u16 {
-        assert!(rt; at <= instance.customers());
-        for unserved in 0..16u32 {
-            let loads = if at == 0 { 1 } else { instance.capacity() + 1 };
-            for load in 0..loads {
-                let situation = Situation {
-                    at,
-                    load,
-                    unserved: 2 * unserved,
-                };
-                if !situation.leaves(at) {
-                    assert_situation(rt, alloc, &mut room, instance, situation)?;
-                }
-            }
-        }
+    let listed = situations(alloc, instance)?;
+    for situation in &listed {
+        assert_situation(rt, alloc, &mut room, instance, *situation)?;
     }
     Ok(())
 }
 
+// The number that every tree and every choice of ways home give, where these can be tried, and no more than the least completion
+// costs.
 fn assert_situation(
     rt: &impl Abort,
     alloc: Global,
@@ -168,37 +206,40 @@ fn assert_situation(
     assert!(rt; situation.load <= instance.capacity());
     assert!(rt; rest <= instance.whole_demand());
     let bound = room.tree_bound(instance, situation.at, situation.load, customers, rest);
-    let slow = slow_bound(alloc, instance, situation)?;
-    assert_eq!(rt; bound, slow, "{situation:?}");
+    if let Some(slow) = slow_bound(alloc, instance, situation)? {
+        assert_eq!(rt; bound, slow, "{situation:?}");
+    }
     assert!(rt;
-        bound <= least_completion(instance, situation, 10),
+        bound <= least_completion(instance, situation, 12),
         "{situation:?}"
     );
     Ok(())
 }
 
-// An instance of five places, its weights scattered.
-fn five_places(
+// An instance of at most six customers, its weights scattered.
+fn scattered(
     rt: &impl Abort,
     alloc: Global,
     seed: u64,
     symmetric: bool,
-    demands: &[u64; 5],
+    demands: &[u64],
     capacity: u64,
 ) -> Result<Instance, Fail> {
+    let nodes = demands.len();
+    assert!(rt; 1 <= nodes && nodes <= 7);
     let mut ways = Vec::new(alloc);
-    for from in 0..5u64 {
-        for to in 0..5u64 {
+    for from in 0..nodes as u64 {
+        for to in 0..nodes as u64 {
             let one = if symmetric { from.min(to) } else { from };
             let other = if symmetric { from.max(to) } else { to };
-            let number = 5 * one + other + 1;
+            let number = 7 * one + other + 1;
             ways.push(number * number * seed.min(9) % 29)?;
         }
     }
-    assert!(rt; ways.len() == Layout::FullMatrix.entries(5));
+    assert!(rt; ways.len() == Layout::FullMatrix.entries(nodes as u16));
     assert!(rt; ways.iter().all(|&way| way <= 28));
-    assert!(rt; capacity <= 4);
-    let weights = Weights::matrix(alloc, Layout::FullMatrix, &ways, 5)?;
+    assert!(rt; capacity <= 9);
+    let weights = Weights::matrix(alloc, Layout::FullMatrix, &ways, nodes as u16)?;
     Ok(Instance::new(alloc, weights, demands, capacity, &[1], None)?)
 }
 

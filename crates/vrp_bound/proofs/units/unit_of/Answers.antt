@@ -20,4 +20,4 @@ loop-customer-preserved c =
 pub returns : goal.returns
 returns c =
     let so_far = c.loop-customer.invariant in
-    greatest_of_all c.args.scope.instance.now c.args.scope.customers.now c.loop-customer.customer-index c.loop-customer.unit c.max.result (omega arith) c.loop-customer-test.false so_far.divides so_far.divided c.max.ensures
+    greatest_of_all c.args.scope.instance.now c.args.scope.customers.now c.loop-customer.customer-index c.loop-customer.unit c.max.result (omega arith) c.loop-customer-test.false so_far.divides so_far.divided (omega (arith, c.max.ensures))
