@@ -1,16 +1,12 @@
 -- Which symbols make no child, told apart by what is kept beside a word.
-use Rattle.std.proofs.Common.{◌≡◌, ℕ, ◌+◌, ◌≤◌, ◌<◌, Bool, false, true, List, [], ◌∷◌, ◌++◌, length, inl, inr, arith}
-use Rattle.std.specs.Prelude.{slice_index, slice_index_or}
-use Rattle.std.proofs.lemmas.Bool.{cases_lt}
-use Rattle.vrp_model.specs.Problem.{HasTrucks, IsProblem, Problem, demand_of, place_count}
-use Rattle.vrp_model.specs.Route.{load_of}
-use Rattle.vrp_model.specs.Word.{IsFront, last_route, last_symbol, routes_of}
+use Rattle.std.proofs.Common.{◌≡◌, ℕ, ◌+◌, ◌≤◌, ◌<◌, Bool, List, [], ◌∷◌, ◌++◌, length, inl, inr, arith}
+use Rattle.vrp_model.specs.Problem.{HasTrucks, Problem, demand_of, place_count}
+use Rattle.vrp_model.specs.Word.{IsFront, last_symbol, routes_of}
 use Rattle.vrp_model.proofs.ChildCases.{cases_of_child}
 use Rattle.vrp_model.proofs.FrontPlaces.{symbol_is_place}
 use Rattle.vrp_model.proofs.LastRoute.{load_at_customer}
 use Rattle.vrp_search.specs.Inner.Tallied.{AreTallied}
 use Rattle.vrp_search.specs.declared.tally.Tally.{Tally}
-use Rattle.vrp_search.proofs.Tallies.{no_served_child}
 
 -- a child where no route is open is above the last route's first customer, and there is a truck for it
 pub opens_route : (p : Problem) (word : List ℕ) (k : ℕ) (served : List Bool) (before : List Tally) (t : Tally) → AreTallied p word served before t → last_symbol word ≡ 0 → IsFront p (word ++ k ∷ [])

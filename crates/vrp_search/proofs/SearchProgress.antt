@@ -5,18 +5,16 @@ use Rattle.std.proofs.lemmas.List.Elements.{All-cons, All-nil, All-append}
 use Rattle.std.proofs.lemmas.List.Quantifiers.{all_pairs_push}
 use Rattle.std.proofs.lemmas.Bool.{cases_lt}
 use Rattle.std.specs.Option.{ForSome}
-use Rattle.std.specs.Prelude.{MatchOption}
 use Rattle.vrp_model.specs.Cheapest.{cost_of}
-use Rattle.vrp_model.specs.Order.{ComesBefore, IsEarlier}
+use Rattle.vrp_model.specs.Order.{IsEarlier}
 use Rattle.vrp_model.specs.Problem.{Problem}
 use Rattle.vrp_model.specs.declared.limits.TheConstants.{NO_COST}
 use Rattle.vrp_model.specs.Route.{PricedPlan}
-use Rattle.vrp_model.specs.Word.{BeginsWith, IsFront, IsLawfulWord, NoneCheaperUnder, TreeHasAtLeast, word_cost, word_of}
+use Rattle.vrp_model.specs.Word.{BeginsWith, IsFront, IsLawfulWord, TreeHasAtLeast, word_cost, word_of}
 use Rattle.vrp_model.proofs.FrontsBefore.{fronts_before}
 use Rattle.vrp_model.proofs.Ordered.{earlier_irreflexive}
 use Rattle.vrp_search.specs.Child.{IsNextChild, NoChildFrom}
 use Rattle.vrp_search.specs.Inner.Found.{IsFoundAt, IsKept}
-use Rattle.vrp_search.specs.Inner.Pruned.{NoneOfUse}
 use Rattle.vrp_search.specs.Search.{IsFinished, IsFoundUnder, IsNotBefore}
 use Rattle.vrp_search.proofs.WordOrder.{IsFrom, child_of_front, child_or_behind, from_itself, from_next, from_shorter, from_sibling, front_or_behind, none_earlier, not_from_longer, sibling_or_behind}
 

@@ -12,7 +12,7 @@ use Rattle.vrp_model.specs.Route.{load_of}
 use Rattle.vrp_model.specs.Word.{IsFront, IsLawfulWord, IsOpen, MakesChild, last_route, routes_of, last_symbol, served_in, stands_in, unserved_in, word_cost}
 use Rattle.vrp_model.proofs.Words.{last_is}
 use Rattle.vrp_model.proofs.CustomerPlaces.{is_customer, load_with}
-use Rattle.vrp_model.proofs.FrontWithSymbol.{closed_is_open, closed_runs_forward, served_at_depot, served_with, unserved_if_added}
+use Rattle.vrp_model.proofs.FrontWithSymbol.{closed_is_open, closed_runs_forward, routes_at_depot, served_at_depot, served_with, unserved_if_added}
 use Rattle.vrp_model.proofs.ChildCases.{cases_of_child}
 use Rattle.vrp_model.proofs.DeadFronts.{open_route_ends}
 use Rattle.vrp_model.proofs.FrontPlaces.{symbol_is_place}
@@ -28,7 +28,7 @@ use Rattle.vrp_search.proofs.GreatestUnserved.{greatest_at_depot, greatest_of_al
 use Rattle.vrp_search.proofs.WaysIn.{ins_at_depot, ins_with}
 use Rattle.vrp_model.proofs.DistinctWithin.{all_among, length_among}
 use Rattle.vrp_search.proofs.FrontLength.{fronts_are_short, length_customers, served_are_few}
-use Rattle.vrp_model.proofs.LastRoute.{routes_at_depot, routes_with, last_route_closed, last_route_with, last_symbol_with, load_at_customer, load_at_depot}
+use Rattle.vrp_model.proofs.LastRoute.{routes_with, last_route_closed, last_route_with, last_symbol_with, load_at_customer, load_at_depot}
 
 pub cost_with : (p : Problem) (word : List ℕ) (k : ℕ) → word_cost p (word ++ k ∷ []) ≡ word_cost p word + weight_of p (last_symbol word) k
 cost_with p word k = let parts = cost_parts p 0 word (k ∷ []) in rw (last_is word) (omega (arith, parts))

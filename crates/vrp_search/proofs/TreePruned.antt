@@ -7,7 +7,7 @@ use Rattle.vrp_bound.specs.TreeBound.{IsTreeBound}
 use Rattle.vrp_model.specs.Front.{open_load}
 use Rattle.vrp_model.specs.Problem.{IsProblem, Problem, customers}
 use Rattle.vrp_model.specs.Route.{load_of}
-use Rattle.vrp_model.specs.Word.{BeginsWith, IsLawfulWord, last_symbol, stands_in, unserved_in, word_cost}
+use Rattle.vrp_model.specs.Word.{IsLawfulWord, last_symbol, stands_in, unserved_in, word_cost}
 use Rattle.vrp_model.proofs.DistinctLists.{customers_rise}
 use Rattle.vrp_search.specs.Inner.Pruned.{NoneOfUse}
 

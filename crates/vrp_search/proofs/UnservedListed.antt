@@ -1,10 +1,10 @@
 -- The unserved customers, told flag by flag.
-use Rattle.std.proofs.Common.{◌≡◌, ◌∙◌, ℕ, ◌+◌, ◌-◌, ◌≤◌, ◌<◌, Bool, false, true, List, [], ◌∷◌, ◌++◌, append-nil, length, ap, sym, refl, subst, arith}
+use Rattle.std.proofs.Common.{◌≡◌, ◌∙◌, ℕ, ◌+◌, ◌-◌, ◌<◌, Bool, false, true, List, [], ◌∷◌, ◌++◌, append-nil, ap, sym, refl, arith}
 use Rattle.std.specs.List.{filter, range_with_len}
 use Rattle.std.specs.Prelude.{not, slice_index_or}
 use Rattle.std.proofs.lemmas.List.Elements.{filter-append}
 use Rattle.vrp_model.specs.Problem.{Problem, place_count}
-use Rattle.vrp_model.specs.Word.{stands_in, unserved_in}
+use Rattle.vrp_model.specs.Word.{stands_in}
 use Rattle.vrp_model.proofs.PlacesLemmas.{range_with_len_more}
 use Rattle.vrp_search.specs.Inner.Tallied.{AreFlags}
 

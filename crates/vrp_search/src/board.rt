@@ -7,15 +7,20 @@ use std::alloc::Global;
 use vrp_model::{NoMemory, Plan};
 
 /// Is offered plans of one problem, and answers what a plan may cost at most to be of use. Of a board is known which problems it
-/// serves, and a number, its floor: no plan is looked for that costs more.
+/// serves, a number, its floor: no plan is looked for that costs more, and what it keeps of an earlier board, whatever is asked of
+/// it.
 pub trait Board {
     ghost serves: { Self → Problem → Type 0 };
 
     ghost floor: { Self → ℕ };
 
+    // Of an earlier board and a later one.
+    ghost keeps: { Self → Self → Type 0 };
+
     /// A cost that is not below the floor.
     fn least(&mut self) -> u64
         ensures serves { (p : Problem) → serves self.old p → serves self.new p }
+        ensures keeps { (earlier : Self) → keeps earlier self.old → keeps earlier self.new }
         ensures falls { floor self.new ≤ floor self.old }
         ensures answered { floor self.new ≤ result };
 
@@ -23,6 +28,7 @@ pub trait Board {
     fn offer(&mut self, alloc: Global, plan: &Plan) -> Result<(), NoMemory>
         requires { (p : Problem) × serves self.old p × IsPlanOf p plan.now }
         ensures serves { (p : Problem) → serves self.old p → IsPlanOf p plan.now → serves self.new p }
+        ensures keeps { (earlier : Self) → keeps earlier self.old → keeps earlier self.new }
         ensures falls { floor self.new ≤ floor self.old }
         ensures taken { OnOk result (floor self.new ≤ plan.now.cost) };
 }

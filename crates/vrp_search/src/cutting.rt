@@ -59,6 +59,15 @@ impl Cutting {
         self.pieces.as_slice()
     }
 
+    /// The pieces themselves, by rising number.
+    pub fn into_pieces(self) -> Vec<Piece>
+        ensures words { map (λ piece. piece.word) result.items ≡ self }
+        ensures numbers { AreNumbered result.items }
+    {
+        let Cutting { pieces } = self;
+        pieces
+    }
+
     /// Puts a piece's children in its stead, by rising symbol, and tells whether it has any. A refused call changes nothing.
     pub fn refine(
         &mut self,
@@ -277,6 +286,9 @@ mod tests {
         // more pieces than are asked for stay as they are
         cutting.at_least(rt.alloc(), &instance, 1)?;
         assert_words(&rt, &cutting, &[&[1], &[2, 0], &[2, 1]]);
+        let pieces = cutting.into_pieces();
+        assert_eq!(rt; pieces.len(), 3);
+        assert_eq!(rt; pieces[1].word(), [2, 0].as_slice());
         Ok(())
     }
 

@@ -44,6 +44,7 @@ pub fn search<B: Board>(
     requires board { B.serves board.old instance.now }
     requires budget { 1 ≤ budget }
     ensures serves { B.serves board.new instance.now }
+    ensures keeps { (earlier : B) → B.keeps earlier board.old → B.keeps earlier board.new }
     ensures falls { B.floor board.new ≤ B.floor board.old }
     ensures ended { IfOk result (EndsSearch instance.now tables.now.among piece.now.word budget (B.floor board.new)) }
 {

@@ -54,6 +54,7 @@ impl Found {
     ) -> Result<(), NoMemory>
         requires { B.serves board.old partial.now.problem }
         ensures serves { B.serves board.new partial.now.problem }
+        ensures keeps { (earlier : B) → B.keeps earlier board.old → B.keeps earlier board.new }
         ensures falls { B.floor board.new ≤ B.floor board.old }
         ensures kept { OnOk result (IsKept partial.now.problem partial.now.word (B.floor board.new) self.old.plan self.new.plan) }
     {

@@ -1,8 +1,8 @@
 //! The board of one thread: it keeps the first plan by cost and then by word, if there is one.
-ghost use Rattle.std.specs.Prelude.{◌≡◌, ◌↔◌, ℕ, ◌≤◌, IsTrue, Some, IfOk, OnOk, OnErr};
+ghost use Rattle.std.specs.Prelude.{◌≡◌, ◌↔◌, ℕ, ◌≤◌, IsTrue, Option, Some, IfOk, OnOk, OnErr, ⊤};
 ghost use Rattle.std.specs.Option.{ForSome, option_map};
 ghost use Rattle.vrp_model.specs.Problem.{Problem};
-ghost use Rattle.vrp_model.specs.Route.{IsPlanOf};
+ghost use Rattle.vrp_model.specs.Route.{IsPlanOf, PricedPlan};
 ghost use Rattle.vrp_model.specs.Cheapest.{cost_of};
 ghost use Rattle.vrp_search.specs.Board.{IsBeforeKept};
 
@@ -65,8 +65,11 @@ impl Board for Local {
 
     ghost floor = { λ local. cost_of local };
 
+    ghost keeps = { λ earlier later. ⊤ };
+
     fn least(&mut self) -> u64
         ensures serves { (p : Problem) → ForSome self.old (IsPlanOf p) → ForSome self.new (IsPlanOf p) }
+        ensures keeps { (earlier : Option PricedPlan) → ⊤ → ⊤ }
         ensures falls { cost_of self.new ≤ cost_of self.old }
         ensures answered { cost_of self.new ≤ result }
         ensures value { result ≡ cost_of self.old }
@@ -81,6 +84,7 @@ impl Board for Local {
     fn offer(&mut self, alloc: Global, plan: &Plan) -> Result<(), NoMemory>
         requires { (p : Problem) × ForSome self.old (IsPlanOf p) × IsPlanOf p plan.now }
         ensures serves { (p : Problem) → ForSome self.old (IsPlanOf p) → IsPlanOf p plan.now → ForSome self.new (IsPlanOf p) }
+        ensures keeps { (earlier : Option PricedPlan) → ⊤ → ⊤ }
         ensures falls { cost_of self.new ≤ cost_of self.old }
         ensures taken { OnOk result (cost_of self.new ≤ plan.now.cost) }
         ensures first { OnOk result (IsBeforeKept plan.now self.old → self.new ≡ Some plan.now) }

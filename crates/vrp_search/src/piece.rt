@@ -1,7 +1,11 @@
 //! Pieces: the fronts of a cutting, by number.
-ghost use Rattle.std.specs.Prelude.{◌≡◌};
+ghost use Rattle.std.specs.Prelude.{◌≡◌, IfOk};
+ghost use Rattle.vrp_model.specs.Word.{IsFront, unserved_in};
 
+use crate::partial::Partial;
+use std::alloc::Global;
 use std::marker::Model;
+use vrp_model::{Instance, NoMemory};
 
 /// A piece of a cutting: a front of the instance's words, and its place in the cutting.
 #[derive(Debug, Drop)]
@@ -38,4 +42,18 @@ impl Piece {
     {
         self.word.as_slice()
     }
+
+    /// The customers that the piece leaves unserved, by rising place.
+    pub fn unserved(&self, alloc: Global, instance: &Instance) -> Result<Vec<u16>, NoMemory>
+        requires { IsFront instance.now self.now.word }
+        ensures { IfOk result (λ unserved. unserved.items ≡ unserved_in instance.now self.now.word) }
+    {
+        let partial = Partial::at_front(alloc, instance, self.word())?;
+        let mut unserved = Vec::with_capacity(alloc, usize::from(instance.customers()))?;
+        partial.list_unserved(&mut unserved);
+        Ok(unserved)
+    }
 }
+
+#[cfg(test)]
+pub(crate) mod tests;

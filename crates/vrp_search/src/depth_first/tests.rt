@@ -7,6 +7,7 @@ ghost use Rattle.vrp_model.specs.Word.{IsFront};
 use super::*;
 use crate::cutting::Cutting;
 use crate::local::Local;
+use crate::piece::tests::{own_tables, piece_at};
 use std::process::Abort;
 use std::test::Fail;
 use vrp_model::{Layout, MAX_NODES, Metric, NO_COST, Plan, Weights};
@@ -81,6 +82,21 @@ fn deep_piece_at_the_limits(rt: HostRuntime) -> Result<(), Fail> {
     let paid = 1_197 * 1_198;
     assert_end(&rt, &ended, unfinished(1, paid + 4));
     assert_eq!(rt; board.least(), 1_199 * 1_200);
+    Ok(())
+}
+
+// Behind the first customer's truck the second one is left. With tables over both a tour of what is left may go to the first.
+#[test]
+fn tables_over_those_left_are_tighter(rt: HostRuntime) -> Result<(), Fail> {
+    let instance = three_on_a_line(&rt, rt.alloc(), 1)?;
+    let piece = piece_at(&rt, rt.alloc(), &instance, &[1, 0])?;
+    let mut board = Local::open(Plan::singles(rt.alloc(), &instance)?);
+    assert_eq!(rt; board.least(), 30);
+    let ended = search_piece(rt.alloc(), &instance, &piece, 1, &mut board)?;
+    assert_end(&rt, &ended, unfinished(1, 20));
+    let mut board = Local::open(Plan::singles(rt.alloc(), &instance)?);
+    let ended = search_over_unserved(rt.alloc(), &instance, &piece, 1, &mut board)?;
+    assert_end(&rt, &ended, unfinished(1, 30));
     Ok(())
 }
 
@@ -241,5 +257,21 @@ fn search_piece(
     requires budget { 1 ≤ budget }
 {
     let tables = Tables::over_all(alloc, instance)?;
+    search(alloc, instance, &tables, piece, budget, board)
+}
+
+// Searches a piece with tables over the customers that it leaves unserved.
+fn search_over_unserved(
+    alloc: Global,
+    instance: &Instance,
+    piece: &Piece,
+    budget: u64,
+    board: &mut Local,
+) -> Result<Ended, NoMemory>
+    requires piece { IsFront instance.now piece.now.word }
+    requires board { ForSome board.old (IsPlanOf instance.now) }
+    requires budget { 1 ≤ budget }
+{
+    let tables = own_tables(alloc, instance, piece)?;
     search(alloc, instance, &tables, piece, budget, board)
 }

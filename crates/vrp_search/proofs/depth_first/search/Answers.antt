@@ -1,8 +1,8 @@
-use Rattle.std.proofs.Common.{◌≡◌, ◌≢◌, ◌∙◌, ◌⊎◌, inl, inr, ℕ, ◌+◌, ◌≤◌, ◌<◌, List, [], ◌∷◌, ◌++◌, length, length-append, refl, sym, subst, ap, arith}
+use Rattle.std.proofs.Common.{◌≡◌, ◌≢◌, ◌∙◌, ℕ, ◌+◌, ◌≤◌, ◌<◌, List, [], ◌∷◌, ◌++◌, length, length-append, sym, subst, ap, arith}
 use Rattle.vrp_model.specs.Problem.{IsProblem, Problem}
 use Rattle.vrp_model.specs.Cheapest.{cost_of}
 use Rattle.vrp_model.specs.declared.limits.TheConstants.{NO_COST}
-use Rattle.vrp_model.specs.Word.{IsDead, IsLawfulWord, TreeHasAtLeast, word_cost}
+use Rattle.vrp_model.specs.Word.{IsDead, TreeHasAtLeast, word_cost}
 use Rattle.vrp_search.specs.Child.{IsNextChild, NoChildFrom}
 use Rattle.vrp_search.specs.Inner.Found.{IsKept}
 use Rattle.vrp_search.specs.Inner.Pruned.{IsPromising, NoneOfUse}
@@ -69,6 +69,7 @@ loop-found-init g c =
       progress = subst (λ (w : List ℕ). Progress p root w 0 1 floor c.offer_complete.new.self.plan) (sym word)
           (opened p root floor c.offer_complete.new.self.plan c.requires.piece (subst (λ f. IsKept p root floor f c.offer_complete.new.self.plan) c.nothing-found.ensures kept));
       serves = subst (λ (q : Problem). g.B.Board.serves c.offer_complete.new.board q) problem c.offer_complete.ensures.serves;
+      keeps = λ earlier kept. c.offer_complete.ensures.keeps earlier (c.least.ensures.keeps earlier kept);
       falls = omega (arith, c.offer_complete.ensures.falls, c.least.ensures.falls);
       some = omega arith;
       within = c.requires.budget;
@@ -120,6 +121,7 @@ loop-found-preserved-else-prunes g c =
       progress = subst (λ (w : List ℕ). Progress p root w 0 (c.loop-found.spent + 1) floor new) (sym longer)
           (descended p root word c.loop-found.next k c.loop-found.spent old floor first new c.loop-found.invariant.progress child falls cheaper kept);
       serves = subst (λ (q : Problem). g.B.Board.serves c.offer_complete-else-prunes.new.board q) problem c.offer_complete-else-prunes.ensures.serves;
+      keeps = λ earlier kept. c.offer_complete-else-prunes.ensures.keeps earlier (c.least-least.ensures.keeps earlier (c.loop-found.invariant.keeps earlier kept));
       falls = omega (arith, falls, c.loop-found.invariant.falls);
       some = omega arith;
       within = omega (arith, c.if-spent-budget.false, c.loop-found.invariant.within);
@@ -146,6 +148,7 @@ loop-found-preserved-in_default-promising g c =
           let small : word_cost p w < NO_COST = omega (arith, c.plans_cost_less.ensures p plan.0 is_problem plan.2, plan.5) in
           no_use p (word ++ c.loop-found.next ∷ []) floor c.least-least.result c.cost.result first w c.least-least.ensures.answered c.cost.ensures small c.loop-found.invariant.progress.behind from (none w lawful begins));
       serves = c.least-least.ensures.serves p c.loop-found.invariant.serves;
+      keeps = λ earlier kept. c.least-least.ensures.keeps earlier (c.loop-found.invariant.keeps earlier kept);
       falls = omega (arith, c.least-least.ensures.falls, c.loop-found.invariant.falls);
       some = omega arith;
       within = omega (arith, c.if-spent-budget.false, c.loop-found.invariant.within);
@@ -179,6 +182,7 @@ loop-found-preserved g c =
           (subst (λ (w : List ℕ). Progress p root w c.loop-found.next c.loop-found.spent floor first) word c.loop-found.invariant.progress)
           (subst (λ (w : List ℕ). NoChildFrom p w c.loop-found.next) word none) longer;
       serves = c.loop-found.invariant.serves;
+      keeps = c.loop-found.invariant.keeps;
       falls = c.loop-found.invariant.falls;
       some = c.loop-found.invariant.some;
       within = c.loop-found.invariant.within;
@@ -216,7 +220,11 @@ loop-found-preserved-then-prunes g c =
       progress = subst (λ (w : List ℕ). Progress p root w (c.pop-next.result + 1) (c.loop-found.spent + 1) floor first) (sym parts.0)
           (subst (λ n. Progress p root word (n + 1) (c.loop-found.spent + 1) floor first) (sym parts.1) progress);
       serves = c.least-least.ensures.serves p c.loop-found.invariant.serves;
+      keeps = λ earlier kept. c.least-least.ensures.keeps earlier (c.loop-found.invariant.keeps earlier kept);
       falls = omega (arith, c.least-least.ensures.falls, c.loop-found.invariant.falls);
       some = omega arith;
       within = omega (arith, c.if-spent-budget.false, c.loop-found.invariant.within);
     }
+
+pub returns-in_err-offer_complete-in-Some-2-clause-keeps : goal.returns-in_err-offer_complete-in-Some-2-clause-keeps
+returns-in_err-offer_complete-in-Some-2-clause-keeps g c = λ earlier kept. c.offer_complete-else-prunes.ensures.keeps earlier (c.least-least.ensures.keeps earlier (c.loop-found.invariant.keeps earlier kept))

@@ -8,6 +8,7 @@ invariant-loop-found g l = record {
   trees : l.trees.instance.now ≡ l.instance;
   progress : Progress l.instance l.piece.word l.partial.word l.next l.spent (g.B.Board.floor l.board) l.found.plan;
   serves : g.B.Board.serves l.board l.instance;
+  keeps : (earlier : _) → g.B.Board.keeps earlier l.fn.board → g.B.Board.keeps earlier l.board;
   falls : g.B.Board.floor l.board ≤ g.B.Board.floor l.fn.board;
   some : 1 ≤ l.spent;
   within : l.spent ≤ l.budget;

@@ -1,4 +1,4 @@
-use Rattle.std.proofs.Common.{◌≡◌, ◌∙◌, ap, inl, inr, refl, arith}
+use Rattle.std.proofs.Common.{◌≡◌, ap, inl, refl, arith}
 use Rattle.vrp_model.specs.Word.{word_cost, word_of}
 use Rattle.vrp_model.proofs.PlanWords.{cost_of_word}
 use Rattle.vrp_search.proofs.found.Found.offer_complete.Goals as goal

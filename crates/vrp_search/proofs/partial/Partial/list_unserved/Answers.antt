@@ -1,9 +1,8 @@
-use Rattle.std.proofs.Common.{◌≡◌, ◌∙◌, ◌+◌, ◌-◌, ◌<◌, ◌≤◌, List, ℕ, [], ◌∷◌, ◌++◌, Bool, true, false, length, length-append, ap, sym, subst, arith}
-use Rattle.std.specs.Prelude.{slice_index_or, vec_capacity}
+use Rattle.std.proofs.Common.{◌≡◌, ◌∙◌, ◌+◌, ◌<◌, List, ℕ, [], ◌∷◌, ◌++◌, Bool, true, false, length, length-append, ap, sym, subst, arith}
+use Rattle.std.specs.Prelude.{slice_index_or}
 use Rattle.std.proofs.lemmas.List.{get_or_default}
 use Rattle.vrp_search.specs.Partial.{PartialPlan}
 use Rattle.vrp_model.specs.Problem.{place_count}
-use Rattle.vrp_model.specs.Word.{unserved_in}
 use Rattle.vrp_search.proofs.UnservedListed.{flagged, unflagged, unserved_below}
 use Rattle.vrp_search.proofs.partial.Partial.list_unserved.Goals.{then-not-index, else-not-index}
 use Rattle.vrp_search.proofs.partial.Partial.list_unserved.Goals as goal

@@ -1,6 +1,4 @@
-use Rattle.std.proofs.Common.{◌≡◌, ◌⊎◌, ◌<◌, ◌≤◌, [], ◌∷◌, ◌++◌, inl, inr, subst, arith}
-use Rattle.vrp_model.specs.Problem.{IsProblem}
-use Rattle.vrp_model.specs.Word.{IsDead}
+use Rattle.std.proofs.Common.{[], ◌∷◌, ◌++◌, inl, inr, subst, arith}
 use Rattle.vrp_search.proofs.LowBounds.{NoneUnder, covered_more, none_if_dead, none_if_dearer, none_left, none_under}
 use Rattle.vrp_search.proofs.partial.Partial.promising.Goals.{else-low-least-via-then-low-least+else-low-own, else-low-least-via-else-low-least}
 use Rattle.vrp_search.proofs.partial.Partial.promising.Goals as goal

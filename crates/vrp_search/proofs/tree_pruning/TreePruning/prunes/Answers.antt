@@ -1,12 +1,9 @@
-use Rattle.std.proofs.Common.{◌≡◌, ◌∙◌, ◌<◌, ◌≤◌, ◌+◌, List, ℕ, ap, sym, subst, inl, inr, true, false, arith}
+use Rattle.std.proofs.Common.{◌∙◌, ◌<◌, ◌≤◌, ◌+◌, sym, subst, inl, inr, arith}
 use Rattle.std.specs.List.{All, Contains}
 use Rattle.std.proofs.lemmas.Bool.Decides.{nat_tests}
 use Rattle.std.specs.List.Sorted.{IsStrictlyIncreasing}
-use Rattle.vrp_bound.specs.TreeBound.{IsTreeBound}
-use Rattle.vrp_model.specs.Front.{open_load}
-use Rattle.vrp_model.specs.Problem.{IsProblem, Problem, customers, demand_of, place_count}
+use Rattle.vrp_model.specs.Problem.{Problem, customers, demand_of, place_count}
 use Rattle.vrp_model.specs.Route.{load_of}
-use Rattle.vrp_model.specs.Word.{last_symbol, unserved_in, word_cost}
 use Rattle.vrp_model.proofs.FrontPlaces.{last_is_place}
 use Rattle.vrp_model.proofs.UnservedCustomers.{sum_of_unserved_fits, unserved_are_customers}
 use Rattle.vrp_search.proofs.TreePruned.{bound_of_front, none_by_tree, unserved_rise}
