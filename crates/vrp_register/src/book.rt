@@ -55,6 +55,14 @@ impl Book {
         self.plan.as_ref()
     }
 
+    /// The plan that is kept, where nothing more is offered.
+    pub fn into_plan(self) -> Option<Plan>
+        ensures { result ≡ self.plan }
+    {
+        let Book { plan, .. } = self;
+        plan
+    }
+
     /// How many offers were accepted.
     pub fn entries(&self) -> usize
         ensures count { result ≡ length self.now.entries }
