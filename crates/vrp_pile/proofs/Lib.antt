@@ -1,0 +1,4 @@
+pub mod NewPiles
+pub mod PileSteps
+pub mod SamePieces
+pub mod SharedPieces

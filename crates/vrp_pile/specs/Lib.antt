@@ -1,0 +1,3 @@
+pub mod Drawn
+pub mod Inner
+pub mod Pile

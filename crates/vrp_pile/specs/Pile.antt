@@ -1,0 +1,57 @@
+-- What contracts see of a pile of pieces, and of those who draw from it.
+use Rattle.std.specs.Prelude.{◌≡◌, ℕ, ◌+◌, ◌≤◌, List, [], ◌∷◌, ◌++◌, length, map}
+use Rattle.std.specs.List.{All, Contains}
+use Rattle.std.specs.List.Sorted.{IsPermutation}
+use Rattle.std.specs.declared.alloc.Global.{Global}
+use Rattle.atomic_blocks.specs.Lent.{RowsId}
+use Rattle.vrp_search.specs.Cutting.{AreNumbered, NumberedWord}
+use Rattle.vrp_pile.specs.declared.limits.TheConstants.{MAX_DRAWERS}
+
+-- which pile it is
+abbrev pub PileId : Type 0
+PileId = RowsId × Global
+
+-- a pile's owner, or a thief
+pub record DrawerState : Type 0 where
+  -- which pile it draws from
+  pub pile : PileId
+  -- how many of the pile's 64 drawers it stands for: a thief for itself alone, the owner also for those that it has taken in and those
+  -- that were never made
+  pub parts : ℕ
+  -- the pieces that were put on the pile, in order
+  pub put : List NumberedWord
+  -- those that it drew, in order, and that those drew whom it has taken in
+  pub drawn : List NumberedWord
+
+-- the pieces that were drawn and those that are left are those that were put on the pile, each once
+abbrev pub AreShared : List NumberedWord → List NumberedWord → List NumberedWord → Type 0
+AreShared drawn left put = IsPermutation put (drawn ++ left)
+
+-- a thief of the owner's pile that has drawn nothing
+abbrev pub IsNewThief : DrawerState → DrawerState → Type 0
+IsNewThief owner thief = thief ≡ record { pile = owner.pile; parts = 1; put = owner.put; drawn = [] }
+
+-- the pieces of a cutting are on a pile, in order, and nobody has drawn: its owner, and so many thieves
+pub record IsNewPile (words : List (List ℕ)) (count : ℕ) (owner : DrawerState) (thieves : List DrawerState) : Type 0 where
+  pub pieces : map (λ piece. piece.word) owner.put ≡ words
+  pub numbers : AreNumbered owner.put
+  pub nothing : owner.drawn ≡ []
+  pub rest : owner.parts + count ≡ MAX_DRAWERS
+  pub many : length thieves ≡ count
+  pub each : All (IsNewThief owner) thieves
+
+-- a drawer drew a piece that was put on the pile, and has not drawn more pieces than were put on it
+pub record IsDrawn (old : DrawerState) (piece : NumberedWord) (new : DrawerState) : Type 0 where
+  pub pile : new.pile ≡ old.pile
+  pub parts : new.parts ≡ old.parts
+  pub put : new.put ≡ old.put
+  pub drawn : new.drawn ≡ old.drawn ++ piece ∷ []
+  pub among : Contains old.put piece
+  pub few : length new.drawn ≤ length old.put
+
+-- an owner took a thief in: what the thief drew counts as drawn by the owner
+pub record IsTakenIn (old thief new : DrawerState) : Type 0 where
+  pub pile : new.pile ≡ old.pile
+  pub parts : new.parts ≡ old.parts + 1
+  pub put : new.put ≡ old.put
+  pub drawn : new.drawn ≡ old.drawn ++ thief.drawn
