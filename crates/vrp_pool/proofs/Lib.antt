@@ -1,0 +1,12 @@
+mod BestPlan
+mod Closings
+mod DrawnPieces
+mod Draws
+mod Floors
+mod Gatherings
+mod Joins
+mod KeptOutcomes
+mod NewCallers
+mod Outcomes
+mod Teams
+mod Verdicts

@@ -1,0 +1,37 @@
+use Rattle.std.proofs.Common.{◌≤◌, Option, subst, sym}
+use Rattle.std.specs.Option.{ForSome}
+use Rattle.vrp_model.specs.Cheapest.{cost_of}
+use Rattle.vrp_model.specs.Problem.{IsProblem}
+use Rattle.vrp_model.specs.Route.{IsPlanOf, PricedPlan}
+use Rattle.vrp_pool.specs.Inner.Gathering.{IsNoLater}
+use Rattle.vrp_pool.specs.Inner.Workers.{Search}
+use Rattle.vrp_pool.proofs.BestPlan.{costs_no_more, no_later_transitive}
+use Rattle.vrp_pool.proofs.DrawnPieces.{are_apart, words_of}
+use Rattle.vrp_pool.proofs.Verdicts.{answer_is, by_number}
+use Rattle.vrp_pool.proofs.conclusion.conclude.Goals as goal
+
+pub last_book-requires-clause-best : goal.last_book-requires-clause-best
+last_book-requires-clause-best g c = subst (λ (plan : Option PricedPlan). ForSome plan (IsPlanOf c.args.shared.now.problem)) (sym c.as_ref.ensures.value) c.requires.searched.best_of
+
+pub returns : goal.returns
+returns g c =
+    let s = c.args.shared.now in
+    let p = s.problem in
+    let singles = c.args.singles in
+    let best = c.args.searched.best in
+    let put = c.args.searched.pile.put in
+    let drawn = c.args.searched.pile.drawn in
+    let least = c.args.searched.least in
+    let less = c.plans_cost_less.ensures in
+    let problem = subst (λ (t : Search). IsProblem t.problem) c.shared.view_is c.customers-customers.ensures.problem in
+    let opened = c.in_ok-last.last.plan in
+    let last = c.in_ok-last.ensures in
+    let gathering = c.in_ok-gathering.gathering in
+    let kept = gathering.book.plan in
+    let gathered = c.in_ok-gathering.ensures.all least drawn last.lawful c.requires.searched.kept (are_apart s drawn put c.requires.numbers c.requires.searched.all c.requires.pieces) in
+    let known = by_number s drawn put least kept gathering.gatherer gathering.low c.requires.numbers c.requires.searched.all c.requires.pieces gathered in
+    let later = c.in_ok-gathering.ensures.later in
+    let than_singles = no_later_transitive kept opened singles later last.than_singles in
+    let than_best = no_later_transitive kept opened best later (subst (λ (plan : Option PricedPlan). IsNoLater opened plan) c.as_ref.ensures.value last.than_best) in
+    let falls : cost_of kept ≤ least = c.requires.searched.reached (cost_of kept) (costs_no_more less p kept singles problem gathered.plan_of than_singles) (costs_no_more less p kept best problem gathered.plan_of than_best) in
+    answer_is c.one_piece.ensures c.plans_have_words.ensures less s (words_of put) least singles gathering c.verdict.result problem c.requires.cutting falls c.requires.some than_singles known c.verdict.ensures

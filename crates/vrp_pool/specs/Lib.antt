@@ -1,0 +1,4 @@
+pub mod Answer
+pub mod Gathered
+pub mod SeatBoard
+pub mod Inner

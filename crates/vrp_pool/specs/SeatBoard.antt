@@ -1,0 +1,25 @@
+-- What contracts see of the board of a register's caller.
+use Rattle.std.specs.Prelude.{◌≡◌, ℕ, ◌≤◌, Option}
+use Rattle.vrp_model.specs.Cheapest.{cost_of}
+use Rattle.vrp_model.specs.Route.{PricedPlan}
+use Rattle.vrp_register.specs.Caller.{CallerState, RegisterState}
+use Rattle.vrp_register.specs.Costs.{least_of}
+
+pub record SeatBoardState : Type 0 where
+  pub register : RegisterState
+  pub caller : CallerState
+  -- the first plan that it was offered, by cost and then by word
+  pub best : Option PricedPlan
+
+-- the least of the opening cost and the costs that a caller has seen
+abbrev pub least_seen : CallerState → ℕ
+least_seen caller = least_of caller.known.opening caller.known.seen
+
+-- the floor of a board
+abbrev pub floor_of : SeatBoardState → ℕ
+floor_of board = least_seen board.caller
+
+-- the same board, later: it belongs to the same register, and its plan does not cost more
+pub record IsLater (earlier later : SeatBoardState) : Type 0 where
+  pub register : later.register ≡ earlier.register
+  pub falls : cost_of later.best ≤ cost_of earlier.best

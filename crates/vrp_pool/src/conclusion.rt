@@ -1,0 +1,169 @@
+//! What all workers found makes a plan and a verdict on it.
+ghost use Rattle.std.specs.Prelude.{◌≡◌, ◌↔◌, IfOk, IsTrue, OnOk, is_some, length, map};
+ghost use Rattle.std.specs.Option.{ForSome, option_map};
+ghost use Rattle.vrp_model.specs.Cheapest.{cost_of};
+ghost use Rattle.vrp_model.specs.Problem.{HasTrucks, customers};
+ghost use Rattle.vrp_model.specs.Route.{IsPlanOf};
+ghost use Rattle.vrp_search.specs.Cutting.{AreNumbered, IsCutting};
+ghost use Rattle.vrp_pool.specs.Answer.{IsAnswer};
+ghost use Rattle.vrp_pool.specs.Inner.Gathering.{GathersAll, IsNoLater, IsNoted, IsOfferedTo, IsVerdict};
+ghost use Rattle.vrp_pool.specs.Inner.Workers.{IsSearched};
+
+use crate::answers::Answer;
+use crate::gathering::Gatherer;
+use crate::outcome::Outcome;
+use crate::shared::Shared;
+use std::alloc::Global;
+use vrp_model::{NO_COST, NoMemory, Plan, plans_cost_less, plans_have_words};
+use vrp_pile::Owner;
+use vrp_register::Book;
+use vrp_search::one_piece;
+
+/// All pieces were searched: the pile of which nothing is left, the outcome of each piece, a plan that costs no more than any that
+/// a worker offered, and the least cost that any of them knew.
+#[derive(Drop)]
+pub(crate) struct Searched {
+    pub(crate) pile: Owner,
+    pub(crate) outcomes: Vec<Outcome>,
+    pub(crate) best: Option<Plan>,
+    pub(crate) least: u64,
+}
+
+// The last book, which is offered each plan that is known, the pieces that are finished, and the least of the lows of the others,
+// `NO_COST` where there are none.
+#[derive(Drop)]
+struct Gathering {
+    book: Book,
+    gatherer: Gatherer,
+    low: u64,
+}
+
+/// The plan and the verdict. The last book opens with the plan of one truck for each customer, if there is one, and is offered the
+/// plan that the register kept.
+pub(crate) fn conclude<R, G>(
+    shared: &Shared<'_, R, G>,
+    singles: Option<Plan>,
+    kept: Option<&Plan>,
+    searched: Searched,
+) -> Result<Answer, NoMemory>
+    requires singles { ForSome singles (IsPlanOf shared.now.problem) }
+    requires some { IsTrue (is_some singles) ↔ HasTrucks shared.now.problem (length (customers shared.now.problem)) }
+    requires searched { IsSearched shared.now (cost_of singles) searched.pile searched.outcomes.items searched.best searched.least }
+    requires cutting { IsCutting shared.now.problem (map (λ piece. piece.word) searched.pile.put) }
+    requires numbers { AreNumbered searched.pile.put }
+    requires pieces { shared.now.pieces ≡ length searched.pile.put }
+    ensures { IfOk result (IsAnswer shared.now.problem (map (λ piece. piece.word) searched.pile.put) shared.now.budget) }
+{
+    let Searched { outcomes, best, .. } = searched;
+    let last = last_book(shared, singles, kept, best.as_ref())?;
+    let gathering = gather(shared, last, outcomes)?;
+    // What is known of words holds of plans, and all plans cost less than `NO_COST`.
+    let _customers = shared.instance.customers();
+    one_piece();
+    plans_have_words();
+    plans_cost_less();
+    Ok(verdict(gathering))
+}
+
+// The last book: it opens with the plan of one truck for each customer, if there is one, and is offered the plan that the register
+// kept, and the best of the workers' own.
+fn last_book<R, G>(
+    shared: &Shared<'_, R, G>,
+    singles: Option<Plan>,
+    kept: Option<&Plan>,
+    best: Option<&Plan>,
+) -> Result<Book, NoMemory>
+    requires singles { ForSome singles (IsPlanOf shared.now.problem) }
+    requires best { ForSome (option_map (λ plan. plan.now) best) (IsPlanOf shared.now.problem) }
+    ensures lawful { IfOk result (λ book. ForSome book.plan (IsPlanOf shared.now.problem)) }
+    ensures than_singles { IfOk result (λ book. IsNoLater book.plan singles) }
+    ensures than_best { IfOk result (λ book. IsNoLater book.plan (option_map (λ plan. plan.now) best.entry)) }
+{
+    let mut last = Book::open(shared.alloc, singles)?;
+    offer_some(shared.alloc, &mut last, fitting(shared, kept))?;
+    offer_some(shared.alloc, &mut last, best)?;
+    Ok(last)
+}
+
+// A plan of which nothing is known, where it is a lawful plan of the instance and of its cost there.
+fn fitting<'b, R, G>(shared: &Shared<'_, R, G>, plan: Option<&'b Plan>) -> Option<&'b Plan>
+    ensures { ForSome (option_map (λ plan. plan.now) result) (IsPlanOf shared.now.problem) }
+{
+    match plan {
+        Some(plan) if plan.fits(shared.instance) => Some(plan),
+        _ => None,
+    }
+}
+
+// Offers the book a plan, if there is one. All offers to it are by caller 0.
+fn offer_some(alloc: Global, book: &mut Book, plan: Option<&Plan>) -> Result<(), NoMemory>
+    ensures { OnOk result (IsOfferedTo book.old.plan (option_map (λ plan. plan.now) plan.entry) book.new.plan) }
+{
+    if let Some(plan) = plan {
+        book.offer(alloc, 0, plan)?;
+    }
+    Ok(())
+}
+
+// All outcomes, brought together: the book is offered the first plan of each finished piece.
+fn gather<R, G>(
+    shared: &Shared<'_, R, G>,
+    book: Book,
+    outcomes: Vec<Outcome>,
+) -> Result<Gathering, NoMemory>
+    ensures later { IfOk result (λ gathering. IsNoLater gathering.book.plan book.plan) }
+    ensures all { IfOk result (GathersAll shared.now book.plan outcomes.items) }
+{
+    let mut gathering = Gathering {
+        book,
+        gatherer: Gatherer::new(shared.alloc, shared.pieces)?,
+        low: NO_COST,
+    };
+    for outcome in outcomes {
+        gathering.note(shared.alloc, outcome)?;
+    }
+    Ok(gathering)
+}
+
+impl Gathering {
+    // Takes note of an outcome.
+    fn note(&mut self, alloc: Global, outcome: Outcome) -> Result<(), NoMemory>
+        ensures { OnOk result (IsNoted self.old outcome self.new) }
+    {
+        match outcome {
+            Outcome::Finished(finished) => {
+                offer_some(alloc, &mut self.book, finished.first.as_ref())?;
+                // Each number comes once, so none is refused.
+                let _ = self.gatherer.add(finished);
+            }
+            Outcome::Unfinished(low) => self.low = self.low.min(low),
+        }
+        Ok(())
+    }
+}
+
+// The plan that the last book kept, and what follows of it.
+fn verdict(gathering: Gathering) -> Answer
+    ensures { IsVerdict gathering result }
+{
+    let Gathering {
+        book,
+        gatherer,
+        low,
+    } = gathering;
+    let missing = gatherer.missing();
+    match (missing, book.into_plan()) {
+        (Some(piece), Some(plan)) => Answer::Open {
+            low: low.min(plan.cost()),
+            plan: Some(plan),
+            piece,
+        },
+        (Some(piece), None) => Answer::Open {
+            plan: None,
+            low,
+            piece,
+        },
+        (None, Some(plan)) => Answer::Proven(plan),
+        (None, None) => Answer::NoPlan,
+    }
+}

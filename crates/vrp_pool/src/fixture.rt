@@ -1,0 +1,71 @@
+//! The instances that tests are made on.
+ghost use Rattle.std.specs.Prelude.{◌≡◌, ◌≤◌};
+
+use std::alloc::Global;
+use std::test::Fail;
+use vrp_model::{Instance, Metric, Weights};
+
+/// Three nodes at (0, 0), (3, 4) and (6, 8): two customers, whom one truck of capacity 2 can carry together.
+pub(crate) fn three_nodes(alloc: Global, capacity: u64) -> Result<Instance, Fail>
+    requires { capacity ≤ 2 }
+{
+    let weights = Weights::points(alloc, Metric::Euc2d, &[(0, 0), (3, 4), (6, 8)])?;
+    Ok(Instance::new(alloc, weights, &[0, 1, 1], capacity, &[1], None)?)
+}
+
+/// The depot alone.
+pub(crate) fn depot_alone(alloc: Global) -> Result<Instance, Fail> {
+    let weights = Weights::points(alloc, Metric::Euc2d, &[(0, 0)])?;
+    Ok(Instance::new(alloc, weights, &[0], 1, &[1], None)?)
+}
+
+/// Ten nodes at two rows of five, ten apart: one truck can go round them all by steps of 10, in one way and its reverse.
+pub(crate) fn ring(alloc: Global) -> Result<Instance, Fail> {
+    let points = [
+        (0, 0),
+        (10, 0),
+        (20, 0),
+        (30, 0),
+        (40, 0),
+        (40, 10),
+        (30, 10),
+        (20, 10),
+        (10, 10),
+        (0, 10),
+    ];
+    let weights = Weights::points(alloc, Metric::Euc2d, &points)?;
+    let demands = [0, 1, 1, 1, 1, 1, 1, 1, 1, 1];
+    Ok(Instance::new(alloc, weights, &demands, 9, &[1], None)?)
+}
+
+/// Twenty customers on a line from the depot, ten apart, in no order: one truck can go out and back by 400.
+pub(crate) fn line(alloc: Global) -> Result<Instance, Fail> {
+    let points = [
+        (0, 0),
+        (80, 0),
+        (160, 0),
+        (30, 0),
+        (110, 0),
+        (190, 0),
+        (60, 0),
+        (140, 0),
+        (10, 0),
+        (90, 0),
+        (170, 0),
+        (40, 0),
+        (120, 0),
+        (200, 0),
+        (70, 0),
+        (150, 0),
+        (20, 0),
+        (100, 0),
+        (180, 0),
+        (50, 0),
+        (130, 0),
+    ];
+    let weights = Weights::points(alloc, Metric::Euc2d, &points)?;
+    let demands = [
+        0, 1, 1, 1, 1, 1, 1, 1, 1, 1, 1, 1, 1, 1, 1, 1, 1, 1, 1, 1, 1,
+    ];
+    Ok(Instance::new(alloc, weights, &demands, 20, &[1], None)?)
+}

@@ -1,0 +1,28 @@
+//! Several workers search the pieces of an instance's cutting, and what they leave makes a plan and a verdict on it.
+#![tactic(auto)]
+
+mod answers;
+mod conclusion;
+mod first_plan;
+#[cfg(test)]
+mod fixture;
+mod found;
+mod gates;
+mod gathering;
+mod helper;
+mod lead;
+mod outcome;
+mod piece_tables;
+mod seat_board;
+mod shared;
+mod solver;
+mod team;
+mod worker;
+
+pub use answers::{Answer, SolveError};
+pub use gates::{Gate, NoGate};
+pub use gathering::{GatherError, Gatherer};
+pub use outcome::Finished;
+pub use seat_board::SeatBoard;
+pub use solver::{MAX_WORKERS, solve};
+pub use vrp_pile::{Drawn, Owner, Pile, Thief, settle};

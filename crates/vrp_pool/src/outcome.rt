@@ -1,0 +1,22 @@
+//! What a worker leaves of a piece.
+use vrp_model::Plan;
+
+/// A piece of which all is known: each word under it costs more than the floor, or is not before `first`, the first plan that its
+/// search offered, if any.
+#[derive(Debug, Drop)]
+pub struct Finished {
+    /// The piece's place in its cutting.
+    pub number: u32,
+    /// A cost that was known when the search ended: no word under the piece costs less.
+    pub floor: u64,
+    /// The first plan that the search offered, by cost and then by word.
+    pub first: Option<Plan>,
+}
+
+/// How the search of a piece ended.
+#[derive(Debug, Drop)]
+pub(crate) enum Outcome {
+    Finished(Finished),
+    /// The budget was spent. No word under the piece costs less than this.
+    Unfinished(u64),
+}

@@ -1,0 +1,118 @@
+//! The board of a register's caller.
+ghost use Rattle.std.specs.Prelude.{◌≡◌, ℕ, ◌≤◌, None, IfOk, OnOk, []};
+ghost use Rattle.std.specs.List.{All};
+ghost use Rattle.std.specs.Option.{ForSome};
+ghost use Rattle.vrp_model.specs.Cheapest.{cost_of};
+ghost use Rattle.vrp_model.specs.Problem.{Problem};
+ghost use Rattle.vrp_model.specs.Route.{IsPlanOf};
+ghost use Rattle.vrp_register.specs.Caller.{IsCallerOf};
+ghost use Rattle.vrp_pool.specs.SeatBoard.{IsLater, SeatBoardState, floor_of};
+
+use std::alloc::Global;
+use std::marker::Model;
+use std::sync::Wait;
+use std::sync::ledger::Ledger;
+use vrp_model::{NoMemory, Plan};
+use vrp_register::{Caller, Register};
+use vrp_search::{Board, Local};
+
+#[cfg(test)]
+mod tests;
+
+/// A board that offers plans to a register, as one of its callers, and keeps the first of them. Its floor is the least of the
+/// opening cost and the costs that the caller has seen.
+#[derive(Drop)]
+pub struct SeatBoard<'a, R: Wait, L: Ledger> {
+    rt: &'a R,
+    register: &'a Register<L>,
+    caller: Caller<L>,
+    best: Local,
+}
+
+impl<'a, R: Wait, L: Ledger> Model for SeatBoard<'a, R, L> {
+    ghost use Rattle.std.specs.Prelude.{◌≤◌};
+    ghost use Rattle.std.specs.List.{All};
+    ghost use Rattle.vrp_model.specs.Cheapest.{cost_of};
+    ghost use Rattle.vrp_register.specs.Caller.{IsCallerOf};
+    ghost use Rattle.vrp_pool.specs.SeatBoard.{SeatBoardState};
+
+    ghost Value = { SeatBoardState };
+
+    ghost view = { λ b. record { register = b.register.now; caller = b.caller; best = b.best } };
+
+    ghost invariant = { λ b. IsCallerOf b.register.now b.caller × All (λ offer. cost_of b.best ≤ offer.cost) b.caller.known.mine };
+}
+
+impl<'a, R: Wait, L: Ledger> SeatBoard<'a, R, L> {
+    /// The board of a caller that has offered nothing yet.
+    pub fn new(rt: &'a R, register: &'a Register<L>, caller: Caller<L>) -> SeatBoard<'a, R, L>
+        requires caller { IsCallerOf register.now caller }
+        requires new { caller.known.mine ≡ [] }
+        ensures { result ≡ record { register = register.entry.now; caller = caller; best = None } }
+    {
+        SeatBoard {
+            rt,
+            register,
+            caller,
+            best: Local::open(None),
+        }
+    }
+
+    /// The caller, and the first plan that the board was offered. None of the caller's offers costs less.
+    pub fn into_parts(self) -> (Caller<L>, Option<Plan>)
+        ensures caller { result.0 ≡ self.entry.caller }
+        ensures best { result.1 ≡ self.entry.best }
+        ensures one_of { IsCallerOf self.entry.register result.0 }
+        ensures no_less { All (λ offer. cost_of result.1 ≤ offer.cost) result.0.known.mine }
+    {
+        let SeatBoard { caller, best, .. } = self;
+        (caller, best.into_plan())
+    }
+
+    /// Keeps a plan that another board was offered, if it is before its own, and offers it to nobody.
+    pub fn keep(&mut self, alloc: Global, plan: &Plan) -> Result<(), NoMemory>
+        requires { (p : Problem) × ForSome self.old.best (IsPlanOf p) × IsPlanOf p plan.now }
+        ensures serves { (p : Problem) → ForSome self.old.best (IsPlanOf p) → IsPlanOf p plan.now → ForSome self.new.best (IsPlanOf p) }
+        ensures later { IsLater self.old self.new }
+        ensures caller { self.new.caller ≡ self.old.caller }
+        ensures taken { OnOk result (cost_of self.new.best ≤ plan.now.cost) }
+    {
+        self.best.offer(alloc, plan)
+    }
+
+    // Offers the register a plan that costs no less than the board's own.
+    fn tell(&mut self, alloc: Global, plan: &Plan) -> Result<(), NoMemory>
+        requires { cost_of self.old.best ≤ plan.now.cost }
+        ensures register { self.new.register ≡ self.old.register }
+        ensures best { self.new.best ≡ self.old.best }
+        ensures falls { floor_of self.new ≤ floor_of self.old }
+        ensures taken { OnOk result (floor_of self.new ≤ plan.now.cost) }
+    {
+        self.register.offer(self.rt, alloc, &mut self.caller, plan)?;
+        Ok(())
+    }
+}
+
+impl<'a, R: Wait, L: Ledger> Board for SeatBoard<'a, R, L> {
+    ghost serves = { λ b p. ForSome b.best (IsPlanOf p) };
+
+    ghost floor = { λ b. floor_of b };
+
+    ghost keeps = { IsLater };
+
+    fn least(&mut self) -> u64
+        ensures serves { (p : Problem) → ForSome self.old.best (IsPlanOf p) → ForSome self.new.best (IsPlanOf p) }
+        ensures keeps { (earlier : SeatBoardState) → IsLater earlier self.old → IsLater earlier self.new }
+        ensures falls { floor_of self.new ≤ floor_of self.old }
+        ensures answered { floor_of self.new ≤ result }
+        ensures value { result ≡ floor_of self.new }
+        ensures best { self.new.best ≡ self.old.best }
+    {
+        self.register.least(&mut self.caller)
+    }
+
+    fn offer(&mut self, alloc: Global, plan: &Plan) -> Result<(), NoMemory> {
+        self.keep(alloc, plan)?;
+        self.tell(alloc, plan)
+    }
+}

@@ -1,0 +1,67 @@
+//! A board on a register of its own.
+ghost use Rattle.std.specs.Prelude.{◌≡◌, ◌≤◌, IfOk};
+ghost use Rattle.std.specs.Option.{ForSome};
+ghost use Rattle.vrp_model.specs.Route.{IsPlanOf};
+
+use super::*;
+use crate::fixture::three_nodes;
+use std::marker::Brand;
+use std::process::Abort;
+use std::sync::ledger::Blank;
+use std::test::Fail;
+use vrp_model::Instance;
+
+#[test]
+fn one_seat(rt: HostRuntime) -> Result<(), Fail> {
+    check_one_seat::<Brand, HostRuntime>(&rt, rt.alloc(), Blank::new(1))
+}
+
+// The register opens with one truck for each customer, and the board is offered the plan of one truck.
+fn check_one_seat<L: Ledger, R: Wait + Abort>(
+    rt: &R,
+    alloc: Global,
+    blank: Blank,
+) -> Result<(), Fail>
+    requires name { blank.name ≡ L.name }
+    requires parts { blank.parts ≡ L.parts }
+    requires one { blank.parts ≡ 1 }
+{
+    let instance = three_nodes(alloc, 2)?;
+    let joined = joined(rt, alloc, &instance)?;
+    let singles = Plan::singles(alloc, &instance)?;
+    let (register, mut callers) = Register::<L>::new(alloc, singles, blank, 1)?;
+    let Some(caller) = callers.pop() else {
+        unreachable!()
+    };
+    let mut board = SeatBoard::new(rt, &register, caller);
+    assert_eq!(rt; board.least(), 30);
+    assert_eq!(rt; least_after(alloc, &instance, &mut board, &joined)?, 20);
+    let (_caller, best) = board.into_parts();
+    assert_eq!(rt; best.as_ref().map(Plan::word), Some(joined.word()));
+    let kept = register.look(rt, alloc)?.expect(rt, "a plan");
+    assert_eq!(rt; kept.word(), joined.word());
+    Ok(())
+}
+
+// The plan of one truck that serves both customers.
+fn joined(rt: &impl Abort, alloc: Global, instance: &Instance) -> Result<Plan, NoMemory>
+    ensures { IfOk result (IsPlanOf instance.now) }
+{
+    assert!(rt; instance.customers() == 2);
+    assert!(rt; instance.demand(1) + instance.demand(2) <= instance.capacity());
+    Plan::of_word(alloc, instance, &[1, 2, 0])
+}
+
+// What a board answers once it was offered a plan.
+fn least_after<R: Wait, L: Ledger>(
+    alloc: Global,
+    instance: &Instance,
+    board: &mut SeatBoard<'_, R, L>,
+    plan: &Plan,
+) -> Result<u64, NoMemory>
+    requires serves { ForSome board.old.best (IsPlanOf instance.now) }
+    requires plan { IsPlanOf instance.now plan.now }
+{
+    board.offer(alloc, plan)?;
+    Ok(board.least())
+}

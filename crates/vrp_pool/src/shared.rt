@@ -1,0 +1,32 @@
+//! What all workers read.
+ghost use Rattle.std.specs.Prelude.{◌≡◌};
+
+use std::alloc::Global;
+use std::marker::Model;
+use vrp_bound::Tables;
+use vrp_model::Instance;
+
+/// What is searched, how many partial plans may be looked at in each of so many pieces, and what is told before each.
+#[derive(Drop)]
+pub(crate) struct Shared<'a, R, G> {
+    pub(crate) rt: &'a R,
+    pub(crate) alloc: Global,
+    pub(crate) instance: &'a Instance,
+    // Over all customers: for the first look at a piece.
+    pub(crate) tables: &'a Tables<'a>,
+    pub(crate) pieces: u32,
+    pub(crate) budget: u64,
+    pub(crate) gate: &'a G,
+}
+
+impl<'a, R, G> Model for Shared<'a, R, G> {
+    ghost use Rattle.std.specs.Prelude.{◌≡◌, ◌≤◌};
+    ghost use Rattle.vrp_model.specs.Problem.{customers};
+    ghost use Rattle.vrp_pool.specs.Inner.Workers.{Search};
+
+    ghost Value = { Search };
+
+    ghost view = { λ s. record { problem = s.instance.now; pieces = s.pieces; budget = s.budget } };
+
+    ghost invariant = { λ s. (s.tables.now ≡ record { problem = s.instance.now; among = customers s.instance.now }) × (1 ≤ s.budget) };
+}

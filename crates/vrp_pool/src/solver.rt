@@ -1,0 +1,152 @@
+//! The search of an instance by several workers.
+ghost use Rattle.std.specs.Prelude.{◌≡◌, ◌+◌, ◌*◌, ◌≤◌, IfOk, length, map, vec_len};
+ghost use Rattle.std.specs.Option.{option_map};
+ghost use Rattle.vrp_pile.specs.Pile.{IsNewPile};
+ghost use Rattle.vrp_search.specs.Cutting.{IsCutting};
+ghost use Rattle.vrp_search.specs.declared.cutting.TheConstants.{MAX_REFINED};
+ghost use Rattle.vrp_pool.specs.declared.solver.TheConstants.{MAX_WORKERS};
+ghost use Rattle.vrp_pool.specs.Answer.{IsAnswer};
+ghost use Rattle.vrp_pool.specs.Inner.Workers.{AreFronts, AreNewCallers, IsFound, IsSearched};
+
+use crate::answers::{Answer, SolveError};
+use crate::conclusion::{Searched, conclude};
+use crate::first_plan::first_plan;
+use crate::found::{Found, what_was_found};
+use crate::gates::Gate;
+use crate::shared::Shared;
+use crate::team::{led, new_team};
+use std::alloc::Global;
+use std::marker::Brand;
+use std::sync::Wait;
+use std::sync::ledger::{Blank, Ledger};
+use std::thread::Threads;
+use vrp_bound::Tables;
+use vrp_model::{Instance, NoMemory, Plan};
+use vrp_pile::{Owner, Pile, Thief};
+use vrp_register::{Book, Caller, Closed, Register};
+use vrp_search::Cutting;
+
+#[cfg(test)]
+mod tests;
+
+/// The most workers that may be asked for.
+pub const MAX_WORKERS: u32 = 64;
+
+/// Searches all pieces of a cutting, each with this budget and with tables over the customers that it leaves unserved, by so many
+/// workers, each in a thread of its own where one can be made. They draw the pieces from one pile and offer their plans to one
+/// register, which opens with the plan of one truck for each customer, where there are so many trucks, and is offered a plan by
+/// savings before the search, if one is found and the budget is no less than 1,000. Where the budget is above 5,000 there is a first
+/// look at each piece, of at most 5,000 partial plans beside the budget, with tables over all customers. A gate is told before each
+/// piece. The cutting is given up.
+pub fn solve<R: Threads + Wait + Sync, G: Gate + Sync>(
+    rt: &R,
+    alloc: Global,
+    instance: &Instance,
+    cutting: Cutting,
+    workers: u32,
+    budget: u64,
+    gate: &G,
+) -> Result<Answer, SolveError>
+    requires cutting { IsCutting instance.now cutting }
+    requires few { length cutting ≤ 2 * MAX_REFINED }
+    requires some_worker { 1 ≤ workers }
+    requires few_workers { workers ≤ MAX_WORKERS }
+    requires budget { 1 ≤ budget }
+    ensures { IfOk result (IsAnswer instance.now cutting budget) }
+{
+    let tables = Tables::over_all(alloc, instance)?;
+    let shared = Shared {
+        rt,
+        alloc,
+        instance,
+        tables: &tables,
+        pieces: cutting.pieces().len() as u32,
+        budget,
+        gate,
+    };
+    let (owner, thieves) = Pile::new(alloc, cutting, workers - 1)?;
+    let blank = Blank::new(u64::from(workers));
+    Ok(solve_pile::<Brand, R, G>(&shared, owner, thieves, blank)?)
+}
+
+// The same, by workers who draw as the owner and the thieves of a pile. The blank becomes the ledger of their accepted offers.
+fn solve_pile<L: Ledger + Send + Sync, R: Threads + Wait + Sync, G: Gate + Sync>(
+    shared: &Shared<'_, R, G>,
+    owner: Owner,
+    thieves: Vec<Thief>,
+    blank: Blank,
+) -> Result<Answer, NoMemory>
+    requires pile { IsNewPile (map (λ piece. piece.word) owner.put) (vec_len thieves) owner thieves.items }
+    requires cutting { IsCutting shared.now.problem (map (λ piece. piece.word) owner.put) }
+    requires pieces { shared.now.pieces ≡ length owner.put }
+    requires name { blank.name ≡ L.name }
+    requires parts { blank.parts ≡ L.parts }
+    requires as_many { blank.parts ≡ vec_len thieves + 1 }
+    ensures { IfOk result (IsAnswer shared.now.problem (map (λ piece. piece.word) owner.put) shared.now.budget) }
+{
+    let singles = Plan::singles(shared.alloc, shared.instance)?;
+    let opening = copied(shared.alloc, singles.as_ref())?;
+    let workers = thieves.len() as u32 + 1;
+    let (register, callers) = Register::<L>::new(shared.alloc, opening, blank, workers)?;
+    let found = found_by_all(shared, &register, owner, thieves, callers)?;
+    let (book, searched) = closed(shared, register, found);
+    conclude(shared, singles, book.plan(), searched)
+}
+
+// What all workers find, each of whom is one of the callers.
+fn found_by_all<'a, L: Ledger + Send + Sync, R: Threads + Wait + Sync, G: Gate + Sync>(
+    shared: &Shared<'a, R, G>,
+    register: &Register<L>,
+    owner: Owner,
+    thieves: Vec<Thief>,
+    callers: Vec<Caller<L>>,
+) -> Result<Found<L>, NoMemory>
+    requires pile { IsNewPile (map (λ piece. piece.word) owner.put) (vec_len thieves) owner thieves.items }
+    requires fronts { AreFronts shared.now owner.put }
+    requires callers { AreNewCallers register.now callers.items }
+    requires as_many { vec_len callers ≡ vec_len thieves + 1 }
+    requires all { register.now.callers ≡ vec_len callers }
+    ensures found { IfOk result (λ found. IsFound shared.now register.entry.now found.callers.items found.pile found.outcomes.items found.best) }
+    ensures pile { IfOk result (λ found. found.pile.put ≡ owner.put) }
+{
+    let first = first_plan(shared)?;
+    let team = new_team(shared, register, owner, thieves, callers)?;
+    let lead = led(shared, team, first.as_ref())?;
+    what_was_found(shared, lead)
+}
+
+// The register's book, and what is known now that all callers are back.
+fn closed<R, L: Ledger, G>(
+    shared: &Shared<'_, R, G>,
+    register: Register<L>,
+    found: Found<L>,
+) -> (Book, Searched)
+    requires { IsFound shared.now register found.callers.items found.pile found.outcomes.items found.best }
+    ensures searched { IsSearched shared.now register.opening result.1.pile result.1.outcomes.items result.1.best result.1.least }
+    ensures pile { result.1.pile ≡ found.pile }
+{
+    let Found {
+        callers,
+        pile,
+        outcomes,
+        best,
+    } = found;
+    let Closed { book, least } = register.close(callers);
+    let searched = Searched {
+        pile,
+        outcomes,
+        best,
+        least,
+    };
+    (book, searched)
+}
+
+// The same plan once more, if there is one.
+fn copied(alloc: Global, plan: Option<&Plan>) -> Result<Option<Plan>, NoMemory>
+    ensures { IfOk result (λ copy. copy ≡ option_map (λ plan. plan.now) plan.entry) }
+{
+    match plan {
+        Some(plan) => Ok(Some(plan.copy(alloc)?)),
+        None => Ok(None),
+    }
+}
