@@ -1,6 +1,5 @@
-pub mod BestPlan
 pub mod OneReport
 pub mod PlaceLemmas
 pub mod RefusalLemmas
 pub mod ReportLemmas
-pub mod SearchedPieces
+pub mod WrittenParts

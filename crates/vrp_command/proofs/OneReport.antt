@@ -1,17 +1,17 @@
 -- Two runs that answer Proven print one report.
-use Rattle.std.proofs.Common.{◌≡◌, ◌∙◌, ℕ, Option, None, Some, List, refl, sym, ap, subst}
+use Rattle.std.proofs.Common.{◌≡◌, ◌∙◌, ℕ, Option, Some, List, sym, ap, subst}
 use Rattle.vrp_model.specs.Order.{IsFirst}
 use Rattle.vrp_model.specs.Problem.{Problem}
 use Rattle.vrp_model.specs.Route.{PricedPlan}
 use Rattle.vrp_text.specs.Meaning.{MeansProblem}
-use Rattle.vrp_command.specs.Answer.{IsAnswer}
+use Rattle.vrp_command.specs.Answer.{IsCutAnswer}
 use Rattle.vrp_command.specs.Report.{report_of}
 use Rattle.vrp_command.specs.Run.{AnswersBytes, ReportsAnswer, limited, status_of}
 use Rattle.vrp_command.specs.declared.options.Options.{Options}
 use Rattle.vrp_command.specs.declared.options.Status.{Status}
 use Rattle.vrp_command.specs.declared.options.Status.TheVariants as status
-use Rattle.vrp_command.specs.declared.verdict.Verdict.{Verdict}
-use Rattle.vrp_command.specs.declared.verdict.Verdict.TheVariants as verdict
+use Rattle.vrp_pool.specs.declared.answers.Answer.{Answer}
+use Rattle.vrp_pool.specs.declared.answers.Answer.TheVariants as answer
 
 abbrev code : Status → ℕ
 code status.Proven = 0
@@ -22,15 +22,15 @@ code status.NoPlan = 2
 record IsOfFirst (p : Problem) (report : List ℕ) : Type 0 where
   plan : PricedPlan
   first : IsFirst p plan
-  text : report ≡ report_of p (Some plan) verdict.Proven
+  text : report ≡ report_of p (answer.Proven plan)
 
-of_verdict : (p : Problem) (pieces budget : ℕ) (plan : Option PricedPlan) (judged : Verdict) (report : List ℕ) → IsAnswer p pieces budget plan judged → report ≡ report_of p plan judged → status_of judged ≡ status.Proven → IsOfFirst p report
-of_verdict p pieces budget plan verdict.Proven report (cheapest, is, none_cheaper, first) text ends = record { plan = cheapest; first = first; text = text ∙ ap (λ found. report_of p found verdict.Proven) is }
-of_verdict p pieces budget plan (verdict.Open lower) report answer text ends = absurd (let never : 1 ≡ 0 = ap code ends in cc)
-of_verdict p pieces budget plan verdict.NoPlan report answer text ends = absurd (let never : 2 ≡ 0 = ap code ends in cc)
+of_answer : (p : Problem) (pieces budget : ℕ) (found : Answer) (report : List ℕ) → IsCutAnswer p pieces budget found → report ≡ report_of p found → status_of found ≡ status.Proven → IsOfFirst p report
+of_answer p pieces budget (answer.Proven plan) report cut text ends = record { plan = plan; first = cut.answer_is.1; text = text }
+of_answer p pieces budget (answer.Open plan low first) report cut text ends = absurd (let never : 1 ≡ 0 = ap code ends in cc)
+of_answer p pieces budget answer.NoPlan report cut text ends = absurd (let never : 2 ≡ 0 = ap code ends in cc)
 
 of_first : (options : Options) (p : Problem) (report : List ℕ) → ReportsAnswer options p report status.Proven → IsOfFirst p report
-of_first options p report reported = of_verdict p options.pieces options.budget reported.plan reported.judged report reported.answer reported.text (sym reported.status)
+of_first options p report reported = of_answer p options.pieces options.budget reported.found report reported.answer_is reported.text (sym reported.status)
 
 abbrev pub OneMeaning : Type 0
 OneMeaning = (bytes : List ℕ) (chosen : Option ℕ) (p q : Problem) → MeansProblem bytes chosen p → MeansProblem bytes chosen q → p ≡ q
@@ -46,4 +46,4 @@ reports_agree meaning one options others bytes report other depots trucks answer
     let here = of_first options p report answers.reported in
     let limits : limited others.trucks answered.problem ≡ p = ap (λ most. limited most answered.problem) (sym trucks) ∙ ap (limited options.trucks) same in
     let there = subst (λ (q : Problem). IsOfFirst q other) limits (of_first others (limited others.trucks answered.problem) other answered.reported) in
-    here.text ∙ ap (λ (plan : PricedPlan). report_of p (Some plan) verdict.Proven) (one p here.plan there.plan here.first there.first) ∙ sym there.text
+    here.text ∙ ap (λ (plan : PricedPlan). report_of p (answer.Proven plan)) (one p here.plan there.plan here.first there.first) ∙ sym there.text

@@ -1,10 +1,13 @@
--- How a run is asked for where nothing is said.
-use Rattle.std.specs.Prelude.{◌≡◌, ◌≤◌, None}
+-- How a run is asked for where nothing is said, what may be asked for, and the exit status of words that ask for no run.
+use Rattle.std.specs.Prelude.{◌≡◌, ◌≤◌, ℕ, None}
 use Rattle.std.specs.Option.{ForSome}
 use Rattle.vrp_model.specs.declared.limits.TheConstants.{MAX_NODES}
 use Rattle.vrp_search.specs.declared.cutting.TheConstants.{MAX_PIECES}
+use Rattle.vrp_pool.specs.declared.solver.TheConstants.{MAX_WORKERS}
 use Rattle.vrp_command.specs.declared.options.Options.{Options}
-use Rattle.vrp_command.specs.declared.options.TheConstants.{MAX_BUDGET, MAX_WORKERS}
+use Rattle.vrp_command.specs.declared.options.TheConstants.{MAX_BUDGET}
+use Rattle.vrp_command.specs.declared.words.LineFault.{LineFault}
+use Rattle.vrp_command.specs.declared.words.LineFault.TheVariants as line
 
 abbrev pub IsDefault : Options → Type 0
 IsDefault options = options ≡ record { workers = 1; pieces = 64; budget = 10000000; depot = None; trucks = None }
@@ -19,3 +22,8 @@ pub record AreInRange (options : Options) : Type 0 where
   pub small_budget : options.budget ≤ MAX_BUDGET
   pub some_truck : ForSome options.trucks (λ trucks. 1 ≤ trucks)
   pub few_trucks : ForSome options.trucks (λ trucks. trucks ≤ MAX_NODES)
+
+abbrev pub line_code : LineFault → ℕ
+line_code (line.Help text) = 0
+line_code (line.Refused text) = 2
+line_code line.OutOfMemory = 4

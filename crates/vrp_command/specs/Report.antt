@@ -3,8 +3,9 @@ use Rattle.std.specs.Prelude.{ℕ, ◌+◌, Option, None, Some, List, [], ◌∷
 use Rattle.std.specs.List.{flat_map}
 use Rattle.vrp_model.specs.Problem.{Problem, node_of}
 use Rattle.vrp_model.specs.Route.{PricedPlan}
-use Rattle.vrp_command.specs.declared.verdict.Verdict.{Verdict}
-use Rattle.vrp_command.specs.declared.verdict.Verdict.TheVariants.{Proven, Open, NoPlan}
+use Rattle.vrp_pool.specs.Answer.{known_plan}
+use Rattle.vrp_pool.specs.declared.answers.Answer.{Answer}
+use Rattle.vrp_pool.specs.declared.answers.Answer.TheVariants.{Proven, Open, NoPlan}
 
 -- the file's node numbers of a route's stops, with a space before each
 abbrev pub stops_text : Problem → List ℕ → List ℕ
@@ -22,9 +23,9 @@ abbrev pub cost_line : ℕ → List ℕ
 cost_line cost = codes "Cost " ++ decimal cost ++ codes "\n"
 
 -- behind `Open` stands a number below which no lawful plan costs
-abbrev pub verdict_line : Verdict → List ℕ
-verdict_line Proven = codes "Proven\n"
-verdict_line (Open low) = codes "Open " ++ decimal low ++ codes "\n"
+abbrev pub verdict_line : Answer → List ℕ
+verdict_line (Proven plan) = codes "Proven\n"
+verdict_line (Open plan low first) = codes "Open " ++ decimal low ++ codes "\n"
 verdict_line NoPlan = codes "NoPlan\n"
 
 -- a line for each route, and the cost; nothing where there is no plan
@@ -32,5 +33,5 @@ abbrev pub plan_lines : Problem → Option PricedPlan → List ℕ
 plan_lines p None = []
 plan_lines p (Some plan) = route_lines p 1 plan.routes ++ cost_line plan.cost
 
-abbrev pub report_of : Problem → Option PricedPlan → Verdict → List ℕ
-report_of p plan verdict = plan_lines p plan ++ verdict_line verdict
+abbrev pub report_of : Problem → Answer → List ℕ
+report_of p answer = plan_lines p (known_plan answer) ++ verdict_line answer

@@ -2,39 +2,38 @@
 use Rattle.std.specs.Prelude.{◌≡◌, ◌≢◌, ℕ, Option, None, Some, List, ⊤}
 use Rattle.std.specs.Io.KnownBytes.{Appends}
 use Rattle.vrp_model.specs.Problem.{Problem}
-use Rattle.vrp_model.specs.Route.{PricedPlan}
 use Rattle.vrp_text.specs.Meaning.{MeansProblem, MeansRefusal}
 use Rattle.vrp_text.specs.declared.error.TextError.{TextError}
 use Rattle.vrp_text.specs.declared.error.TextError.TheVariants as text
-use Rattle.vrp_command.specs.Answer.{IsAnswer}
+use Rattle.vrp_command.specs.Answer.{IsCutAnswer}
 use Rattle.vrp_command.specs.Input.{IsInput}
+use Rattle.vrp_command.specs.Output.{AppendsPart}
 use Rattle.vrp_command.specs.Report.{report_of}
 use Rattle.vrp_command.specs.declared.fault.RunError.{RunError}
 use Rattle.vrp_command.specs.declared.fault.RunError.TheVariants as fault
 use Rattle.vrp_command.specs.declared.options.Options.{Options}
 use Rattle.vrp_command.specs.declared.options.Status.{Status}
 use Rattle.vrp_command.specs.declared.options.Status.TheVariants as status
-use Rattle.vrp_command.specs.declared.verdict.Verdict.{Verdict}
-use Rattle.vrp_command.specs.declared.verdict.Verdict.TheVariants as verdict
+use Rattle.vrp_pool.specs.declared.answers.Answer.{Answer}
+use Rattle.vrp_pool.specs.declared.answers.Answer.TheVariants as answer
 
--- the status of a run that prints this verdict
-abbrev pub status_of : Verdict → Status
-status_of verdict.Proven = status.Proven
-status_of (verdict.Open lower) = status.Open
-status_of verdict.NoPlan = status.NoPlan
+-- the status of a run that prints this answer
+abbrev pub status_of : Answer → Status
+status_of (answer.Proven plan) = status.Proven
+status_of (answer.Open plan low first) = status.Open
+status_of answer.NoPlan = status.NoPlan
 
 -- the problem with so many trucks, if a number was asked for
 abbrev pub limited : Option ℕ → Problem → Problem
 limited None problem = problem
 limited (Some trucks) problem = record problem { trucks = Some trucks }
 
--- the report of a plan of the problem, with the verdict that is known of it
+-- the report of an answer to the problem
 pub record ReportsAnswer (options : Options) (problem : Problem) (report : List ℕ) (ended : Status) : Type 0 where
-  pub plan : Option PricedPlan
-  pub judged : Verdict
-  pub answer : IsAnswer problem options.pieces options.budget plan judged
-  pub text : report ≡ report_of problem plan judged
-  pub status : ended ≡ status_of judged
+  pub found : Answer
+  pub answer_is : IsCutAnswer problem options.pieces options.budget found
+  pub text : report ≡ report_of problem found
+  pub status : ended ≡ status_of found
 
 -- the bytes mean a problem, and this is the report of such an answer to it, with the trucks that were asked for
 pub record AnswersBytes (options : Options) (bytes report : List ℕ) (ended : Status) : Type 0 where
@@ -57,12 +56,14 @@ pub record RefusesInput (chosen : Option ℕ) (unread_old unread_new : Option (L
   pub input : IsInput unread_old unread_new bytes
   pub refused : MeansRefusal bytes chosen refusal
 
--- what was read means a problem
-pub record AcceptsInput (chosen : Option ℕ) (unread_old unread_new : Option (List ℕ)) : Type 0 where
+-- What was read means a problem, and what was written is a part of the report of an answer to it, from its first byte on
+pub record PrintsPart (options : Options) (unread_old unread_new written_old written_new : Option (List ℕ)) : Type 0 where
   pub bytes : List ℕ
   pub input : IsInput unread_old unread_new bytes
-  pub problem : Problem
-  pub meant : MeansProblem bytes chosen problem
+  pub report : List ℕ
+  pub ended : Status
+  pub answers : AnswersBytes options bytes report ended
+  pub output : AppendsPart written_old written_new report
 
 -- A fact on the refusal where the fault is that the file is refused. Want of memory is no such refusal.
 abbrev pub OnRefusedFile : RunError → (TextError → Type 0) → Type 0

@@ -1,27 +1,32 @@
 //! A run: from the bytes of a file to the bytes of a report.
-ghost use Rattle.std.specs.Prelude.{◌≡◌, ◌≢◌, ◌+◌, ◌≤◌, IfOk, IfErr, OnOk, string_bytes};
-ghost use Rattle.std.specs.Io.KnownBytes.{Appends, Keeps};
+ghost use Rattle.std.specs.Prelude.{◌≡◌, ◌≢◌, ◌+◌, ◌≤◌, IfOk, IfErr, string_bytes};
+ghost use Rattle.std.specs.Io.KnownBytes.{Keeps};
 ghost use Rattle.vrp_command.specs.Options.{AreInRange};
-ghost use Rattle.vrp_command.specs.Run.{ReportsAnswer, PrintsAnswer, RefusesInput, AcceptsInput, OnRefusedFile, limited, status_of};
+ghost use Rattle.vrp_command.specs.Run.{ReportsAnswer, PrintsAnswer, PrintsPart, RefusesInput, OnRefusedFile, limited, status_of};
 ghost use Rattle.vrp_command.specs.Input.{TakesAtMost};
 ghost use Rattle.std.specs.Option.{ForSome};
 ghost use Rattle.vrp_model.specs.declared.limits.TheConstants.{MAX_NODES};
 
-use crate::answer::solve;
+use crate::answer::cut_and_solve;
 use crate::fault::RunError;
 use crate::input::read_input;
 use crate::options::{Options, Status};
+use crate::output::write_report;
 use crate::report::report;
-use crate::verdict::Verdict;
 use std::alloc::Global;
 use std::io::{Read, Write};
-use vrp_model::{Instance, NoMemory};
+use std::sync::Wait;
+use std::thread::Threads;
+use vrp_model::Instance;
+use vrp_pool::Answer;
 use vrp_text::MAX_BYTES;
 
 /// Reads a CVRP file, and writes the report of a lawful plan of the problem that it means with the chosen node as its depot and
 /// the trucks that were asked for: a cheapest one, where the status is `Proven`; where it is `NoPlan` there is none. Reading ends
-/// at the end of the input or after one byte more than a file may have. On a fault other than `Write` nothing is written.
-pub fn run<R: Read, W: Write>(
+/// at the end of the input or after one byte more than a file may have. On a fault other than `Write` nothing is written; on that one
+/// a part of the report is, from its first byte on.
+pub fn run<T: Threads + Wait + Sync, R: Read, W: Write>(
+    rt: &T,
     alloc: Global,
     options: Options,
     input: &mut R,
@@ -30,7 +35,7 @@ pub fn run<R: Read, W: Write>(
     requires { AreInRange options }
     ensures printed { IfOk result (PrintsAnswer options (R.remaining input.old) (R.remaining input.new) (W.contents output.old) (W.contents output.new)) }
     ensures refused { IfErr result (λ fault. OnRefusedFile fault (RefusesInput options.depot (R.remaining input.old) (R.remaining input.new))) }
-    ensures unwritten { IfErr result (λ fault. fault ≡ RunError.Write → AcceptsInput options.depot (R.remaining input.old) (R.remaining input.new)) }
+    ensures begun { IfErr result (λ fault. fault ≡ RunError.Write → PrintsPart options (R.remaining input.old) (R.remaining input.new) (W.contents output.old) (W.contents output.new)) }
     ensures failed { IfErr result (λ fault. fault ≡ RunError.Read → TakesAtMost MAX_BYTES (R.remaining input.old) (R.remaining input.new)) }
     ensures taken { TakesAtMost (MAX_BYTES + 1) (R.remaining input.old) (R.remaining input.new) }
     ensures silent { IfErr result (λ fault. fault ≢ RunError.Write → Keeps (W.contents output.old) (W.contents output.new)) }
@@ -38,7 +43,7 @@ pub fn run<R: Read, W: Write>(
     let bytes = read_input(alloc, input)?;
     let instance = vrp_text::read(alloc, &bytes, options.depot)?;
     let instance = limited(instance, options.trucks);
-    let outcome = answer_to(alloc, &instance, options)?;
+    let outcome = answer_to(rt, alloc, &instance, options)?;
     write_report(output, outcome.report.as_bytes())?;
     Ok(outcome.status)
 }
@@ -63,34 +68,36 @@ struct Outcome {
 }
 
 // The report of an answer to an instance.
-fn answer_to(alloc: Global, instance: &Instance, options: Options) -> Result<Outcome, NoMemory>
+fn answer_to<T: Threads + Wait + Sync>(
+    rt: &T,
+    alloc: Global,
+    instance: &Instance,
+    options: Options,
+) -> Result<Outcome, RunError>
     requires { AreInRange options }
-    ensures { IfOk result (λ outcome. ReportsAnswer options instance.now (string_bytes outcome.report) outcome.status) }
+    ensures answer { IfOk result (λ outcome. ReportsAnswer options instance.now (string_bytes outcome.report) outcome.status) }
+    ensures fault { IfErr result (λ fault. fault ≡ RunError.OutOfMemory) }
 {
-    let answer = solve(alloc, instance, options.pieces, options.budget)?;
+    let answer = cut_and_solve(
+        rt,
+        alloc,
+        instance,
+        options.workers,
+        options.pieces,
+        options.budget,
+    )?;
     let report = report(alloc, instance, &answer)?;
-    let status = status(answer.verdict);
+    let status = status(&answer);
     Ok(Outcome { report, status })
 }
 
-// How a run ends that prints this verdict.
-fn status(verdict: Verdict) -> Status
-    ensures { result ≡ status_of verdict }
+// How a run ends that prints this answer.
+fn status(answer: &Answer) -> Status
+    ensures { result ≡ status_of answer.now }
 {
-    match verdict {
-        Verdict::Proven => Status::Proven,
-        Verdict::Open(_) => Status::Open,
-        Verdict::NoPlan => Status::NoPlan,
+    match answer {
+        Answer::Proven(_) => Status::Proven,
+        Answer::Open { .. } => Status::Open,
+        Answer::NoPlan => Status::NoPlan,
     }
-}
-
-// Writes the report and flushes it.
-fn write_report<W: Write>(output: &mut W, report: &[u8]) -> Result<(), RunError>
-    ensures written { OnOk result (Appends (W.contents output.old) (W.contents output.new) report.now) }
-    ensures fault { IfErr result (λ fault. fault ≡ RunError.Write) }
-{
-    if output.write_all(report).is_err() || output.flush().is_err() {
-        return Err(RunError::Write);
-    }
-    Ok(())
 }

@@ -9,6 +9,7 @@ use std::alloc::{AllocError, Global};
 use std::error::Error;
 use std::fmt;
 use vrp_model::NoMemory;
+use vrp_pool::SolveError;
 use vrp_text::TextError;
 
 /// Why a run failed. Nothing was written, but for `Write`, where a part of the report may have gone out.
@@ -44,6 +45,16 @@ impl From<AllocError> for RunError {
 
     fn from(_refusal: AllocError) -> RunError {
         RunError::OutOfMemory
+    }
+}
+
+impl From<SolveError> for RunError {
+    ghost from_gives = { λ _ fault. fault ≡ OutOfMemory };
+
+    fn from(fault: SolveError) -> RunError {
+        match fault {
+            SolveError::OutOfMemory => RunError::OutOfMemory,
+        }
     }
 }
 

@@ -4,17 +4,21 @@
 mod answer;
 mod command;
 mod fault;
+mod grammar;
 mod input;
 mod law;
 mod options;
+mod output;
 mod refusal;
 mod report;
 #[cfg(test)]
 mod tests;
-mod verdict;
+mod words;
 
 pub use command::run;
 pub use fault::{RunError, exit_status, fault_line};
 pub use law::one_report;
-pub use options::{MAX_BUDGET, MAX_WORKERS, Options, Status};
+pub use options::{MAX_BUDGET, Options, Status};
+pub use vrp_pool::MAX_WORKERS;
 pub use vrp_search::MAX_PIECES;
+pub use words::{LineFault, line_status, not_text, parse_words};

@@ -1,16 +1,13 @@
 //! How a run is asked for, and how it ended.
 ghost use Rattle.vrp_command.specs.Options.{IsDefault};
 
-/// The most threads that may be asked for.
-pub const MAX_WORKERS: u32 = 64;
-
 /// The most partial plans that may be looked at in each part.
 pub const MAX_BUDGET: u64 = 1_000_000_000_000;
 
 /// How a run is asked for.
 #[derive(Clone, Copy, Debug, PartialEq, Eq)]
 pub struct Options {
-    /// Threads, from 1 to `MAX_WORKERS`.
+    /// Threads, from 1 to `vrp_pool::MAX_WORKERS`.
     pub workers: u32,
     /// Parts into which the search is to be cut, from 1 to `MAX_PIECES`.
     pub pieces: u32,

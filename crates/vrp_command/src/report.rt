@@ -2,13 +2,13 @@
 ghost use Rattle.std.specs.Prelude.{◌≡◌, ℕ, ◌+◌, ◌<◌, OnOk, IfOk, List, ◌++◌, decimal, string_bytes, All};
 ghost use Rattle.std.specs.Option.{ForSome};
 ghost use Rattle.vrp_model.specs.Problem.{place_count};
+ghost use Rattle.vrp_pool.specs.Answer.{known_plan};
 ghost use Rattle.vrp_command.specs.Report.{route_line, route_lines, stops_text, cost_line, verdict_line, report_of};
 
-use crate::answer::Answer;
-use crate::verdict::Verdict;
 use itoa::Buffer;
 use std::alloc::{AllocError, Global};
 use vrp_model::{Instance, Plan};
+use vrp_pool::Answer;
 
 /// The report of an answer to the instance.
 pub(crate) fn report(
@@ -16,15 +16,15 @@ pub(crate) fn report(
     instance: &Instance,
     answer: &Answer,
 ) -> Result<String, AllocError>
-    requires { ForSome answer.now.plan (λ plan. All (λ route. All (λ place. place < place_count instance.now) route) plan.routes) }
-    ensures { IfOk result (λ text. string_bytes text ≡ report_of instance.now answer.now.plan answer.now.verdict) }
+    requires { ForSome (known_plan answer.now) (λ plan. All (λ route. All (λ place. place < place_count instance.now) route) plan.routes) }
+    ensures { IfOk result (λ text. string_bytes text ≡ report_of instance.now answer.now) }
 {
     let mut text = String::new(alloc);
-    if let Some(plan) = &answer.plan {
+    if let Some(plan) = answer.plan() {
         push_routes(&mut text, instance, plan)?;
         push_cost(&mut text, plan.cost())?;
     }
-    push_verdict(&mut text, answer.verdict)?;
+    push_verdict(&mut text, answer)?;
     Ok(text)
 }
 
@@ -80,15 +80,15 @@ fn push_cost(text: &mut String, cost: u64) -> Result<(), AllocError>
 }
 
 // Appends the last line.
-fn push_verdict(text: &mut String, verdict: Verdict) -> Result<(), AllocError>
-    ensures { OnOk result (string_bytes text.new ≡ string_bytes text.old ++ verdict_line verdict) }
+fn push_verdict(text: &mut String, answer: &Answer) -> Result<(), AllocError>
+    ensures { OnOk result (string_bytes text.new ≡ string_bytes text.old ++ verdict_line answer.now) }
 {
-    match verdict {
-        Verdict::Proven => text.push_str("Proven\n")?,
-        Verdict::NoPlan => text.push_str("NoPlan\n")?,
-        Verdict::Open(low) => {
+    match answer {
+        Answer::Proven(_) => text.push_str("Proven\n")?,
+        Answer::NoPlan => text.push_str("NoPlan\n")?,
+        Answer::Open { low, .. } => {
             text.push_str("Open ")?;
-            push_number(text, low)?;
+            push_number(text, *low)?;
             text.push_str("\n")?;
         }
     }

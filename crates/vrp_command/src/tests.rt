@@ -4,6 +4,7 @@ ghost use Rattle.vrp_command.specs.Options.{AreInRange};
 mod faults;
 mod files;
 mod limits;
+mod lines;
 mod outcomes;
 mod plans;
 mod trucks;
@@ -11,6 +12,8 @@ mod trucks;
 use crate::{MAX_BUDGET, MAX_PIECES, Options, RunError, Status, run};
 use std::alloc::Global;
 use std::process::Abort;
+use std::sync::Wait;
+use std::thread::Threads;
 
 /// A small file: three nodes on a line, 5 apart, and the depot at one end.
 pub(crate) const SMALL: &str =
@@ -24,8 +27,8 @@ pub(crate) const MIDDLE: &str =
 const REPORT: &str = "Route #1: 2 3\nCost 20\nProven\n";
 
 // Asserts how a run over these bytes ends, with this node chosen as the depot, and all that it writes.
-fn assert_run(
-    rt: &impl Abort,
+fn assert_run<R: Abort + Threads + Wait + Sync>(
+    rt: &R,
     alloc: Global,
     bytes: &[u8],
     depot: Option<u16>,
@@ -36,14 +39,14 @@ fn assert_run(
         depot,
         ..Options::default()
     };
-    let (outcome, written) = run_as(alloc, bytes, options);
+    let (outcome, written) = run_as(rt, alloc, bytes, options);
     assert_eq!(rt; outcome, wanted);
     assert_eq!(rt; written.as_slice(), report.as_bytes());
 }
 
 // Asserts how a run over a text ends that may make so many pieces, and spend so much on each, and what it writes last.
-fn assert_end(
-    rt: &impl Abort,
+fn assert_end<R: Abort + Threads + Wait + Sync>(
+    rt: &R,
     alloc: Global,
     text: &str,
     (pieces, budget): (u32, u64),
@@ -57,7 +60,7 @@ fn assert_end(
         budget,
         ..Options::default()
     };
-    let (outcome, written) = run_as(alloc, text.as_bytes(), options);
+    let (outcome, written) = run_as(rt, alloc, text.as_bytes(), options);
     assert_eq!(rt;
         outcome,
         Ok(status),
@@ -70,11 +73,16 @@ fn assert_end(
 }
 
 // What a run over these bytes answers, and what it writes.
-fn run_as(alloc: Global, bytes: &[u8], options: Options) -> (Result<Status, RunError>, Vec<u8>)
+fn run_as<R: Threads + Wait + Sync>(
+    rt: &R,
+    alloc: Global,
+    bytes: &[u8],
+    options: Options,
+) -> (Result<Status, RunError>, Vec<u8>)
     requires { AreInRange options }
 {
     let mut input = bytes;
     let mut output = Vec::new(alloc);
-    let outcome = run(alloc, options, &mut input, &mut output);
+    let outcome = run(rt, alloc, options, &mut input, &mut output);
     (outcome, output)
 }

@@ -4,7 +4,9 @@ use crate::{Options, RunError, Status, run};
 use std::alloc::Global;
 use std::io;
 use std::io::{ErrorKind, Read, Write};
+use std::sync::Wait;
 use std::test::*;
+use std::thread::Threads;
 use vrp_text::TextError;
 
 // Gives its bytes, so many at a time. One of its reads fails, and the next goes on behind it.
@@ -57,24 +59,27 @@ impl Read for Endless {
     }
 }
 
-// Takes so many bytes at a time, up to its room. Then it fails, or takes nothing.
+// Takes so many bytes at a time, up to its room; then it takes nothing. One of its writes fails, and the next goes on behind it.
 #[derive(Drop)]
 struct Narrow {
     taken: Vec<u8>,
     most: usize,
     room: usize,
-    fails_when_full: bool,
+    writes: usize,
+    failing: usize,
+    kind: ErrorKind,
     flushes: usize,
     fails_at_flush: bool,
 }
 
 impl Write for Narrow {
     fn write(&mut self, bytes: &[u8]) -> io::Result<usize> {
+        self.writes = self.writes.saturating_add(1);
+        if self.writes == self.failing {
+            return Err(io::Error::from(self.kind));
+        }
         let left = self.room.saturating_sub(self.taken.len());
         let count = bytes.len().min(self.most).min(left);
-        if count == 0 && self.fails_when_full {
-            return Err(io::Error::from(ErrorKind::BrokenPipe));
-        }
         self.taken.extend_from_slice(&bytes[..count])?;
         Ok(count)
     }
@@ -88,12 +93,15 @@ impl Write for Narrow {
     }
 }
 
-fn room_for(alloc: Global, most: usize, room: usize) -> Narrow {
+// Takes so many bytes at a time, and never fails.
+fn takes(alloc: Global, most: usize) -> Narrow {
     Narrow {
         taken: Vec::new(alloc),
         most,
-        room,
-        fails_when_full: true,
+        room: usize::MAX,
+        writes: 0,
+        failing: 0,
+        kind: ErrorKind::Other,
         flushes: 0,
         fails_at_flush: false,
     }
@@ -104,8 +112,8 @@ fn little_at_a_time(rt: HostRuntime) {
     // The small file has 183 bytes. Behind them the end is read once.
     for (most, reads) in [(1, 184), (7, 28), (70_000, 2)] {
         let input = small_in_parts(most, 0, ErrorKind::Other);
-        let output = room_for(rt.alloc(), most, usize::MAX);
-        let ended = run_over(rt.alloc(), input, output);
+        let output = takes(rt.alloc(), most);
+        let ended = run_over(&rt, rt.alloc(), input, output);
         assert_eq!(rt; ended.outcome, Ok(Status::Proven));
         assert_eq!(rt; ended.reads, reads, "{most} at a time");
         assert_eq!(rt; ended.taken.as_slice(), REPORT.as_bytes());
@@ -122,8 +130,13 @@ struct Ended {
     flushes: usize,
 }
 
-fn run_over(alloc: Global, mut input: Flaky<'_>, mut output: Narrow) -> Ended {
-    let outcome = run(alloc, Options::default(), &mut input, &mut output);
+fn run_over<R: Threads + Wait + Sync>(
+    rt: &R,
+    alloc: Global,
+    mut input: Flaky<'_>,
+    mut output: Narrow,
+) -> Ended {
+    let outcome = run(rt, alloc, Options::default(), &mut input, &mut output);
     Ended {
         outcome,
         reads: input.reads,
@@ -143,8 +156,8 @@ const FAILED_READS: [(usize, usize, ErrorKind); 4] = [
 fn failed_reads(rt: HostRuntime) {
     for (most, failing, kind) in FAILED_READS {
         let input = small_in_parts(most, failing, kind);
-        let output = room_for(rt.alloc(), 70_000, usize::MAX);
-        let ended = run_over(rt.alloc(), input, output);
+        let output = takes(rt.alloc(), 70_000);
+        let ended = run_over(&rt, rt.alloc(), input, output);
         assert_eq!(rt; ended.outcome, Err(RunError::Read), "read {failing}");
         assert_eq!(rt; ended.reads, failing);
         assert!(rt; ended.taken.is_empty());
@@ -155,8 +168,8 @@ fn failed_reads(rt: HostRuntime) {
 #[test]
 fn endless_input(rt: HostRuntime) {
     let mut input = Endless { given: 0, reads: 0 };
-    let mut output = room_for(rt.alloc(), 70_000, usize::MAX);
-    let outcome = run(rt.alloc(), Options::default(), &mut input, &mut output);
+    let mut output = takes(rt.alloc(), 70_000);
+    let outcome = run(&rt, rt.alloc(), Options::default(), &mut input, &mut output);
     assert_eq!(rt; outcome, Err(RunError::Text(TextError::TooLong)));
     assert_eq!(rt; input.given, 16_777_217);
     // 256 buffers of 65,536 bytes, and one byte more
@@ -164,23 +177,52 @@ fn endless_input(rt: HostRuntime) {
     assert!(rt; output.taken.is_empty());
 }
 
-const FAILED_WRITES: [(usize, bool, bool, &str); 5] = [
-    (5, true, false, "Route"),
-    (5, false, false, "Route"),
-    (0, false, false, ""),
-    (0, true, false, ""),
-    (usize::MAX, false, true, REPORT),
+// A report is written five bytes at a time; the second write fails, or the first, at which nothing was taken.
+const FAILED_WRITES: [(usize, ErrorKind, &str); 3] = [
+    (2, ErrorKind::BrokenPipe, "Route"),
+    (2, ErrorKind::Interrupted, "Route"),
+    (1, ErrorKind::Other, ""),
 ];
 
 #[test]
 fn failed_writes(rt: HostRuntime) {
-    for (room, fails_when_full, fails_at_flush, written) in FAILED_WRITES {
+    for (failing, kind, written) in FAILED_WRITES {
+        let mut output = takes(rt.alloc(), 5);
+        output.failing = failing;
+        output.kind = kind;
         let input = small_in_parts(70_000, 0, ErrorKind::Other);
-        let mut output = room_for(rt.alloc(), 70_000, room);
-        output.fails_when_full = fails_when_full;
-        output.fails_at_flush = fails_at_flush;
-        let ended = run_over(rt.alloc(), input, output);
-        assert_eq!(rt; ended.outcome, Err(RunError::Write), "at {room}");
-        assert_eq!(rt; ended.taken.as_slice(), written.as_bytes(), "at {room}");
+        let ended = run_over(&rt, rt.alloc(), input, output);
+        assert_eq!(rt; ended.outcome, Err(RunError::Write), "write {failing}");
+        assert_eq!(rt;
+            ended.taken.as_slice(),
+            written.as_bytes(),
+            "write {failing}"
+        );
     }
+}
+
+#[test]
+fn writes_that_take_nothing(rt: HostRuntime) {
+    for (room, written) in [(5, "Route"), (0, "")] {
+        let mut output = takes(rt.alloc(), 70_000);
+        output.room = room;
+        let input = small_in_parts(70_000, 0, ErrorKind::Other);
+        let ended = run_over(&rt, rt.alloc(), input, output);
+        assert_eq!(rt; ended.outcome, Err(RunError::Write), "room for {room}");
+        assert_eq!(rt;
+            ended.taken.as_slice(),
+            written.as_bytes(),
+            "room for {room}"
+        );
+    }
+}
+
+#[test]
+fn failed_flush(rt: HostRuntime) {
+    let mut output = takes(rt.alloc(), 70_000);
+    output.fails_at_flush = true;
+    let input = small_in_parts(70_000, 0, ErrorKind::Other);
+    let ended = run_over(&rt, rt.alloc(), input, output);
+    assert_eq!(rt; ended.outcome, Err(RunError::Write));
+    assert_eq!(rt; ended.taken.as_slice(), REPORT.as_bytes());
 }

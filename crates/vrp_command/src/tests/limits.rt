@@ -7,17 +7,17 @@ use std::test::*;
 use vrp_model::MAX_NODES;
 
 // The nodes stand on a line, a step apart, the depot first. Each customer demands 1, and a truck carries 2. One truck for each
-// costs 2 + 4 + .. + 2,398 = 1,438,800. The search goes below 1, 1 0, 1 0 2 and so on to 1 0 .. 1199 0, which is that plan again:
-// with the root 2,399 partial plans. The next two share the last truck, 1198 1199 and 1198 1199 0: that saves 2 * 1,198. Each unit
-// can be carried to the first customer and back: no less than 2,398.
+// costs 2 + 4 + .. + 2,398 = 1,438,800. With a budget of 1,000 a plan by savings is offered: 1198 and 1199 share a truck, 1196 and
+// 1197, and so on down to 2 and 3, which saves 2,396 + 2,392 + .. + 4 = 718,800. The search itself comes to no plan with so little.
+// Each unit can be carried to the first customer and back: no less than 2,398.
 #[test]
 fn most_nodes(rt: HostRuntime) -> Result<(), Fail> {
     let points = points_file(rt.alloc())?;
     let matrix = matrix_file(rt.alloc())?;
     for (text, budget, end) in [
-        (points.as_str(), 2_400, "Cost 1438800\nOpen 2398\n"),
-        (points.as_str(), 2_401, "Cost 1436404\nOpen 2398\n"),
-        (matrix.as_str(), 2_401, "Cost 1436404\nOpen 2398\n"),
+        (points.as_str(), 999, "Cost 1438800\nOpen 2398\n"),
+        (points.as_str(), 1_000, "Cost 720000\nOpen 2398\n"),
+        (matrix.as_str(), 1_000, "Cost 720000\nOpen 2398\n"),
     ] {
         assert_end(&rt, rt.alloc(), text, (1, budget), Status::Open, end);
     }

@@ -130,7 +130,7 @@ fn refused_growth(rt: HostRuntime) {
     let mut written = [0u8; 29];
     let mut input = SMALL.as_bytes();
     let mut output = written.as_mut_slice();
-    match run(rt.alloc(), Options::default(), &mut input, &mut output) {
+    match run(&rt, rt.alloc(), Options::default(), &mut input, &mut output) {
         Err(RunError::OutOfMemory) => assert_eq!(rt; written, [0u8; 29]),
         outcome => {
             assert_eq!(rt; outcome, Ok(Status::Proven));

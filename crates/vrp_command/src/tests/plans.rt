@@ -3,7 +3,9 @@ use super::{SMALL, assert_end, assert_run};
 use crate::{MAX_PIECES, Options, Status};
 use std::alloc::Global;
 use std::process::Abort;
+use std::sync::Wait;
 use std::test::*;
+use std::thread::Threads;
 
 // Three nodes, where it matters which way a road is taken.
 const ONE_WAY: &str =
@@ -64,14 +66,14 @@ fn first_plans(rt: HostRuntime) -> Result<(), Fail> {
     Ok(())
 }
 
-fn assert_proven(rt: &impl Abort, alloc: Global, text: &str, end: &str) {
+fn assert_proven<R: Abort + Threads + Wait + Sync>(rt: &R, alloc: Global, text: &str, end: &str) {
     for pieces in [1, 2, 3, 64, MAX_PIECES] {
         let given = (pieces, Options::default().budget);
         assert_end(rt, alloc, text, given, Status::Proven, end);
     }
 }
 
-const SMALL_BUDGETS: [(&str, &str, u32, u64, Status, &str); 16] = [
+const SMALL_BUDGETS: [(&str, &str, u32, u64, Status, &str); 17] = [
     // two trucks, each to a customer and back, cost 30; both customers by walks of one truck cost at least 20
     (
         "EOF",
@@ -106,6 +108,15 @@ const SMALL_BUDGETS: [(&str, &str, u32, u64, Status, &str); 16] = [
         Status::Open,
         "Cost 30\nOpen 20\n",
     ),
+    // cut in two, only the farther one is left to walk to: 5 paid, 5 home, and 20 there and back
+    (
+        "CAPACITY : 2",
+        "CAPACITY : 1",
+        2,
+        1,
+        Status::Open,
+        "Cost 30\nOpen 30\n",
+    ),
     // the bound is what the first plan costs: another plan may cost as much
     (
         "\n2 1\n",
@@ -128,7 +139,7 @@ const SMALL_BUDGETS: [(&str, &str, u32, u64, Status, &str); 16] = [
     // three pieces: two are left at 12 and 16; with the last customer first no route can be opened any more for the others
     (SMALL, FOUR, 3, 1, Status::Open, "Cost 32\nOpen 12\n"),
     (SMALL, FOUR, 3, 10, Status::Open, "Cost 20\nOpen 12\n"),
-    // two pieces, left at 20 and 3; then the last one is finished, and its plan costs less than 20
+    // two pieces, left at 30 and 3; then the last one is finished, and its plan costs less than 30
     (SMALL, SECOND_FIRST, 2, 1, Status::Open, "Cost 31\nOpen 3\n"),
     (SMALL, SECOND_FIRST, 2, 4, Status::Open, "Cost 3\nOpen 3\n"),
 ];

@@ -3,10 +3,12 @@ use super::{REPORT, SMALL, run_as};
 use crate::{MAX_BUDGET, MAX_PIECES, Options, Status};
 use std::alloc::Global;
 use std::process::Abort;
+use std::sync::Wait;
+use std::thread::Threads;
 use vrp_model::MAX_NODES;
 
 // Three customers on a line, a step apart, of demand 2 each: no truck takes two of them.
-const THREE: &str =
+pub(crate) const THREE: &str =
     "TYPE : CVRP\nDIMENSION : 4\nEDGE_WEIGHT_TYPE : EUC_2D\nCAPACITY : 3\nNODE_COORD_SECTION\n1 0 0\n2 0 1\n3 0 2\n4 0 3\nDEMAND_SECTION\n1 0\n2 2\n3 2\n4 2\nDEPOT_SECTION\n1\n-1\nEOF\n";
 
 // The same with trucks of capacity 2: two of them can't even carry the sum.
@@ -84,8 +86,8 @@ fn small_budgets(rt: HostRuntime) {
 }
 
 // Asserts how a run over a text ends with so many trucks, pieces and partial plans for each, and all that it writes.
-fn assert_limited(
-    rt: &impl Abort,
+fn assert_limited<R: Abort + Threads + Wait + Sync>(
+    rt: &R,
     alloc: Global,
     text: &str,
     trucks: Option<u16>,
@@ -104,7 +106,7 @@ fn assert_limited(
         trucks,
         ..Options::default()
     };
-    let (outcome, written) = run_as(alloc, text.as_bytes(), options);
+    let (outcome, written) = run_as(rt, alloc, text.as_bytes(), options);
     assert_eq!(rt; outcome, Ok(status), "{trucks:?} {pieces} of {text}");
     assert_eq!(rt;
         written.as_slice(),

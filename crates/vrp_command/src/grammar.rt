@@ -1,0 +1,80 @@
+//! The command line's options, their ranges and their help, as `clap` is told them.
+use crate::options::MAX_BUDGET;
+use clap::{Arg, Command, Error, value_parser};
+use std::alloc::Global;
+use vrp_model::MAX_NODES;
+use vrp_pool::MAX_WORKERS;
+use vrp_search::MAX_PIECES;
+
+// What `--version` prints behind the name.
+const VERSION: &str = "0.1.0";
+
+const ABOUT: &str =
+    "Plans the routes of delivery trucks. Reads a capacitated vehicle routing\nproblem (a file of TSPLIB 95, type CVRP) on standard input, and prints the\ncheapest plan that it finds and a verdict on it:\n\n    cvrp --workers 4 < FILE";
+
+const USAGE: &str = "cvrp [OPTIONS] < FILE\n\nThe file comes on standard input.";
+
+const WORKERS: &str = "Threads that search side by side.\nFrom 1 to 64; default 1.";
+
+const PIECES: &str =
+    "How many pieces the search is cut into, at least. More of them\nshare the work better among the workers.\nFrom 1 to 65536; default 64.";
+
+const BUDGET: &str =
+    "How many partial plans are looked at under each piece before it\nis left open. More of them prove more, and take longer.\nFrom 1 to 1000000000000; default 10000000.";
+
+const DEPOT: &str =
+    "The node that the trucks start from: one of the depots that the\nfile lists.\nFrom 1 to 1200; default is the first one listed.";
+
+const TRUCKS: &str =
+    "How many trucks there are: a plan has at most so many routes.\nFrom 1 to 1200; default is as many as are wanted.";
+
+const VERDICTS_AND_STATUSES: &str =
+    "The last line of the report is the verdict:\n  Proven  no plan costs less than the printed one\n  Open L  a piece was left open: no plan costs less than L, but one may\n          cost less than the printed one\n  NoPlan  so few trucks can't serve all customers\n\nExit statuses:\n  0  Proven, NoPlan, or this help\n  1  Open\n  2  the command line is refused\n  3  the file is refused\n  4  no memory\n  5  a read or a write failed\n\nExample, with four threads, and five trucks at most:\n  cvrp --workers 4 --trucks 5 < examples/E-n51-k5.vrp";
+
+/// The command line of the program.
+pub(crate) fn grammar<'a>(alloc: Global) -> Result<Command<'a>, Error> {
+    let command = Command::new(alloc, "cvrp")
+        .version(VERSION)
+        .about(ABOUT)
+        .override_usage(USAGE)
+        .after_help(VERDICTS_AND_STATUSES)
+        .next_line_help(true)
+        .no_binary_name(true)
+        .arg(workers(alloc))?
+        .arg(pieces(alloc))?
+        .arg(budget(alloc))?
+        .arg(node(alloc, "depot").value_name("NODE").help(DEPOT))?
+        .arg(node(alloc, "trucks").value_name("TRUCKS").help(TRUCKS))?;
+    Ok(command)
+}
+
+fn workers<'a>(alloc: Global) -> Arg<'a> {
+    Arg::new(alloc, "workers")
+        .long("workers")
+        .value_name("THREADS")
+        .help(WORKERS)
+        .value_parser(value_parser!(u32).range(1..=i64::from(MAX_WORKERS)))
+}
+
+fn pieces<'a>(alloc: Global) -> Arg<'a> {
+    Arg::new(alloc, "pieces")
+        .long("pieces")
+        .value_name("PIECES")
+        .help(PIECES)
+        .value_parser(value_parser!(u32).range(1..=i64::from(MAX_PIECES)))
+}
+
+fn budget<'a>(alloc: Global) -> Arg<'a> {
+    Arg::new(alloc, "budget")
+        .long("budget")
+        .value_name("PLANS")
+        .help(BUDGET)
+        .value_parser(value_parser!(u64).range(1..=MAX_BUDGET as i64))
+}
+
+// An option whose value is a number of nodes, or one of them.
+fn node<'a>(alloc: Global, name: &'a str) -> Arg<'a> {
+    Arg::new(alloc, name)
+        .long(name)
+        .value_parser(value_parser!(u16).range(1..=i64::from(MAX_NODES)))
+}

@@ -1,0 +1,367 @@
+//! Command lines: what they ask for, how they are refused, and runs by their words.
+use super::trucks::THREE;
+use super::{REPORT, SMALL, run_as};
+use crate::{
+    LineFault, MAX_BUDGET, MAX_PIECES, MAX_WORKERS, Options, RunError, Status, line_status,
+    not_text, parse_words,
+};
+use std::alloc::Global;
+use std::process::Abort;
+use std::sync::Wait;
+use std::test::*;
+use std::thread::Threads;
+use vrp_model::{InstanceError, MAX_NODES};
+use vrp_text::TextError;
+
+// What a table says of words that give options.
+const DEFAULT: Options = Options {
+    workers: 1,
+    pieces: 64,
+    budget: 10_000_000,
+    depot: None,
+    trucks: None,
+};
+
+// Asserts that these words give these options.
+fn assert_options(rt: &impl Abort, alloc: Global, words: &[&str], wanted: Options) {
+    match parse_words(alloc, words) {
+        Ok(options) => assert_eq!(rt; options, wanted, "{words:?}"),
+        Err(_) => assert!(rt; false, "{words:?} is refused"),
+    }
+}
+
+#[test]
+fn defaults(rt: HostRuntime) {
+    assert_options(&rt, rt.alloc(), &[], DEFAULT);
+}
+
+fn assert_workers(rt: &impl Abort, alloc: Global, words: &[&str], workers: u32) {
+    assert_options(rt, alloc, words, Options { workers, ..DEFAULT });
+}
+
+#[test]
+fn workers(rt: HostRuntime) {
+    assert_workers(&rt, rt.alloc(), &["--workers", "1"], 1);
+    assert_workers(&rt, rt.alloc(), &["--workers", "64"], MAX_WORKERS);
+    assert_workers(&rt, rt.alloc(), &["--workers=2"], 2);
+    assert_workers(&rt, rt.alloc(), &["--workers", "02"], 2);
+    assert_workers(&rt, rt.alloc(), &["--workers", "+2"], 2);
+}
+
+fn assert_pieces(rt: &impl Abort, alloc: Global, words: &[&str], pieces: u32) {
+    assert_options(rt, alloc, words, Options { pieces, ..DEFAULT });
+}
+
+#[test]
+fn pieces(rt: HostRuntime) {
+    assert_pieces(&rt, rt.alloc(), &["--pieces", "1"], 1);
+    assert_pieces(&rt, rt.alloc(), &["--pieces", "65536"], MAX_PIECES);
+}
+
+fn assert_budget(rt: &impl Abort, alloc: Global, words: &[&str], budget: u64) {
+    assert_options(rt, alloc, words, Options { budget, ..DEFAULT });
+}
+
+#[test]
+fn budget(rt: HostRuntime) {
+    assert_budget(&rt, rt.alloc(), &["--budget", "1"], 1);
+    assert_budget(&rt, rt.alloc(), &["--budget", "1000000000000"], MAX_BUDGET);
+}
+
+fn assert_nodes(
+    rt: &impl Abort,
+    alloc: Global,
+    words: &[&str],
+    depot: Option<u16>,
+    trucks: Option<u16>,
+) {
+    let wanted = Options {
+        depot,
+        trucks,
+        ..DEFAULT
+    };
+    assert_options(rt, alloc, words, wanted);
+}
+
+#[test]
+fn nodes(rt: HostRuntime) {
+    assert_nodes(&rt, rt.alloc(), &["--depot", "1"], Some(1), None);
+    assert_nodes(&rt, rt.alloc(), &["--depot", "1200"], Some(MAX_NODES), None);
+    assert_nodes(&rt, rt.alloc(), &["--trucks", "1"], None, Some(1));
+    assert_nodes(
+        &rt,
+        rt.alloc(),
+        &["--trucks", "1200"],
+        None,
+        Some(MAX_NODES),
+    );
+}
+
+#[test]
+fn all_options(rt: HostRuntime) {
+    let words = [
+        "--trucks",
+        "5",
+        "--depot",
+        "4",
+        "--budget",
+        "3",
+        "--pieces",
+        "2",
+        "--workers",
+        "7",
+    ];
+    let wanted = Options {
+        workers: 7,
+        pieces: 2,
+        budget: 3,
+        depot: Some(4),
+        trucks: Some(5),
+    };
+    assert_options(&rt, rt.alloc(), &words, wanted);
+}
+
+// Asserts that these words are refused, and how the text begins that says why.
+fn assert_refused(rt: &impl Abort, alloc: Global, words: &[&str], begins: &str) {
+    match parse_words(alloc, words) {
+        Err(LineFault::Refused(text)) => {
+            assert!(rt; text.as_str().starts_with(begins), "{words:?}: {text}");
+        }
+        _ => assert!(rt; false, "{words:?} is not refused"),
+    }
+}
+
+#[test]
+fn out_of_range(rt: HostRuntime) {
+    let no_workers = "error: invalid value '0' for '--workers <THREADS>': 0 is not in 1..=64\n";
+    assert_refused(&rt, rt.alloc(), &["--workers", "0"], no_workers);
+    assert_refused(
+        &rt,
+        rt.alloc(),
+        &["--workers", "65"],
+        "error: invalid value",
+    );
+    assert_refused(&rt, rt.alloc(), &["--pieces", "0"], "error: invalid value");
+    assert_refused(
+        &rt,
+        rt.alloc(),
+        &["--pieces", "65537"],
+        "error: invalid value",
+    );
+    assert_refused(&rt, rt.alloc(), &["--budget", "0"], "error: invalid value");
+    assert_refused(
+        &rt,
+        rt.alloc(),
+        &["--budget", "1000000000001"],
+        "error: invalid value",
+    );
+    assert_refused(&rt, rt.alloc(), &["--depot", "0"], "error: invalid value");
+    assert_refused(
+        &rt,
+        rt.alloc(),
+        &["--depot", "1201"],
+        "error: invalid value",
+    );
+    assert_refused(&rt, rt.alloc(), &["--trucks", "0"], "error: invalid value");
+    assert_refused(
+        &rt,
+        rt.alloc(),
+        &["--trucks", "1201"],
+        "error: invalid value",
+    );
+}
+
+#[test]
+fn no_numbers(rt: HostRuntime) {
+    assert_refused(
+        &rt,
+        rt.alloc(),
+        &["--workers", " 2"],
+        "error: invalid value",
+    );
+    assert_refused(
+        &rt,
+        rt.alloc(),
+        &["--workers", "2.0"],
+        "error: invalid value",
+    );
+    assert_refused(&rt, rt.alloc(), &["--workers="], "error: invalid value");
+    assert_refused(
+        &rt,
+        rt.alloc(),
+        &["--workers", "-2"],
+        "error: unexpected argument",
+    );
+    assert_refused(
+        &rt,
+        rt.alloc(),
+        &["--workers"],
+        "error: a value is required",
+    );
+    assert_refused(
+        &rt,
+        rt.alloc(),
+        &["--work", "2"],
+        "error: unexpected argument",
+    );
+    let twice = ["--pieces", "2", "--pieces", "2"];
+    assert_refused(
+        &rt,
+        rt.alloc(),
+        &twice,
+        "error: the argument '--pieces <PIECES>' cannot",
+    );
+}
+
+// Who gives the file's name is told how the file comes.
+#[test]
+fn stray_words(rt: HostRuntime) {
+    let told =
+        "error: unexpected argument 'a.vrp' found\n\nUsage: cvrp [OPTIONS] < FILE\n\nThe file comes on standard input.\n";
+    assert_refused(&rt, rt.alloc(), &["a.vrp"], told);
+    assert_refused(&rt, rt.alloc(), &["--pieces", "2", "a.vrp"], told);
+    assert_refused(
+        &rt,
+        rt.alloc(),
+        &[""],
+        "error: unexpected argument '' found\n",
+    );
+    assert_refused(
+        &rt,
+        rt.alloc(),
+        &["-w"],
+        "error: unexpected argument '-w' found\n",
+    );
+    assert_options(&rt, rt.alloc(), &["--"], DEFAULT);
+}
+
+// The text of the help that these words ask for.
+fn help(alloc: Global, words: &[&str]) -> Result<String, Fail> {
+    match parse_words(alloc, words) {
+        Err(LineFault::Help(text)) => Ok(text),
+        _ => Err(Fail::new("no help")),
+    }
+}
+
+#[test]
+fn helps(rt: HostRuntime) -> Result<(), Fail> {
+    let long = help(rt.alloc(), &["--help"])?;
+    let short = help(rt.alloc(), &["-h"])?;
+    assert_eq!(rt; long.as_str(), short.as_str());
+    assert!(rt;
+        long.as_str()
+            .starts_with("Plans the routes of delivery trucks.")
+    );
+    assert!(rt; long.as_str().contains("cvrp --workers 4 < FILE\n"));
+    let version = help(rt.alloc(), &["--version"])?;
+    assert_eq!(rt; version.as_str(), "cvrp 0.1.0\n");
+    Ok(())
+}
+
+#[test]
+fn helps_tell_ranges_and_defaults(rt: HostRuntime) -> Result<(), Fail> {
+    let help = help(rt.alloc(), &["--help"])?;
+    let default = Options::default();
+    let ranges = [
+        (u64::from(MAX_WORKERS), u64::from(default.workers)),
+        (u64::from(MAX_PIECES), u64::from(default.pieces)),
+        (MAX_BUDGET, default.budget),
+    ];
+    for (most, default) in ranges {
+        let told = format!(in rt.alloc(); "From 1 to {most}; default {default}.\n")?;
+        assert!(rt; help.as_str().contains(told.as_str()), "{told}");
+    }
+    let nodes = format!(in rt.alloc(); "From 1 to {MAX_NODES}; default is")?;
+    assert!(rt; help.as_str().contains(nodes.as_str()), "{nodes}");
+    Ok(())
+}
+
+#[test]
+fn statuses(rt: HostRuntime) {
+    assert_eq!(rt; line_status(&LineFault::Help(String::new(rt.alloc()))), 0);
+    assert_eq!(rt;
+        line_status(&LineFault::Refused(String::new(rt.alloc()))),
+        2
+    );
+    assert_eq!(rt; line_status(&LineFault::OutOfMemory), 4);
+    let fault = not_text(rt.alloc());
+    assert_eq!(rt; line_status(&fault), 2);
+}
+
+// Asserts how a run over a text ends that is asked for by these words, and all that it writes.
+fn assert_run_by<R: Abort + Threads + Wait + Sync>(
+    rt: &R,
+    alloc: Global,
+    words: &[&str],
+    text: &str,
+    wanted: Result<Status, RunError>,
+    report: &str,
+) {
+    match parse_words(alloc, words) {
+        Ok(options) => {
+            let (outcome, written) = run_as(rt, alloc, text.as_bytes(), options);
+            assert_eq!(rt; outcome, wanted, "{words:?}");
+            assert_eq!(rt; written.as_slice(), report.as_bytes(), "{words:?}");
+        }
+        Err(_) => assert!(rt; false, "{words:?} gives no options"),
+    }
+}
+
+#[test]
+fn runs_by_budget(rt: HostRuntime) {
+    let open = "Route #1: 2\nRoute #2: 3\nCost 30\nOpen 20\n";
+    let one = ["--budget", "1", "--pieces", "1"];
+    let many = ["--budget", "1", "--pieces", "65536"];
+    assert_run_by(&rt, rt.alloc(), &one, SMALL, Ok(Status::Open), open);
+    assert_run_by(&rt, rt.alloc(), &many, SMALL, Ok(Status::Proven), REPORT);
+    assert_run_by(&rt, rt.alloc(), &[], SMALL, Ok(Status::Proven), REPORT);
+}
+
+// Two depots are listed, a customer's step apart.
+const DEPOTS: &str =
+    "TYPE : CVRP\nDIMENSION : 3\nEDGE_WEIGHT_TYPE : EUC_2D\nCAPACITY : 2\nNODE_COORD_SECTION\n1 0 0\n2 3 4\n3 6 8\nDEMAND_SECTION\n1 0\n2 0\n3 1\nDEPOT_SECTION\n1 2\n-1\nEOF\n";
+
+#[test]
+fn runs_by_depot(rt: HostRuntime) {
+    let near = "Route #1: 3\nCost 10\nProven\n";
+    let far = "Route #1: 3\nCost 20\nProven\n";
+    let no_depot = RunError::Text(TextError::Instance(InstanceError::NotADepot(3)));
+    assert_run_by(
+        &rt,
+        rt.alloc(),
+        &["--depot", "2"],
+        DEPOTS,
+        Ok(Status::Proven),
+        near,
+    );
+    assert_run_by(&rt, rt.alloc(), &[], DEPOTS, Ok(Status::Proven), far);
+    assert_run_by(
+        &rt,
+        rt.alloc(),
+        &["--depot", "3"],
+        DEPOTS,
+        Err(no_depot),
+        "",
+    );
+}
+
+#[test]
+fn runs_by_trucks(rt: HostRuntime) {
+    let three = "Route #1: 2\nRoute #2: 3\nRoute #3: 4\nCost 12\nProven\n";
+    assert_run_by(
+        &rt,
+        rt.alloc(),
+        &["--trucks", "2"],
+        THREE,
+        Ok(Status::NoPlan),
+        "NoPlan\n",
+    );
+    assert_run_by(
+        &rt,
+        rt.alloc(),
+        &["--trucks", "3"],
+        THREE,
+        Ok(Status::Proven),
+        three,
+    );
+}

@@ -1,0 +1,144 @@
+//! Reads the words of a command line: how a run is asked for.
+ghost use Rattle.std.specs.Prelude.{◌≡◌, ◌≢◌, ◌≤◌, IfOk};
+ghost use Rattle.std.specs.Option.{ForSome};
+ghost use Rattle.vrp_model.specs.declared.limits.TheConstants.{MAX_NODES};
+ghost use Rattle.vrp_command.specs.Options.{AreInRange, line_code};
+
+use crate::grammar::grammar;
+use crate::options::{MAX_BUDGET, Options};
+use clap::error::ErrorKind;
+use clap::{ArgMatches, Error};
+use std::alloc::{AllocError, Global};
+use vrp_model::MAX_NODES;
+use vrp_pool::MAX_WORKERS;
+use vrp_search::MAX_PIECES;
+
+// The text where a word is not UTF-8.
+const NOT_TEXT: &str =
+    "error: a word on the command line is no text (not UTF-8)\n\nFor more information, try '--help'.\n";
+
+/// Why the words of a command line give no options. The texts end with a line feed.
+#[derive(Debug, Drop)]
+pub enum LineFault {
+    /// The words are refused, and this says why. It goes to standard error.
+    Refused(String),
+    /// The words ask for the help or the version, which is this. It goes to standard output.
+    Help(String),
+    /// A growth was refused.
+    OutOfMemory,
+}
+
+impl From<AllocError> for LineFault {
+    fn from(_refusal: AllocError) -> LineFault {
+        LineFault::OutOfMemory
+    }
+}
+
+/// Reads the words behind the program's name. An option that they leave out has its default. Which words give which options, and
+/// which are refused, no clause says.
+pub fn parse_words(alloc: Global, words: &[&str]) -> Result<Options, LineFault>
+    ensures in_range { IfOk result AreInRange }
+    ensures some_depot { IfOk result (λ options. ForSome options.depot (λ node. 1 ≤ node)) }
+    ensures few_depot { IfOk result (λ options. ForSome options.depot (λ node. node ≤ MAX_NODES)) }
+{
+    match asked_for(alloc, words) {
+        Ok(options) => Ok(options),
+        Err(error) => Err(line_fault(alloc, &error)),
+    }
+}
+
+/// The fault of a command line of which a word is not UTF-8, so that it is no text to be read.
+pub fn not_text(alloc: Global) -> LineFault
+    ensures { line_code result ≢ 0 }
+{
+    match String::from_str(alloc, NOT_TEXT) {
+        Ok(text) => LineFault::Refused(text),
+        Err(_) => LineFault::OutOfMemory,
+    }
+}
+
+/// The exit status of a program whose words give no options: 0 for the help, 2 where they are refused, 4 for want of memory.
+pub fn line_status(fault: &LineFault) -> u8
+    ensures { result ≡ line_code fault.now }
+{
+    match fault {
+        LineFault::Help(_) => 0,
+        LineFault::Refused(_) => 2,
+        LineFault::OutOfMemory => 4,
+    }
+}
+
+// The options, as `clap` reads the words.
+fn asked_for(alloc: Global, words: &[&str]) -> Result<Options, Error>
+    ensures in_range { IfOk result AreInRange }
+    ensures some_depot { IfOk result (λ options. ForSome options.depot (λ node. 1 ≤ node)) }
+    ensures few_depot { IfOk result (λ options. ForSome options.depot (λ node. node ≤ MAX_NODES)) }
+{
+    let matches = grammar(alloc)?.try_get_matches_from(words)?;
+    Ok(chosen(&matches))
+}
+
+// The fault of words that `clap` doesn't take.
+fn line_fault(alloc: Global, error: &Error) -> LineFault {
+    if error.kind() == ErrorKind::OutOfMemory {
+        return LineFault::OutOfMemory;
+    }
+    match format!(in alloc; "{error}") {
+        Ok(text) if error.use_stderr() => LineFault::Refused(text),
+        Ok(text) => LineFault::Help(text),
+        Err(_) => LineFault::OutOfMemory,
+    }
+}
+
+// The values that stand in the words, and else the defaults.
+fn chosen(matches: &ArgMatches<'_>) -> Options
+    ensures in_range { AreInRange result }
+    ensures some_depot { ForSome result.depot (λ node. 1 ≤ node) }
+    ensures few_depot { ForSome result.depot (λ node. node ≤ MAX_NODES) }
+{
+    let default = Options::default();
+    Options {
+        workers: number(matches, "workers", MAX_WORKERS, default.workers),
+        pieces: number(matches, "pieces", MAX_PIECES, default.pieces),
+        budget: budget(matches, default.budget),
+        depot: node(matches, "depot"),
+        trucks: node(matches, "trucks"),
+    }
+}
+
+// The number behind an option, and else the default. `clap` lets through only numbers of the range.
+fn number(matches: &ArgMatches<'_>, name: &str, most: u32, default: u32) -> u32
+    requires some { 1 ≤ default }
+    requires few { default ≤ most }
+    ensures some { 1 ≤ result }
+    ensures few { result ≤ most }
+{
+    match matches.get_one::<u32>(name) {
+        Some(number) if 1 <= number && number <= most => number,
+        _ => default,
+    }
+}
+
+// The same of the budget.
+fn budget(matches: &ArgMatches<'_>, default: u64) -> u64
+    requires some { 1 ≤ default }
+    requires few { default ≤ MAX_BUDGET }
+    ensures some { 1 ≤ result }
+    ensures few { result ≤ MAX_BUDGET }
+{
+    match matches.get_one::<u64>("budget") {
+        Some(number) if 1 <= number && number <= MAX_BUDGET => number,
+        _ => default,
+    }
+}
+
+// The same of a node or a number of trucks, which have no default.
+fn node(matches: &ArgMatches<'_>, name: &str) -> Option<u16>
+    ensures some { ForSome result (λ node. 1 ≤ node) }
+    ensures few { ForSome result (λ node. node ≤ MAX_NODES) }
+{
+    match matches.get_one::<u16>(name) {
+        Some(node) if 1 <= node && node <= MAX_NODES => Some(node),
+        _ => None,
+    }
+}
