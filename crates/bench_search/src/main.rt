@@ -1,5 +1,6 @@
 //! How fast the search looks: it searches the tree of the instance in a CVRP file, as one piece, till its budget is spent.
-//! Both are named on the command line. What it found goes to standard output, and how long it took to standard error.
+//! Both are named on the command line. What it found goes to standard output, and how long it took to standard error. With a third
+//! word it starts as the command does: with a plan by savings.
 #![tactic(auto)]
 
 ghost use Rattle.std.specs.Prelude.{◌≡◌, ◌≤◌, IfOk};
@@ -14,6 +15,7 @@ use std::time::{Duration, Instant};
 use std::{env, fs};
 use vrp_bound::Tables;
 use vrp_model::{Instance, NoMemory, Plan};
+use vrp_savings::savings_plan;
 use vrp_search::{Cutting, Ended, Local, search};
 
 fn main(rt: HostRuntime) -> Result<()> {
@@ -21,8 +23,24 @@ fn main(rt: HostRuntime) -> Result<()> {
     let name = words.next().context("no file is named")?;
     let budget = words.next().context("no budget is named")?.parse::<u64>()?;
     ensure!(budget >= 1, "the budget is 0");
+    let by_savings = words.next().is_some();
     let instance = read(&rt, name.as_str())?;
-    measure(&rt, name.as_str(), &instance, budget)
+    measure(&rt, name.as_str(), &instance, by_savings, budget)
+}
+
+// The plan that the search starts with, if there is one: one truck for each customer, or a plan by savings.
+fn first_plan(
+    alloc: Global,
+    instance: &Instance,
+    by_savings: bool,
+) -> Result<Option<Plan>, NoMemory>
+    ensures { IfOk result (λ plan. ForSome plan (IsPlanOf instance.now)) }
+{
+    if by_savings {
+        savings_plan(alloc, instance)
+    } else {
+        Plan::singles(alloc, instance)
+    }
 }
 
 // The instance in a file.
@@ -36,11 +54,12 @@ fn measure<R: Clock + Print + Eprint + AllocGlobal>(
     rt: &R,
     name: &str,
     instance: &Instance,
+    by_savings: bool,
     budget: u64,
 ) -> Result<()>
     requires { 1 ≤ budget }
 {
-    let mut board = Local::open(Plan::singles(rt.alloc(), instance)?);
+    let mut board = Local::open(first_plan(rt.alloc(), instance, by_savings)?);
     let start = Instant::now(rt)?;
     let tables = Tables::over_all(rt.alloc(), instance)?;
     let tables_time = start.elapsed(rt)?;

@@ -1,21 +1,27 @@
-//! Instances whose cheapest plan is known, over four cuttings of the tree each. A word of the command line is a file, a file
-//! and a number of trucks, as `P-n16-k8.vrp/8`, or a file and what a cheapest plan costs, as `P-n16-k8.vrp:450`. With no cost
-//! the file is solved, and each line has the number of pieces that were asked for and the end of the report: the cost and the
-//! verdict, or that there is no plan; a last line says how many different reports there were. With a cost the search is given
-//! little, and each line says whether that cost lies between the bound and the cost that are printed.
+//! Instances whose cheapest plan is known, over four cuttings of the tree each, by one, two and eight workers. A word of the
+//! command line is a file, a file and a number of trucks, as `P-n16-k8.vrp/8`, or a file and what a cheapest plan costs, as
+//! `P-n16-k8.vrp:450`. With no cost the file is solved, and each line has the number of pieces that were asked for and the end of the
+//! report: the cost and the verdict, or that there is no plan; a last line says how many different reports there were, whoever
+//! worked. With a cost the search is given little, and each line says whether that cost lies between the bound and the cost that
+//! are printed.
 #![tactic(auto)]
 
 use anyhow::{Context, Result, ensure};
 use std::alloc::Global;
 use std::rt::Files;
+use std::sync::Wait;
+use std::thread::Threads;
 use std::{env, fs, str};
-use vrp_command::{MAX_PIECES, Options, run};
+use vrp_command::{MAX_PIECES, MAX_WORKERS, Options, run};
 
 // The most trucks that may be asked for.
 const MAX_TRUCKS: u16 = 1_200;
 
 // The whole tree; the fewest cuts; the pieces of a plain run; as many pieces as may be asked for.
 const CUTTINGS: [u32; 4] = [1, 2, 64, MAX_PIECES];
+
+// One worker; two; more than most machines have processors.
+const CREWS: [u32; 3] = [1, 2, 8];
 
 // More partial plans than the search looks at in any tree that it is to look through.
 const AMPLE: u64 = 1_000_000_000;
@@ -46,7 +52,7 @@ fn main(rt: HostRuntime) -> Result<()> {
 
 // Prints for each number of pieces the end of the report on a file, with so many trucks or as many as are wanted. Each line
 // begins with the word.
-fn print_endings<R: Files + Print + AllocGlobal>(
+fn print_endings<R: Files + Print + AllocGlobal + Threads + Wait + Sync>(
     rt: &R,
     word: &str,
     name: &str,
@@ -54,11 +60,15 @@ fn print_endings<R: Files + Print + AllocGlobal>(
 ) -> Result<()> {
     let mut reports: Vec<Vec<u8>> = Vec::new(rt.alloc());
     for pieces in CUTTINGS {
-        let report = report(rt, name, trucks, pieces, AMPLE)?;
-        let ending = last_two(rt.alloc(), str::from_utf8(&report)?)?;
-        println!(rt; "{word}, {pieces} pieces: {ending}")?;
-        if !reports.contains(&report) {
-            reports.push(report)?;
+        for workers in CREWS {
+            let report = report(rt, name, trucks, workers, pieces, AMPLE)?;
+            if workers == 1 {
+                let ending = last_two(rt.alloc(), str::from_utf8(&report)?)?;
+                println!(rt; "{word}, {pieces} pieces: {ending}")?;
+            }
+            if !reports.contains(&report) {
+                reports.push(report)?;
+            }
         }
     }
     println!(rt; "{word}: {} report", reports.len())?;
@@ -66,9 +76,13 @@ fn print_endings<R: Files + Print + AllocGlobal>(
 }
 
 // Prints for each number of pieces where the cost of a cheapest plan of a file lies.
-fn print_ranges<R: Files + Print + AllocGlobal>(rt: &R, name: &str, least: u64) -> Result<()> {
+fn print_ranges<R: Files + Print + AllocGlobal + Threads + Wait + Sync>(
+    rt: &R,
+    name: &str,
+    least: u64,
+) -> Result<()> {
     for pieces in CUTTINGS {
-        let report = report(rt, name, None, pieces, LITTLE)?;
+        let report = report(rt, name, None, 1, pieces, LITTLE)?;
         let range = read_range(last_two(rt.alloc(), str::from_utf8(&report)?)?.as_str())?;
         let lies = if range.lower <= least && least <= range.cost {
             "lies"
@@ -98,20 +112,22 @@ fn read_range(ending: &str) -> Result<Range> {
 }
 
 // The report on a file, with so many trucks and this budget for each piece.
-fn report<R: Files + AllocGlobal>(
+fn report<R: Files + AllocGlobal + Threads + Wait + Sync>(
     rt: &R,
     name: &str,
     trucks: Option<u16>,
+    workers: u32,
     pieces: u32,
     budget: u64,
 ) -> Result<Vec<u8>> {
+    ensure!(1 <= workers && workers <= MAX_WORKERS, "{workers} workers");
     ensure!(1 <= pieces && pieces <= MAX_PIECES, "{pieces} pieces");
     ensure!(1 <= budget && budget <= AMPLE, "a budget of {budget}");
     if let Some(trucks) = trucks {
         ensure!(1 <= trucks && trucks <= MAX_TRUCKS, "{trucks} trucks");
     }
     let options = Options {
-        workers: 1,
+        workers,
         pieces,
         budget,
         depot: None,
@@ -120,7 +136,7 @@ fn report<R: Files + AllocGlobal>(
     let file = fs::read(rt, name)?;
     let mut input = file.as_slice();
     let mut report = Vec::new(rt.alloc());
-    run(rt.alloc(), options, &mut input, &mut report)?;
+    run(rt, rt.alloc(), options, &mut input, &mut report)?;
     Ok(report)
 }
 

@@ -1,7 +1,8 @@
 //! A plain slow evaluator: what the definitions say, computed the long way round from the text of a file, beside what
 //! the command prints for it: at a glance, and where there are few customers also given time. It prints one line on the
-//! metrics, and one for each word of its command line: a file, or a file and a number of trucks, as `three-nodes.vrp/1`. It
-//! has no clauses: the definitions are compared with it, so it does not lean on them.
+//! metrics, and one for each word of its command line: a file, a file and a number of trucks, as `three-nodes.vrp/1`, or a file
+//! that is cut off after each of its bytes in turn, as `cut:three-nodes.vrp`. It has no clauses: the definitions are compared with
+//! it, so it does not lean on them.
 #![tactic(auto)]
 
 mod distance;
@@ -24,6 +25,8 @@ use least::Cheapest;
 use problem::Problem;
 use std::alloc::Global;
 use std::rt::Files;
+use std::sync::Wait;
+use std::thread::Threads;
 use std::{env, fs, str};
 use vrp_command::{Options, RunError, Status, exit_status, fault_line, run};
 
@@ -61,31 +64,74 @@ fn main(rt: HostRuntime) -> Result<()> {
     let metrics = agreement(distance::agree_on_a_square());
     println!(&rt; "metrics: {metrics}")?;
     for word in env::args(&rt)?.skip(1) {
-        let finding = match word.as_str().split_once('/') {
-            None => compare(&rt, word.as_str(), None)?,
-            Some((name, trucks)) => compare(&rt, name, Some(trucks.parse::<u16>()?))?,
-        };
+        let finding = finding(&rt, word.as_str())?;
         println!(&rt; "{word}: {finding}")?;
     }
     Ok(())
 }
 
+// What there is to say of a word of the command line.
+fn finding<R: Files + AllocGlobal + Threads + Wait + Sync>(rt: &R, word: &str) -> Result<String> {
+    if let Some(name) = word.strip_prefix("cut:") {
+        return compare_cuts(rt, name);
+    }
+    match word.split_once('/') {
+        None => compare(rt, word, None),
+        Some((name, trucks)) => compare(rt, name, Some(trucks.parse::<u16>()?)),
+    }
+}
+
+// How many cuts of a file there are, one after each of its bytes, how many of them the evaluator refuses, and whether the command
+// answers to each what the evaluator finds in it.
+fn compare_cuts<R: Files + AllocGlobal + Threads + Wait + Sync>(
+    rt: &R,
+    name: &str,
+) -> Result<String> {
+    let alloc = rt.alloc();
+    let text = fs::read_to_string(rt, name)?;
+    let cuts = text.len();
+    let mut refusals = 0u32;
+    let mut is_same = true;
+    for length in 0..cuts {
+        let cut = str::from_utf8(&text.as_bytes()[..length])?;
+        let finding = match reading::read(alloc, cut) {
+            Ok(problem) => evaluated(rt, alloc, &problem, cut)?,
+            Err(fault) => {
+                refusals = refusals.saturating_add(1);
+                refused(rt, alloc, fault, cut, None)?
+            }
+        };
+        is_same &= finding.as_str().ends_with(agreement(true));
+    }
+    let same = agreement(is_same);
+    Ok(format!(in alloc; "{cuts} cuts, {refusals} refused; {same}")?)
+}
+
 // What the evaluator finds in a file, with so many trucks or as many as are wanted, and whether the command answers just that.
-fn compare<R: Files + AllocGlobal>(rt: &R, name: &str, trucks: Option<u16>) -> Result<String> {
+fn compare<R: Files + AllocGlobal + Threads + Wait + Sync>(
+    rt: &R,
+    name: &str,
+    trucks: Option<u16>,
+) -> Result<String> {
     let alloc = rt.alloc();
     let text = fs::read_to_string(rt, name)?;
     match reading::read(alloc, text.as_str()) {
         Ok(mut problem) => {
             problem.trucks = trucks;
-            evaluated(alloc, &problem, text.as_str())
+            evaluated(rt, alloc, &problem, text.as_str())
         }
-        Err(fault) => refused(alloc, fault, text.as_str(), trucks),
+        Err(fault) => refused(rt, alloc, fault, text.as_str(), trucks),
     }
 }
 
 // What there is to say of a file that states a problem.
-fn evaluated(alloc: Global, problem: &Problem, text: &str) -> Result<String> {
-    let glance = ask(alloc, text, problem.trucks, Time::Glance)?;
+fn evaluated<R: Threads + Wait + Sync>(
+    rt: &R,
+    alloc: Global,
+    problem: &Problem,
+    text: &str,
+) -> Result<String> {
+    let glance = ask(rt, alloc, text, problem.trucks, Time::Glance)?;
     let verdict = last_line(str::from_utf8(&glance.printed)?);
     let first = first_plan(alloc, problem, verdict)?;
     let is_same = glance.is(status(verdict), first.report.as_str());
@@ -102,13 +148,13 @@ fn evaluated(alloc: Global, problem: &Problem, text: &str) -> Result<String> {
             let is_bound = is_same && lower <= cost;
             let wanted = report::text(alloc, &routes, cost, report::PROVEN)?;
             let is_plan = plan::is_lawful(problem, &routes) && plan::cost(problem, &routes) == cost;
-            let is_solved = is_plan && is_solved(alloc, problem, text, wanted.as_str())?;
+            let is_solved = is_plan && is_solved(rt, alloc, problem, text, wanted.as_str())?;
             let same = agreement(is_bound && is_solved);
             Ok(format!(in alloc; "{finding}; least {cost}; {same}")?)
         }
         Cheapest::NoPlan => {
             let is_bound = is_same && lower <= report::NO_COST;
-            let same = agreement(is_bound && has_no_plan(alloc, problem, text)?);
+            let same = agreement(is_bound && has_no_plan(rt, alloc, problem, text)?);
             Ok(format!(in alloc; "{finding}; there is none; {same}")?)
         }
     }
@@ -144,22 +190,39 @@ fn status(verdict: &str) -> Status {
 }
 
 // Whether the command, given time, prints just this report of a plan, and says that it is proven.
-fn is_solved(alloc: Global, problem: &Problem, text: &str, wanted: &str) -> Result<bool> {
-    let answer = ask(alloc, text, problem.trucks, Time::Enough)?;
+fn is_solved<R: Threads + Wait + Sync>(
+    rt: &R,
+    alloc: Global,
+    problem: &Problem,
+    text: &str,
+    wanted: &str,
+) -> Result<bool> {
+    let answer = ask(rt, alloc, text, problem.trucks, Time::Enough)?;
     Ok(answer.is(Status::Proven, wanted))
 }
 
 // Whether the command, given time, says that there is no plan.
-fn has_no_plan(alloc: Global, problem: &Problem, text: &str) -> Result<bool> {
-    let answer = ask(alloc, text, problem.trucks, Time::Enough)?;
+fn has_no_plan<R: Threads + Wait + Sync>(
+    rt: &R,
+    alloc: Global,
+    problem: &Problem,
+    text: &str,
+) -> Result<bool> {
+    let answer = ask(rt, alloc, text, problem.trucks, Time::Enough)?;
     let wanted = report::text_without_plan(alloc, report::NO_PLAN)?;
     Ok(answer.is(Status::NoPlan, wanted.as_str()))
 }
 
 // What there is to say of a file that is refused.
-fn refused(alloc: Global, fault: Fault, text: &str, trucks: Option<u16>) -> Result<String> {
+fn refused<R: Threads + Wait + Sync>(
+    rt: &R,
+    alloc: Global,
+    fault: Fault,
+    text: &str,
+    trucks: Option<u16>,
+) -> Result<String> {
     let wanted = fault.to_string(alloc)?;
-    let answer = ask(alloc, text, trucks, Time::Glance)?;
+    let answer = ask(rt, alloc, text, trucks, Time::Glance)?;
     let is_same = match &answer.outcome {
         Ok(_) => false,
         Err(refusal) => fault_line(alloc, refusal)?.as_str() == wanted.as_str(),
@@ -170,7 +233,13 @@ fn refused(alloc: Global, fault: Fault, text: &str, trucks: Option<u16>) -> Resu
 }
 
 // The command's answer to a file, with so many trucks or as many as are wanted.
-fn ask(alloc: Global, text: &str, trucks: Option<u16>, time: Time) -> Result<Answer> {
+fn ask<R: Threads + Wait + Sync>(
+    rt: &R,
+    alloc: Global,
+    text: &str,
+    trucks: Option<u16>,
+    time: Time,
+) -> Result<Answer> {
     if let Some(trucks) = trucks {
         ensure!(1 <= trucks && trucks <= MOST_TRUCKS, "{trucks} trucks");
     }
@@ -187,7 +256,7 @@ fn ask(alloc: Global, text: &str, trucks: Option<u16>, time: Time) -> Result<Ans
         Time::Enough => enough,
     };
     let mut printed = Vec::new(alloc);
-    let outcome = run(alloc, options, &mut text.as_bytes(), &mut printed);
+    let outcome = run(rt, alloc, options, &mut text.as_bytes(), &mut printed);
     Ok(Answer { outcome, printed })
 }
 
