@@ -11,9 +11,10 @@ import re
 import subprocess
 import sys
 import time
-from collections import Counter
+from collections import Counter, namedtuple
 
 from files import damaged, fixed_files, spoilt_file, valid_file
+from hostile import hostile_files
 from slow_judge import MOST_CUSTOMERS, fault
 from slow_reader import outcome
 
@@ -22,6 +23,8 @@ PROGRAM = os.path.join(TOP, "crates", "cvrp", "out", "cvrp")
 NOT_BUILT = 70
 # How many seconds the program has: where the file is refused or has few customers, and where it has many.
 LONG, SHORT = 60, 1
+# The least budget that always proves a file of few customers.
+AMPLE = 10_000_000
 # How many differences are shown.
 SHOWN = 10
 
@@ -38,11 +41,33 @@ def some_file(seed, index):
     return damaged(dice, data), None
 
 
-def run(data, seconds):
+# The options of a run. Without a budget, a depot or a limit on trucks the program takes its own.
+Options = namedtuple("Options", "workers pieces budget depot trucks")
+
+
+def some_options(data):
+    """Some options, the same ones for the same file. Half of the files have no more than workers and pieces."""
+    dice = random.Random(data)
+    workers, pieces = dice.choice([1, 2, 3, 8]), dice.choice([1, 2, 64, 1000])
+    if dice.randrange(2) == 0:
+        return Options(workers, pieces, None, None, None)
+    budget = dice.choice([None, None, 1, 10, 1_000, 10_000_000])
+    depot = dice.choice([None, None, 1, 2, 3, dice.randint(1, 1_200)])
+    trucks = dice.choice([None, None, 1, 2, 3, dice.randint(1, 1_200)])
+    return Options(workers, pieces, budget, depot, trucks)
+
+
+def words(options):
+    """The words of a command line that ask for these options."""
+    pairs = [(f"--{name}", str(value)) for name, value in options._asdict().items() if value is not None]
+    return [word for pair in pairs for word in pair]
+
+
+def run(data, options, seconds):
     """What the program does with a file: exit status, standard output, standard error. It is killed after so many seconds,
     and has no status then."""
     try:
-        ended = subprocess.run([PROGRAM], input=data, capture_output=True, timeout=seconds)
+        ended = subprocess.run([PROGRAM] + words(options), input=data, capture_output=True, timeout=seconds)
     except subprocess.TimeoutExpired as killed:
         return None, killed.stdout or b"", killed.stderr or b""
     return ended.returncode, ended.stdout, ended.stderr
@@ -57,21 +82,24 @@ def same(one, other):
     return all(one.weight(i, j) == other.weight(i, j) for i, j in pairs)
 
 
-def refused(data, refusal):
+def refused(data, options, refusal):
     """A file to be refused: its kind, which is the refusal without its numbers, what is wrong, and what the program did."""
-    found = run(data, LONG)
+    found = run(data, options, LONG)
     kind = re.sub(r"(?<![A-Z_])-?[0-9]+", "N", refusal)
     right = found == (3, b"", f"cvrp: {refusal}\n".encode())
     return kind, None if right else f"it has to be refused: {refusal}", found
 
 
-def solved(data, problem):
+def solved(data, options, problem):
     """A file to be solved: the same."""
     few = len(problem.customers) <= MOST_CUSTOMERS
-    found = run(data, LONG if few else SHORT)
+    found = run(data, options, LONG if few else SHORT)
     if found == (None, b"", b"") and not few:
         return "(not waited for)", None, found
-    return "(solved, few customers)" if few else "(solved, many customers)", fault(problem, *found), found
+    kind = "few customers" if few else "many customers"
+    is_open = re.search(rb"^Open ", found[1], re.MULTILINE) is not None
+    ample = options.budget is None or options.budget >= AMPLE
+    return f"({'open' if is_open else 'solved'}, {kind})", fault(problem, *found, options.trucks, ample), found
 
 
 def compare(job):
@@ -80,11 +108,14 @@ def compare(job):
     made = None
     if data is None:
         data, made = some_file(seed, index)
-    problem, refusal = outcome(data)
-    kind, wrong, found = refused(data, refusal) if problem is None else solved(data, problem)
-    if made is not None and (problem is None or not same(made, problem)):
-        wrong = "the slow reader and the maker of the file differ"
-    return kind, wrong and (index, data, wrong, found)
+    options = some_options(data)
+    problem, refusal = outcome(data, options.depot)
+    kind, wrong, found = refused(data, options, refusal) if problem is None else solved(data, options, problem)
+    if made is not None:
+        problem, _ = outcome(data)
+        if problem is None or not same(made, problem):
+            wrong = "the slow reader and the maker of the file differ"
+    return kind, wrong and (index, data, options, wrong, found)
 
 
 def main():
@@ -95,7 +126,7 @@ def main():
     launched = subprocess.run([os.path.join(TOP, "cvrp")], stdin=subprocess.DEVNULL, capture_output=True)
     if launched.returncode == NOT_BUILT:
         sys.exit(launched.stderr.decode())
-    jobs = [("fixed", index, data) for index, data in enumerate(fixed_files())]
+    jobs = [("fixed", index, data) for index, data in enumerate(fixed_files() + hostile_files())]
     jobs += [(seed, index, None) for index in range(count)]
     begun = time.monotonic()
     kinds, differences = Counter(), []
@@ -104,8 +135,8 @@ def main():
             kinds[kind] += 1
             if difference:
                 differences.append(difference)
-    for index, data, wrong, found in sorted(differences, key=lambda difference: len(difference[1]))[:SHOWN]:
-        print(f"file {index}: {wrong}\n  bytes: {data[:3000]!r}\n  found: {found}")
+    for index, data, options, wrong, found in sorted(differences, key=lambda difference: len(difference[1]))[:SHOWN]:
+        print(f"file {index}: {wrong}\n  bytes: {data[:3000]!r}\n  words: {words(options)}\n  found: {found}")
     for kind, times in kinds.most_common():
         print(f"{times:8} {kind}")
     print(f"{len(jobs)} files, seed {seed}, {round(time.monotonic() - begun)} seconds: {len(differences)} differences")

@@ -14,15 +14,15 @@ REPORT = rb"((?:Route #[0-9]+:(?: [0-9]+)+\n)*)Cost ([0-9]+)\n(?:Proven|Open ([0
 REPORT_WITHOUT_PLAN = rb"(?:NoPlan|Open ([0-9]+))\n"
 
 
-def fault(problem, status, printed, error, trucks=None):
+def fault(problem, status, printed, error, trucks=None, ample=True):
     """What is wrong with an exit status, standard output and standard error, or None. There are so many trucks, or as many as
-    are wanted."""
+    are wanted. With an ample budget a problem of few customers has to be solved."""
     if error != b"":
         return "no report"
     missing = re.fullmatch(REPORT_WITHOUT_PLAN, printed)
     if missing is not None:
         lower = None if missing.group(1) is None else int(missing.group(1))
-        return fault_without_plan(problem, status, printed, lower, trucks)
+        return fault_without_plan(problem, status, printed, lower, trucks, ample)
     found = re.fullmatch(REPORT, printed)
     if found is None:
         return "no report"
@@ -52,15 +52,15 @@ def fault(problem, status, printed, error, trucks=None):
     if lower is not None and lower > cost:
         return "the lower bound is above the cost"
     if len(problem.customers) <= MOST_CUSTOMERS:
-        if lower is not None:
+        if lower is not None and ample:
             return "few customers, and nothing proved"
         least = least_cost(problem, trucks)
-        if cost != least:
+        if least is None or not (cost if lower is None else lower) <= least <= cost:
             return f"the least cost is {least}"
     return None
 
 
-def fault_without_plan(problem, status, printed, lower, trucks):
+def fault_without_plan(problem, status, printed, lower, trucks, ample):
     """What is wrong with a report that has no plan, or None: no number stands for NoPlan."""
     if has_trucks_for_each(problem, trucks):
         return "no plan, and there is a truck for each customer"
@@ -71,10 +71,10 @@ def fault_without_plan(problem, status, printed, lower, trucks):
     if lower is not None and lower > NO_COST:
         return "the lower bound is above what a missing plan counts as"
     if len(problem.customers) <= MOST_CUSTOMERS:
-        if lower is not None:
+        if lower is not None and ample:
             return "few customers, and nothing proved"
         least = least_cost(problem, trucks)
-        if least is not None:
+        if least is not None and (lower is None or least < lower):
             return f"there is a plan of cost {least}"
     return None
 

@@ -274,13 +274,14 @@ def weight_function(reading):
     return lambda i, j: distance(values[b"EDGE_WEIGHT_TYPE"], points[i], points[j])
 
 
-def problem_of(n, depots, demands, capacity, weight):
-    """The problem with the first of the depots."""
-    return Problem(depots[0], [node for node in range(1, n + 1) if node not in depots], demands, capacity, weight)
+def problem_of(n, depots, demands, capacity, weight, chosen=None):
+    """The problem with the chosen one of the depots, or the first of them."""
+    depot = depots[0] if chosen is None else chosen
+    return Problem(depot, [node for node in range(1, n + 1) if node not in depots], demands, capacity, weight)
 
 
-def problem(data):
-    """The problem that a file means; or else the refusal."""
+def problem(data, chosen):
+    """The problem that a file means with the chosen depot, if one is; or else the refusal."""
     if len(data) > MOST_BYTES:
         raise Refused("input too long")
     reading = values_of(data)
@@ -299,15 +300,17 @@ def problem(data):
     for node in range(1, n + 1):
         if node in depots and demands[node] != 0:
             raise Refused(f"node {node}: a depot has a demand")
+    if chosen is not None and chosen not in depots:
+        raise Refused(f"node {chosen}: not a depot")
     for node in range(1, n + 1):
         if node not in depots and demands[node] > values[b"CAPACITY"]:
             raise Refused(f"node {node}: demand above capacity")
-    return problem_of(n, depots, demands, values[b"CAPACITY"], weight_function(reading))
+    return problem_of(n, depots, demands, values[b"CAPACITY"], weight_function(reading), chosen)
 
 
-def outcome(data):
-    """The problem that a file means and None, or None and the text of its refusal."""
+def outcome(data, chosen=None):
+    """The problem that a file means and None, or None and the text of its refusal. A depot may be chosen."""
     try:
-        return problem(data), None
+        return problem(data, chosen), None
     except Refused as fault:
         return None, str(fault)
