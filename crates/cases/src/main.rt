@@ -1,9 +1,9 @@
-//! Instances whose cheapest plan is known, over four cuttings of the tree each, by one, two and eight workers. A word of the
-//! command line is a file, a file and a number of trucks, as `P-n16-k8.vrp/8`, or a file and what a cheapest plan costs, as
-//! `P-n16-k8.vrp:450`. With no cost the file is solved, and each line has the number of pieces that were asked for and the end of the
-//! report: the cost and the verdict, or that there is no plan; a last line says how many different reports there were, whoever
-//! worked. With a cost the search is given little, and each line says whether that cost lies between the bound and the cost that
-//! are printed.
+//! Instances whose cheapest plan is known, over several cuttings of the tree each. A word of the command line is a file, a file and a
+//! number of trucks, as `P-n16-k8.vrp/8`, or a file and what a cheapest plan costs, as `P-n16-k8.vrp:450`. With no cost the file is
+//! solved by several workers, and without a limit on trucks by one alone too, and each line has the number of pieces that were asked
+//! for and the end of the report: the cost and the verdict, or that there is no plan; a last line says how many different reports
+//! there were, whoever worked. With a cost the search is given little, and each line says whether that cost lies between the bound
+//! and the cost that are printed.
 #![tactic(auto)]
 
 use anyhow::{Context, Result, ensure};
@@ -20,8 +20,8 @@ const MAX_TRUCKS: u16 = 1_200;
 // The whole tree; the fewest cuts; the pieces of a plain run; as many pieces as may be asked for.
 const CUTTINGS: [u32; 4] = [1, 2, 64, MAX_PIECES];
 
-// One worker; two; more than most machines have processors.
-const CREWS: [u32; 3] = [1, 2, 8];
+// With little to spend on each piece, tables for each of very many would take minutes.
+const FEW_CUTTINGS: [u32; 3] = [1, 2, 64];
 
 // More partial plans than the search looks at in any tree that it is to look through.
 const AMPLE: u64 = 1_000_000_000;
@@ -60,18 +60,33 @@ fn print_endings<R: Files + Print + AllocGlobal + Threads + Wait + Sync>(
 ) -> Result<()> {
     let mut reports: Vec<Vec<u8>> = Vec::new(rt.alloc());
     for pieces in CUTTINGS {
-        for workers in CREWS {
-            let report = report(rt, name, trucks, workers, pieces, AMPLE)?;
-            if workers == 1 {
-                let ending = last_two(rt.alloc(), str::from_utf8(&report)?)?;
-                println!(rt; "{word}, {pieces} pieces: {ending}")?;
-            }
-            if !reports.contains(&report) {
-                reports.push(report)?;
-            }
+        let by_crew = report(rt, name, trucks, crew(pieces), pieces, AMPLE)?;
+        let ending = last_two(rt.alloc(), str::from_utf8(&by_crew)?)?;
+        println!(rt; "{word}, {pieces} pieces: {ending}")?;
+        note(&mut reports, by_crew)?;
+        if trucks.is_none() {
+            let by_one = report(rt, name, None, 1, pieces, AMPLE)?;
+            note(&mut reports, by_one)?;
         }
     }
     println!(rt; "{word}: {} report", reports.len())?;
+    Ok(())
+}
+
+// How many workers search so many pieces.
+fn crew(pieces: u32) -> u32 {
+    match pieces {
+        1 => 8,
+        64 => 4,
+        _ => 2,
+    }
+}
+
+// Takes a report down that is not there yet.
+fn note(reports: &mut Vec<Vec<u8>>, report: Vec<u8>) -> Result<()> {
+    if !reports.contains(&report) {
+        reports.push(report)?;
+    }
     Ok(())
 }
 
@@ -81,7 +96,7 @@ fn print_ranges<R: Files + Print + AllocGlobal + Threads + Wait + Sync>(
     name: &str,
     least: u64,
 ) -> Result<()> {
-    for pieces in CUTTINGS {
+    for pieces in FEW_CUTTINGS {
         let report = report(rt, name, None, 1, pieces, LITTLE)?;
         let range = read_range(last_two(rt.alloc(), str::from_utf8(&report)?)?.as_str())?;
         let lies = if range.lower <= least && least <= range.cost {
