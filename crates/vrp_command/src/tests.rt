@@ -7,6 +7,7 @@ mod limits;
 mod lines;
 mod outcomes;
 mod plans;
+mod runs;
 mod trucks;
 
 use crate::{MAX_BUDGET, MAX_PIECES, Options, RunError, Status, run};

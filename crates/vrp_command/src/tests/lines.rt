@@ -1,17 +1,11 @@
-//! Command lines: what they ask for, how they are refused, and runs by their words.
-use super::trucks::THREE;
-use super::{REPORT, SMALL, run_as};
+//! Command lines: what they ask for, and how they are refused.
 use crate::{
-    LineFault, MAX_BUDGET, MAX_PIECES, MAX_WORKERS, Options, RunError, Status, line_status,
-    not_text, parse_words,
+    LineFault, MAX_BUDGET, MAX_PIECES, MAX_WORKERS, Options, line_status, not_text, parse_words,
 };
 use std::alloc::Global;
 use std::process::Abort;
-use std::sync::Wait;
 use std::test::*;
-use std::thread::Threads;
-use vrp_model::{InstanceError, MAX_NODES};
-use vrp_text::TextError;
+use vrp_model::MAX_NODES;
 
 // What a table says of words that give options.
 const DEFAULT: Options = Options {
@@ -286,82 +280,4 @@ fn statuses(rt: HostRuntime) {
     assert_eq!(rt; line_status(&LineFault::OutOfMemory), 4);
     let fault = not_text(rt.alloc());
     assert_eq!(rt; line_status(&fault), 2);
-}
-
-// Asserts how a run over a text ends that is asked for by these words, and all that it writes.
-fn assert_run_by<R: Abort + Threads + Wait + Sync>(
-    rt: &R,
-    alloc: Global,
-    words: &[&str],
-    text: &str,
-    wanted: Result<Status, RunError>,
-    report: &str,
-) {
-    match parse_words(alloc, words) {
-        Ok(options) => {
-            let (outcome, written) = run_as(rt, alloc, text.as_bytes(), options);
-            assert_eq!(rt; outcome, wanted, "{words:?}");
-            assert_eq!(rt; written.as_slice(), report.as_bytes(), "{words:?}");
-        }
-        Err(_) => assert!(rt; false, "{words:?} gives no options"),
-    }
-}
-
-#[test]
-fn runs_by_budget(rt: HostRuntime) {
-    let open = "Route #1: 2\nRoute #2: 3\nCost 30\nOpen 20\n";
-    let one = ["--budget", "1", "--pieces", "1"];
-    let many = ["--budget", "1", "--pieces", "65536"];
-    assert_run_by(&rt, rt.alloc(), &one, SMALL, Ok(Status::Open), open);
-    assert_run_by(&rt, rt.alloc(), &many, SMALL, Ok(Status::Proven), REPORT);
-    assert_run_by(&rt, rt.alloc(), &[], SMALL, Ok(Status::Proven), REPORT);
-}
-
-// Two depots are listed, a customer's step apart.
-const DEPOTS: &str =
-    "TYPE : CVRP\nDIMENSION : 3\nEDGE_WEIGHT_TYPE : EUC_2D\nCAPACITY : 2\nNODE_COORD_SECTION\n1 0 0\n2 3 4\n3 6 8\nDEMAND_SECTION\n1 0\n2 0\n3 1\nDEPOT_SECTION\n1 2\n-1\nEOF\n";
-
-#[test]
-fn runs_by_depot(rt: HostRuntime) {
-    let near = "Route #1: 3\nCost 10\nProven\n";
-    let far = "Route #1: 3\nCost 20\nProven\n";
-    let no_depot = RunError::Text(TextError::Instance(InstanceError::NotADepot(3)));
-    assert_run_by(
-        &rt,
-        rt.alloc(),
-        &["--depot", "2"],
-        DEPOTS,
-        Ok(Status::Proven),
-        near,
-    );
-    assert_run_by(&rt, rt.alloc(), &[], DEPOTS, Ok(Status::Proven), far);
-    assert_run_by(
-        &rt,
-        rt.alloc(),
-        &["--depot", "3"],
-        DEPOTS,
-        Err(no_depot),
-        "",
-    );
-}
-
-#[test]
-fn runs_by_trucks(rt: HostRuntime) {
-    let three = "Route #1: 2\nRoute #2: 3\nRoute #3: 4\nCost 12\nProven\n";
-    assert_run_by(
-        &rt,
-        rt.alloc(),
-        &["--trucks", "2"],
-        THREE,
-        Ok(Status::NoPlan),
-        "NoPlan\n",
-    );
-    assert_run_by(
-        &rt,
-        rt.alloc(),
-        &["--trucks", "3"],
-        THREE,
-        Ok(Status::Proven),
-        three,
-    );
 }

@@ -8,7 +8,7 @@ use std::test::*;
 use std::thread::Threads;
 
 // Three nodes, where it matters which way a road is taken.
-const ONE_WAY: &str =
+pub(crate) const ONE_WAY: &str =
     "TYPE : CVRP\nDIMENSION : 3\nEDGE_WEIGHT_TYPE : EXPLICIT\nEDGE_WEIGHT_FORMAT : FULL_MATRIX\nCAPACITY : 2\nEDGE_WEIGHT_SECTION\n0 1 9\n9 0 1\n1 9 0\nDEMAND_SECTION\n1 0\n2 1\n3 1\nDEPOT_SECTION\n1\n-1\nEOF\n";
 
 // Three nodes, where the cheap way serves the second customer first.
@@ -16,7 +16,7 @@ const SECOND_FIRST: &str =
     "TYPE : CVRP\nDIMENSION : 3\nEDGE_WEIGHT_TYPE : EXPLICIT\nEDGE_WEIGHT_FORMAT : FULL_MATRIX\nCAPACITY : 2\nEDGE_WEIGHT_SECTION\n0 9 1\n1 0 1\n20 1 0\nDEMAND_SECTION\n1 0\n2 1\n3 1\nDEPOT_SECTION\n1\n-1\nEOF\n";
 
 // The small file with a fourth node, which has no demand and lies a step from the depot.
-const FOUR: &str =
+pub(crate) const FOUR: &str =
     "TYPE : CVRP\nDIMENSION : 4\nEDGE_WEIGHT_TYPE : EUC_2D\nCAPACITY : 2\nNODE_COORD_SECTION\n1 0 0\n2 3 4\n3 6 8\n4 0 1\nDEMAND_SECTION\n1 0\n2 1\n3 1\n4 0\nDEPOT_SECTION\n1\n-1\nEOF\n";
 
 // The small file with such demands that the table of ways home would be too large: a bound looks through the walks and tours.
