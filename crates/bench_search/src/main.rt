@@ -1,13 +1,18 @@
-//! How fast the search looks: it searches the tree of the instance in a CVRP file, as one piece, till its budget is spent.
-//! Both are named on the command line. What it found goes to standard output, and how long it took to standard error. With a third
-//! word it starts as the command does: with a plan by savings.
+//! How fast the search looks: it searches the tree of the instance in a CVRP file, till its budget is spent. Both are named on the
+//! command line. What it found goes to standard output, and how long it took to standard error. More words may follow: the first plan
+//! (`singles`, or `savings` as the command has it), how many pieces the tree is cut into (1), and whose tables a piece is searched
+//! with (`all`, or `own` as the command does).
 #![tactic(auto)]
 
 ghost use Rattle.std.specs.Prelude.{◌≡◌, ◌≤◌, IfOk};
 ghost use Rattle.std.specs.Option.{ForSome};
 ghost use Rattle.vrp_model.specs.Problem.{customers};
 ghost use Rattle.vrp_model.specs.Route.{IsPlanOf};
+ghost use Rattle.vrp_search.specs.declared.cutting.TheConstants.{MAX_PIECES};
 
+mod pieces;
+
+use crate::pieces::{Whose, search_pieces};
 use anyhow::{Context, Result, ensure};
 use std::alloc::Global;
 use std::rt::{Clock, Files};
@@ -16,16 +21,40 @@ use std::{env, fs};
 use vrp_bound::Tables;
 use vrp_model::{Instance, NoMemory, Plan};
 use vrp_savings::savings_plan;
-use vrp_search::{Cutting, Ended, Local, search};
+use vrp_search::{Cutting, Local, MAX_PIECES};
+
+// How an instance is searched.
+#[derive(Clone, Copy)]
+struct Way {
+    budget: u64,
+    by_savings: bool,
+    pieces: u32,
+    whose: Whose,
+}
 
 fn main(rt: HostRuntime) -> Result<()> {
     let mut words = env::args(&rt)?.skip(1);
     let name = words.next().context("no file is named")?;
     let budget = words.next().context("no budget is named")?.parse::<u64>()?;
     ensure!(budget >= 1, "the budget is 0");
-    let by_savings = words.next().is_some();
+    let by_savings = words.next().is_some_and(|word| word.as_str() == "savings");
+    let pieces = match words.next() {
+        Some(word) => word.parse::<u32>()?,
+        None => 1,
+    };
+    ensure!(pieces <= MAX_PIECES, "{pieces} pieces");
+    let whose = match words.next() {
+        Some(word) if word.as_str() == "own" => Whose::Own,
+        _ => Whose::All,
+    };
     let instance = read(&rt, name.as_str())?;
-    measure(&rt, name.as_str(), &instance, by_savings, budget)
+    let way = Way {
+        budget,
+        by_savings,
+        pieces,
+        whose,
+    };
+    measure(&rt, name.as_str(), &instance, way)
 }
 
 // The plan that the search starts with, if there is one: one truck for each customer, or a plan by savings.
@@ -54,19 +83,18 @@ fn measure<R: Clock + Print + Eprint + AllocGlobal>(
     rt: &R,
     name: &str,
     instance: &Instance,
-    by_savings: bool,
-    budget: u64,
+    way: Way,
 ) -> Result<()>
-    requires { 1 ≤ budget }
+    requires budget { 1 ≤ way.budget }
+    requires pieces { way.pieces ≤ MAX_PIECES }
 {
-    let mut board = Local::open(first_plan(rt.alloc(), instance, by_savings)?);
+    let mut board = Local::open(first_plan(rt.alloc(), instance, way.by_savings)?);
     let start = Instant::now(rt)?;
     let tables = Tables::over_all(rt.alloc(), instance)?;
     let tables_time = start.elapsed(rt)?;
     let start = Instant::now(rt)?;
-    let ended = search_all(rt.alloc(), instance, &tables, budget, &mut board)?;
+    let looked = search_all(rt.alloc(), instance, &tables, way, &mut board)?;
     let time = start.elapsed(rt)?;
-    let looked = looked_at(&ended);
     let cost = board.plan().context("no plan")?.cost();
     println!(rt; "{name}: {looked} partial plans looked at, cost {cost}")?;
     print_rate(rt, looked, time)?;
@@ -74,27 +102,24 @@ fn measure<R: Clock + Print + Eprint + AllocGlobal>(
     Ok(())
 }
 
-// Searches the whole tree as one piece.
+// Cuts the tree and searches all pieces, and answers how many partial plans were looked at.
 fn search_all(
     alloc: Global,
     instance: &Instance,
     tables: &Tables<'_>,
-    budget: u64,
+    way: Way,
     board: &mut Local,
-) -> Result<Ended, NoMemory>
-    requires tables { tables.now.problem ≡ instance.now }
-    requires all { tables.now.among ≡ customers instance.now }
+) -> Result<u64, NoMemory>
+    requires tables { tables.now ≡ record { problem = instance.now; among = customers instance.now } }
     requires board { ForSome board.old (IsPlanOf instance.now) }
-    requires budget { 1 ≤ budget }
+    requires budget { 1 ≤ way.budget }
+    requires pieces { way.pieces ≤ MAX_PIECES }
 {
-    let cutting = Cutting::whole(alloc, instance)?;
-    search(alloc, instance, tables, &cutting.pieces()[0], budget, board)
-}
-
-fn looked_at(ended: &Ended) -> u64 {
-    match ended {
-        Ended::Finished { spent, .. } | Ended::Unfinished { spent, .. } => *spent,
-    }
+    let mut cutting = Cutting::whole(alloc, instance)?;
+    cutting.at_least(alloc, instance, way.pieces)?;
+    search_pieces(
+        alloc, instance, tables, &cutting, way.whose, way.budget, board,
+    )
 }
 
 // Prints the time, and the rate in millions a second, to its first place behind the point.

@@ -1,0 +1,98 @@
+//! The search of all pieces of a cutting, one after the other.
+ghost use Rattle.std.specs.Prelude.{◌≡◌, ◌≤◌, IfOk};
+ghost use Rattle.std.specs.Option.{ForSome};
+ghost use Rattle.vrp_model.specs.Problem.{customers};
+ghost use Rattle.vrp_model.specs.Route.{IsPlanOf};
+ghost use Rattle.vrp_model.specs.Word.{IsFront, unserved_in};
+ghost use Rattle.vrp_search.specs.Cutting.{IsCutting};
+
+use std::alloc::Global;
+use vrp_bound::Tables;
+use vrp_model::{Instance, NoMemory};
+use vrp_search::{Cutting, Ended, Local, Piece, search};
+
+// As many partial plans as the command's first look at a piece.
+const FIRST_LOOK: u64 = 5_000;
+
+/// Which tables a piece is searched with.
+#[derive(Clone, Copy, PartialEq)]
+pub(crate) enum Whose {
+    /// Those over all customers.
+    All,
+    /// After a first look with those, as the command does, the piece's own: over the customers that it leaves unserved.
+    Own,
+}
+
+/// Searches each piece with this budget, with tables over all customers or its own, and answers how many partial plans were looked at.
+pub(crate) fn search_pieces(
+    alloc: Global,
+    instance: &Instance,
+    tables: &Tables<'_>,
+    cutting: &Cutting,
+    whose: Whose,
+    budget: u64,
+    board: &mut Local,
+) -> Result<u64, NoMemory>
+    requires tables { tables.now ≡ record { problem = instance.now; among = customers instance.now } }
+    requires cutting { IsCutting instance.now cutting.now }
+    requires board { ForSome board.old (IsPlanOf instance.now) }
+    requires budget { 1 ≤ budget }
+{
+    let mut looked: u64 = 0;
+    for piece in cutting.pieces() {
+        let spent = search_piece(alloc, instance, tables, piece, whose, budget, board)?;
+        looked = looked.saturating_add(spent);
+    }
+    Ok(looked)
+}
+
+// Searches a piece, and answers how many partial plans were looked at.
+fn search_piece(
+    alloc: Global,
+    instance: &Instance,
+    tables: &Tables<'_>,
+    piece: &Piece,
+    whose: Whose,
+    budget: u64,
+    board: &mut Local,
+) -> Result<u64, NoMemory>
+    requires tables { tables.now ≡ record { problem = instance.now; among = customers instance.now } }
+    requires front { IsFront instance.now piece.now.word }
+    requires board { ForSome board.old (IsPlanOf instance.now) }
+    requires budget { 1 ≤ budget }
+    ensures { ForSome board.new (IsPlanOf instance.now) }
+{
+    let first_budget = match whose {
+        Whose::All => budget,
+        Whose::Own => budget.min(FIRST_LOOK),
+    };
+    let looked = match search(alloc, instance, tables, piece, first_budget, board)? {
+        Ended::Finished { spent, .. } => return Ok(spent),
+        Ended::Unfinished { spent, .. } => spent,
+    };
+    if whose == Whose::All {
+        return Ok(looked);
+    }
+    let tables = own_tables(alloc, instance, piece)?;
+    let ended = search(alloc, instance, &tables, piece, budget, board)?;
+    Ok(looked.saturating_add(looked_at(&ended)))
+}
+
+// Tables over the customers that a piece leaves unserved.
+fn own_tables<'a>(
+    alloc: Global,
+    instance: &'a Instance,
+    piece: &Piece,
+) -> Result<Tables<'a>, NoMemory>
+    requires { IsFront instance.now piece.now.word }
+    ensures { IfOk result (λ tables. tables ≡ record { problem = instance.now; among = unserved_in instance.now piece.now.word }) }
+{
+    let unserved = piece.unserved(alloc, instance)?;
+    Tables::build(alloc, instance, &unserved)
+}
+
+fn looked_at(ended: &Ended) -> u64 {
+    match ended {
+        Ended::Finished { spent, .. } | Ended::Unfinished { spent, .. } => *spent,
+    }
+}
