@@ -15,6 +15,7 @@ from collections import Counter, namedtuple
 
 from files import damaged, fixed_files, spoilt_file, valid_file
 from hostile import hostile_files
+from large import MOST_PIECES, large_files
 from slow_judge import MOST_CUSTOMERS, fault
 from slow_reader import outcome
 
@@ -55,6 +56,11 @@ def some_options(data):
     depot = dice.choice([None, None, 1, 2, 3, dice.randint(1, 1_200)])
     trucks = dice.choice([None, None, 1, 2, 3, dice.randint(1, 1_200)])
     return Options(workers, pieces, budget, depot, trucks)
+
+
+def large_options(data, budget):
+    """The options of a file of large capacity: some workers, as many pieces as there may be, and this budget."""
+    return Options(some_options(data).workers, MOST_PIECES, budget, None, None)
 
 
 def words(options):
@@ -104,11 +110,11 @@ def solved(data, options, problem):
 
 def compare(job):
     """One file: what kind of outcome it has, and what differs."""
-    seed, index, data = job
+    seed, index, data, options = job
     made = None
     if data is None:
         data, made = some_file(seed, index)
-    options = some_options(data)
+    options = options or some_options(data)
     problem, refusal = outcome(data, options.depot)
     kind, wrong, found = refused(data, options, refusal) if problem is None else solved(data, options, problem)
     if made is not None:
@@ -126,8 +132,9 @@ def main():
     launched = subprocess.run([os.path.join(TOP, "cvrp")], stdin=subprocess.DEVNULL, capture_output=True)
     if launched.returncode == NOT_BUILT:
         sys.exit(launched.stderr.decode())
-    jobs = [("fixed", index, data) for index, data in enumerate(fixed_files() + hostile_files())]
-    jobs += [(seed, index, None) for index in range(count)]
+    jobs = [("fixed", index, data, None) for index, data in enumerate(fixed_files() + hostile_files())]
+    jobs += [("large", index, data, large_options(data, budget)) for index, (data, budget) in enumerate(large_files(seed))]
+    jobs += [(seed, index, None, None) for index in range(count)]
     begun = time.monotonic()
     kinds, differences = Counter(), []
     with multiprocessing.Pool(processes) as pool:

@@ -1,7 +1,7 @@
 //! How fast the search looks: it searches the tree of the instance in a CVRP file, till its budget is spent. Both are named on the
 //! command line. What it found goes to standard output, and how long it took to standard error. More words may follow: the first plan
 //! (`singles`, or `savings` as the command has it), how many pieces the tree is cut into (1), and whose tables a piece is searched
-//! with (`all`, or `own` as the command does).
+//! with (`all` as the command does, or `own`).
 #![tactic(auto)]
 
 ghost use Rattle.std.specs.Prelude.{◌≡◌, ◌≤◌, IfOk};

@@ -11,7 +11,7 @@ use vrp_bound::Tables;
 use vrp_model::{Instance, NoMemory};
 use vrp_search::{Cutting, Ended, Local, Piece, search};
 
-// As many partial plans as the command's first look at a piece.
+// How many partial plans of a piece are looked at before it gets tables of its own.
 const FIRST_LOOK: u64 = 5_000;
 
 /// Which tables a piece is searched with.
@@ -19,7 +19,7 @@ const FIRST_LOOK: u64 = 5_000;
 pub(crate) enum Whose {
     /// Those over all customers.
     All,
-    /// After a first look with those, as the command does, the piece's own: over the customers that it leaves unserved.
+    /// After a first look with those, the piece's own: over the customers that it leaves unserved.
     Own,
 }
 

@@ -20,7 +20,7 @@ const MAX_TRUCKS: u16 = 1_200;
 // The whole tree; the fewest cuts; the pieces of a plain run; as many pieces as may be asked for.
 const CUTTINGS: [u32; 4] = [1, 2, 64, MAX_PIECES];
 
-// With little to spend on each piece, tables for each of very many would take minutes.
+// The same but for the finest, where little is to be spent on each piece.
 const FEW_CUTTINGS: [u32; 3] = [1, 2, 64];
 
 // More partial plans than the search looks at in any tree that it is to look through.

@@ -2,6 +2,7 @@ pub mod BothBounds
 pub mod CapacityBelow
 pub mod CellAnswers
 pub mod Exchange
+pub mod FewerCustomers
 pub mod FilledTables
 pub mod FirstStep
 pub mod FirstTour

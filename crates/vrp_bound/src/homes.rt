@@ -17,9 +17,37 @@ const SMALL_MARK: u32 = 1_000_000_000;
 // How many cells the table may have.
 const MOST_CELLS: usize = 64_000_000;
 
+/// How often tables are looked into.
+#[derive(Clone, Copy)]
+pub(crate) enum Looks {
+    /// So often that the table of the ways home pays.
+    Many,
+    Few,
+}
+
+/// The table of the ways home, where it pays and can be made.
+pub(crate) fn homes_for(
+    looks: Looks,
+    alloc: Global,
+    scope: UnitScope<'_>,
+    walks: &[u64],
+    tours: &[u64],
+    room: u64,
+) -> Result<Option<Vec<u32>>, NoMemory>
+    requires walks { AreWalks (in_units scope.unit scope.instance.now) scope.customers.now walks.now }
+    requires tours { AreTours (in_units scope.unit scope.instance.now) scope.customers.now tours.now }
+    requires room { room ≡ room_of (in_units scope.unit scope.instance.now) scope.customers.now }
+    ensures { IfOk result (λ cells. IfSome cells (λ homes. AreHomes (in_units scope.entry.unit scope.entry.instance.now) scope.entry.customers.now homes.items)) }
+{
+    match looks {
+        Looks::Many => homes(alloc, scope, walks, tours, room),
+        Looks::Few => Ok(None),
+    }
+}
+
 /// The cells, by place, of each place by room, and of each room by rest. `None` where there would be too many cells, or a
 /// cost is too large for one.
-pub(crate) fn homes(
+fn homes(
     alloc: Global,
     scope: UnitScope<'_>,
     walks: &[u64],

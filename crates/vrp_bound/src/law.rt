@@ -2,11 +2,12 @@
 ghost use Rattle.std.specs.Prelude.{◌≡◌, ℕ, ◌+◌, ◌≤◌, Option, MatchOption, List, ◌++◌};
 ghost use Rattle.std.specs.List.{All, Contains};
 ghost use Rattle.vrp_model.specs.Front.{open_load, routes_left};
-ghost use Rattle.vrp_model.specs.Problem.{IsProblem, Problem};
+ghost use Rattle.vrp_model.specs.Problem.{IsProblem, Problem, customers};
 ghost use Rattle.vrp_model.specs.Route.{load_of};
-ghost use Rattle.vrp_model.specs.Word.{IsLawfulWord, last_symbol, unserved_in, word_cost};
+ghost use Rattle.vrp_model.specs.Word.{IsFront, IsLawfulWord, last_symbol, unserved_in, word_cost};
 ghost use Rattle.vrp_bound.specs.Bound.{IsLowerBound};
 ghost use Rattle.vrp_bound.specs.Capacity.{CanCarry, IsCapacityBound, IsInsOf};
+ghost use Rattle.vrp_bound.specs.Tables.{IsBound};
 ghost use Rattle.vrp_bound.specs.TreeBound.{IsTreeBound};
 ghost use Rattle.vrp_bound.specs.Walk.{IsRelaxed, relaxed_cost};
 
@@ -46,4 +47,12 @@ pub fn one_tree_bound()
 pub fn trucks_left_carry()
     ensures { (p : Problem) (front more : List ℕ) → IsProblem p → IsLawfulWord p (front ++ more)
         → CanCarry p (last_symbol front) (open_load p front) (load_of p (unserved_in p front)) (routes_left p front) }
+{}
+
+/// Tables over those customers alone that a front leaves unserved bound no lower there than tables over all customers.
+pub fn fewer_customers()
+    ensures { (p : Problem) (front : List ℕ) (least : ℕ) (own : Option ℕ) → IsProblem p → IsFront p front
+        → IsBound p (customers p) (last_symbol front) (open_load p front) (load_of p (unserved_in p front)) (Some least)
+        → IsBound p (unserved_in p front) (last_symbol front) (open_load p front) (load_of p (unserved_in p front)) own
+        → (more : ℕ) × (own ≡ Some more) × (least ≤ more) }
 {}

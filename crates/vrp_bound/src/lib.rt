@@ -27,8 +27,8 @@ mod ways;
 pub use capacity::cap_bound;
 pub use greater::bound;
 pub use law::{
-    bounds_hold, capacity_bounds, one_tree_bound, relaxed_completions, tree_bounds,
-    trucks_left_carry,
+    bounds_hold, capacity_bounds, fewer_customers, one_tree_bound, relaxed_completions,
+    tree_bounds, trucks_left_carry,
 };
 pub use tables::Tables;
 pub use tree::TreeRoom;

@@ -44,27 +44,36 @@ impl Quotients {
 }
 
 #[cfg(test)]
+impl Quotients {
+    /// How many amounts are looked up.
+    pub(crate) fn count(&self) -> usize {
+        self.whole.len()
+    }
+}
+
+#[cfg(test)]
 mod tests {
     use super::*;
     use std::test::Fail;
 
     #[test]
     fn looked_up_and_divided(rt: HostRuntime) -> Result<(), Fail> {
-        // a unit, the greatest amount that is looked up, an amount, and its whole units
+        // a unit, the greatest amount that is looked up, how many are, an amount, and its whole units
         let table = [
-            (1, 100, 99, 99),
-            (1, 0, 1_000_000_000_000, 1_000_000_000_000),
-            (100, 500, 0, 0),
-            (100, 500, 99, 0),
-            (100, 500, 499, 4),
-            (100, 500, 500, 5),
-            (100, 500, 501, 5),
-            (100, 500, 1_000_000_000_000, 10_000_000_000),
-            (7, 0, 20, 2),
+            (1, 100, 0, 99, 99),
+            (1, 0, 0, 1_000_000_000_000, 1_000_000_000_000),
+            (100, 500, 501, 0, 0),
+            (100, 500, 501, 99, 0),
+            (100, 500, 501, 499, 4),
+            (100, 500, 501, 500, 5),
+            (100, 500, 501, 501, 5),
+            (100, 500, 501, 1_000_000_000_000, 10_000_000_000),
+            (7, 0, 1, 20, 2),
         ];
-        for (unit, most, amount, whole) in table {
+        for (unit, most, count, amount, whole) in table {
             assert!(rt; 1 <= unit && most <= 500);
             let quotients = Quotients::up_to(rt.alloc(), unit, most)?;
+            assert_eq!(rt; quotients.count(), count);
             assert_eq!(rt; quotients.whole_units(amount), whole, "{amount} in {unit}");
         }
         Ok(())

@@ -7,7 +7,7 @@ ghost use Rattle.vrp_bound.specs.Inner.Cells.{HasRelaxed, IsLeastCell};
 ghost use Rattle.vrp_bound.specs.Tables.{AreMade, IsBound, TablesOf};
 ghost use Rattle.vrp_bound.specs.Inner.Scope.{IsScope};
 
-use crate::homes::{homes, least_way_home, looked_up};
+use crate::homes::{Looks, homes_for, least_way_home, looked_up};
 use crate::quotients::Quotients;
 use crate::scope::{Scope, are_made, demand_of_all};
 use crate::tours::tours;
@@ -65,9 +65,36 @@ impl<'a> Tables<'a> {
         requires customers { All (Contains (customers instance.now)) unserved.now }
         ensures { IfOk result (λ tables. tables ≡ record { problem = instance.now; among = unserved.now }) }
     {
+        Tables::for_looks(alloc, instance, unserved, Looks::Many)
+    }
+
+    /// The same tables, made in less time and room: each answer takes longer.
+    pub fn for_few_looks(
+        alloc: Global,
+        instance: &'a Instance,
+        unserved: &[u16],
+    ) -> Result<Tables<'a>, NoMemory>
+        requires rising { IsStrictlyIncreasing unserved.now }
+        requires customers { All (Contains (customers instance.now)) unserved.now }
+        ensures { IfOk result (λ tables. tables ≡ record { problem = instance.now; among = unserved.now }) }
+    {
+        Tables::for_looks(alloc, instance, unserved, Looks::Few)
+    }
+
+    // Tables over these customers, for so many looks.
+    fn for_looks(
+        alloc: Global,
+        instance: &'a Instance,
+        unserved: &[u16],
+        looks: Looks,
+    ) -> Result<Tables<'a>, NoMemory>
+        requires rising { IsStrictlyIncreasing unserved.now }
+        requires customers { All (Contains (customers instance.now)) unserved.now }
+        ensures { IfOk result (λ tables. tables ≡ record { problem = instance.now; among = unserved.now }) }
+    {
         let scope = Scope::new(instance, unserved);
         let cells = if are_made(scope) {
-            Some(Cells::fill(alloc, scope)?)
+            Some(Cells::fill(alloc, scope, looks)?)
         } else {
             None
         };
@@ -110,7 +137,7 @@ impl Cells {
     ghost use Rattle.vrp_bound.specs.Inner.Filled.{AreCells};
 
     // The cells over customers for whom tables are made.
-    fn fill(alloc: Global, scope: Scope<'_>) -> Result<Cells, NoMemory>
+    fn fill(alloc: Global, scope: Scope<'_>, looks: Looks) -> Result<Cells, NoMemory>
         requires made { AreMade scope.instance.now scope.customers.now }
         requires scope { IsScope scope.instance.now scope.customers.now }
         ensures { IfOk result (λ cells. AreCells scope.entry.instance.now scope.entry.customers.now cells) }
@@ -121,7 +148,7 @@ impl Cells {
         let demands = demands_in_units(alloc, units)?;
         let walks = walks(alloc, units, &demands, room)?;
         let tours = tours(alloc, units, &walks, room, demand)?;
-        let homes = homes(alloc, units, &walks, &tours, room)?;
+        let homes = homes_for(looks, alloc, units, &walks, &tours, room)?;
         let quotients = Quotients::up_to(alloc, units.unit, demand_of_all(scope))?;
         Ok(Cells {
             unit: units.unit,
@@ -258,6 +285,30 @@ mod tests {
         Ok(())
     }
 
+    // The table of the ways home has at most 64,000,000 cells. Two customers who together demand 4,617 need a few less, and where they
+    // demand 4,618 a few more.
+    #[test]
+    fn the_largest_table_of_homes(rt: HostRuntime) -> Result<(), Fail> {
+        for (first, second, made) in [(1, 2, true), (2_308, 2_309, true), (2_307, 2_311, false)] {
+            assert!(rt; first <= 2_311 && second <= 2_311);
+            let points = [(0, 0), (3, 4), (6, 8)];
+            let weights = Weights::points(rt.alloc(), Metric::Euc2d, &points)?;
+            let demands = [0, first, second];
+            let instance = Instance::new(rt.alloc(), weights, &demands, 4_618, &[1], None)?;
+            let tables = Tables::over_all(rt.alloc(), &instance)?;
+            let homes = tables.cells.as_ref().map(|cells| cells.homes.is_some());
+            assert_eq!(rt; homes, Some(made), "{first} {second}");
+            let asked = [
+                (1, first, second, Some(15)),
+                (2, second, first, Some(10)),
+                (1, first, 0, Some(5)),
+                (0, 0, first + second, Some(20)),
+            ];
+            assert_answers(&rt, &tables, &asked);
+        }
+        Ok(())
+    }
+
     #[test]
     fn demands_in_hundreds(rt: HostRuntime) -> Result<(), Fail> {
         let points = [(0, 0), (3, 4), (6, 8), (9, 12), (12, 16)];
@@ -269,6 +320,7 @@ mod tests {
         let tables = Tables::build(rt.alloc(), &instance, &customers)?;
         if let Some(cells) = &tables.cells {
             assert_eq!(rt; cells.unit, 100);
+            assert_eq!(rt; cells.quotients.count(), 22_501);
             assert!(rt; cells.homes.is_some());
         } else {
             panic!(rt; "no tables");

@@ -1,3 +1,4 @@
+pub mod Endings
 pub mod OneReport
 pub mod PlaceLemmas
 pub mod RefusalLemmas

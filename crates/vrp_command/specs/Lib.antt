@@ -3,6 +3,7 @@ pub mod Fault
 pub mod Input
 pub mod Options
 pub mod Output
+pub mod Program
 pub mod Refusal
 pub mod Report
 pub mod Run

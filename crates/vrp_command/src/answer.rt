@@ -8,17 +8,18 @@ use std::alloc::Global;
 use std::sync::Wait;
 use std::thread::Threads;
 use vrp_model::Instance;
-use vrp_pool::{Answer, NoGate, SolveError, solve};
+use vrp_pool::{Answer, Gate, SolveError, solve};
 use vrp_search::Cutting;
 
 /// Cuts the tree of an instance into so many pieces, and has each searched with this budget, by so many workers.
-pub(crate) fn cut_and_solve<T: Threads + Wait + Sync>(
+pub(crate) fn cut_and_solve<T: Threads + Wait + Sync, G: Gate + Sync>(
     rt: &T,
     alloc: Global,
     instance: &Instance,
     workers: u32,
     pieces: u32,
     budget: u64,
+    gate: &G,
 ) -> Result<Answer, SolveError>
     requires some_worker { 1 ≤ workers }
     requires few_workers { workers ≤ MAX_WORKERS }
@@ -28,5 +29,5 @@ pub(crate) fn cut_and_solve<T: Threads + Wait + Sync>(
 {
     let mut cutting = Cutting::whole(alloc, instance)?;
     cutting.at_least(alloc, instance, pieces)?;
-    solve(rt, alloc, instance, cutting, workers, budget, &NoGate)
+    solve(rt, alloc, instance, cutting, workers, budget, gate)
 }

@@ -18,7 +18,7 @@ use std::io::{Read, Write};
 use std::sync::Wait;
 use std::thread::Threads;
 use vrp_model::Instance;
-use vrp_pool::Answer;
+use vrp_pool::{Answer, Gate, NoGate};
 use vrp_text::MAX_BYTES;
 
 /// Reads a CVRP file, and writes the report of a lawful plan of the problem that it means with the chosen node as its depot and
@@ -40,10 +40,30 @@ pub fn run<T: Threads + Wait + Sync, R: Read, W: Write>(
     ensures taken { TakesAtMost (MAX_BYTES + 1) (R.remaining input.old) (R.remaining input.new) }
     ensures silent { IfErr result (λ fault. fault ≢ RunError.Write → Keeps (W.contents output.old) (W.contents output.new)) }
 {
+    run_gated(rt, alloc, options, input, output, &NoGate)
+}
+
+/// The same. A gate is told before each piece is searched.
+pub(crate) fn run_gated<T: Threads + Wait + Sync, R: Read, W: Write, G: Gate + Sync>(
+    rt: &T,
+    alloc: Global,
+    options: Options,
+    input: &mut R,
+    output: &mut W,
+    gate: &G,
+) -> Result<Status, RunError>
+    requires { AreInRange options }
+    ensures printed { IfOk result (PrintsAnswer options (R.remaining input.old) (R.remaining input.new) (W.contents output.old) (W.contents output.new)) }
+    ensures refused { IfErr result (λ fault. OnRefusedFile fault (RefusesInput options.depot (R.remaining input.old) (R.remaining input.new))) }
+    ensures begun { IfErr result (λ fault. fault ≡ RunError.Write → PrintsPart options (R.remaining input.old) (R.remaining input.new) (W.contents output.old) (W.contents output.new)) }
+    ensures failed { IfErr result (λ fault. fault ≡ RunError.Read → TakesAtMost MAX_BYTES (R.remaining input.old) (R.remaining input.new)) }
+    ensures taken { TakesAtMost (MAX_BYTES + 1) (R.remaining input.old) (R.remaining input.new) }
+    ensures silent { IfErr result (λ fault. fault ≢ RunError.Write → Keeps (W.contents output.old) (W.contents output.new)) }
+{
     let bytes = read_input(alloc, input)?;
     let instance = vrp_text::read(alloc, &bytes, options.depot)?;
     let instance = limited(instance, options.trucks);
-    let outcome = answer_to(rt, alloc, &instance, options)?;
+    let outcome = answer_to(rt, alloc, &instance, options, gate)?;
     write_report(output, outcome.report.as_bytes())?;
     Ok(outcome.status)
 }
@@ -68,11 +88,12 @@ struct Outcome {
 }
 
 // The report of an answer to an instance.
-fn answer_to<T: Threads + Wait + Sync>(
+fn answer_to<T: Threads + Wait + Sync, G: Gate + Sync>(
     rt: &T,
     alloc: Global,
     instance: &Instance,
     options: Options,
+    gate: &G,
 ) -> Result<Outcome, RunError>
     requires { AreInRange options }
     ensures answer { IfOk result (λ outcome. ReportsAnswer options instance.now (string_bytes outcome.report) outcome.status) }
@@ -85,6 +106,7 @@ fn answer_to<T: Threads + Wait + Sync>(
         options.workers,
         options.pieces,
         options.budget,
+        gate,
     )?;
     let report = report(alloc, instance, &answer)?;
     let status = status(&answer);

@@ -9,6 +9,7 @@ mod input;
 mod law;
 mod options;
 mod output;
+mod program;
 mod refusal;
 mod report;
 #[cfg(test)]
@@ -19,6 +20,7 @@ pub use command::run;
 pub use fault::{RunError, exit_status, fault_line};
 pub use law::one_report;
 pub use options::{MAX_BUDGET, Options, Status};
-pub use vrp_pool::MAX_WORKERS;
+pub use program::{end_without_run, run_words};
+pub use vrp_pool::{Gate, MAX_WORKERS, NoGate};
 pub use vrp_search::MAX_PIECES;
-pub use words::{LineFault, line_status, not_text, parse_words};
+pub use words::{LineFault, line_status, parse_words, words_fault};

@@ -1,6 +1,7 @@
 //! Reads the words of a command line: how a run is asked for.
 ghost use Rattle.std.specs.Prelude.{◌≡◌, ◌≢◌, ◌≤◌, IfOk};
 ghost use Rattle.std.specs.Option.{ForSome};
+ghost use Rattle.clap.specs.Words.{kind_of};
 ghost use Rattle.vrp_model.specs.declared.limits.TheConstants.{MAX_NODES};
 ghost use Rattle.vrp_command.specs.Options.{AreInRange, line_code};
 
@@ -9,6 +10,7 @@ use crate::options::{MAX_BUDGET, Options};
 use clap::error::ErrorKind;
 use clap::{ArgMatches, Error};
 use std::alloc::{AllocError, Global};
+use std::io;
 use vrp_model::MAX_NODES;
 use vrp_pool::MAX_WORKERS;
 use vrp_search::MAX_PIECES;
@@ -47,8 +49,19 @@ pub fn parse_words(alloc: Global, words: &[&str]) -> Result<Options, LineFault>
     }
 }
 
-/// The fault of a command line of which a word is not UTF-8, so that it is no text to be read.
-pub fn not_text(alloc: Global) -> LineFault
+/// The fault of a command line whose words can't be had: for want of memory, or since one of them is not UTF-8 and so no text to be
+/// read.
+pub fn words_fault(alloc: Global, error: &io::Error) -> LineFault
+    ensures { line_code result ≢ 0 }
+{
+    if error.kind() == io::ErrorKind::OutOfMemory {
+        return LineFault::OutOfMemory;
+    }
+    not_text(alloc)
+}
+
+// The fault of a word that is not UTF-8.
+fn not_text(alloc: Global) -> LineFault
     ensures { line_code result ≢ 0 }
 {
     match String::from_str(alloc, NOT_TEXT) {
@@ -78,8 +91,10 @@ fn asked_for(alloc: Global, words: &[&str]) -> Result<Options, Error>
     Ok(chosen(&matches))
 }
 
-// The fault of words that `clap` doesn't take.
-fn line_fault(alloc: Global, error: &Error) -> LineFault {
+/// The fault of words that `clap` doesn't take.
+pub(crate) fn line_fault(alloc: Global, error: &Error) -> LineFault
+    ensures { kind_of error.now ≡ ErrorKind.OutOfMemory → result ≡ LineFault.OutOfMemory }
+{
     if error.kind() == ErrorKind::OutOfMemory {
         return LineFault::OutOfMemory;
     }

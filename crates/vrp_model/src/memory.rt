@@ -4,8 +4,8 @@ ghost use Rattle.std.specs.Prelude.{◌≡◌};
 use std::alloc::{AllocError, AllocFailed};
 use thiserror::Error;
 
-/// A growth was refused: there was no memory for it. Only a refusal of the allocator becomes one: the field is private, so
-/// that nobody can answer want of memory in place of another error.
+/// A growth was refused: there was no memory for it. Only the kit's errors for that become one: the field is private, so that no
+/// other error does by mistake.
 #[derive(Clone, Copy, Debug, PartialEq, Eq, Error)]
 #[error("out of memory")]
 pub struct NoMemory(());

@@ -40,13 +40,24 @@ pub record IsNewPile (words : List (List ℕ)) (count : ℕ) (owner : DrawerStat
   pub many : length thieves ≡ count
   pub each : All (IsNewThief owner) thieves
 
--- a drawer drew a piece that was put on the pile, and has not drawn more pieces than were put on it
+-- for a drawer that stands for so many and drew these: the piece was put on the pile, and those ahead of it are, in some order, all
+-- that this drawer drew and others, each once. Where it stands for all drawers there are no others, so the piece is the oldest left
+pub record IsOldest (parts : ℕ) (put drawn : List NumberedWord) (piece : NumberedWord) : Type 0 where
+  pub ahead : List NumberedWord
+  pub behind : List NumberedWord
+  pub others : List NumberedWord
+  pub stands : put ≡ ahead ++ piece ∷ behind
+  pub shared : AreShared drawn others ahead
+  pub alone : parts ≡ MAX_DRAWERS → others ≡ []
+
+-- a drawer drew the oldest piece that was left, and has not drawn more pieces than were put on the pile
 pub record IsDrawn (old : DrawerState) (piece : NumberedWord) (new : DrawerState) : Type 0 where
   pub pile : new.pile ≡ old.pile
   pub parts : new.parts ≡ old.parts
   pub put : new.put ≡ old.put
   pub drawn : new.drawn ≡ old.drawn ++ piece ∷ []
   pub among : Contains old.put piece
+  pub oldest : IsOldest old.parts old.put old.drawn piece
   pub few : length new.drawn ≤ length old.put
 
 -- an owner took a thief in: what the thief drew counts as drawn by the owner

@@ -58,8 +58,8 @@ impl Owner {
         })
     }
 
-    /// The oldest piece that is left; that it is the oldest no clause says. `None` means that at one moment of the call none was
-    /// left: where the owner stands for all drawers, all pieces are then drawn.
+    /// The oldest piece that is left. `None` means that at one moment of the call none was left: where the owner stands for all
+    /// drawers, all pieces are then drawn. While thieves are out no clause says what `None` means.
     pub fn take(&mut self) -> Option<Piece>
         ensures drawn { MatchOption result (self.new ≡ self.old) (λ piece. IsDrawn self.old piece self.new) }
         ensures all { result ≡ None → self.old.parts ≡ MAX_DRAWERS → AreShared self.old.drawn [] self.old.put }

@@ -44,7 +44,7 @@ pub enum Drawn {
 }
 
 impl Thief {
-    /// The oldest piece that is left. That it is the oldest, and when the answer is `Empty` or `Busy`, no clause says.
+    /// The oldest piece that is left. When the answer is `Empty` or `Busy`, no clause says.
     pub fn take(&mut self) -> Drawn
         ensures { MatchDrawn result (self.new ≡ self.old) (λ piece. IsDrawn self.old piece self.new) }
     {

@@ -1,24 +1,26 @@
 -- What is known after each outcome that is taken note of.
-use Rattle.std.proofs.Common.{◌≡◌, ◌∙◌, ℕ, zero, suc, ◌+◌, ◌<◌, ◌⊎◌, inl, inr, min, Bool, true, false, true≢false, Result, Ok, Err, Option, List, [], ◌∷◌, ◌++◌, length, length-append, get_or, set, take, refl, sym, subst, ap, arith}
+use Rattle.std.proofs.Common.{◌≡◌, ◌≢◌, ◌∙◌, ℕ, zero, suc, ◌+◌, ◌<◌, ◌⊎◌, inl, inr, Bool, true, false, true≢false, Result, Ok, Err, Option, List, [], ◌∷◌, ◌++◌, length, length-append, get_or, set, take, refl, sym, subst, ap, arith}
 use Rattle.std.specs.Prelude.{replicate}
 use Rattle.std.specs.List.{All, Contains}
 use Rattle.std.specs.Option.{ForSome}
 use Rattle.std.proofs.lemmas.Bool.{cases_eq}
 use Rattle.std.proofs.lemmas.List.{get_or-map, get_or-set_other, get_or-set_same, get_or-take, get_or_append_left, length-map, length-replicate, length-set, length-take-le, map-append, take_more}
 use Rattle.std.proofs.Math.Seq.{get_or-append_seam, take-length}
-use Rattle.std.proofs.lemmas.List.Elements.{All-append, All-cons, All-nil}
+use Rattle.std.proofs.lemmas.List.Elements.{All-append, All-cons, All-nil, Contains-get_or}
+use Rattle.std.proofs.lemmas.List.Kept.{AllPairs-cons}
+use Rattle.std.proofs.lemmas.List.Sorted.{IsPermutation-sym, IsPermutation-to_front}
 use Rattle.vrp_model.specs.Route.{IsPlanOf, PricedPlan}
-use Rattle.vrp_model.specs.declared.limits.TheConstants.{NO_COST}
+use Rattle.vrp_model.proofs.DistinctLists.{AreDistinct, AreDistinct-permutation}
 use Rattle.vrp_search.specs.Cutting.{NumberedWord}
 use Rattle.vrp_search.specs.Search.{NoneBeforeUnder}
-use Rattle.vrp_pool.specs.Answer.{LeftPiece, numbers_of}
 use Rattle.vrp_pool.specs.Gathered.{IsAdded, IsGathered}
-use Rattle.vrp_pool.specs.Inner.Gathering.{AreApart, AreGathered, IsLeftOf, IsNoLater, IsNoted, IsOfferedTo, piece_numbers}
+use Rattle.vrp_pool.specs.Inner.Gathering.{AreApart, AreGathered, IsLeftOf, IsNoLater, IsNoted, IsOfferedTo, numbers_of, piece_numbers}
 use Rattle.vrp_pool.specs.Inner.Workers.{AreKept, IsFinishedPiece, IsKept, IsLeftPiece, Search}
 use Rattle.vrp_pool.specs.declared.gathering.GatherError.{GatherError}
 use Rattle.vrp_pool.specs.declared.gathering.GatherError.TheVariants.{Double, Stranger}
 use Rattle.vrp_pool.specs.declared.conclusion.Gathering.{Gathering}
 use Rattle.vrp_pool.specs.declared.outcome.Finished.{Finished}
+use Rattle.vrp_pool.specs.declared.outcome.Left.{Left}
 use Rattle.vrp_pool.specs.declared.outcome.Outcome.{Outcome}
 use Rattle.vrp_pool.specs.declared.outcome.Outcome.TheVariants as outcome
 use Rattle.vrp_pool.proofs.BestPlan.{no_later_itself, still_lawful, still_none}
@@ -45,38 +47,61 @@ number_before done piece number inside = subst (λ (ns : List ℕ). Contains ns 
 number_last : (done : List NumberedWord) (piece : NumberedWord) → Contains (piece_numbers (done ++ piece ∷ [])) piece.number
 number_last done piece = subst (λ (ns : List ℕ). Contains ns piece.number) (sym (map-append (λ (p : NumberedWord). p.number) done (piece ∷ []))) (contains_last (piece_numbers done) piece.number)
 
-left_before : (s : Search) (done : List NumberedWord) (piece : NumberedWord) (left : LeftPiece) → IsLeftOf s done left → IsLeftOf s (done ++ piece ∷ []) left
-left_before s done piece left (one, inside, number, is) = (one, contains_before done (piece ∷ []) one inside, number, is)
+left_before : (s : Search) (done : List NumberedWord) (piece : NumberedWord) (left : Left) → IsLeftOf s done left → IsLeftOf s (done ++ piece ∷ []) left
+left_before s done piece left (inside, is) = (contains_before done (piece ∷ []) left.piece inside, is)
 
--- the number of an unfinished piece is one of these pieces'
-left_number : (s : Search) (done : List NumberedWord) (unfinished : List LeftPiece) (number : ℕ) → All (IsLeftOf s done) unfinished → Contains (numbers_of unfinished) number → Contains (piece_numbers done) number
-left_number s done unfinished number all (place, lt, is) =
-    let none : LeftPiece = record { number = 0; low = 0 } in
-    let within : place < length unfinished = omega (arith, lt, length-map unfinished (λ (l : LeftPiece). l.number)) in
-    let (piece, (at, inside, found), same, left) = all place none within in
-    let own : piece.number ≡ number = same ∙ sym (get_or-map (λ (l : LeftPiece). l.number) unfinished place none number within) ∙ is in
-    (at, omega (arith, inside, length-map done (λ (p : NumberedWord). p.number)), get_or-map (λ (p : NumberedWord). p.number) done at piece number inside ∙ ap (λ (p : NumberedWord). p.number) found ∙ own)
+-- the number of a piece that is left is one of these pieces'
+left_number : (s : Search) (done : List NumberedWord) (left : List Left) (number : ℕ) → All (IsLeftOf s done) left → Contains (numbers_of left) number → Contains (piece_numbers done) number
+left_number s done left number all (place, lt, is) =
+    let none : Left = record { piece = record { number = 0; word = [] }; low = 0 } in
+    let within : place < length left = omega (arith, lt, length-map left (λ (l : Left). l.piece.number)) in
+    let ((at, inside, found), is_left) = all place none within in
+    let own : (get_or left place none).piece.number ≡ number = sym (get_or-map (λ (l : Left). l.piece.number) left place none number within) ∙ is in
+    (at, omega (arith, inside, length-map done (λ (p : NumberedWord). p.number)), get_or-map (λ (p : NumberedWord). p.number) done at (get_or left place none).piece number inside ∙ ap (λ (p : NumberedWord). p.number) found ∙ own)
+
+-- ---- numbers that stand once
+
+numbers_more : (left : List Left) (one : Left) → numbers_of (left ++ one ∷ []) ≡ numbers_of left ++ one.piece.number ∷ []
+numbers_more left one = map-append (λ (l : Left). l.piece.number) left (one ∷ [])
+
+once_more : (numbers : List ℕ) (number : ℕ) → AreDistinct numbers → (Contains numbers number → ⊥) → AreDistinct (numbers ++ number ∷ [])
+once_more numbers number once fresh = AreDistinct-permutation (number ∷ numbers) (numbers ++ number ∷ []) (IsPermutation-sym (numbers ++ number ∷ []) (number ∷ numbers) (IsPermutation-to_front numbers number)) (AllPairs-cons (λ a b. a ≢ b) number numbers (λ k d lt. λ same. fresh (subst (Contains numbers) (sym same) (Contains-get_or numbers k d lt))) once)
+
+in_more : (left : List Left) (one : Left) (number : ℕ) → Contains (numbers_of left) number → Contains (numbers_of (left ++ one ∷ [])) number
+in_more left one number inside = subst (λ (ns : List ℕ). Contains ns number) (sym (numbers_more left one)) (contains_before (numbers_of left) (one.piece.number ∷ []) number inside)
+
+last_in : (left : List Left) (one : Left) → Contains (numbers_of (left ++ one ∷ [])) one.piece.number
+last_in left one = subst (λ (ns : List ℕ). Contains ns one.piece.number) (sym (numbers_more left one)) (contains_last (numbers_of left) one.piece.number)
+
+-- one of the last list is one of the first, or the last
+in_either : (numbers : List ℕ) (last number : ℕ) → Contains (numbers ++ last ∷ []) number → Contains numbers number ⊎ (number ≡ last)
+in_either [] last number (zero, lt, is) = inr (sym is)
+in_either [] last number (suc k, lt, is) = absurd (omega (arith, lt))
+in_either (first ∷ numbers) last number (zero, lt, is) = inl (0, omega arith, is)
+in_either (first ∷ numbers) last number (suc k, lt, is) = elim (in_either numbers last number (k, omega (arith, lt), is)) [
+  | inl (at, inside, found) ↦ inl (suc at, omega (arith, inside), found)
+  | inr same ↦ inr same
+]
 
 -- ---- what a gatherer answers
 
 -- a number that was not added before, and is one of the numbers, is added
-added_now : (old new : List Bool) (number : ℕ) (answer : Result (Unit {0}) GatherError) → (IsAdded old number → ⊥) → number < length old → IsGathered old number answer new → new ≡ set old number true
+pub added_now : (old new : List Bool) (number : ℕ) (answer : Result (Unit {0}) GatherError) → (IsAdded old number → ⊥) → number < length old → IsGathered old number answer new → new ≡ set old number true
 added_now old new number (Ok _) fresh within (missing, is) = is
 added_now old new number (Err (Double other)) fresh within (same, added, is) = absurd (fresh added)
 added_now old new number (Err (Stranger other)) fresh within (same, above, is) = absurd (omega (arith, within, above))
 
 -- ---- one more outcome
 
-pub none_gathered : (s : Search) (floor : ℕ) (best : Option PricedPlan) → ForSome best (IsPlanOf s.problem) → AreGathered s floor best [] (replicate s.pieces false) NO_COST
+pub none_gathered : (s : Search) (floor : ℕ) (best : Option PricedPlan) → ForSome best (IsPlanOf s.problem) → AreGathered s floor best [] (replicate s.pieces false) []
 none_gathered s floor best plan_of = record {
   plan_of = plan_of;
   count = length-replicate s.pieces false;
-  unfinished = [];
-  left = All-nil (IsLeftOf s []);
+  are_left = All-nil (IsLeftOf s []);
+  once = λ i j d before lt. absurd (omega (arith, lt));
   only = λ number added. absurd (true≢false (sym added ∙ none_added s.pieces number));
   apart = λ number added (place, lt, is). absurd (omega (arith, lt));
   each = λ k d lt. absurd (omega (arith, lt));
-  least = refl;
 }
   where
     none_added : (count number : ℕ) → get_or (replicate count false) number false ≡ false
@@ -85,39 +110,37 @@ none_gathered s floor best plan_of = record {
     none_added (suc count) (suc number) = none_added count number
 
 -- the piece is finished, and what its search found was offered
-pub one_finished : (s : Search) (floor : ℕ) (best new : Option PricedPlan) (pieces : List NumberedWord) (added now : List Bool) (low : ℕ) (piece : NumberedWord) (done : Finished) (answer : Result (Unit {0}) GatherError)
-    → AreGathered s floor best pieces added low → (Contains (piece_numbers pieces) piece.number → ⊥) → piece.number < s.pieces → IsFinishedPiece s floor piece done → IsOfferedTo best done.first new → IsGathered added done.number answer now
-    → AreGathered s floor new (pieces ++ piece ∷ []) now low
-one_finished s floor best new pieces added now low piece done answer so_far fresh below finished offered gathered =
+pub one_finished : (s : Search) (floor : ℕ) (best new : Option PricedPlan) (pieces : List NumberedWord) (added now : List Bool) (left : List Left) (piece : NumberedWord) (done : Finished) (answer : Result (Unit {0}) GatherError)
+    → AreGathered s floor best pieces added left → (Contains (piece_numbers pieces) piece.number → ⊥) → piece.number < s.pieces → IsFinishedPiece s floor piece done → IsOfferedTo best done.first new → IsGathered added done.number answer now
+    → AreGathered s floor new (pieces ++ piece ∷ []) now left
+one_finished s floor best new pieces added now left piece done answer so_far fresh below finished offered gathered =
     let number = piece.number in
     let not_added : IsAdded added number → ⊥ = λ is. fresh (so_far.only number is) in
     let is_set : now ≡ set added number true = added_now added now number answer not_added (omega (arith, below, so_far.count)) (subst (λ n. IsGathered added n answer now) finished.number gathered) in
     let there : IsAdded now number = rw is_set (get_or-set_same added number true false (omega (arith, below, so_far.count))) in
     let elsewhere : (other : ℕ) → (other ≡ number → ⊥) → get_or now other false ≡ get_or added other false = λ other differs. rw is_set (get_or-set_other added number other true false differs) in
-    let unfinished = so_far.unfinished in
     record {
       plan_of = still_lawful s.problem best done.first new offered so_far.plan_of finished.plan_of;
       count = ap length is_set ∙ length-set added number true ∙ so_far.count;
-      unfinished = unfinished;
-      left = λ k d lt. left_before s pieces piece (get_or unfinished k d) (so_far.left k d lt);
+      are_left = λ k d lt. left_before s pieces piece (get_or left k d) (so_far.are_left k d lt);
+      once = so_far.once;
       only = λ other is. elim (cases_eq other number) [
         | inl same ↦ rw same (number_last pieces piece)
         | inr differs ↦ number_before pieces piece other (so_far.only other (sym (elsewhere other differs) ∙ is))
       ];
       apart = λ other is inside. elim (cases_eq other number) [
-        | inl same ↦ fresh (subst (Contains (piece_numbers pieces)) same (left_number s pieces unfinished other so_far.left inside))
+        | inl same ↦ fresh (subst (Contains (piece_numbers pieces)) same (left_number s pieces left other so_far.are_left inside))
         | inr differs ↦ so_far.apart other (sym (elsewhere other differs) ∙ is) inside
       ];
       each =
-          All-append (λ p. Contains (numbers_of unfinished) p.number ⊎ (IsAdded now p.number × NoneBeforeUnder s.problem p.word floor new)) pieces (piece ∷ [])
+          All-append (λ p. Contains (numbers_of left) p.number ⊎ (IsAdded now p.number × NoneBeforeUnder s.problem p.word floor new)) pieces (piece ∷ [])
           (λ k d lt. elim (so_far.each k d lt) [
-            | inl left ↦ inl left
+            | inl is_left ↦ inl is_left
             | inr (is, none) ↦ inr (still_added (get_or pieces k d).number (elsewhere (get_or pieces k d).number) is there, still_none s.problem (get_or pieces k d).word floor floor best new (omega arith) offered.later none)
           ])
-          (All-cons (λ p. Contains (numbers_of unfinished) p.number ⊎ (IsAdded now p.number × NoneBeforeUnder s.problem p.word floor new)) piece []
+          (All-cons (λ p. Contains (numbers_of left) p.number ⊎ (IsAdded now p.number × NoneBeforeUnder s.problem p.word floor new)) piece []
           (inr (there, still_none s.problem piece.word floor floor done.first new (omega arith) offered.no_later (none_before_lower s.problem piece.word done.floor floor done.first finished.above finished.none_before)))
-          (All-nil (λ p. Contains (numbers_of unfinished) p.number ⊎ (IsAdded now p.number × NoneBeforeUnder s.problem p.word floor new))));
-      least = so_far.least;
+          (All-nil (λ p. Contains (numbers_of left) p.number ⊎ (IsAdded now p.number × NoneBeforeUnder s.problem p.word floor new))));
     }
   where
     still_added : (other : ℕ) → ((other ≡ piece.number → ⊥) → get_or now other false ≡ get_or added other false) → IsAdded added other → IsAdded now piece.number → IsAdded now other
@@ -127,32 +150,32 @@ one_finished s floor best new pieces added now low piece done answer so_far fres
     ]
 
 -- the piece is left unfinished
-pub one_left : (s : Search) (floor : ℕ) (best : Option PricedPlan) (pieces : List NumberedWord) (added : List Bool) (low more : ℕ) (piece : NumberedWord)
-    → AreGathered s floor best pieces added low → (Contains (piece_numbers pieces) piece.number → ⊥) → IsLeftPiece s piece more → AreGathered s floor best (pieces ++ piece ∷ []) added (min low more)
-one_left s floor best pieces added low more piece so_far fresh is =
-    let here : LeftPiece = record { number = piece.number; low = more } in
-    let unfinished = so_far.unfinished in
+pub one_left : (s : Search) (floor : ℕ) (best : Option PricedPlan) (pieces : List NumberedWord) (added : List Bool) (left : List Left) (piece : NumberedWord) (one : Left)
+    → AreGathered s floor best pieces added left → (Contains (piece_numbers pieces) piece.number → ⊥) → IsLeftPiece s piece one → AreGathered s floor best (pieces ++ piece ∷ []) added (left ++ one ∷ [])
+one_left s floor best pieces added left piece one so_far fresh is =
+    let same : piece ≡ one.piece = sym is.same in
+    let number : piece.number ≡ one.piece.number = ap (λ (p : NumberedWord). p.number) same in
     record {
       plan_of = so_far.plan_of;
       count = so_far.count;
-      unfinished = here ∷ unfinished;
-      left = All-cons (IsLeftOf s (pieces ++ piece ∷ [])) here unfinished (piece, contains_last pieces piece, refl, is) (λ k d lt. left_before s pieces piece (get_or unfinished k d) (so_far.left k d lt));
-      only = λ other added. number_before pieces piece other (so_far.only other added);
-      apart = apart;
+      are_left =
+          All-append (IsLeftOf s (pieces ++ piece ∷ [])) left (one ∷ []) (λ k d lt. left_before s pieces piece (get_or left k d) (so_far.are_left k d lt))
+          (All-cons (IsLeftOf s (pieces ++ piece ∷ [])) one [] (subst (Contains (pieces ++ piece ∷ [])) same (contains_last pieces piece), subst (λ (p : NumberedWord). IsLeftPiece s p one) same is) (All-nil (IsLeftOf s (pieces ++ piece ∷ []))));
+      once = subst AreDistinct (sym (numbers_more left one)) (once_more (numbers_of left) one.piece.number so_far.once (λ inside. fresh (subst (Contains (piece_numbers pieces)) (sym number) (left_number s pieces left one.piece.number so_far.are_left inside))));
+      only = λ other is_added. number_before pieces piece other (so_far.only other is_added);
+      apart = λ other is_added inside. elim (in_either (numbers_of left) one.piece.number other (subst (λ (ns : List ℕ). Contains ns other) (numbers_more left one) inside)) [
+        | inl before ↦ so_far.apart other is_added before
+        | inr last ↦ fresh (subst (Contains (piece_numbers pieces)) (last ∙ sym number) (so_far.only other is_added))
+      ];
       each =
-          All-append (λ p. Contains (piece.number ∷ numbers_of unfinished) p.number ⊎ (IsAdded added p.number × NoneBeforeUnder s.problem p.word floor best)) pieces (piece ∷ [])
+          All-append (λ p. Contains (numbers_of (left ++ one ∷ [])) p.number ⊎ (IsAdded added p.number × NoneBeforeUnder s.problem p.word floor best)) pieces (piece ∷ [])
           (λ k d lt. elim (so_far.each k d lt) [
-            | inl left ↦ inl (contains_more piece.number (get_or pieces k d).number (numbers_of unfinished) left)
+            | inl is_left ↦ inl (in_more left one (get_or pieces k d).number is_left)
             | inr done ↦ inr done
           ])
-          (All-cons (λ p. Contains (piece.number ∷ numbers_of unfinished) p.number ⊎ (IsAdded added p.number × NoneBeforeUnder s.problem p.word floor best)) piece [] (inl (0, omega arith, refl))
-          (All-nil (λ p. Contains (piece.number ∷ numbers_of unfinished) p.number ⊎ (IsAdded added p.number × NoneBeforeUnder s.problem p.word floor best))));
-      least = (let before = so_far.least in omega (arith, before));
+          (All-cons (λ p. Contains (numbers_of (left ++ one ∷ [])) p.number ⊎ (IsAdded added p.number × NoneBeforeUnder s.problem p.word floor best)) piece [] (inl (subst (Contains (numbers_of (left ++ one ∷ []))) (sym number) (last_in left one)))
+          (All-nil (λ p. Contains (numbers_of (left ++ one ∷ [])) p.number ⊎ (IsAdded added p.number × NoneBeforeUnder s.problem p.word floor best))));
     }
-  where
-    apart : (other : ℕ) → IsAdded added other → Contains (piece.number ∷ numbers_of so_far.unfinished) other → ⊥
-    apart other is (zero, lt, same) = fresh (subst (Contains (piece_numbers pieces)) (sym same) (so_far.only other is))
-    apart other is (suc place, lt, same) = so_far.apart other is (place, omega (arith, lt), same)
 
 -- a piece's number stands nowhere among the pieces before it
 pub none_before_it : (s : Search) (pieces : List NumberedWord) (k : ℕ) (d : NumberedWord) → AreApart s pieces → k < length pieces → Contains (piece_numbers (take k pieces)) (get_or pieces k d).number → ⊥
@@ -170,7 +193,7 @@ none_before_it s pieces k d apart lt (place, within, is) =
 
 -- one more outcome was taken note of
 pub one_noted : (s : Search) (floor : ℕ) (old new : Gathering) (pieces : List NumberedWord) (outcomes yielded rest : List Outcome) (one : Outcome) → outcomes ≡ yielded ++ one ∷ rest → AreKept s floor pieces outcomes → AreApart s pieces
-    → AreGathered s floor old.book.plan (take (length yielded) pieces) old.gatherer old.low → IsNoted old one new → AreGathered s floor new.book.plan (take (length yielded + 1) pieces) new.gatherer new.low
+    → AreGathered s floor old.book.plan (take (length yielded) pieces) old.gatherer old.left.items → IsNoted old one new → AreGathered s floor new.book.plan (take (length yielded + 1) pieces) new.gatherer new.left.items
 one_noted s floor old new pieces outcomes yielded rest one split kept apart so_far noted =
     let none : NumberedWord = record { number = 0; word = [] } in
     let k = length yielded in
@@ -178,19 +201,19 @@ one_noted s floor old new pieces outcomes yielded rest one split kept apart so_f
     let lt : k < length pieces = omega (arith, kept.many, ap length split, length-append yielded (one ∷ rest)) in
     let at : get_or outcomes k one ≡ one = ap (λ (os : List Outcome). get_or os k one) split ∙ get_or-append_seam yielded one rest one in
     let is : IsKept s floor piece one = subst (IsKept s floor piece) at (kept.each k none one lt) in
-    subst (λ (ps : List NumberedWord). AreGathered s floor new.book.plan ps new.gatherer new.low) (sym (take_more pieces k none lt))
+    subst (λ (ps : List NumberedWord). AreGathered s floor new.book.plan ps new.gatherer new.left.items) (sym (take_more pieces k none lt))
     (by_outcome one piece is (none_before_it s pieces k none apart lt) (apart.below k none lt) noted)
   where
     by_outcome : (one : Outcome) (piece : NumberedWord) → IsKept s floor piece one → (Contains (piece_numbers (take (length yielded) pieces)) piece.number → ⊥) → piece.number < s.pieces → IsNoted old one new
-        → AreGathered s floor new.book.plan (take (length yielded) pieces ++ piece ∷ []) new.gatherer new.low
-    by_outcome (outcome.Finished done) piece is fresh below (offered, (answer, gathered), low) = rw low
-        (one_finished s floor old.book.plan new.book.plan (take (length yielded) pieces) old.gatherer new.gatherer old.low piece done answer so_far fresh below is offered gathered)
-    by_outcome (outcome.Unfinished low) piece is fresh below (plan, gatherer, least) = rw (plan, gatherer, least) (one_left s floor old.book.plan (take (length yielded) pieces) old.gatherer old.low low piece so_far fresh is)
+        → AreGathered s floor new.book.plan (take (length yielded) pieces ++ piece ∷ []) new.gatherer new.left.items
+    by_outcome (outcome.Finished done) piece is fresh below (offered, (answer, gathered), left) = rw left
+        (one_finished s floor old.book.plan new.book.plan (take (length yielded) pieces) old.gatherer new.gatherer old.left.items piece done answer so_far fresh below is offered gathered)
+    by_outcome (outcome.Unfinished one) piece is fresh below (plan, gatherer, left) = rw (plan, gatherer, left) (one_left s floor old.book.plan (take (length yielded) pieces) old.gatherer old.left.items piece one so_far fresh is)
 
 pub noted_later : (old new : Gathering) (one : Outcome) → IsNoted old one new → IsNoLater new.book.plan old.book.plan
 noted_later old new (outcome.Finished done) noted = noted.0.later
-noted_later old new (outcome.Unfinished low) noted = subst (λ (plan : Option PricedPlan). IsNoLater plan old.book.plan) (sym noted.0) (no_later_itself old.book.plan)
+noted_later old new (outcome.Unfinished left) noted = subst (λ (plan : Option PricedPlan). IsNoLater plan old.book.plan) (sym noted.0) (no_later_itself old.book.plan)
 
-pub at_last : (s : Search) (floor : ℕ) (best : Option PricedPlan) (pieces : List NumberedWord) (added : List Bool) (low count : ℕ) → count ≡ length pieces → AreGathered s floor best (take count pieces) added low → AreGathered s floor best pieces added low
-at_last s floor best pieces added low count all so_far =
-    subst (λ (ps : List NumberedWord). AreGathered s floor best ps added low) (ap (λ n. take n pieces) all ∙ take-length pieces) so_far
+pub at_last : (s : Search) (floor : ℕ) (best : Option PricedPlan) (pieces : List NumberedWord) (added : List Bool) (left : List Left) (count : ℕ) → count ≡ length pieces → AreGathered s floor best (take count pieces) added left → AreGathered s floor best pieces added left
+at_last s floor best pieces added left count all so_far =
+    subst (λ (ps : List NumberedWord). AreGathered s floor best ps added left) (ap (λ n. take n pieces) all ∙ take-length pieces) so_far

@@ -8,5 +8,6 @@ mod Joins
 mod KeptOutcomes
 mod NewCallers
 mod Outcomes
+mod Settlings
 mod Teams
 mod Verdicts

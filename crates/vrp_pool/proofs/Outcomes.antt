@@ -1,8 +1,8 @@
 -- What is known of a piece that was searched.
-use Rattle.std.proofs.Common.{◌≡◌, ℕ, ◌≤◌, inl, inr, Option, List, arith}
-use Rattle.vrp_model.specs.Problem.{Problem}
+use Rattle.std.proofs.Common.{◌≡◌, ℕ, ◌≤◌, inl, inr, Option, List, refl, arith}
+use Rattle.vrp_model.specs.Problem.{Problem, customers}
 use Rattle.vrp_model.specs.Route.{PricedPlan}
-use Rattle.vrp_model.specs.Word.{unserved_in}
+use Rattle.vrp_model.specs.Word.{IsFront}
 use Rattle.vrp_search.specs.Cutting.{NumberedWord}
 use Rattle.vrp_search.specs.Search.{IsFinished, IsUnfinished, NoneBeforeUnder}
 use Rattle.vrp_pool.specs.Inner.Workers.{IsFinishedPiece, IsLeftPiece, Search}
@@ -23,5 +23,5 @@ finished_piece s piece budget number floor lower spent first same falls ended = 
   none_before = none_before_lower s.problem piece.word floor lower first falls ended.none_before;
 }
 
-pub left_piece : (s : Search) (piece : NumberedWord) (spent low : ℕ) → IsUnfinished s.problem (unserved_in s.problem piece.word) piece.word s.budget spent low → IsLeftPiece s piece low
-left_piece s piece spent low ended = record { large = ended.tree; is_low = ended.is_low; none_cheaper = ended.none_cheaper }
+pub left_piece : (s : Search) (piece : NumberedWord) (spent low : ℕ) → IsFront s.problem piece.word → IsUnfinished s.problem (customers s.problem) piece.word s.budget spent low → IsLeftPiece s piece (record { piece = piece; low = low })
+left_piece s piece spent low front ended = record { same = refl; front = front; large = ended.tree; is_low = ended.is_low; none_cheaper = ended.none_cheaper }

@@ -1,30 +1,33 @@
 -- What follows once all outcomes are brought together.
-use Rattle.std.proofs.Common.{◌≡◌, ◌∙◌, ℕ, zero, suc, ◌≤◌, ◌<◌, ◌⊎◌, inl, inr, min, Bool, true, false, true≢false, Option, Some, None, List, [], ◌∷◌, length, get_or, refl, sym, subst, ap, arith}
-use Rattle.std.specs.Prelude.{◌↔◌, IsTrue, is_some, slice_index_or}
-use Rattle.std.specs.List.{All, Contains}
+use Rattle.std.proofs.Common.{◌≡◌, ◌∙◌, ℕ, ◌≤◌, ◌<◌, ◌⊎◌, inl, inr, Bool, true, false, true≢false, Option, Some, None, List, [], length, get_or, refl, sym, subst, ap, arith}
+use Rattle.std.specs.Prelude.{◌↔◌, IsTrue, is_some, not, slice_index_or}
+use Rattle.std.specs.List.{Contains}
 use Rattle.std.specs.Option.{ForSome}
-use Rattle.std.proofs.lemmas.Bool.{cases_lt}
+use Rattle.std.proofs.lemmas.Bool.{cases_Bool, cases_lt}
 use Rattle.std.proofs.lemmas.List.{get_or_default, length-map}
-use Rattle.std.proofs.lemmas.List.Elements.{All-contains, Contains-get_or}
+use Rattle.std.proofs.lemmas.List.Elements.{All-contains}
 use Rattle.std.proofs.Math.ListN.{get_or-eq_default}
 use Rattle.vrp_model.specs.Cheapest.{HasNoPlan, IsCheapest, NoneCheaper, cost_of}
 use Rattle.vrp_model.specs.Order.{IsEarlier, IsFirst}
 use Rattle.vrp_model.specs.Problem.{HasTrucks, IsProblem, Problem, customers}
 use Rattle.vrp_model.specs.Route.{IsLawful, IsPlanOf, PricedPlan, plan_cost}
-use Rattle.vrp_model.specs.Word.{BeginsWith, IsLawfulWord, NoneCheaperUnder, word_cost, word_of}
+use Rattle.vrp_model.specs.Word.{BeginsWith, IsLawfulWord, word_cost, word_of}
 use Rattle.vrp_model.specs.declared.limits.TheConstants.{NO_COST}
 use Rattle.vrp_pile.specs.Pile.{AreShared}
 use Rattle.vrp_search.specs.Cutting.{AreNumbered, IsCutting, NumberedWord}
 use Rattle.vrp_search.specs.Search.{IsNotBefore, NoneBeforeUnder}
-use Rattle.vrp_pool.specs.Answer.{IsAnswer, IsLeft, IsLeftOpen, LeftPiece, least_among, lows_of, numbers_of, piece_of}
-use Rattle.vrp_pool.specs.Gathered.{IsAdded, IsFirstMissing}
-use Rattle.vrp_pool.specs.Inner.Gathering.{AreGathered, IsNoLater, IsVerdict, lower_of}
+use Rattle.vrp_pool.specs.Answer.{IsAnswer, IsLeastLow, IsLeftOpen, IsOwnLow, piece_of}
+use Rattle.vrp_pool.specs.Gathered.{IsAdded, IsFirstMissing, IsMissing}
+use Rattle.vrp_pool.specs.Inner.Gathering.{AreGathered, AreSettling, IsLeftWith, IsNoLater, IsVerdict, numbers_of}
 use Rattle.vrp_pool.specs.Inner.Workers.{Search}
 use Rattle.vrp_pool.specs.declared.answers.Answer.{Answer}
 use Rattle.vrp_pool.specs.declared.answers.Answer.TheVariants.{Proven, Open, NoPlan}
-use Rattle.vrp_pool.specs.declared.conclusion.Gathering.{Gathering}
-use Rattle.vrp_pool.proofs.BestPlan.{PlansCostLess, at_most_none, costs_no_less, not_before_plan, word_before}
+use Rattle.vrp_pool.specs.declared.left_pieces.Settling.{Settling}
+use Rattle.vrp_pool.specs.declared.outcome.Left.{Left}
+use Rattle.vrp_pool.proofs.BestPlan.{PlansCostLess, costs_no_less, not_before_plan, word_before}
 use Rattle.vrp_pool.proofs.DrawnPieces.{drawn_at, front_at, is_numbered, none, number_at, words_of}
+use Rattle.vrp_pool.proofs.Outcomes.{none_before_lower}
+use Rattle.vrp_pool.proofs.Settlings.{added_or_missing, missing_within, not_both}
 
 -- each lawful word is under one piece
 abbrev pub OnePiece : Type 0
@@ -35,65 +38,51 @@ OnePiece = (p : Problem) (fronts : List (List ℕ)) (word : List ℕ) → IsCutt
 abbrev pub PlansHaveWords : Type 0
 PlansHaveWords = (p : Problem) (routes : List (List ℕ)) → IsLawful p routes → (word : List ℕ) × IsLawfulWord p word × (word_cost p word ≡ plan_cost p routes) × (IsEarlier (word_of routes) word → ⊥)
 
--- what is known, by the numbers of the cutting's pieces
-pub record ByNumber (s : Search) (cutting : List (List ℕ)) (floor : ℕ) (best : Option PricedPlan) (added : List Bool) (low : ℕ) : Type 0 where
-  pub plan_of : ForSome best (IsPlanOf s.problem)
-  pub count : length added ≡ length cutting
-  pub unfinished : List LeftPiece
-  pub left : All (IsLeft s.problem cutting s.budget) unfinished
-  pub bounds : All (λ piece. NoneCheaperUnder s.problem (piece_of cutting piece.number) piece.low) unfinished
-  pub apart : (number : ℕ) → IsAdded added number → Contains (numbers_of unfinished) number → ⊥
-  pub each : (number : ℕ) → number < length cutting → Contains (numbers_of unfinished) number ⊎ (IsAdded added number × NoneBeforeUnder s.problem (piece_of cutting number) floor best)
-  pub least : low ≡ least_among NO_COST (lows_of unfinished)
+-- ---- what is known, by the numbers of the cutting's pieces
 
-pub by_number : (s : Search) (drawn put : List NumberedWord) (floor : ℕ) (best : Option PricedPlan) (added : List Bool) (low : ℕ) → AreNumbered put → AreShared drawn [] put → s.pieces ≡ length put
-    → AreGathered s floor best drawn added low → ByNumber s (words_of put) floor best added low
-by_number s drawn put floor best added low numbers shared pieces gathered = record {
-  plan_of = gathered.plan_of;
-  count = gathered.count ∙ pieces ∙ sym (length-map put (λ (p : NumberedWord). p.word));
-  unfinished = gathered.unfinished;
-  left = λ k d lt.
-      (let (piece, inside, number, is) = gathered.left k d lt in
-      let at = is_numbered drawn put piece numbers shared inside in
-      let front : piece_of (words_of put) (get_or gathered.unfinished k d).number ≡ piece.word = ap (piece_of (words_of put)) (sym number) ∙ at.front in
-      record { within = omega (arith, at.within, number, length-map put (λ (p : NumberedWord). p.word)); large = rw front is.large; is_low = rw front is.is_low });
-  bounds = λ k d lt.
-      (let (piece, inside, number, is) = gathered.left k d lt in
-      let at = is_numbered drawn put piece numbers shared inside in
-      let front : piece_of (words_of put) (get_or gathered.unfinished k d).number ≡ piece.word = ap (piece_of (words_of put)) (sym number) ∙ at.front in
-      subst (λ (w : List ℕ). NoneCheaperUnder s.problem w (get_or gathered.unfinished k d).low) (sym front) is.none_cheaper);
+by_number : (s : Search) (drawn put : List NumberedWord) (floor : ℕ) (best : Option PricedPlan) (added : List Bool) (left : List Left) (number : ℕ) → AreNumbered put → AreShared drawn [] put → AreGathered s floor best drawn added left → number < length put
+    → Contains (numbers_of left) number ⊎ (IsAdded added number × NoneBeforeUnder s.problem (piece_of (words_of put) number) floor best)
+by_number s drawn put floor best added left number numbers shared gathered within =
+    let piece = get_or put number none in
+    let own = number_at put number numbers within in
+    let known = All-contains (λ (q : NumberedWord). Contains (numbers_of left) q.number ⊎ (IsAdded added q.number × NoneBeforeUnder s.problem q.word floor best)) drawn piece gathered.each (drawn_at drawn put number numbers shared within) in
+    elim known [
+      | inl inside ↦ inl (subst (Contains (numbers_of left)) own inside)
+      | inr (is, before) ↦ inr (subst (IsAdded added) own is, subst (λ (w : List ℕ). NoneBeforeUnder s.problem w floor best) (sym (front_at put number within)) before)
+    ]
+
+-- before any piece is settled
+pub none_settled : (s : Search) (drawn put : List NumberedWord) (floor : ℕ) (best : Option PricedPlan) (added : List Bool) (left : List Left) → AreNumbered put → AreShared drawn [] put → s.pieces ≡ length put → cost_of best ≤ floor
+    → AreGathered s floor best drawn added left → AreSettling s (words_of put) best (record { gatherer = added; cost = cost_of best; low = cost_of best }) left
+none_settled s drawn put floor best added left numbers shared pieces falls gathered = record {
+  priced = refl;
+  count = count;
+  places = λ k d lt.
+      (let (inside, is) = gathered.are_left k d lt in
+      let at = is_numbered drawn put (get_or left k d).piece numbers shared inside in
+      record { within = omega (arith, at.within, many); front = at.front; is_left = is });
+  once = gathered.once;
   apart = gathered.apart;
-  each = λ number lt.
-      (let within : number < length put = omega (arith, lt, length-map put (λ (p : NumberedWord). p.word)) in
-      let piece = get_or put number none in
-      let own = number_at put number numbers within in
-      let known = All-contains (λ (q : NumberedWord). Contains (numbers_of gathered.unfinished) q.number ⊎ (IsAdded added q.number × NoneBeforeUnder s.problem q.word floor best)) drawn piece gathered.each (drawn_at drawn put number numbers shared within) in
-      elim known [
-        | inl left ↦ inl (subst (Contains (numbers_of gathered.unfinished)) own left)
-        | inr (is, before) ↦ inr (subst (IsAdded added) own is, subst (λ (w : List ℕ). NoneBeforeUnder s.problem w floor best) (sym (front_at put number within)) before)
-      ]);
-  least = gathered.least;
+  finished = λ number is. elim (cases_lt number (length put)) [
+    | inl within ↦ elim (by_number s drawn put floor best added left number numbers shared gathered within) [
+      | inl inside ↦ absurd (gathered.apart number is inside)
+      | inr (also, before) ↦ none_before_lower s.problem (piece_of (words_of put) number) floor (cost_of best) best falls before
+    ]
+    | inr beyond ↦ absurd (true≢false (sym is ∙ get_or-eq_default added false (omega (arith, beyond, count, many))))
+  ];
+  known = λ number within is. elim (by_number s drawn put floor best added left number numbers shared gathered (omega (arith, within, many))) [
+    | inl inside ↦ inr inside
+    | inr (also, before) ↦ absurd (not_both added number is also)
+  ];
+  met = inl refl;
+  than_cost = omega arith;
 }
+  where
+    many : length (words_of put) ≡ length put
+    many = length-map put (λ (p : NumberedWord). p.word)
 
--- ---- the least of numbers
-
-least_is_low : (number : ℕ) (numbers : List ℕ) → least_among number numbers ≤ number
-least_is_low number [] = omega arith
-least_is_low number (other ∷ numbers) = omega (arith, least_is_low number numbers)
-
-least_lower : (number other : ℕ) (numbers : List ℕ) → min (least_among number numbers) other ≡ least_among (min number other) numbers
-least_lower number other [] = refl
-least_lower number other (next ∷ numbers) = omega (arith, least_lower number other numbers)
-
--- a word under one of these pieces costs no less than the least of their lows
-least_is_bound : (p : Problem) (cutting : List (List ℕ)) (cost : ℕ) (pieces : List LeftPiece) (number : ℕ) (word : List ℕ) → All (λ piece. NoneCheaperUnder p (piece_of cutting piece.number) piece.low) pieces
-    → Contains (numbers_of pieces) number → IsLawfulWord p word → BeginsWith word (piece_of cutting number) → least_among cost (lows_of pieces) ≤ word_cost p word
-least_is_bound p cutting cost [] number word bounds (k, lt, is) lawful begins = absurd (omega (arith, lt))
-least_is_bound p cutting cost (piece ∷ pieces) number word bounds (zero, lt, is) lawful begins =
-    let low : piece.low ≤ word_cost p word = bounds 0 piece (omega arith) word lawful (subst (λ (n : ℕ). BeginsWith word (piece_of cutting n)) (sym is) begins) in
-    omega (arith, low)
-least_is_bound p cutting cost (piece ∷ pieces) number word bounds (suc k, lt, is) lawful begins =
-    omega (arith, least_is_bound p cutting cost pieces number word (λ j d within. bounds (suc j) d (omega (arith, within))) (k, omega (arith, lt), is) lawful begins)
+    count : length added ≡ length (words_of put)
+    count = gathered.count ∙ pieces ∙ sym many
 
 -- ---- words and plans
 
@@ -102,24 +91,11 @@ words_to_plans have p cost words = λ routes lawful.
     let (word, lawful_word, price, no_later) = have p routes lawful in
     omega (arith, words word lawful_word, price)
 
--- no word costs less than the plan and all that is unfinished
-no_word_cheaper : OnePiece → (s : Search) (cutting : List (List ℕ)) (floor : ℕ) (best : Option PricedPlan) (added : List Bool) (low : ℕ) → IsCutting s.problem cutting → cost_of best ≤ floor → (known : ByNumber s cutting floor best added low)
-    → (word : List ℕ) → IsLawfulWord s.problem word → least_among (cost_of best) (lows_of known.unfinished) ≤ word_cost s.problem word
-no_word_cheaper one s cutting floor best added low is_cutting falls known word lawful =
-    let (k, lt, begins, only) = one s.problem cutting word is_cutting lawful in
-    elim (known.each k lt) [
-      | inl left ↦ least_is_bound s.problem cutting (cost_of best) known.unfinished k word known.bounds left lawful begins
-      | inr (is, before) ↦ omega (arith, least_is_low (cost_of best) (lows_of known.unfinished), costs_no_less s.problem floor best word falls (before word lawful begins))
-    ]
-
 -- ---- no number is missing
 
-all_finished : (s : Search) (cutting : List (List ℕ)) (floor : ℕ) (best : Option PricedPlan) (added : List Bool) (low : ℕ) → ByNumber s cutting floor best added low → IsFirstMissing added None
-    → (number : ℕ) → number < length cutting → NoneBeforeUnder s.problem (piece_of cutting number) floor best
-all_finished s cutting floor best added low known missing number lt = elim (known.each number lt) [
-  | inl left ↦ absurd (known.apart number (missing number (omega (arith, lt, known.count))) left)
-  | inr done ↦ done.1
-]
+all_finished : (s : Search) (cutting : List (List ℕ)) (best : Option PricedPlan) (settling : Settling) → AreSettling s cutting best settling [] → IsFirstMissing settling.gatherer None
+    → (number : ℕ) → number < length cutting → NoneBeforeUnder s.problem (piece_of cutting number) settling.cost best
+all_finished s cutting best settling known missing number lt = known.finished number (missing number (omega (arith, lt, known.count)))
 
 word_known : OnePiece → (s : Search) (cutting : List (List ℕ)) (floor : ℕ) (best : Option PricedPlan) → IsCutting s.problem cutting → ((number : ℕ) → number < length cutting → NoneBeforeUnder s.problem (piece_of cutting number) floor best)
     → (word : List ℕ) → IsLawfulWord s.problem word → IsNotBefore s.problem floor best word
@@ -146,74 +122,88 @@ no_plan one have less s cutting floor problem is_cutting falls all = λ routes l
 
 -- ---- a number is missing
 
-missing_within : (added : List Bool) (number : ℕ) → get_or added number true ≡ false → number < length added
-missing_within added number is = elim (cases_lt number (length added)) [
-  | inl within ↦ within
-  | inr beyond ↦ absurd (true≢false (sym (get_or-eq_default added true beyond) ∙ is))
+none_rests : (number : ℕ) → Contains (numbers_of []) number → ⊥
+none_rests number (k, lt, is) = omega (arith, lt)
+
+-- by number
+abbrev is_missing : List Bool → ℕ → Bool
+is_missing added number = not (get_or added number true)
+
+was_missing : (added : List Bool) (number : ℕ) → is_missing added number ≡ true → IsMissing added number
+was_missing added number is = elim (cases_Bool (get_or added number true)) [
+  | inl there ↦ absurd (true≢false (sym is ∙ ap not there))
+  | inr none ↦ none
 ]
 
-not_added : (added : List Bool) (number : ℕ) → get_or added number true ≡ false → IsAdded added number → ⊥
-not_added added number is also = true≢false (sym also ∙ get_or_default added number false true (missing_within added number is) ∙ is)
-
-among_left : (s : Search) (cutting : List (List ℕ)) (floor : ℕ) (best : Option PricedPlan) (added : List Bool) (low number : ℕ) (known : ByNumber s cutting floor best added low) → get_or added number true ≡ false
-    → Contains (numbers_of known.unfinished) number
-among_left s cutting floor best added low number known is = elim (known.each number (omega (arith, missing_within added number is, known.count))) [
-  | inl left ↦ left
-  | inr done ↦ absurd (not_added added number is done.0)
+was_added : (added : List Bool) (number : ℕ) → number < length added → is_missing added number ≡ false → IsAdded added number
+was_added added number within is = elim (added_or_missing added number within) [
+  | inl added ↦ added
+  | inr missing ↦ absurd (true≢false (sym (ap not missing) ∙ is))
 ]
 
-lowest_left : (s : Search) (cutting : List (List ℕ)) (floor : ℕ) (best : Option PricedPlan) (added : List Bool) (low first : ℕ) (known : ByNumber s cutting floor best added low) → ((number : ℕ) → number < first → IsAdded added number)
-    → All (λ number. first ≤ number) (numbers_of known.unfinished)
-lowest_left s cutting floor best added low first known below = λ k d lt.
-    let number = get_or (numbers_of known.unfinished) k d in
-    elim (cases_lt number first) [
-      | inl before ↦ absurd (known.apart number (below number before) (Contains-get_or (numbers_of known.unfinished) k d lt))
-      | inr no_less ↦ omega (arith, no_less)
+added_is : (added : List Bool) (number : ℕ) → number < length added → IsAdded added number → is_missing added number ≡ false
+added_is added number within is = ap not (sym (get_or_default added number false true within) ∙ is)
+
+left_with : (s : Search) (cutting : List (List ℕ)) (best : Option PricedPlan) (settling : Settling) (number : ℕ) → AreSettling s cutting best settling [] → number < length cutting → IsMissing settling.gatherer number → IsLeftWith s (piece_of cutting number) settling.low
+left_with s cutting best settling number known within is = elim (known.known number within is) [
+  | inl with ↦ with
+  | inr rests ↦ absurd (none_rests number rests)
+]
+
+-- no word costs less than the plan and all that is unfinished
+no_word_cheaper : OnePiece → (s : Search) (cutting : List (List ℕ)) (best : Option PricedPlan) (settling : Settling) → IsCutting s.problem cutting → AreSettling s cutting best settling []
+    → (word : List ℕ) → IsLawfulWord s.problem word → settling.low ≤ word_cost s.problem word
+no_word_cheaper one s cutting best settling is_cutting known word lawful =
+    let (k, lt, begins, only) = one s.problem cutting word is_cutting lawful in
+    elim (added_or_missing settling.gatherer k (omega (arith, lt, known.count))) [
+      | inl added ↦ (let few = known.than_cost in omega (arith, few, known.priced, costs_no_less s.problem settling.cost best word (omega (arith, known.priced)) (known.finished k added word lawful begins)))
+      | inr missing ↦ (left_with s cutting best settling k known lt missing).none_cheaper word lawful begins
     ]
 
-lower_is_least : (best : Option PricedPlan) (lows : List ℕ) → cost_of best ≤ NO_COST → lower_of (least_among NO_COST lows) best ≡ least_among (cost_of best) lows
-lower_is_least None lows few = refl
-lower_is_least (Some plan) lows few =
-    let less : min NO_COST plan.cost ≡ plan.cost = omega (arith, few) in
-    least_lower NO_COST plan.cost lows ∙ ap (λ n. least_among n lows) less
+least_low : (s : Search) (cutting : List (List ℕ)) (best : Option PricedPlan) (settling : Settling) → AreSettling s cutting best settling [] → IsLeastLow s.problem cutting (is_missing settling.gatherer) (cost_of best) settling.low
+least_low s cutting best settling known = record {
+  met = elim known.met [
+    | inl at_cost ↦ inl (at_cost ∙ known.priced)
+    | inr (number, is, own) ↦ inr (number, omega (arith, missing_within settling.gatherer number is, known.count), ap not is, own)
+  ];
+  than_cost = (let few = known.than_cost in omega (arith, few, known.priced));
+  than_lows = λ number other within is own. (left_with s cutting best settling number known within (was_missing settling.gatherer number is)).than_low other own;
+}
 
 still_missing : (p : Problem) (opening best : Option PricedPlan) → (IsTrue (is_some opening) ↔ HasTrucks p (length (customers p))) → IsNoLater best opening → best ≡ None → HasTrucks p (length (customers p)) → ⊥
 still_missing p None best told later none trucks = let never : false ≡ true = told.1 trucks in absurd (true≢false (sym never))
 still_missing p (Some opening) best told later none trucks = let (kept, is, not_before) = later opening refl in absurd (let never : None ≡ Some kept = sym none ∙ is in cc)
 
-left_open : OnePiece → PlansHaveWords → (s : Search) (cutting : List (List ℕ)) (floor : ℕ) (opening best : Option PricedPlan) (added : List Bool) (low first : ℕ) → IsCutting s.problem cutting → cost_of best ≤ floor → cost_of best ≤ NO_COST
-    → (best ≡ None → HasTrucks s.problem (length (customers s.problem)) → ⊥) → ByNumber s cutting floor best added low → IsFirstMissing added (Some first) → IsLeftOpen s.problem cutting s.budget best (lower_of low best) first
-left_open one have s cutting floor opening best added low first is_cutting falls few missing known is =
-    let least : lower_of low best ≡ least_among (cost_of best) (lows_of known.unfinished) = ap (λ n. lower_of n best) known.least ∙ lower_is_least best (lows_of known.unfinished) few in
+left_open : OnePiece → PlansHaveWords → (s : Search) (cutting : List (List ℕ)) (best : Option PricedPlan) (settling : Settling) (first : ℕ) → IsCutting s.problem cutting → ForSome best (IsPlanOf s.problem)
+    → (best ≡ None → HasTrucks s.problem (length (customers s.problem)) → ⊥) → AreSettling s cutting best settling [] → IsFirstMissing settling.gatherer (Some first) → IsLeftOpen s.problem cutting s.budget best settling.low first
+left_open one have s cutting best settling first is_cutting plan_of missing known is =
+    let within : first < length settling.gatherer = missing_within settling.gatherer first is.0 in
     record {
-      plan_of = known.plan_of;
+      plan_of = plan_of;
       missing = missing;
-      none_cheaper = words_to_plans have s.problem (lower_of low best) (λ word lawful. omega (arith, least, no_word_cheaper one s cutting floor best added low is_cutting falls known word lawful));
-      unfinished = known.unfinished;
-      left = known.left;
-      among = among_left s cutting floor best added low first known is.0;
-      lowest = lowest_left s cutting floor best added low first known is.1;
-      others = λ number lt. elim (known.each number lt) [
-        | inl left ↦ inl left
-        | inr (done, before) ↦ inr (λ word lawful begins. costs_no_less s.problem floor best word falls (before word lawful begins))
-      ];
-      least = least;
+      none_cheaper = words_to_plans have s.problem settling.low (no_word_cheaper one s cutting best settling is_cutting known);
+      is_left = is_missing settling.gatherer;
+      first_is = (omega (arith, within, known.count), ap not is.0);
+      lowest = λ number before. added_is settling.gatherer number (omega (arith, before, within)) (is.1 number before);
+      left = λ number inside left. (left_with s cutting best settling number known inside (was_missing settling.gatherer number left)).is_left;
+      others = λ number inside other word lawful begins. costs_no_less s.problem (cost_of best) best word (omega arith)
+          (subst (λ n. IsNotBefore s.problem n best word) known.priced (known.finished number (was_added settling.gatherer number (omega (arith, inside, known.count)) other) word lawful begins));
+      least = least_low s cutting best settling known;
     }
 
 -- ---- the answer
 
-pub answer_is : OnePiece → PlansHaveWords → PlansCostLess → (s : Search) (cutting : List (List ℕ)) (floor : ℕ) (opening : Option PricedPlan) (gathering : Gathering) (answer : Answer) → IsProblem s.problem → IsCutting s.problem cutting
-    → cost_of gathering.book.plan ≤ floor → (IsTrue (is_some opening) ↔ HasTrucks s.problem (length (customers s.problem))) → IsNoLater gathering.book.plan opening → ByNumber s cutting floor gathering.book.plan gathering.gatherer gathering.low
-    → IsVerdict gathering answer → IsAnswer s.problem cutting s.budget answer
-answer_is one have less s cutting floor opening gathering (Proven plan) problem is_cutting falls told later known (missing, is) =
-    let all = all_finished s cutting floor gathering.book.plan gathering.gatherer gathering.low known missing in
-    proven one have s cutting floor plan is_cutting (known.plan_of plan is) (subst (λ (b : Option PricedPlan). cost_of b ≤ floor) is falls)
-    (subst (λ (b : Option PricedPlan). (number : ℕ) → number < length cutting → NoneBeforeUnder s.problem (piece_of cutting number) floor b) is all)
-answer_is one have less s cutting floor opening gathering (Open plan low first) problem is_cutting falls told later known (missing, is, lower) =
-    let few = at_most_none less s.problem gathering.book.plan problem known.plan_of in
-    let open_is = left_open one have s cutting floor opening gathering.book.plan gathering.gatherer gathering.low first is_cutting falls few (still_missing s.problem opening gathering.book.plan told later) known missing in
-    subst (λ n. IsLeftOpen s.problem cutting s.budget plan n first) (sym lower) (subst (λ (b : Option PricedPlan). IsLeftOpen s.problem cutting s.budget b (lower_of gathering.low b) first) is open_is)
-answer_is one have less s cutting floor opening gathering NoPlan problem is_cutting falls told later known (missing, is) =
-    let all = all_finished s cutting floor gathering.book.plan gathering.gatherer gathering.low known missing in
-    no_plan one have less s cutting floor problem is_cutting (subst (λ (b : Option PricedPlan). cost_of b ≤ floor) is falls)
-    (subst (λ (b : Option PricedPlan). (number : ℕ) → number < length cutting → NoneBeforeUnder s.problem (piece_of cutting number) floor b) is all)
+pub answer_is : OnePiece → PlansHaveWords → PlansCostLess → (s : Search) (cutting : List (List ℕ)) (opening best : Option PricedPlan) (settling : Settling) (answer : Answer) → IsProblem s.problem → IsCutting s.problem cutting
+    → ForSome best (IsPlanOf s.problem) → (IsTrue (is_some opening) ↔ HasTrucks s.problem (length (customers s.problem))) → IsNoLater best opening → AreSettling s cutting best settling []
+    → IsVerdict best settling answer → IsAnswer s.problem cutting s.budget answer
+answer_is one have less s cutting opening best settling (Proven plan) problem is_cutting plan_of told later known (missing, is) =
+    let all = all_finished s cutting best settling known missing in
+    proven one have s cutting settling.cost plan is_cutting (plan_of plan is) (omega (arith, known.priced, ap cost_of is))
+    (subst (λ (b : Option PricedPlan). (number : ℕ) → number < length cutting → NoneBeforeUnder s.problem (piece_of cutting number) settling.cost b) is all)
+answer_is one have less s cutting opening best settling (Open plan low first) problem is_cutting plan_of told later known (missing, is, lower) =
+    let open_is = left_open one have s cutting best settling first is_cutting plan_of (still_missing s.problem opening best told later) known missing in
+    subst (λ n. IsLeftOpen s.problem cutting s.budget plan n first) (sym lower) (subst (λ (b : Option PricedPlan). IsLeftOpen s.problem cutting s.budget b settling.low first) is open_is)
+answer_is one have less s cutting opening best settling NoPlan problem is_cutting plan_of told later known (missing, is) =
+    let all = all_finished s cutting best settling known missing in
+    no_plan one have less s cutting settling.cost problem is_cutting (omega (arith, known.priced, ap cost_of is))
+    (subst (λ (b : Option PricedPlan). (number : ℕ) → number < length cutting → NoneBeforeUnder s.problem (piece_of cutting number) settling.cost b) is all)

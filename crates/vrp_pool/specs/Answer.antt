@@ -1,6 +1,5 @@
 -- What is known of the answer to an instance whose words are cut into pieces.
-use Rattle.std.specs.Prelude.{◌≡◌, ◌⊎◌, ℕ, ◌+◌, ◌≤◌, ◌<◌, min, Option, None, Some, List, [], ◌∷◌, length, map, slice_index_or}
-use Rattle.std.specs.List.{All, Contains}
+use Rattle.std.specs.Prelude.{◌≡◌, ◌⊎◌, ℕ, ◌+◌, ◌≤◌, ◌<◌, Bool, false, true, Option, None, Some, List, [], length, slice_index_or}
 use Rattle.std.specs.Option.{ForSome}
 use Rattle.vrp_model.specs.Cheapest.{HasNoPlan, IsCheapest, NoneCheaper, cost_of}
 use Rattle.vrp_model.specs.Order.{IsFirst}
@@ -11,32 +10,25 @@ use Rattle.vrp_search.specs.Search.{IsLow}
 use Rattle.vrp_pool.specs.declared.answers.Answer.{Answer}
 use Rattle.vrp_pool.specs.declared.answers.Answer.TheVariants.{Proven, Open, NoPlan}
 
--- the least of a number and those of a list
-abbrev pub least_among : ℕ → List ℕ → ℕ
-least_among number [] = number
-least_among number (other ∷ others) = min other (least_among number others)
-
 -- the front of the piece of this number
 abbrev pub piece_of : List (List ℕ) → ℕ → List ℕ
 piece_of cutting number = slice_index_or cutting number []
 
--- a piece that is left unfinished, by its number, and its low: what a plan under it costs at least
-pub record LeftPiece : Type 0 where
-  pub number : ℕ
-  pub low : ℕ
+-- What a plan under a front costs at least: what is paid along it and the bound on what is still to pay there, with tables over the
+-- customers that the front leaves unserved
+abbrev pub IsOwnLow : Problem → List ℕ → Option ℕ → Type 0
+IsOwnLow p front low = IsLow p (unserved_in p front) front low
 
-abbrev pub numbers_of : List LeftPiece → List ℕ
-numbers_of pieces = map (λ piece. piece.number) pieces
+-- the front's tree is above the budget, and it has a low
+pub record IsLeft (p : Problem) (budget : ℕ) (front : List ℕ) : Type 0 where
+  pub large : TreeHasAtLeast p front (budget + 1)
+  pub some : IsOwnLow p front None → ⊥
 
-abbrev pub lows_of : List LeftPiece → List ℕ
-lows_of pieces = map (λ piece. piece.low) pieces
-
--- Its tree is above the budget. Its low is what is paid along its front and the bound on what is still to pay there, with tables
--- over the customers that the front leaves unserved
-pub record IsLeft (p : Problem) (cutting : List (List ℕ)) (budget : ℕ) (piece : LeftPiece) : Type 0 where
-  pub within : piece.number < length cutting
-  pub large : TreeHasAtLeast p (piece_of cutting piece.number) (budget + 1)
-  pub is_low : IsLow p (unserved_in p (piece_of cutting piece.number)) (piece_of cutting piece.number) (Some piece.low)
+-- the least of a plan's cost and of the lows of those pieces that are left
+pub record IsLeastLow (p : Problem) (cutting : List (List ℕ)) (is_left : ℕ → Bool) (cost low : ℕ) : Type 0 where
+  pub met : (low ≡ cost) ⊎ ((number : ℕ) × (number < length cutting) × (is_left number ≡ true) × IsOwnLow p (piece_of cutting number) (Some low))
+  pub than_cost : low ≤ cost
+  pub than_lows : (number other : ℕ) → number < length cutting → is_left number ≡ true → IsOwnLow p (piece_of cutting number) (Some other) → low ≤ other
 
 -- A lawful plan, or none yet, where there are more customers than trucks. Some pieces are left unfinished, `first` is the lowest of
 -- their numbers, and `low` is the least of the plan's cost and of their lows. No lawful plan costs less than `low`, and no word
@@ -45,12 +37,13 @@ pub record IsLeftOpen (p : Problem) (cutting : List (List ℕ)) (budget : ℕ) (
   pub plan_of : ForSome plan (IsPlanOf p)
   pub missing : plan ≡ None → HasTrucks p (length (customers p)) → ⊥
   pub none_cheaper : NoneCheaper p low
-  pub unfinished : List LeftPiece
-  pub left : All (IsLeft p cutting budget) unfinished
-  pub among : Contains (numbers_of unfinished) first
-  pub lowest : All (λ number. first ≤ number) (numbers_of unfinished)
-  pub others : (number : ℕ) → number < length cutting → Contains (numbers_of unfinished) number ⊎ NoneCheaperUnder p (piece_of cutting number) (cost_of plan)
-  pub least : low ≡ least_among (cost_of plan) (lows_of unfinished)
+  -- by number
+  pub is_left : ℕ → Bool
+  pub first_is : (first < length cutting) × (is_left first ≡ true)
+  pub lowest : (number : ℕ) → number < first → is_left number ≡ false
+  pub left : (number : ℕ) → number < length cutting → is_left number ≡ true → IsLeft p budget (piece_of cutting number)
+  pub others : (number : ℕ) → number < length cutting → is_left number ≡ false → NoneCheaperUnder p (piece_of cutting number) (cost_of plan)
+  pub least : IsLeastLow p cutting is_left (cost_of plan) low
 
 -- the plan of an answer, if there is one
 abbrev pub known_plan : Answer → Option PricedPlan

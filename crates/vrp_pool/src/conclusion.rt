@@ -11,7 +11,8 @@ ghost use Rattle.vrp_pool.specs.Inner.Workers.{IsSearched};
 
 use crate::answers::Answer;
 use crate::gathering::Gatherer;
-use crate::outcome::Outcome;
+use crate::left_pieces::{Settling, settled};
+use crate::outcome::{Left, Outcome};
 use crate::shared::Shared;
 use std::alloc::Global;
 use vrp_model::{NO_COST, NoMemory, Plan, plans_cost_less, plans_have_words};
@@ -29,13 +30,12 @@ pub(crate) struct Searched {
     pub(crate) least: u64,
 }
 
-// The last book, which is offered each plan that is known, the pieces that are finished, and the least of the lows of the others,
-// `NO_COST` where there are none.
+// The last book, which is offered each plan that is known, the pieces that are finished, and those that are not.
 #[derive(Drop)]
 struct Gathering {
     book: Book,
     gatherer: Gatherer,
-    low: u64,
+    left: Vec<Left>,
 }
 
 /// The plan and the verdict. The last book opens with the plan of one truck for each customer, if there is one, and is offered the
@@ -62,7 +62,15 @@ pub(crate) fn conclude<R, G>(
     one_piece();
     plans_have_words();
     plans_cost_less();
-    Ok(verdict(gathering))
+    let Gathering {
+        book,
+        gatherer,
+        left,
+    } = gathering;
+    let plan = book.into_plan();
+    let cost = cost(plan.as_ref());
+    let settling = settled(shared, gatherer, left, cost)?;
+    Ok(verdict(plan, settling))
 }
 
 // The last book: it opens with the plan of one truck for each customer, if there is one, and is offered the plan that the register
@@ -117,7 +125,7 @@ fn gather<R, G>(
     let mut gathering = Gathering {
         book,
         gatherer: Gatherer::new(shared.alloc, shared.pieces)?,
-        low: NO_COST,
+        left: Vec::new(shared.alloc),
     };
     for outcome in outcomes {
         gathering.note(shared.alloc, outcome)?;
@@ -136,31 +144,30 @@ impl Gathering {
                 // Each number comes once, so none is refused.
                 let _ = self.gatherer.add(finished);
             }
-            Outcome::Unfinished(low) => self.low = self.low.min(low),
+            Outcome::Unfinished(left) => self.left.push(left)?,
         }
         Ok(())
     }
 }
 
-// The plan that the last book kept, and what follows of it.
-fn verdict(gathering: Gathering) -> Answer
-    ensures { IsVerdict gathering result }
+// What a plan costs, `NO_COST` where there is none.
+fn cost(plan: Option<&Plan>) -> u64
+    ensures { result ≡ cost_of (option_map (λ plan. plan.now) plan.entry) }
 {
-    let Gathering {
-        book,
-        gatherer,
-        low,
-    } = gathering;
-    let missing = gatherer.missing();
-    match (missing, book.into_plan()) {
-        (Some(piece), Some(plan)) => Answer::Open {
-            low: low.min(plan.cost()),
-            plan: Some(plan),
-            piece,
-        },
-        (Some(piece), None) => Answer::Open {
-            plan: None,
-            low,
+    match plan {
+        Some(plan) => plan.cost(),
+        None => NO_COST,
+    }
+}
+
+// The best plan, if there is one, and what follows of it.
+fn verdict(plan: Option<Plan>, settling: Settling) -> Answer
+    ensures { IsVerdict plan settling result }
+{
+    match (settling.gatherer.missing(), plan) {
+        (Some(piece), plan) => Answer::Open {
+            plan,
+            low: settling.low,
             piece,
         },
         (None, Some(plan)) => Answer::Proven(plan),

@@ -3,7 +3,7 @@ ghost use Rattle.std.specs.Prelude.{◌≡◌, ◌≤◌};
 
 use std::alloc::Global;
 use std::test::Fail;
-use vrp_model::{Instance, Metric, Weights};
+use vrp_model::{Instance, Layout, Metric, Weights};
 
 /// Three nodes at (0, 0), (3, 4) and (6, 8): two customers, whom one truck of capacity 2 can carry together.
 pub(crate) fn three_nodes(alloc: Global, capacity: u64) -> Result<Instance, Fail>
@@ -11,6 +11,13 @@ pub(crate) fn three_nodes(alloc: Global, capacity: u64) -> Result<Instance, Fail
 {
     let weights = Weights::points(alloc, Metric::Euc2d, &[(0, 0), (3, 4), (6, 8)])?;
     Ok(Instance::new(alloc, weights, &[0, 1, 1], capacity, &[1], None)?)
+}
+
+/// Two customers, for whom the words 1 2 0 and 2 1 0 cost 6 each.
+pub(crate) fn both_ways_equal(alloc: Global) -> Result<Instance, Fail> {
+    let entries = [0, 1, 2, 2, 0, 1, 4, 2, 0];
+    let weights = Weights::matrix(alloc, Layout::FullMatrix, &entries, 3)?;
+    Ok(Instance::new(alloc, weights, &[0, 1, 1], 2, &[1], None)?)
 }
 
 /// The depot alone.
@@ -68,4 +75,38 @@ pub(crate) fn line(alloc: Global) -> Result<Instance, Fail> {
         0, 1, 1, 1, 1, 1, 1, 1, 1, 1, 1, 1, 1, 1, 1, 1, 1, 1, 1, 1, 1,
     ];
     Ok(Instance::new(alloc, weights, &demands, 20, &[1], None)?)
+}
+
+/// Seven scattered nodes: six customers, of whom a truck carries three.
+pub(crate) fn seven_nodes(alloc: Global) -> Result<Instance, Fail> {
+    let points = [
+        (68, 88),
+        (17, 98),
+        (27, 45),
+        (41, 22),
+        (10, 61),
+        (52, 59),
+        (58, 87),
+    ];
+    let weights = Weights::points(alloc, Metric::Euc2d, &points)?;
+    Ok(Instance::new(alloc, weights, &[0, 1, 1, 1, 1, 1, 1], 3, &[1], None)?)
+}
+
+/// Ten scattered nodes: nine customers, whom one truck can carry together, by 322.
+pub(crate) fn ten_nodes(alloc: Global) -> Result<Instance, Fail> {
+    let points = [
+        (17, 72),
+        (97, 8),
+        (32, 15),
+        (63, 97),
+        (57, 60),
+        (83, 48),
+        (26, 12),
+        (62, 3),
+        (49, 55),
+        (77, 97),
+    ];
+    let weights = Weights::points(alloc, Metric::Euc2d, &points)?;
+    let demands = [0, 1, 1, 1, 1, 1, 1, 1, 1, 1];
+    Ok(Instance::new(alloc, weights, &demands, 9, &[1], None)?)
 }

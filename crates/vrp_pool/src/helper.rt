@@ -52,7 +52,7 @@ impl<'a, R: Wait, L: Ledger> Helper<'a, R, L> {
         for _ in shared.rt.forever() {
             match self.take_turn(shared) {
                 Turn::Searched => busy = 0,
-                Turn::Busy if busy < MAX_BUSY => busy += 1,
+                Turn::Busy if busy < MAX_BUSY - 1 => busy += 1,
                 Turn::Busy | Turn::Last => return,
             }
         }
@@ -66,7 +66,7 @@ impl<'a, R: Wait, L: Ledger> Helper<'a, R, L> {
     {
         match self.thief.take() {
             Drawn::Piece(piece) => {
-                let Err(refusal) = self.worker.search_piece(shared, &piece) else {
+                let Err(refusal) = self.worker.search_piece(shared, piece) else {
                     return Turn::Searched;
                 };
                 self.worker.refuse(refusal);

@@ -89,7 +89,7 @@ impl<'a, R: Wait, L: Ledger> Lead<'a, R, L> {
         let Some(piece) = self.owner.take() else {
             return false;
         };
-        let Err(refusal) = self.worker.search_piece(shared, &piece) else {
+        let Err(refusal) = self.worker.search_piece(shared, piece) else {
             return true;
         };
         self.worker.refuse(refusal);

@@ -1,5 +1,6 @@
 //! What a worker leaves of a piece.
 use vrp_model::Plan;
+use vrp_search::Piece;
 
 /// A piece of which all is known: each word under it costs more than the floor, or is not before `first`, the first plan that its
 /// search offered, if any.
@@ -13,10 +14,18 @@ pub struct Finished {
     pub first: Option<Plan>,
 }
 
+/// A piece whose tree is above the budget.
+#[derive(Debug, Drop)]
+pub(crate) struct Left {
+    pub(crate) piece: Piece,
+    /// No plan under the piece costs less, by tables over all customers.
+    pub(crate) low: u64,
+}
+
 /// How the search of a piece ended.
 #[derive(Debug, Drop)]
 pub(crate) enum Outcome {
     Finished(Finished),
-    /// The budget was spent. No word under the piece costs less than this.
-    Unfinished(u64),
+    /// The budget was spent.
+    Unfinished(Left),
 }

@@ -19,8 +19,8 @@ use vrp_search::{Board, Local};
 #[cfg(test)]
 mod tests;
 
-/// A board that offers plans to a register, as one of its callers, and keeps the first of them. Its floor is the least of the
-/// opening cost and the costs that the caller has seen.
+/// A board that offers plans to a register, as one of its callers, and keeps the first of them: the cheapest, and of those the one
+/// with the earliest word. Its floor is the least of the opening cost and the costs that the caller has seen.
 #[derive(Drop)]
 pub struct SeatBoard<'a, R: Wait, L: Ledger> {
     rt: &'a R,
@@ -100,6 +100,7 @@ impl<'a, R: Wait, L: Ledger> Board for SeatBoard<'a, R, L> {
 
     ghost keeps = { IsLater };
 
+    /// Asks the register each time. Its contract would allow what it answered before.
     fn least(&mut self) -> u64
         ensures serves { (p : Problem) → ForSome self.old.best (IsPlanOf p) → ForSome self.new.best (IsPlanOf p) }
         ensures keeps { (earlier : SeatBoardState) → IsLater earlier self.old → IsLater earlier self.new }

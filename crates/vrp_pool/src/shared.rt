@@ -12,7 +12,7 @@ pub(crate) struct Shared<'a, R, G> {
     pub(crate) rt: &'a R,
     pub(crate) alloc: Global,
     pub(crate) instance: &'a Instance,
-    // Over all customers: for the first look at a piece.
+    // Over all customers.
     pub(crate) tables: &'a Tables<'a>,
     pub(crate) pieces: u32,
     pub(crate) budget: u64,

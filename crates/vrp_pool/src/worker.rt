@@ -1,16 +1,15 @@
 //! A worker: it searches pieces one by one, and keeps what is known of each.
-ghost use Rattle.std.specs.Prelude.{◌≡◌, ◌≤◌, IfOk, IfSome, OnOk, List, is_some, true, false, [], ◌∷◌, ◌++◌};
+ghost use Rattle.std.specs.Prelude.{◌≡◌, ◌≤◌, IfOk, OnOk, List, is_some, true, false, [], ◌∷◌, ◌++◌};
 ghost use Rattle.std.specs.Option.{ForSome, option_map};
 ghost use Rattle.vrp_model.specs.Cheapest.{cost_of};
 ghost use Rattle.vrp_model.specs.Route.{IsPlanOf};
 ghost use Rattle.vrp_model.specs.Word.{IsFront};
 ghost use Rattle.vrp_register.specs.Caller.{IsCallerOf};
 ghost use Rattle.vrp_pool.specs.SeatBoard.{IsLater, floor_of};
-ghost use Rattle.vrp_pool.specs.Inner.Workers.{CostsNoLess, IsFinishedPiece, IsKept};
+ghost use Rattle.vrp_pool.specs.Inner.Workers.{CostsNoLess, IsKept};
 
 use crate::gates::Gate;
-use crate::outcome::{Finished, Outcome};
-use crate::piece_tables::piece_tables;
+use crate::outcome::{Finished, Left, Outcome};
 use crate::seat_board::SeatBoard;
 use crate::shared::Shared;
 use std::alloc::Global;
@@ -20,9 +19,6 @@ use std::sync::ledger::Ledger;
 use vrp_model::{NoMemory, Plan, plans_cost_less};
 use vrp_register::Caller;
 use vrp_search::{Board, Ended, Piece, search};
-
-// So many partial plans are looked at in about the time that it takes to make tables.
-const FIRST_LOOK: u64 = 5_000;
 
 /// A worker's own state: its board, an outcome for each piece that it drew, and the refusal that it met, if any.
 #[derive(Drop)]
@@ -81,18 +77,18 @@ impl<'a, R: Wait, L: Ledger> Worker<'a, R, L> {
     pub(crate) fn search_piece<G: Gate>(
         &mut self,
         shared: &Shared<'_, R, G>,
-        piece: &Piece,
+        piece: Piece,
     ) -> Result<(), NoMemory>
-        requires front { IsFront shared.now.problem piece.now.word }
+        requires front { IsFront shared.now.problem piece.word }
         requires serves { ForSome self.old.board.best (IsPlanOf shared.now.problem) }
         ensures serves { ForSome self.new.board.best (IsPlanOf shared.now.problem) }
         ensures falls { floor_of self.new.board ≤ floor_of self.old.board }
         ensures later { IsLater self.old.board self.new.board }
         ensures refused { self.new.refused ≡ self.old.refused }
-        ensures kept { OnOk result ((outcome : _) × (self.new.outcomes ≡ self.old.outcomes ++ outcome ∷ []) × IsKept shared.now (floor_of self.new.board) piece.now outcome) }
+        ensures kept { OnOk result ((outcome : _) × (self.new.outcomes ≡ self.old.outcomes ++ outcome ∷ []) × IsKept shared.now (floor_of self.new.board) piece outcome) }
     {
         shared.gate.begins(self.number, piece.number());
-        let outcome = looked_at(shared, piece, &mut self.board)?;
+        let outcome = searched(shared, piece, &mut self.board)?;
         self.outcomes.push(outcome)?;
         Ok(())
     }
@@ -158,79 +154,24 @@ impl<'a, R: Wait, L: Ledger> Worker<'a, R, L> {
     }
 }
 
-// What is known of a piece: a first look at it, with few partial plans, is enough where its tree is small.
-fn looked_at<R: Wait, L: Ledger, G: Gate>(
+// How the search of a piece ends.
+fn searched<R: Wait, L: Ledger, G: Gate>(
     shared: &Shared<'_, R, G>,
-    piece: &Piece,
+    piece: Piece,
     board: &mut SeatBoard<'_, R, L>,
 ) -> Result<Outcome, NoMemory>
-    requires front { IsFront shared.now.problem piece.now.word }
+    requires front { IsFront shared.now.problem piece.word }
     requires serves { ForSome board.old.best (IsPlanOf shared.now.problem) }
     ensures serves { ForSome board.new.best (IsPlanOf shared.now.problem) }
     ensures falls { floor_of board.new ≤ floor_of board.old }
     ensures later { IsLater board.old board.new }
-    ensures kept { IfOk result (IsKept shared.now (floor_of board.new) piece.now) }
+    ensures kept { IfOk result (IsKept shared.now (floor_of board.new) piece) }
 {
-    match first_look(shared, piece, board)? {
-        Some(finished) => Ok(Outcome::Finished(finished)),
-        None => searched(shared, piece, board),
-    }
-}
-
-// What is known of a piece whose tree is small, by the tables over all customers. To make tables of its own would take longer than
-// to look through it. With a budget that is no larger there is no such look: the piece would be looked at twice.
-fn first_look<R: Wait, L: Ledger, G: Gate>(
-    shared: &Shared<'_, R, G>,
-    piece: &Piece,
-    board: &mut SeatBoard<'_, R, L>,
-) -> Result<Option<Finished>, NoMemory>
-    requires front { IsFront shared.now.problem piece.now.word }
-    requires serves { ForSome board.old.best (IsPlanOf shared.now.problem) }
-    ensures serves { ForSome board.new.best (IsPlanOf shared.now.problem) }
-    ensures falls { floor_of board.new ≤ floor_of board.old }
-    ensures later { IsLater board.old board.new }
-    ensures finished { IfOk result (λ finished. IfSome finished (IsFinishedPiece shared.now (floor_of board.new) piece.now)) }
-{
-    if shared.budget <= FIRST_LOOK {
-        return Ok(None);
-    }
     let ended = search(
         shared.alloc,
         shared.instance,
         shared.tables,
-        piece,
-        shared.budget.min(FIRST_LOOK),
-        board,
-    )?;
-    match ended {
-        Ended::Finished { first, .. } => Ok(Some(Finished {
-            number: piece.number(),
-            floor: board.least(),
-            first,
-        })),
-        Ended::Unfinished { .. } => Ok(None),
-    }
-}
-
-// How the search of a piece ends, with tables over the customers that it leaves unserved.
-fn searched<R: Wait, L: Ledger, G: Gate>(
-    shared: &Shared<'_, R, G>,
-    piece: &Piece,
-    board: &mut SeatBoard<'_, R, L>,
-) -> Result<Outcome, NoMemory>
-    requires front { IsFront shared.now.problem piece.now.word }
-    requires serves { ForSome board.old.best (IsPlanOf shared.now.problem) }
-    ensures serves { ForSome board.new.best (IsPlanOf shared.now.problem) }
-    ensures falls { floor_of board.new ≤ floor_of board.old }
-    ensures later { IsLater board.old board.new }
-    ensures kept { IfOk result (IsKept shared.now (floor_of board.new) piece.now) }
-{
-    let tables = piece_tables(shared.alloc, shared.instance, piece)?;
-    let ended = search(
-        shared.alloc,
-        shared.instance,
-        &tables,
-        piece,
+        &piece,
         shared.budget,
         board,
     )?;
@@ -240,7 +181,7 @@ fn searched<R: Wait, L: Ledger, G: Gate>(
             floor: board.least(),
             first,
         })),
-        Ended::Unfinished { low, .. } => Ok(Outcome::Unfinished(low)),
+        Ended::Unfinished { low, .. } => Ok(Outcome::Unfinished(Left { piece, low })),
     }
 }
 

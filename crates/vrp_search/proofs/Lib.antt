@@ -8,8 +8,10 @@ pub mod GreatestUnserved
 pub mod LowBounds
 pub mod OneLow
 pub mod OnePlace
+pub mod OwnLows
 pub mod PartialViews
 pub mod PieceRefined
+pub mod Promising
 pub mod SearchProgress
 pub mod Tallies
 pub mod TreePruned

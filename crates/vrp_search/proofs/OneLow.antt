@@ -41,7 +41,7 @@ one_sum P f g (x ∷ xs) one fs gs =
     let here : f x ≡ g x = one x (f x) (g x) (fs 0 x (omega arith)) (gs 0 x (omega arith)) in
     omega (arith, sum_by-cons f x xs, sum_by-cons g x xs, here, rest)
 
-one_ins : (p : Problem) (word : List ℕ) (ins other : ℕ) → IsInsOf p word ins → IsInsOf p word other → ins ≡ other
+pub one_ins : (p : Problem) (word : List ℕ) (ins other : ℕ) → IsInsOf p word ins → IsInsOf p word other → ins ≡ other
 one_ins p word ins other is also = is.whole ∙ one_sum (IsLeastIn p) is.least_in also.least_in (unserved_in p word) (one_least_in p) is.each also.each ∙ sym also.whole
 
 -- ---- the capacity bound
@@ -51,7 +51,7 @@ one_returns p at load rest returns other is also =
     let trucks : is.trucks ≡ also.trucks = omega (arith, is.carry.least also.trucks also.carry.enough, also.carry.least is.trucks is.carry.enough) in
     cc (is.all, also.all, trucks)
 
-one_capacity : (p : Problem) (at load ins rest bound other : ℕ) → IsProblem p → IsCapacityBound p at load ins rest bound → IsCapacityBound p at load ins rest other → bound ≡ other
+pub one_capacity : (p : Problem) (at load ins rest bound other : ℕ) → IsProblem p → IsCapacityBound p at load ins rest bound → IsCapacityBound p at load ins rest other → bound ≡ other
 one_capacity p at load ins rest bound other problem is also =
     cc (is.is, also.is, one_returns p at load rest is.returns also.returns is.count also.count, one_least_home p is.home also.home problem is.least_home also.least_home)
 
@@ -94,7 +94,7 @@ one_greater p among at load ins rest answer other problem is also =
     let capacity = one_capacity p at load ins rest is.capacity also.capacity problem is.is_capacity also.is_capacity in
     is.greater ∙ ap (λ n. option_map (λ least. max least n) is.relaxed) capacity ∙ ap (option_map (λ least. max least also.capacity)) relaxed ∙ sym also.greater
 
-can_or_not : (p : Problem) (at load rest : ℕ) (left : Option ℕ) → CanCarry p at load rest left ⊎ (CanCarry p at load rest left → ⊥)
+pub can_or_not : (p : Problem) (at load rest : ℕ) (left : Option ℕ) → CanCarry p at load rest left ⊎ (CanCarry p at load rest left → ⊥)
 can_or_not p at load rest None = inl (λ trucks is. absurd (cc))
 can_or_not p at load rest (Some trucks) = elim (cases_lt (free_room p at load + trucks * p.capacity) rest) [
   | inl above ↦ inr (λ may. omega (arith, above, may trucks refl))

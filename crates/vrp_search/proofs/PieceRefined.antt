@@ -1,9 +1,10 @@
 -- A piece of a cutting, and the cutting with its children in its stead.
-use Rattle.std.proofs.Common.{◌≡◌, ℕ, ◌+◌, ◌<◌, true, List, [], ◌∷◌, ◌++◌, length, get_or, refl, sym, ap, subst, ◌∙◌, arith, add-one, drop-cons, length-drop, ◌-◌}
+use Rattle.std.proofs.Common.{◌≡◌, ℕ, ◌+◌, ◌<◌, true, List, [], ◌∷◌, ◌++◌, length, get_or, refl, sym, ap, subst, ◌∙◌, ◌≤◌, length-append, arith, add-one, drop-cons, length-drop, ◌-◌}
 use Rattle.std.specs.Prelude.{map, drop, take}
-use Rattle.std.proofs.lemmas.List.{drop-map, get_or-map, take-append-drop, take-map, take_all, length-map}
+use Rattle.std.proofs.lemmas.List.{drop-map, get_or-map, take-append-drop, take-map, take_all, length-map, length-take-le}
 use Rattle.vrp_model.specs.Problem.{Problem}
 use Rattle.vrp_model.specs.Word.{IsFront}
+use Rattle.vrp_model.specs.declared.limits.TheConstants.{MAX_NODES}
 use Rattle.vrp_search.specs.Child.{AreChildren}
 use Rattle.vrp_search.specs.Cutting.{IsCutting, IsRefined, NumberedWord}
 use Rattle.vrp_search.specs.Inner.Pass.{AreAdded}
@@ -47,3 +48,16 @@ piece_refined p i old before more new pieces piece cut are lt is first added lon
       (children, subst (λ (w : List ℕ). AreChildren p w children) (sym at.1) added.are, some, whole),
       subst (IsCutting p) (sym whole) (children_instead p (take i old) (drop (i + 1) old) piece.word children (subst (IsCutting p) at.0 cut) added.are some),
     )
+
+-- there are no more children than nodes
+pub piece_refined_few : (p : Problem) (i : ℕ) (front : List ℕ) (old before more new : List (List ℕ)) (pieces : List NumberedWord) → map (λ x. x.word) pieces ≡ old → i < length old
+    → before ≡ map (λ x. x.word) (take i pieces) → AreAdded p front before more → new ≡ more ++ map (λ x. x.word) (take (length pieces - (i + 1)) (drop (i + 1) pieces)) → length new ≤ length old + (MAX_NODES - 1)
+piece_refined_few p i front old before more new pieces are lt first added last =
+    let behind = take (length pieces - (i + 1)) (drop (i + 1) pieces) in
+    let many : length old ≡ length pieces = ap length (sym are) ∙ length-map pieces (λ x. x.word) in
+    let start : length before ≡ i = ap length first ∙ length-map (take i pieces) (λ x. x.word) ∙ length-take-le i pieces (omega (arith, lt, many)) in
+    let middle : length more ≡ length before + length added.children = ap length added.behind ∙ length-append before added.children in
+    let end : length behind ≡ length pieces - (i + 1) = length-take-le (length pieces - (i + 1)) (drop (i + 1) pieces) (omega (arith, length-drop (i + 1) pieces)) in
+    let whole : length new ≡ length more + length behind = ap length last ∙ length-append more (map (λ x. x.word) behind) ∙ ap (λ n. length more + n) (length-map behind (λ x. x.word)) in
+    let few = added.few in
+    omega (arith, many, start, middle, end, whole, few, lt)

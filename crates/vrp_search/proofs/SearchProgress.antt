@@ -326,6 +326,7 @@ ends_at_root p root budget floor front some above = record {
   within = some;
   tree = tree_of_seen p root (root ++ 0 ∷ []) 1 (seen_more p root root (root ++ 0 ∷ []) 0 front (itself root) (not_from_longer root [] 0) (λ w from. from_shorter root (0 ∷ []) w from) (none_seen p root root));
   found = λ plan is. absurd (no_plan plan is);
+  offered = λ plan is. absurd (no_plan plan is);
   none_before = λ w lawful begins. inl (above w lawful begins);
   none_cheaper = λ w lawful begins. omega (arith, above w lawful begins);
 }
@@ -338,6 +339,7 @@ ends_at_last p root word next spent floor budget first progress none as_long som
   within = within;
   tree = tree_of_seen p root (word ++ next ∷ []) spent progress.seen;
   found = progress.found;
+  offered = progress.offered;
   none_before = finished p root word next spent floor first progress none as_long;
   none_cheaper = λ w lawful begins. costs_floor p floor first w progress.offered (finished p root word next spent floor first progress none as_long w lawful begins);
 }

@@ -45,6 +45,8 @@ pub record IsFinished (p : Problem) (front : List ℕ) (budget floor spent : ℕ
   pub within : spent ≤ budget
   pub tree : TreeHasAtLeast p front spent
   pub found : ForSome first (IsFoundUnder p front)
+  -- it was offered to the board, whose floor is no higher since
+  pub offered : ForSome first (λ plan. floor ≤ plan.cost)
   pub none_before : NoneBeforeUnder p front floor first
   -- so none costs less than the floor
   pub none_cheaper : NoneCheaperUnder p front floor

@@ -68,7 +68,8 @@ impl Cutting {
         pieces
     }
 
-    /// Puts a piece's children in its stead, by rising symbol, and tells whether it has any. A refused call changes nothing.
+    /// Puts a piece's children in its stead, by rising symbol, and tells whether it has any: at most 1,200, one for each node. A
+    /// refused call changes nothing.
     pub fn refine(
         &mut self,
         alloc: Global,
@@ -80,6 +81,7 @@ impl Cutting {
         requires few { length self.old ≤ MAX_REFINED }
         ensures refined { IfOk result (λ refined. IsRefined instance.now piece self.old refined self.new) }
         ensures cutting { IsCutting instance.now self.new }
+        ensures few { length self.new ≤ length self.old + (MAX_NODES - 1) }
         ensures err { OnErr result (self.new ≡ self.old) }
     {
         let at = piece as usize;

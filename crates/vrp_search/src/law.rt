@@ -1,9 +1,11 @@
 //! What is true of the definitions, whatever the code does.
-ghost use Rattle.std.specs.Prelude.{◌≡◌, ℕ, ◌<◌, Option, List, [], length, slice_index_or};
-ghost use Rattle.vrp_model.specs.Problem.{IsProblem, Problem};
-ghost use Rattle.vrp_model.specs.Word.{BeginsWith, IsLawfulWord};
+ghost use Rattle.std.specs.Prelude.{◌≡◌, ℕ, ◌<◌, ◌≤◌, Option, Some, List, [], length, slice_index_or};
+ghost use Rattle.vrp_model.specs.Problem.{IsProblem, Problem, customers};
+ghost use Rattle.vrp_model.specs.Word.{BeginsWith, IsFront, IsLawfulWord, unserved_in};
 ghost use Rattle.vrp_search.specs.Cutting.{IsCutting};
 ghost use Rattle.vrp_search.specs.Search.{IsLow};
+
+use vrp_bound::fewer_customers;
 
 /// A lawful word is under one piece of a cutting, and under no other.
 pub fn one_piece()
@@ -15,3 +17,12 @@ pub fn one_piece()
 pub fn one_low()
     ensures { (p : Problem) (among front : List ℕ) (low other : Option ℕ) → IsProblem p → IsLow p among front low → IsLow p among front other → low ≡ other }
 {}
+
+/// What a word under a front costs at least is no lower with tables over the customers alone that the front leaves unserved than
+/// with tables over all customers.
+pub fn own_low_no_lower()
+    ensures { (p : Problem) (front : List ℕ) (low : ℕ) (own : Option ℕ) → IsProblem p → IsFront p front → IsLow p (customers p) front (Some low) → IsLow p (unserved_in p front) front own
+        → (least : ℕ) × (own ≡ Some least) × (low ≤ least) }
+{
+    fewer_customers();
+}

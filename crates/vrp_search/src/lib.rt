@@ -17,7 +17,7 @@ mod tree_pruning;
 pub use board::Board;
 pub use cutting::{Cutting, MAX_PIECES, MAX_REFINED};
 pub use depth_first::{Ended, search};
-pub use law::{one_low, one_piece};
+pub use law::{one_low, one_piece, own_low_no_lower};
 pub use local::Local;
 pub use partial::Partial;
 pub use piece::Piece;

@@ -1,10 +1,13 @@
 //! Pieces: the fronts of a cutting, by number.
 ghost use Rattle.std.specs.Prelude.{◌≡◌, IfOk};
-ghost use Rattle.vrp_model.specs.Word.{IsFront, unserved_in};
+ghost use Rattle.std.specs.Option.{ForSome};
+ghost use Rattle.vrp_model.specs.Word.{IsFront, NoneCheaperUnder, unserved_in};
+ghost use Rattle.vrp_search.specs.Search.{AreCovered, IsLow};
 
 use crate::partial::Partial;
 use std::alloc::Global;
 use std::marker::Model;
+use vrp_bound::{Tables, bounds_hold};
 use vrp_model::{Instance, NoMemory};
 
 /// A piece of a cutting: a front of the instance's words, and its place in the cutting.
@@ -52,6 +55,25 @@ impl Piece {
         let mut unserved = Vec::with_capacity(alloc, usize::from(instance.customers()))?;
         partial.list_unserved(&mut unserved);
         Ok(unserved)
+    }
+
+    /// What a plan under the piece costs at least: what is paid along its word, and the bound on what is still to pay there.
+    /// `None` where the bound says that there is no plan.
+    pub fn low(
+        &self,
+        alloc: Global,
+        instance: &Instance,
+        tables: &Tables<'_>,
+    ) -> Result<Option<u64>, NoMemory>
+        requires front { IsFront instance.now self.now.word }
+        requires tables { tables.now.problem ≡ instance.now }
+        requires covered { AreCovered instance.now tables.now.among self.now.word }
+        ensures low { IfOk result (IsLow instance.now tables.now.among self.now.word) }
+        ensures none_cheaper { IfOk result (λ low. ForSome low (NoneCheaperUnder instance.now self.now.word)) }
+    {
+        bounds_hold();
+        let partial = Partial::at_front(alloc, instance, self.word())?;
+        Ok(partial.low(tables))
     }
 }
 

@@ -1,6 +1,6 @@
 //! Readers and writers that fail, give or take little, or never end.
 use super::{REPORT, SMALL};
-use crate::{Options, RunError, Status, run};
+use crate::{NoGate, Options, RunError, Status, run, run_words};
 use std::alloc::Global;
 use std::io;
 use std::io::{ErrorKind, Read, Write};
@@ -225,4 +225,55 @@ fn failed_flush(rt: HostRuntime) {
     let ended = run_over(&rt, rt.alloc(), input, output);
     assert_eq!(rt; ended.outcome, Err(RunError::Write));
     assert_eq!(rt; ended.taken.as_slice(), REPORT.as_bytes());
+}
+
+// The program over a reader and a writer: its words, which read and which write fails, the status, and what it tells.
+const TOLD: [(&str, usize, usize, u8, &str); 4] = [
+    ("--", 0, 0, 0, ""),
+    ("--", 1, 0, 5, "cvrp: read fault\n"),
+    ("--", 0, 1, 5, "cvrp: write fault\n"),
+    // the help is not told where it can't be written, and nothing is read
+    ("--help", 1, 1, 0, ""),
+];
+
+#[test]
+fn faults_are_told(rt: HostRuntime) {
+    for (word, failing_read, failing_write, status, told) in TOLD {
+        let mut input = small_in_parts(70_000, failing_read, ErrorKind::Other);
+        let mut output = takes(rt.alloc(), 70_000);
+        output.failing = failing_write;
+        let mut errors = Vec::new(rt.alloc());
+        let words = [word];
+        let ended = run_words(
+            &rt,
+            rt.alloc(),
+            &words,
+            &mut input,
+            &mut output,
+            &mut errors,
+            &NoGate,
+        );
+        assert_eq!(rt; ended, status, "{word} {told}");
+        assert_eq!(rt; errors.as_slice(), told.as_bytes(), "{word}");
+    }
+}
+
+// Where the words are refused the input is not looked at, and nothing is printed.
+#[test]
+fn refused_words_read_nothing(rt: HostRuntime) {
+    let mut input = small_in_parts(70_000, 0, ErrorKind::Other);
+    let mut output = takes(rt.alloc(), 70_000);
+    let mut errors = Vec::new(rt.alloc());
+    let ended = run_words(
+        &rt,
+        rt.alloc(),
+        &["--pieces", "0"],
+        &mut input,
+        &mut output,
+        &mut errors,
+        &NoGate,
+    );
+    assert_eq!(rt; ended, 2);
+    assert_eq!(rt; input.reads, 0);
+    assert_eq!(rt; output.writes, 0);
 }

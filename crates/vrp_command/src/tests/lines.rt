@@ -1,8 +1,13 @@
 //! Command lines: what they ask for, and how they are refused.
+use crate::words::line_fault;
 use crate::{
-    LineFault, MAX_BUDGET, MAX_PIECES, MAX_WORKERS, Options, line_status, not_text, parse_words,
+    LineFault, MAX_BUDGET, MAX_PIECES, MAX_WORKERS, Options, end_without_run, line_status,
+    parse_words, words_fault,
 };
-use std::alloc::Global;
+use clap::Error;
+use std::alloc::{AllocError, Global};
+use std::io;
+use std::io::ErrorKind;
 use std::process::Abort;
 use std::test::*;
 use vrp_model::MAX_NODES;
@@ -120,6 +125,10 @@ fn assert_refused(rt: &impl Abort, alloc: Global, words: &[&str], begins: &str) 
     match parse_words(alloc, words) {
         Err(LineFault::Refused(text)) => {
             assert!(rt; text.as_str().starts_with(begins), "{words:?}: {text}");
+            assert!(rt;
+                text.as_str()
+                    .ends_with("\n\nFor more information, try '--help'.\n")
+            );
         }
         _ => assert!(rt; false, "{words:?} is not refused"),
     }
@@ -270,6 +279,17 @@ fn helps_tell_ranges_and_defaults(rt: HostRuntime) -> Result<(), Fail> {
     Ok(())
 }
 
+// The help has the statuses that the program ends with, and ends its last line.
+#[test]
+fn helps_tell_statuses(rt: HostRuntime) -> Result<(), Fail> {
+    let help = help(rt.alloc(), &["--help"])?;
+    let told =
+        "\nExit statuses:\n  0  Proven, NoPlan, or this help\n  1  Open\n  2  the command line is refused\n  3  the file is refused\n  4  no memory\n  5  a read or a write failed\n";
+    assert!(rt; help.as_str().contains(told));
+    assert!(rt; help.as_str().ends_with("< examples/E-n51-k5.vrp\n"));
+    Ok(())
+}
+
 #[test]
 fn statuses(rt: HostRuntime) {
     assert_eq!(rt; line_status(&LineFault::Help(String::new(rt.alloc()))), 0);
@@ -278,6 +298,29 @@ fn statuses(rt: HostRuntime) {
         2
     );
     assert_eq!(rt; line_status(&LineFault::OutOfMemory), 4);
-    let fault = not_text(rt.alloc());
-    assert_eq!(rt; line_status(&fault), 2);
+}
+
+// Asserts what is told of a fault, which prints nothing on standard output, and its status.
+fn assert_told(rt: &impl Abort, alloc: Global, fault: &LineFault, status: u8, told: &str) {
+    let mut output = Vec::new(alloc);
+    let mut errors = Vec::new(alloc);
+    assert_eq!(rt; end_without_run(fault, &mut output, &mut errors), status);
+    assert!(rt; output.is_empty());
+    assert_eq!(rt; errors.as_slice(), told.as_bytes());
+}
+
+// A word that is no text is refused; want of memory is told as that, wherever it comes.
+#[test]
+fn words_that_cannot_be_had(rt: HostRuntime) {
+    let no_text =
+        "error: a word on the command line is no text (not UTF-8)\n\nFor more information, try '--help'.\n";
+    let fault = words_fault(rt.alloc(), &io::Error::from(ErrorKind::InvalidData));
+    assert_told(&rt, rt.alloc(), &fault, 2, no_text);
+    let no_memory = "cvrp: out of memory\n";
+    let fault = words_fault(rt.alloc(), &io::Error::from(ErrorKind::OutOfMemory));
+    assert_told(&rt, rt.alloc(), &fault, 4, no_memory);
+    let fault = line_fault(rt.alloc(), &Error::from(AllocError));
+    assert_told(&rt, rt.alloc(), &fault, 4, no_memory);
+    let fault = LineFault::from(AllocError);
+    assert_told(&rt, rt.alloc(), &fault, 4, no_memory);
 }

@@ -1,5 +1,6 @@
 //! The options, the texts and the exit statuses, and growths that are refused.
 use super::{REPORT, SMALL};
+use crate::program::end;
 use crate::{Options, RunError, Status, exit_status, fault_line, run};
 use std::alloc::Global;
 use std::process::Abort;
@@ -19,20 +20,28 @@ fn default_options(rt: HostRuntime) {
     assert_eq!(rt; Options::default(), options);
 }
 
-const EXIT_STATUSES: [(Result<Status, RunError>, u8); 7] = [
-    (Ok(Status::Proven), 0),
-    (Ok(Status::NoPlan), 0),
-    (Ok(Status::Open), 1),
-    (Err(RunError::Text(TextError::TooLong)), 3),
-    (Err(RunError::OutOfMemory), 4),
-    (Err(RunError::Read), 5),
-    (Err(RunError::Write), 5),
+// An outcome, its status, and what is told of it on standard error.
+const OUTCOMES: [(Result<Status, RunError>, u8, &str); 7] = [
+    (Ok(Status::Proven), 0, ""),
+    (Ok(Status::NoPlan), 0, ""),
+    (Ok(Status::Open), 1, ""),
+    (
+        Err(RunError::Text(TextError::TooLong)),
+        3,
+        "cvrp: input too long\n",
+    ),
+    (Err(RunError::OutOfMemory), 4, "cvrp: out of memory\n"),
+    (Err(RunError::Read), 5, "cvrp: read fault\n"),
+    (Err(RunError::Write), 5, "cvrp: write fault\n"),
 ];
 
 #[test]
-fn exit_statuses(rt: HostRuntime) {
-    for (outcome, status) in EXIT_STATUSES {
-        assert_eq!(rt; exit_status(&outcome), status);
+fn outcomes(rt: HostRuntime) {
+    for (outcome, status, told) in OUTCOMES {
+        let mut errors = Vec::new(rt.alloc());
+        assert_eq!(rt; exit_status(&outcome), status, "{told}");
+        assert_eq!(rt; end(rt.alloc(), &outcome, &mut errors), status, "{told}");
+        assert_eq!(rt; errors.as_slice(), told.as_bytes());
     }
 }
 

@@ -28,7 +28,7 @@ const SAME_POINT: &str =
     "TYPE : CVRP\nDIMENSION : 3\nEDGE_WEIGHT_TYPE : EUC_2D\nCAPACITY : 2\nNODE_COORD_SECTION\n1 7 7\n2 7 7\n3 7 7\nDEMAND_SECTION\n1 0\n2 1\n3 1\nDEPOT_SECTION\n1\n-1\nEOF\n";
 
 // Four nodes, a step from each to each: many plans cost the same.
-const STEPS: &str =
+pub(crate) const STEPS: &str =
     "TYPE : CVRP\nDIMENSION : 4\nEDGE_WEIGHT_TYPE : EXPLICIT\nEDGE_WEIGHT_FORMAT : UPPER_ROW\nCAPACITY : 2\nEDGE_WEIGHT_SECTION\n1 1 1\n1 1\n1\nDEMAND_SECTION\n1 0\n2 1\n3 1\n4 1\nDEPOT_SECTION\n1\n-1\nEOF\n";
 
 // A change of the small file, and the report: the first plan by cost and then by word.
@@ -139,9 +139,16 @@ const SMALL_BUDGETS: [(&str, &str, u32, u64, Status, &str); 17] = [
     // three pieces: two are left at 12 and 16; with the last customer first no route can be opened any more for the others
     (SMALL, FOUR, 3, 1, Status::Open, "Cost 32\nOpen 12\n"),
     (SMALL, FOUR, 3, 10, Status::Open, "Cost 20\nOpen 12\n"),
-    // two pieces, left at 30 and 3; then the last one is finished, and its plan costs less than 30
+    // two pieces, left at 30 and 3; then the last one is finished, and its plan costs less than 30, so none under the first is of use
     (SMALL, SECOND_FIRST, 2, 1, Status::Open, "Cost 31\nOpen 3\n"),
-    (SMALL, SECOND_FIRST, 2, 4, Status::Open, "Cost 3\nOpen 3\n"),
+    (
+        SMALL,
+        SECOND_FIRST,
+        2,
+        4,
+        Status::Proven,
+        "Cost 3\nProven\n",
+    ),
 ];
 
 // What is left open with a small budget. The whole tree of the small file has ten partial plans: eight are looked at.

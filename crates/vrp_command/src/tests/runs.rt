@@ -1,15 +1,14 @@
 //! Runs as a user asks for them: the words, a file, and all that comes of it.
-use super::plans::{FOUR, ONE_WAY};
+use super::plans::{FOUR, ONE_WAY, STEPS};
 use super::trucks::THREE;
-use super::{REPORT, SMALL, run_as};
-use crate::{RunError, Status, parse_words};
+use super::{REPORT, SMALL};
+use crate::{Gate, NoGate, run_words};
 use std::alloc::Global;
 use std::process::Abort;
 use std::sync::Wait;
+use std::sync::atomic::{AtomicU64, Ordering};
 use std::test::*;
-use std::thread::Threads;
-use vrp_model::InstanceError;
-use vrp_text::{Key, TextError};
+use std::thread::{Threads, yield_now};
 
 // Two depots are listed, a customer's step apart.
 const DEPOTS: &str =
@@ -39,29 +38,45 @@ const TRIANGLE: &str =
 const OTHER_SPELLING: &str =
     "NAME : A\r\nCOMMENT : three nodes\r\nCOMMENT : again\r\nTYPE : CVRP\r\nDIMENSION : 3\r\nEDGE_WEIGHT_TYPE : EUC_2D\r\nCAPACITY : 2\r\nNODE_COORD_SECTION\r\n1\t0\t0\r\n2\t3.00000\t4.0e+00\r\n3\t6\t8\r\nDEMAND_SECTION\r\n1\t0\r\n2\t1\r\n3\t1\r\nDEPOT_SECTION\r\n1\r\n-1\r\nEOF\r\n";
 
+// Many plans of the four nodes that are a step apart cost 5; this is the first of them.
+const FIVE_STEPS: &str = "Route #1: 2\nRoute #2: 3 4\nCost 5\nProven\n";
+
 const SINGLES: &str = "Route #1: 2\nRoute #2: 3\nCost 30\nProven\n";
 
 const TWELVE: &str = "Route #1: 2\nRoute #2: 3\nRoute #3: 4\nCost 12\nProven\n";
 
 const FOURTEEN: &str = "Route #1: 2\nRoute #2: 3\nRoute #3: 4\nCost 14\nProven\n";
 
-// Asserts how a run over a text ends that is asked for by these words, and all that it writes.
+// Two depots, four customers of demand 1 each, and trucks that carry two of them.
+const SIX: &str =
+    "TYPE : CVRP\nDIMENSION : 6\nEDGE_WEIGHT_TYPE : EUC_2D\nCAPACITY : 2\nNODE_COORD_SECTION\n1 0 0\n2 8 0\n3 4 3\n4 8 6\n5 12 3\n6 8 2\nDEMAND_SECTION\n1 0\n2 0\n3 1\n4 1\n5 1\n6 1\nDEPOT_SECTION\n1 2\n-1\nEOF\n";
+
+// The exit status, and all that is written to standard output and to standard error.
+type End<'a> = (u8, &'a str, &'a str);
+
+// Asserts how the program ends that is asked for by these words over a text.
 fn assert_run_by<R: Abort + Threads + Wait + Sync>(
     rt: &R,
     alloc: Global,
     words: &[&str],
     text: &str,
-    wanted: Result<Status, RunError>,
-    report: &str,
+    (status, printed, told): End<'_>,
 ) {
-    match parse_words(alloc, words) {
-        Ok(options) => {
-            let (outcome, written) = run_as(rt, alloc, text.as_bytes(), options);
-            assert_eq!(rt; outcome, wanted, "{words:?}");
-            assert_eq!(rt; written.as_slice(), report.as_bytes(), "{words:?}");
-        }
-        Err(_) => assert!(rt; false, "{words:?} gives no options"),
-    }
+    let mut input = text.as_bytes();
+    let mut output = Vec::new(alloc);
+    let mut errors = Vec::new(alloc);
+    let ended = run_words(
+        rt,
+        alloc,
+        words,
+        &mut input,
+        &mut output,
+        &mut errors,
+        &NoGate,
+    );
+    assert_eq!(rt; ended, status, "{words:?}");
+    assert_eq!(rt; output.as_slice(), printed.as_bytes(), "{words:?}");
+    assert_eq!(rt; errors.as_slice(), told.as_bytes(), "{words:?}");
 }
 
 // A file, a text in it and what stands in its place, and the report by a line without words.
@@ -123,67 +138,57 @@ const PLAIN_RUNS: [(&str, &str, &str, &str); 26] = [
 fn without_words(rt: HostRuntime) -> Result<(), Fail> {
     for (file, old, new, report) in PLAIN_RUNS {
         let text = file.replacen(rt.alloc(), old, new, 1)?;
-        assert_run_by(
-            &rt,
-            rt.alloc(),
-            &[],
-            text.as_str(),
-            Ok(Status::Proven),
-            report,
-        );
+        assert_run_by(&rt, rt.alloc(), &[], text.as_str(), (0, report, ""));
     }
     Ok(())
 }
 
-// A text in the small file and what stands in its place, and what it is refused for.
-const REFUSED: [(&str, &str, TextError); 10] = [
-    ("\n2 3 4\n", "\n2 3.5 4\n", TextError::NotWhole(9)),
+// A text in the small file and what stands in its place, and the line on standard error.
+const REFUSED: [(&str, &str, &str); 10] = [
+    (
+        "\n2 3 4\n",
+        "\n2 3.5 4\n",
+        "cvrp: line 9: number is not whole\n",
+    ),
     (
         "\n2 1\n",
         "\n2 3\n",
-        TextError::Instance(InstanceError::DemandOverCapacity(2)),
+        "cvrp: node 2: demand above capacity\n",
     ),
     (
         "CAPACITY : 2\n",
         "CAPACITY : 2\nCAPACITY : 2\n",
-        TextError::Repeated(7),
+        "cvrp: line 7: repeated keyword\n",
     ),
-    ("CAPACITY : 2\n", "", TextError::Missing(Key::Capacity)),
-    ("\n3 1\n", "\n", TextError::WrongCount(Key::Demand)),
+    ("CAPACITY : 2\n", "", "cvrp: missing CAPACITY\n"),
+    ("\n3 1\n", "\n", "cvrp: wrong count in DEMAND_SECTION\n"),
     (
         "\n2 1\n3 1\nDEPOT_SECTION\n1\n-1\nEOF\n",
         "\n2 1\n",
-        TextError::Missing(Key::Depot),
+        "cvrp: missing DEPOT_SECTION\n",
     ),
-    (SMALL, "", TextError::Missing(Key::Problem)),
+    (SMALL, "", "cvrp: missing TYPE\n"),
     (
         "CAPACITY : 2\n",
         "CAPACITY : 2\nVEHICLES : 2\n",
-        TextError::UnknownKeyword(7),
+        "cvrp: line 7: unknown keyword\n",
     ),
-    ("EUC_2D", "GEO", TextError::Unsupported(5)),
+    ("EUC_2D", "GEO", "cvrp: line 5: not supported\n"),
     (
         "CAPACITY : 2\n",
         "CAPACITY : 2\n5\n",
-        TextError::DataOutside(7),
+        "cvrp: line 7: data outside a section\n",
     ),
 ];
 
-// Nothing is written, whatever the words.
+// No report is written, whatever the words.
 #[test]
 fn refused_files(rt: HostRuntime) -> Result<(), Fail> {
-    for (old, new, refusal) in REFUSED {
+    for (old, new, told) in REFUSED {
         let text = SMALL.replacen(rt.alloc(), old, new, 1)?;
-        let wanted = Err(RunError::Text(refusal));
-        assert_run_by(&rt, rt.alloc(), &[], text.as_str(), wanted, "");
-        assert_run_by(
-            &rt,
-            rt.alloc(),
-            &["--workers", "2"],
-            text.as_str(),
-            wanted,
-            "",
-        );
+        let two = ["--workers", "2"];
+        assert_run_by(&rt, rt.alloc(), &[], text.as_str(), (3, "", told));
+        assert_run_by(&rt, rt.alloc(), &two, text.as_str(), (3, "", told));
     }
     Ok(())
 }
@@ -192,65 +197,150 @@ fn refused_files(rt: HostRuntime) -> Result<(), Fail> {
 #[test]
 fn crews(rt: HostRuntime) {
     for workers in ["1", "2", "8"] {
-        for pieces in ["1", "2", "65536"] {
+        for pieces in ["1", "2", "64", "65536"] {
             let words = ["--workers", workers, "--pieces", pieces];
             let four = "Route #1: 2 3 4\nCost 20\nProven\n";
-            assert_run_by(&rt, rt.alloc(), &words, SMALL, Ok(Status::Proven), REPORT);
-            assert_run_by(&rt, rt.alloc(), &words, FOUR, Ok(Status::Proven), four);
+            assert_run_by(&rt, rt.alloc(), &words, SMALL, (0, REPORT, ""));
+            assert_run_by(&rt, rt.alloc(), &words, FOUR, (0, four, ""));
+            assert_run_by(&rt, rt.alloc(), &words, STEPS, (0, FIVE_STEPS, ""));
         }
     }
 }
 
-#[test]
-fn by_budget(rt: HostRuntime) {
-    let open = "Route #1: 2\nRoute #2: 3\nCost 30\nOpen 20\n";
-    let one = ["--budget", "1", "--pieces", "1"];
-    let many = ["--budget", "1", "--pieces", "65536"];
-    assert_run_by(&rt, rt.alloc(), &one, SMALL, Ok(Status::Open), open);
-    assert_run_by(&rt, rt.alloc(), &many, SMALL, Ok(Status::Proven), REPORT);
-    assert_run_by(&rt, rt.alloc(), &[], SMALL, Ok(Status::Proven), REPORT);
-}
+// What who gives a file's name is told.
+const NO_FILE: &str =
+    "error: unexpected argument 'a.vrp' found\n\nUsage: cvrp [OPTIONS] < FILE\n\nThe file comes on standard input.\n\nFor more information, try '--help'.\n";
+
+const NO_WORKERS: &str =
+    "error: invalid value '0' for '--workers <THREADS>': 0 is not in 1..=64\n\nFor more information, try '--help'.\n";
+
+// Words between blanks, a file, and how the program ends.
+const BY_WORDS: [(&str, &str, End<'static>); 19] = [
+    ("--", SMALL, (0, REPORT, "")),
+    // a budget and pieces of its own: with one of them alone the plan is proven
+    (
+        "--budget 1 --pieces 1",
+        SMALL,
+        (1, "Route #1: 2\nRoute #2: 3\nCost 30\nOpen 20\n", ""),
+    ),
+    ("--budget 1", SMALL, (0, REPORT, "")),
+    ("--pieces 1", SMALL, (0, REPORT, "")),
+    ("--budget 1 --pieces 65536", SMALL, (0, REPORT, "")),
+    (
+        "--depot 1",
+        DEPOTS,
+        (0, "Route #1: 3\nCost 20\nProven\n", ""),
+    ),
+    (
+        "--depot 2",
+        DEPOTS,
+        (0, "Route #1: 3\nCost 10\nProven\n", ""),
+    ),
+    ("--depot 3", DEPOTS, (3, "", "cvrp: node 3: not a depot\n")),
+    ("--trucks 2", THREE, (0, "NoPlan\n", "")),
+    ("--trucks 3", THREE, (0, TWELVE, "")),
+    ("--version", SMALL, (0, "cvrp 0.1.0\n", "")),
+    ("a.vrp", SMALL, (2, "", NO_FILE)),
+    ("--workers 0", SMALL, (2, "", NO_WORKERS)),
+    // all options, and all but one: the first customers alone make four pieces, of at least 19, 20, 19 and 27; from the other
+    // depot of at least 39, 37, 41 and 37
+    (
+        "--workers 2 --depot 2 --trucks 3 --pieces 4 --budget 4",
+        SIX,
+        (1, "Open 19\n", ""),
+    ),
+    (
+        "--depot 2 --trucks 3 --pieces 4 --budget 4",
+        SIX,
+        (1, "Open 19\n", ""),
+    ),
+    (
+        "--workers 2 --trucks 3 --pieces 4 --budget 4",
+        SIX,
+        (1, "Open 37\n", ""),
+    ),
+    (
+        "--workers 2 --depot 2 --pieces 4 --budget 4",
+        SIX,
+        (
+            1,
+            "Route #1: 3\nRoute #2: 4\nRoute #3: 5\nRoute #4: 6\nCost 36\nOpen 19\n",
+            "",
+        ),
+    ),
+    (
+        "--workers 2 --depot 2 --trucks 3 --budget 4",
+        SIX,
+        (0, "Route #1: 3 4\nRoute #2: 5 6\nCost 27\nProven\n", ""),
+    ),
+    (
+        "--workers 2 --depot 2 --trucks 3 --pieces 4",
+        SIX,
+        (0, "Route #1: 3 4\nRoute #2: 5 6\nCost 27\nProven\n", ""),
+    ),
+];
 
 #[test]
-fn by_depot(rt: HostRuntime) {
-    let near = "Route #1: 3\nCost 10\nProven\n";
-    let far = "Route #1: 3\nCost 20\nProven\n";
-    let no_depot = RunError::Text(TextError::Instance(InstanceError::NotADepot(3)));
-    assert_run_by(
-        &rt,
-        rt.alloc(),
-        &["--depot", "2"],
-        DEPOTS,
-        Ok(Status::Proven),
-        near,
-    );
-    assert_run_by(&rt, rt.alloc(), &[], DEPOTS, Ok(Status::Proven), far);
-    assert_run_by(
-        &rt,
-        rt.alloc(),
-        &["--depot", "3"],
-        DEPOTS,
-        Err(no_depot),
-        "",
-    );
+fn by_words(rt: HostRuntime) -> Result<(), Fail> {
+    for (line, text, end) in BY_WORDS {
+        let words: Vec<&str> = line.split(' ').collect(rt.alloc())?;
+        assert_run_by(&rt, rt.alloc(), &words, text, end);
+    }
+    Ok(())
 }
 
+// How often a worker may look whether the others have begun.
+const TURNS: u64 = 1_000_000;
+
+// Holds each piece until so many have begun, or it has looked too often. A worker that is held begins no other piece.
+#[derive(Drop)]
+struct HoldsAll {
+    wanted: u64,
+    begun: AtomicU64,
+    // How many pieces were let go for no other reason than that they had looked too often.
+    let_go: AtomicU64,
+}
+
+impl Gate for HoldsAll {
+    fn begins(&self, _worker: u32, _piece: u32) {
+        self.begun.fetch_add(1, Ordering::SeqCst);
+        for _ in 0..TURNS {
+            if self.wanted <= self.begun.load(Ordering::SeqCst) {
+                return;
+            }
+            yield_now();
+        }
+        self.let_go.fetch_add(1, Ordering::SeqCst);
+    }
+}
+
+// Seven customers on a line, a step apart.
+const LINE: &str =
+    "TYPE : CVRP\nDIMENSION : 8\nEDGE_WEIGHT_TYPE : EUC_2D\nCAPACITY : 7\nNODE_COORD_SECTION\n1 0 0\n2 1 0\n3 2 0\n4 3 0\n5 4 0\n6 5 0\n7 6 0\n8 7 0\nDEMAND_SECTION\n1 0\n2 1\n3 1\n4 1\n5 1\n6 1\n7 1\n8 1\nDEPOT_SECTION\n1\n-1\nEOF\n";
+
+// As many work at once as the words ask for.
 #[test]
-fn by_trucks(rt: HostRuntime) {
-    assert_run_by(
-        &rt,
-        rt.alloc(),
-        &["--trucks", "2"],
-        THREE,
-        Ok(Status::NoPlan),
-        "NoPlan\n",
-    );
-    assert_run_by(
-        &rt,
-        rt.alloc(),
-        &["--trucks", "3"],
-        THREE,
-        Ok(Status::Proven),
-        TWELVE,
-    );
+fn by_workers(rt: HostRuntime) {
+    for (workers, wanted) in [("1", 1), ("2", 2), ("3", 3), ("64", 64)] {
+        let gate = HoldsAll {
+            wanted,
+            begun: AtomicU64::new(0),
+            let_go: AtomicU64::new(0),
+        };
+        let words = ["--workers", workers, "--budget", "1"];
+        let mut input = LINE.as_bytes();
+        let mut output = Vec::new(rt.alloc());
+        let mut errors = Vec::new(rt.alloc());
+        let ended = run_words(
+            &rt,
+            rt.alloc(),
+            &words,
+            &mut input,
+            &mut output,
+            &mut errors,
+            &gate,
+        );
+        assert_eq!(rt; ended, 1, "{workers} workers");
+        assert_eq!(rt; gate.let_go.load(Ordering::SeqCst), 0, "{workers} workers");
+    }
 }

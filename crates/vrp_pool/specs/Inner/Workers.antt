@@ -3,9 +3,9 @@ use Rattle.std.specs.Prelude.{◌≡◌, ℕ, ◌+◌, ◌≤◌, ◌<◌, Bool,
 use Rattle.std.specs.List.{All}
 use Rattle.std.specs.Option.{ForSome}
 use Rattle.vrp_model.specs.Cheapest.{cost_of}
-use Rattle.vrp_model.specs.Problem.{Problem}
+use Rattle.vrp_model.specs.Problem.{Problem, customers}
 use Rattle.vrp_model.specs.Route.{IsPlanOf, PricedPlan}
-use Rattle.vrp_model.specs.Word.{IsFront, NoneCheaperUnder, TreeHasAtLeast, unserved_in}
+use Rattle.vrp_model.specs.Word.{IsFront, NoneCheaperUnder, TreeHasAtLeast}
 use Rattle.vrp_pile.specs.Pile.{AreShared, DrawerState}
 use Rattle.vrp_pile.specs.declared.limits.TheConstants.{MAX_DRAWERS}
 use Rattle.vrp_register.specs.Caller.{AreCallersOf, CallerState, IsCallerOf, RegisterState}
@@ -13,6 +13,7 @@ use Rattle.vrp_search.specs.Cutting.{NumberedWord}
 use Rattle.vrp_search.specs.Search.{IsLow, NoneBeforeUnder}
 use Rattle.vrp_pool.specs.SeatBoard.{SeatBoardState, floor_of, least_seen}
 use Rattle.vrp_pool.specs.declared.outcome.Finished.{Finished}
+use Rattle.vrp_pool.specs.declared.outcome.Left.{Left}
 use Rattle.vrp_pool.specs.declared.outcome.Outcome.{Outcome}
 use Rattle.vrp_pool.specs.declared.outcome.Outcome.TheVariants as outcome
 
@@ -34,15 +35,18 @@ pub record IsFinishedPiece (s : Search) (least : ℕ) (piece : NumberedWord) (do
   pub plan_of : ForSome done.first (IsPlanOf s.problem)
   pub none_before : NoneBeforeUnder s.problem piece.word done.floor done.first
 
--- the tree of the piece is above the budget, and no word under it costs less than its low
-pub record IsLeftPiece (s : Search) (piece : NumberedWord) (low : ℕ) : Type 0 where
+-- The piece is the one that is left. Its tree is above the budget, and no word under it costs less than its low, by tables over all
+-- customers
+pub record IsLeftPiece (s : Search) (piece : NumberedWord) (left : Left) : Type 0 where
+  pub same : left.piece ≡ piece
+  pub front : IsFront s.problem piece.word
   pub large : TreeHasAtLeast s.problem piece.word (s.budget + 1)
-  pub is_low : IsLow s.problem (unserved_in s.problem piece.word) piece.word (Some low)
-  pub none_cheaper : NoneCheaperUnder s.problem piece.word low
+  pub is_low : IsLow s.problem (customers s.problem) piece.word (Some left.low)
+  pub none_cheaper : NoneCheaperUnder s.problem piece.word left.low
 
 abbrev pub IsKept : Search → ℕ → NumberedWord → Outcome → Type 0
 IsKept s least piece (outcome.Finished done) = IsFinishedPiece s least piece done
-IsKept s least piece (outcome.Unfinished low) = IsLeftPiece s piece low
+IsKept s least piece (outcome.Unfinished left) = IsLeftPiece s piece left
 
 -- each piece has its outcome, at the same place
 pub record AreKept (s : Search) (least : ℕ) (pieces : List NumberedWord) (outcomes : List Outcome) : Type 0 where

@@ -4,7 +4,7 @@ ghost use Rattle.std.specs.Option.{ForSome};
 ghost use Rattle.vrp_model.specs.Route.{IsPlanOf};
 
 use super::*;
-use crate::fixture::three_nodes;
+use crate::fixture::{both_ways_equal, three_nodes};
 use std::marker::Brand;
 use std::process::Abort;
 use std::sync::ledger::Blank;
@@ -27,7 +27,7 @@ fn check_one_seat<L: Ledger, R: Wait + Abort>(
     requires one { blank.parts ≡ 1 }
 {
     let instance = three_nodes(alloc, 2)?;
-    let joined = joined(rt, alloc, &instance)?;
+    let joined = joined(rt, alloc, &instance, 1)?;
     let singles = Plan::singles(alloc, &instance)?;
     let (register, mut callers) = Register::<L>::new(alloc, singles, blank, 1)?;
     let Some(caller) = callers.pop() else {
@@ -43,13 +43,64 @@ fn check_one_seat<L: Ledger, R: Wait + Abort>(
     Ok(())
 }
 
-// The plan of one truck that serves both customers.
-fn joined(rt: &impl Abort, alloc: Global, instance: &Instance) -> Result<Plan, NoMemory>
+// Of two plans that cost the same the one with the earlier word is kept, whichever comes first.
+#[test]
+fn ties_go_by_the_word(rt: HostRuntime) -> Result<(), Fail> {
+    check_ties(&rt, rt.alloc(), 1)?;
+    check_ties(&rt, rt.alloc(), 2)
+}
+
+fn check_ties<R: Wait + Abort>(rt: &R, alloc: Global, first: u16) -> Result<(), Fail> {
+    check_ties_of::<Brand, R>(rt, alloc, Blank::new(1), first)
+}
+
+// The board is offered the plan that serves this customer first, and then the other.
+fn check_ties_of<L: Ledger, R: Wait + Abort>(
+    rt: &R,
+    alloc: Global,
+    blank: Blank,
+    first: u16,
+) -> Result<(), Fail>
+    requires name { blank.name ≡ L.name }
+    requires parts { blank.parts ≡ L.parts }
+    requires one { blank.parts ≡ 1 }
+{
+    let instance = both_ways_equal(alloc)?;
+    assert!(rt; first <= 2);
+    let (earlier, later) = (
+        joined(rt, alloc, &instance, first)?,
+        joined(rt, alloc, &instance, 3 - first)?,
+    );
+    let (register, mut callers) = Register::<L>::new(alloc, None, blank, 1)?;
+    let Some(caller) = callers.pop() else {
+        unreachable!()
+    };
+    let mut board = SeatBoard::new(rt, &register, caller);
+    assert_eq!(rt; least_after(alloc, &instance, &mut board, &earlier)?, 6);
+    assert_eq!(rt; least_after(alloc, &instance, &mut board, &later)?, 6);
+    let (_caller, best) = board.into_parts();
+    assert_eq!(rt;
+        best.as_ref().map(Plan::word),
+        Some([1, 2, 0].as_slice()),
+        "{first}"
+    );
+    Ok(())
+}
+
+// The plan of one truck that serves this one of two customers first, and then the other.
+fn joined(rt: &impl Abort, alloc: Global, instance: &Instance, first: u16) -> Result<Plan, NoMemory>
     ensures { IfOk result (IsPlanOf instance.now) }
 {
     assert!(rt; instance.customers() == 2);
-    assert!(rt; instance.demand(1) + instance.demand(2) <= instance.capacity());
-    Plan::of_word(alloc, instance, &[1, 2, 0])
+    assert!(rt; 1 <= first);
+    assert!(rt; first <= 2);
+    let second = 3 - first;
+    assert!(rt; instance.demand(first) + instance.demand(second) <= instance.capacity());
+    // Backward only where the other direction costs something else.
+    if first == 2 {
+        assert!(rt; !instance.symmetric());
+    }
+    Plan::of_word(alloc, instance, &[first, second, 0])
 }
 
 // What a board answers once it was offered a plan.
@@ -61,6 +112,7 @@ fn least_after<R: Wait, L: Ledger>(
 ) -> Result<u64, NoMemory>
     requires serves { ForSome board.old.best (IsPlanOf instance.now) }
     requires plan { IsPlanOf instance.now plan.now }
+    ensures serves { ForSome board.new.best (IsPlanOf instance.now) }
 {
     board.offer(alloc, plan)?;
     Ok(board.least())

@@ -5,14 +5,14 @@ ghost use Rattle.vrp_search.specs.declared.cutting.TheConstants.{MAX_PIECES, MAX
 ghost use Rattle.vrp_pool.specs.declared.solver.TheConstants.{MAX_WORKERS};
 
 use super::*;
-use crate::fixture::{depot_alone, line, ring, three_nodes};
+use crate::fixture::{depot_alone, line, ring, ten_nodes, three_nodes};
 use crate::gates::NoGate;
 use std::process::Abort;
-use std::sync::atomic::{AtomicU64, Ordering};
 use std::test::Fail;
-use std::thread::yield_now;
 use vrp_savings::savings_plan;
 use vrp_search::MAX_PIECES;
+
+mod gated;
 
 const AMPLE: u64 = 1_000_000;
 
@@ -98,36 +98,73 @@ fn left_open(rt: HostRuntime) -> Result<(), Fail> {
     Ok(())
 }
 
-// The whole tree is one piece, too large for either budget.
+// The tree is too large for either budget, as one piece and as several, and with any number of trucks.
 #[test]
 fn first_plan_by_savings(rt: HostRuntime) -> Result<(), Fail> {
-    let instance = line(rt.alloc())?;
-    let savings = savings_plan(rt.alloc(), &instance)?.map(|plan| plan.cost());
+    let free = line(rt.alloc())?;
+    let savings = savings_plan(rt.alloc(), &free)?.map(|plan| plan.cost());
     assert_eq!(rt; savings, Some(400));
-    for workers in [1, 2] {
-        let with = cost_of_answer(&rt, rt.alloc(), &instance, workers, 1_000)?;
-        assert_eq!(rt; with, Some(400), "{workers}");
-        let without = cost_of_answer(&rt, rt.alloc(), &instance, workers, 999)?;
-        assert!(rt; savings < without, "{workers}");
+    let limited = line(rt.alloc())?.with_trucks(2);
+    for instance in [&free, &limited] {
+        for (workers, pieces) in [(1, 1), (2, 1), (1, 20), (2, 20)] {
+            let with = cost_of_answer(&rt, rt.alloc(), instance, (workers, pieces), 1_000)?;
+            assert_eq!(rt; with, Some(400), "{workers} {pieces}");
+            let without = cost_of_answer(&rt, rt.alloc(), instance, (workers, pieces), 999)?;
+            assert!(rt;
+                savings < without || without.is_none(),
+                "{workers} {pieces}"
+            );
+        }
     }
     Ok(())
 }
 
-// What the plan of an answer costs, where the whole tree is searched with this budget.
-fn cost_of_answer<R: Threads + Wait + Sync>(
+// From the plan by savings, which is the cheapest, one worker looks at 432 partial plans, and from one truck for each customer at
+// more than 11,000.
+#[test]
+fn first_plan_comes_before_the_search(rt: HostRuntime) -> Result<(), Fail> {
+    let instance = ten_nodes(rt.alloc())?;
+    for (budget, ends) in [(999, false), (1_000, true)] {
+        assert!(rt; 1 <= budget);
+        let cutting = cut(rt.alloc(), &instance, 1)?;
+        let answer = solve(&rt, rt.alloc(), &instance, cutting, 1, budget, &NoGate)?;
+        assert_eq!(rt; matches!(answer, Answer::Proven(_)), ends, "{budget}");
+    }
+    Ok(())
+}
+
+// What the plan of an answer costs, if there is one, where each of at least so many pieces is searched with this budget.
+fn cost_of_answer<R: Abort + Threads + Wait + Sync>(
     rt: &R,
     alloc: Global,
     instance: &Instance,
-    workers: u32,
+    (workers, pieces): (u32, u32),
     budget: u64,
-) -> Result<Option<u64>, Fail>
-    requires some { 1 ≤ workers }
-    requires few { workers ≤ MAX_WORKERS }
-    requires budget { 1 ≤ budget }
-{
-    let cutting = cut(alloc, instance, 1)?;
+) -> Result<Option<u64>, Fail> {
+    assert!(rt; 1 <= workers && workers <= MAX_WORKERS);
+    assert!(rt; pieces <= MAX_PIECES);
+    assert!(rt; 1 <= budget);
+    let cutting = cut(alloc, instance, pieces)?;
     let answer = solve(rt, alloc, instance, cutting, workers, budget, &NoGate)?;
     Ok(answer.plan().map(Plan::cost))
+}
+
+// A budget is what a piece may take, no less and no more: the tree of the ring has 621 partial plans that one worker looks at, and
+// that of the line has more than 5,001.
+#[test]
+fn budget_of_a_piece(rt: HostRuntime) -> Result<(), Fail> {
+    let (ring, line) = (ring(rt.alloc())?, line(rt.alloc())?);
+    for (instance, budget, ends) in [
+        (&ring, 620, false),
+        (&ring, 621, true),
+        (&line, 5_001, false),
+    ] {
+        assert!(rt; 1 <= budget);
+        let cutting = cut(rt.alloc(), instance, 1)?;
+        let answer = solve(&rt, rt.alloc(), instance, cutting, 1, budget, &NoGate)?;
+        assert_eq!(rt; matches!(answer, Answer::Proven(_)), ends, "{budget}");
+    }
+    Ok(())
 }
 
 #[test]
@@ -149,69 +186,4 @@ fn many_pieces(rt: HostRuntime) -> Result<(), Fail> {
     let round = [1, 2, 3, 4, 5, 6, 7, 8, 9, 0];
     assert_proven(&rt, rt.alloc(), &instance, (1, 1), 100, &round)?;
     assert_proven(&rt, rt.alloc(), &instance, (8, MAX_PIECES), 100, &round)
-}
-
-// How often piece 0 may look whether the three others have begun.
-const TURNS: u64 = 10_000_000;
-
-// Holds piece 0 until three others have begun, or it has looked too often.
-#[derive(Drop)]
-struct HoldsFirst {
-    // How many pieces other than piece 0 have begun.
-    begun: AtomicU64,
-    // How often piece 0 was let go for no other reason than that it had looked too often.
-    let_go: AtomicU64,
-}
-
-impl Gate for HoldsFirst {
-    fn begins(&self, _worker: u32, piece: u32) {
-        if piece > 0 {
-            self.begun.fetch_add(1, Ordering::SeqCst);
-            return;
-        }
-        for _ in 0..TURNS {
-            if 3 <= self.begun.load(Ordering::SeqCst) {
-                return;
-            }
-            yield_now();
-        }
-        self.let_go.fetch_add(1, Ordering::SeqCst);
-    }
-}
-
-#[test]
-fn others_begin_while_one_is_held(rt: HostRuntime) -> Result<(), Fail> {
-    for (workers, budget) in [(2, 1), (2, 11), (8, 1), (8, 11)] {
-        assert_others_begin(&rt, rt.alloc(), workers, budget)?;
-    }
-    Ok(())
-}
-
-// Asserts that so many workers begin three pieces while piece 0 is held.
-fn assert_others_begin<R: Abort + Threads + Wait + Sync>(
-    rt: &R,
-    alloc: Global,
-    workers: u32,
-    budget: u64,
-) -> Result<(), Fail>
-    requires some { 1 ≤ workers }
-    requires few { workers ≤ MAX_WORKERS }
-    requires budget { 1 ≤ budget }
-{
-    let instance = three_nodes(alloc, 2)?;
-    // Cut as far as it can be: no piece has a child, so a budget of 1 is enough for each.
-    let cutting = cut(alloc, &instance, MAX_PIECES)?;
-    assert_eq!(rt; cutting.pieces().len(), 4);
-    let gate = HoldsFirst {
-        begun: AtomicU64::new(0),
-        let_go: AtomicU64::new(0),
-    };
-    let answer = solve(rt, alloc, &instance, cutting, workers, budget, &gate)?;
-    assert_eq!(rt; gate.let_go.load(Ordering::SeqCst), 0, "{workers}");
-    assert_eq!(rt; gate.begun.load(Ordering::SeqCst), 3, "{workers}");
-    match answer {
-        Answer::Proven(plan) => assert_eq!(rt; plan.cost(), 20, "{workers}"),
-        Answer::Open { .. } | Answer::NoPlan => assert!(rt; false, "{workers}: not proven"),
-    }
-    Ok(())
 }

@@ -53,6 +53,94 @@ fn check_one_thread<L: Ledger, R: Wait + Abort>(
     Ok(())
 }
 
+// The offers that are made to a register, and the answers.
+type Offers<'a> = &'a [(&'a Plan, bool, u64)];
+
+#[test]
+fn refused_offers(rt: HostRuntime) -> Result<(), Fail> {
+    let instance = three_nodes(rt.alloc())?;
+    let (singles, joined) = (
+        singles(&rt, rt.alloc(), &instance)?,
+        joined(&rt, rt.alloc(), &instance, 1)?,
+    );
+    assert_eq!(rt; singles.cost(), 30);
+    assert_eq!(rt; joined.cost(), 20);
+    let (rt, alloc) = (&rt, rt.alloc());
+    check_register(rt, alloc, None, &[], None)?;
+    check_register(rt, alloc, Some(&singles), &[], Some(&singles))?;
+    let dear = [(&singles, false, 20), (&joined, false, 20)];
+    check_register(rt, alloc, Some(&joined), &dear, Some(&joined))?;
+    let cheap = [
+        (&singles, false, 30),
+        (&joined, true, 30),
+        (&singles, false, 20),
+    ];
+    check_register(rt, alloc, Some(&singles), &cheap, Some(&joined))?;
+    let first = [
+        (&singles, true, NO_COST),
+        (&singles, false, 30),
+        (&joined, true, 30),
+    ];
+    check_register(rt, alloc, None, &first, Some(&joined))?;
+    let many = Vec::from_elem(alloc, (&singles, false, 20), 3_000)?;
+    check_register(rt, alloc, Some(&joined), &many, Some(&joined))
+}
+
+fn check_register<R: Wait + Abort>(
+    rt: &R,
+    alloc: Global,
+    opening: Option<&Plan>,
+    offers: Offers<'_>,
+    kept: Option<&Plan>,
+) -> Result<(), Fail> {
+    check_offers::<Brand, R>(rt, alloc, Blank::new(1), opening, offers, kept)
+}
+
+// One caller makes these offers to a register that opens with this plan, and then this one is kept.
+fn check_offers<L: Ledger, R: Wait + Abort>(
+    rt: &R,
+    alloc: Global,
+    blank: Blank,
+    opening: Option<&Plan>,
+    offers: Offers<'_>,
+    kept: Option<&Plan>,
+) -> Result<(), Fail>
+    requires name { blank.name ≡ L.name }
+    requires parts { blank.parts ≡ L.parts }
+    requires one { blank.parts ≡ 1 }
+{
+    let (register, mut callers) = Register::<L>::new(alloc, copied(alloc, opening)?, blank, 1)?;
+    let Some(mut caller) = callers.pop() else {
+        unreachable!()
+    };
+    assert_replies(rt, alloc, &register, &mut caller, offers)?;
+    callers.push(caller)?;
+    let Closed { book, least } = register.close(callers);
+    assert_eq!(rt; book.entries(), offers.len());
+    assert_eq!(rt; book.plan().map(Plan::word), kept.map(Plan::word));
+    assert_eq!(rt; least, kept.map_or(NO_COST, Plan::cost));
+    Ok(())
+}
+
+// A caller makes these offers, and is answered so.
+fn assert_replies<L: Ledger, R: Wait + Abort>(
+    rt: &R,
+    alloc: Global,
+    register: &Register<L>,
+    caller: &mut Caller<L>,
+    offers: Offers<'_>,
+) -> Result<(), NoMemory>
+    requires { IsCallerOf register.now caller.old }
+    ensures { IsCallerOf register.now caller.new }
+{
+    for (plan, kept, before) in offers {
+        let reply = register.offer(rt, alloc, caller, plan)?;
+        let (kept, before) = (*kept, *before);
+        assert_eq!(rt; reply, Reply { kept, before });
+    }
+    Ok(())
+}
+
 #[test]
 fn two_threads(rt: HostRuntime) -> Result<(), Fail> {
     let instance = three_nodes(rt.alloc())?;

@@ -4,7 +4,7 @@ ghost use Rattle.std.specs.Prelude.{◌≡◌, ◌≤◌};
 use super::*;
 use std::process::Abort;
 use std::test::Fail;
-use vrp_model::{Layout, MAX_NODES, Metric, Weights};
+use vrp_model::{Layout, MAX_CAPACITY, MAX_NODES, Metric, Weights};
 
 // What nodes demand, of which the first is the depot, and what a truck carries.
 #[derive(Clone, Copy, Debug)]
@@ -113,7 +113,7 @@ fn assert_cost(
     wanted: Option<u64>,
 ) -> Result<(), Fail> {
     assert!(rt; told.demands.len() == usize::from(weights.nodes()));
-    assert!(rt; told.capacity <= 10_000);
+    assert!(rt; told.capacity <= MAX_CAPACITY);
     let instance = Instance::new(alloc, weights, told.demands, told.capacity, &[1], None)?;
     let instance = if 1 <= trucks && trucks <= MAX_NODES {
         instance.with_trucks(trucks)
@@ -243,6 +243,66 @@ fn worked_by_hand(rt: HostRuntime) -> Result<(), Fail> {
         capacity: 2,
     };
     assert_ways(&rt, rt.alloc(), &[0], alone, 0, Some(0))
+}
+
+// Three customers on a line, the first two 10 and 20 to one side of the depot and the third 30 to the other. Where a truck carries
+// two of them, one drives to each side: 40 and 60. Where it carries one alone, each is driven to: 20, 40 and 60.
+#[test]
+fn large_capacities(rt: HostRuntime) -> Result<(), Fail> {
+    let line: &[u64] = &[0, 10, 20, 30, 10, 0, 10, 40, 20, 10, 0, 50, 30, 40, 50, 0];
+    // what each customer demands, what a truck carries, and what the plan costs
+    let table = [
+        (4_000, 10_001, 100),
+        (400_000, 1_000_000, 100),
+        (500_001, 1_000_000, 120),
+        (400_000_000, MAX_CAPACITY, 100),
+        (MAX_CAPACITY, MAX_CAPACITY, 120),
+    ];
+    for (demand, capacity, cost) in table {
+        let told = Told {
+            demands: &[0, demand, demand, demand],
+            capacity,
+        };
+        assert_ways(&rt, rt.alloc(), line, told, 0, Some(cost))?;
+    }
+    Ok(())
+}
+
+// Two customers beside each other, 2 apart, and a third that is 100 from both; each is 10 from the depot, and a truck carries all.
+// Joining the two spares 18: 22 and 20. Going on to the third costs 80 more, and is done only where there is one truck alone.
+#[test]
+fn dear_joints_only_for_want_of_trucks(rt: HostRuntime) -> Result<(), Fail> {
+    let apart: &[u64] = &[0, 10, 10, 10, 10, 0, 2, 100, 10, 2, 0, 100, 10, 100, 100, 0];
+    let all = Told {
+        demands: &[0, 1, 1, 1],
+        capacity: 3,
+    };
+    for (trucks, cost) in [(0, 42), (3, 42), (2, 42), (1, 122)] {
+        assert_ways(&rt, rt.alloc(), apart, all, trucks, Some(cost))?;
+    }
+    Ok(())
+}
+
+// A word has at most two symbols for each customer, and its list has room for so many.
+#[test]
+fn room_for_a_word(rt: HostRuntime) -> Result<(), Fail> {
+    for customers in [1, 2, 3] {
+        let points = [(0, 0), (0, 1), (0, 2), (0, 3)];
+        let demands = [0, 1, 1, 1];
+        let weights = Weights::points(rt.alloc(), Metric::Man2d, &points[..customers + 1])?;
+        let instance = Instance::new(
+            rt.alloc(),
+            weights,
+            &demands[..customers + 1],
+            3,
+            &[1],
+            None,
+        )?;
+        let word = Routes::one_each(rt.alloc(), &instance)?.word(rt.alloc(), &instance)?;
+        assert_eq!(rt; word.len(), 2 * customers);
+        assert_eq!(rt; word.capacity(), 2 * customers);
+    }
+    Ok(())
 }
 
 // What a way costs among nodes that are scattered, and where back costs another amount than there, with a skew.

@@ -70,6 +70,20 @@ fn opened_with_a_dear_plan(rt: HostRuntime) -> Result<(), Fail> {
     Ok(())
 }
 
+// A truck that goes round the circle is the cheapest, and no other plan is of use. The count is that of the plain kernel of bench/,
+// which needs more than 200,000 without the tree bound, or where that is tried below 20 unserved customers alone.
+#[test]
+fn pruned_by_trees(rt: HostRuntime) -> Result<(), Fail> {
+    let instance = on_a_circle(rt.alloc())?;
+    let plan = round_trip(&rt, rt.alloc(), &instance)?;
+    assert_eq!(rt; plan.cost(), 309);
+    let wanted = Wanted {
+        end: finished(325, &ROUND),
+        cost: 309,
+    };
+    assert_search(&rt, rt.alloc(), &instance, Some(plan), 10_000, wanted)
+}
+
 // Of 1,199 customers at the places 1 to 1,199 of a line all but the last two have a truck, there and back. The last two are
 // still to be carried: in the tables that costs no more than twice to the first customer and back.
 #[test]
@@ -184,6 +198,58 @@ fn one_truck(rt: &impl Abort, alloc: Global, instance: &Instance) -> Result<Plan
     push(rt, &mut partial, 1);
     push(rt, &mut partial, 2);
     push(rt, &mut partial, 0);
+    assert!(rt; partial.complete());
+    partial.plan(alloc)
+}
+
+const ROUND: [u16; 25] = [
+    1, 2, 3, 4, 5, 6, 7, 8, 9, 10, 11, 12, 13, 14, 15, 16, 17, 18, 19, 20, 21, 22, 23, 24, 0,
+];
+
+// The depot and 24 customers on a circle, unevenly apart, all of whom a truck can carry.
+fn on_a_circle(alloc: Global) -> Result<Instance, Fail> {
+    let points = [
+        (90, 79),
+        (49, 99),
+        (47, 99),
+        (40, 99),
+        (33, 97),
+        (31, 96),
+        (8, 78),
+        (6, 73),
+        (0, 58),
+        (0, 57),
+        (0, 48),
+        (0, 46),
+        (6, 24),
+        (13, 16),
+        (29, 4),
+        (43, 0),
+        (51, 0),
+        (52, 0),
+        (60, 1),
+        (68, 3),
+        (90, 20),
+        (90, 21),
+        (91, 22),
+        (92, 23),
+        (99, 44),
+    ];
+    let demands = [
+        0, 1, 1, 1, 1, 1, 1, 1, 1, 1, 1, 1, 1, 1, 1, 1, 1, 1, 1, 1, 1, 1, 1, 1, 1,
+    ];
+    let weights = Weights::points(alloc, Metric::Euc2d, &points)?;
+    Ok(Instance::new(alloc, weights, &demands, 24, &[1], None)?)
+}
+
+// The plan of one truck that goes round the circle.
+fn round_trip(rt: &impl Abort, alloc: Global, instance: &Instance) -> Result<Plan, NoMemory>
+    ensures { IfOk result (IsPlanOf instance.now) }
+{
+    let mut partial = Partial::root(alloc, instance)?;
+    for symbol in ROUND {
+        push(rt, &mut partial, symbol);
+    }
     assert!(rt; partial.complete());
     partial.plan(alloc)
 }

@@ -1,9 +1,9 @@
 //! Pruning: whether a plan under a partial plan, or under its child, may be of use.
-ghost use Rattle.std.specs.Prelude.{◌≡◌, ◌↔◌, [], ◌∷◌, ◌++◌, IsTrue, MatchOption};
+ghost use Rattle.std.specs.Prelude.{◌≡◌, ◌↔◌, [], ◌∷◌, ◌++◌, IsTrue, MatchOption, is_some};
 ghost use Rattle.vrp_model.specs.Problem.{IsProblem};
 ghost use Rattle.vrp_model.specs.Word.{IsDead, IsFront};
 ghost use Rattle.vrp_search.specs.Search.{AreCovered, IsLow};
-ghost use Rattle.vrp_search.specs.Inner.Pruned.{IsPromising, NoneOfUse};
+ghost use Rattle.vrp_search.specs.Inner.Pruned.{IsPromising, MayBeOfUse, NoneOfUse};
 ghost use Rattle.vrp_search.specs.Inner.Tallied.{IsTally};
 
 use crate::partial::Partial;
@@ -47,7 +47,8 @@ impl<'a> Partial<'a> {
         requires tables { tables.now.problem ≡ self.now.problem }
         requires covered { AreCovered self.now.problem tables.now.among self.now.word }
         requires child { IsFront self.now.problem (self.now.word ++ symbol ∷ []) }
-        ensures { MatchOption result (NoneOfUse self.now.problem (self.now.word ++ symbol ∷ []) least own) (IsPromising self.now.problem (self.now.word ++ symbol ∷ []) own) }
+        ensures of_use { MatchOption result (NoneOfUse self.now.problem (self.now.word ++ symbol ∷ []) least own) (IsPromising self.now.problem (self.now.word ++ symbol ∷ []) own) }
+        ensures exact { IsTrue (is_some result) ↔ MayBeOfUse self.now.problem tables.now.among (self.now.word ++ symbol ∷ []) least own }
     {
         // Below no front is anything cheaper than its cost and bound, and below a dead one there is nothing.
         bounds_hold();

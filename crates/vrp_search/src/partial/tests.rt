@@ -53,6 +53,26 @@ fn counters_along_a_word(rt: HostRuntime) -> Result<(), Fail> {
     Ok(())
 }
 
+// A front has at most two symbols for each customer. The first 64 symbols lie in the partial plan itself.
+#[test]
+fn room_for_the_longest_front(rt: HostRuntime) -> Result<(), Fail> {
+    for (customers, word, before) in [
+        (1, 64, 2),
+        (32, 64, 64),
+        (40, 80, 80),
+        (1_199, 2_398, 2_398),
+    ] {
+        let points = Vec::from_elem(rt.alloc(), (0, 0), customers + 1)?;
+        let demands = Vec::from_elem(rt.alloc(), 0, customers + 1)?;
+        let weights = Weights::points(rt.alloc(), Metric::Euc2d, &points)?;
+        let instance = Instance::new(rt.alloc(), weights, &demands, 1, &[1], None)?;
+        let partial = Partial::root(rt.alloc(), &instance)?;
+        assert_eq!(rt; partial.word.capacity(), word, "{customers}");
+        assert_eq!(rt; partial.before.capacity(), before, "{customers}");
+    }
+    Ok(())
+}
+
 // What is counted along a word.
 #[derive(Clone, Copy)]
 struct Counters {

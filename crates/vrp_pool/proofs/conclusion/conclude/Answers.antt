@@ -1,17 +1,26 @@
-use Rattle.std.proofs.Common.{◌≤◌, Option, subst, sym}
+use Rattle.std.proofs.Common.{◌≡◌, ◌∙◌, ◌≤◌, Option, ap, subst, sym}
 use Rattle.std.specs.Option.{ForSome}
 use Rattle.vrp_model.specs.Cheapest.{cost_of}
 use Rattle.vrp_model.specs.Problem.{IsProblem}
 use Rattle.vrp_model.specs.Route.{IsPlanOf, PricedPlan}
-use Rattle.vrp_pool.specs.Inner.Gathering.{IsNoLater}
+use Rattle.vrp_pool.specs.Inner.Gathering.{AreSettling, IsNoLater, IsVerdict}
 use Rattle.vrp_pool.specs.Inner.Workers.{Search}
 use Rattle.vrp_pool.proofs.BestPlan.{costs_no_more, no_later_transitive}
 use Rattle.vrp_pool.proofs.DrawnPieces.{are_apart, words_of}
-use Rattle.vrp_pool.proofs.Verdicts.{answer_is, by_number}
+use Rattle.vrp_pool.proofs.Verdicts.{answer_is, none_settled}
 use Rattle.vrp_pool.proofs.conclusion.conclude.Goals as goal
 
 pub last_book-requires-clause-best : goal.last_book-requires-clause-best
 last_book-requires-clause-best g c = subst (λ (plan : Option PricedPlan). ForSome plan (IsPlanOf c.args.shared.now.problem)) (sym c.as_ref.ensures.value) c.requires.searched.best_of
+
+pub settled-requires : goal.settled-requires
+settled-requires g c =
+    let s = c.args.shared.now in
+    let put = c.args.searched.pile.put in
+    let drawn = c.args.searched.pile.drawn in
+    let apart = are_apart s drawn put c.requires.numbers c.requires.searched.all c.requires.pieces in
+    let gathered = c.in_ok-gathering.ensures.all c.args.searched.least drawn c.in_ok-last.ensures.lawful c.requires.searched.kept apart in
+    λ k d lt. (gathered.are_left k d lt).1
 
 pub returns : goal.returns
 returns g c =
@@ -29,9 +38,12 @@ returns g c =
     let gathering = c.in_ok-gathering.gathering in
     let kept = gathering.book.plan in
     let gathered = c.in_ok-gathering.ensures.all least drawn last.lawful c.requires.searched.kept (are_apart s drawn put c.requires.numbers c.requires.searched.all c.requires.pieces) in
-    let known = by_number s drawn put least kept gathering.gatherer gathering.low c.requires.numbers c.requires.searched.all c.requires.pieces gathered in
     let later = c.in_ok-gathering.ensures.later in
     let than_singles = no_later_transitive kept opened singles later last.than_singles in
     let than_best = no_later_transitive kept opened best later (subst (λ (plan : Option PricedPlan). IsNoLater opened plan) c.as_ref.ensures.value last.than_best) in
     let falls : cost_of kept ≤ least = c.requires.searched.reached (cost_of kept) (costs_no_more less p kept singles problem gathered.plan_of than_singles) (costs_no_more less p kept best problem gathered.plan_of than_best) in
-    answer_is c.one_piece.ensures c.plans_have_words.ensures less s (words_of put) least singles gathering c.verdict.result problem c.requires.cutting falls c.requires.some than_singles known c.verdict.ensures
+    let known = none_settled s drawn put least kept gathering.gatherer gathering.left.items c.requires.numbers c.requires.searched.all c.requires.pieces falls gathered in
+    let cost : c.cost-cost.result ≡ cost_of kept = c.cost-cost.ensures ∙ ap cost_of (c.as_ref-2.ensures.value ∙ c.into_plan-plan.ensures) in
+    let settled = c.in_ok-settling.ensures (words_of put) kept (subst (λ n. AreSettling s (words_of put) kept (record { gatherer = gathering.gatherer; cost = n; low = n }) gathering.left.items) (sym cost) known) in
+    answer_is c.one_piece.ensures c.plans_have_words.ensures less s (words_of put) singles kept c.in_ok-settling.settling c.verdict.result problem c.requires.cutting gathered.plan_of c.requires.some than_singles settled
+    (subst (λ (plan : Option PricedPlan). IsVerdict plan c.in_ok-settling.settling c.verdict.result) c.into_plan-plan.ensures c.verdict.ensures)

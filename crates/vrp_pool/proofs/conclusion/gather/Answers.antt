@@ -1,9 +1,9 @@
 use Rattle.std.proofs.Common.{◌≡◌, ◌∙◌, ◌+◌, false, List, [], ◌∷◌, ◌++◌, length, length-append, take, ap, subst, sym, rules, arith}
 use Rattle.std.specs.Prelude.{Bool, replicate}
 use Rattle.std.proofs.lemmas.List.{append_assoc}
-use Rattle.vrp_model.specs.declared.limits.TheConstants.{NO_COST}
 use Rattle.vrp_pool.specs.Inner.Gathering.{AreGathered}
 use Rattle.vrp_pool.specs.Inner.Workers.{Search}
+use Rattle.vrp_pool.specs.declared.outcome.Left.{Left}
 use Rattle.vrp_pool.specs.declared.outcome.Outcome.{Outcome}
 use Rattle.vrp_pool.proofs.BestPlan.{no_later_itself, no_later_transitive}
 use Rattle.vrp_pool.proofs.Gatherings.{at_last, none_gathered, noted_later, one_noted}
@@ -16,7 +16,7 @@ loop-outcome-init g c =
     record {
       later = no_later_itself c.args.book.plan;
       split = sym c.into_iter-outcome-iterator.ensures.into_iter_gives.0;
-      all = λ floor pieces plan_of kept apart. subst (λ (a : List Bool). AreGathered s floor c.args.book.plan [] a NO_COST) (sym added) (none_gathered s floor c.args.book.plan plan_of);
+      all = λ floor pieces plan_of kept apart. subst (λ (ls : List Left). AreGathered s floor c.args.book.plan [] c.in_ok-new.field-0 ls) (sym c.new-2.ensures.items) (subst (λ (a : List Bool). AreGathered s floor c.args.book.plan [] a []) (sym added) (none_gathered s floor c.args.book.plan plan_of));
     }
 
 pub loop-outcome-preserved : goal.loop-outcome-preserved
@@ -31,7 +31,7 @@ loop-outcome-preserved g c =
     record {
       later = no_later_transitive c.note.new.self.book.plan c.loop-outcome.gathering.book.plan c.args.book.plan (noted_later c.loop-outcome.gathering c.note.new.self one noted) c.loop-outcome.invariant.later;
       split = now ∙ sym (append_assoc yielded (one ∷ []) rest);
-      all = λ floor pieces plan_of kept apart. subst (λ n. AreGathered s floor c.note.new.self.book.plan (take n pieces) c.note.new.self.gatherer c.note.new.self.low) (sym longer)
+      all = λ floor pieces plan_of kept apart. subst (λ n. AreGathered s floor c.note.new.self.book.plan (take n pieces) c.note.new.self.gatherer c.note.new.self.left.items) (sym longer)
           (one_noted s floor c.loop-outcome.gathering c.note.new.self pieces c.args.outcomes.items yielded rest one now kept apart (c.loop-outcome.invariant.all floor pieces plan_of kept apart) noted);
     }
 
@@ -46,4 +46,4 @@ returns-clause-all g c = λ floor pieces plan_of kept apart.
     let rest = c.loop-outcome.outcome-iterator.rest.items in
     let empty : length rest ≡ 0 = search rules in
     let all : length yielded ≡ length pieces = omega (arith, empty, kept.many, ap length c.loop-outcome.invariant.split, length-append yielded rest) in
-    at_last s floor gathering.book.plan pieces gathering.gatherer gathering.low (length yielded) all (c.loop-outcome.invariant.all floor pieces plan_of kept apart)
+    at_last s floor gathering.book.plan pieces gathering.gatherer gathering.left.items (length yielded) all (c.loop-outcome.invariant.all floor pieces plan_of kept apart)

@@ -11,5 +11,5 @@ invariant-loop-outcome g l = record {
   later : IsNoLater l.gathering.book.plan l.fn.book.plan;
   split : l.fn.outcomes.items ≡ l.yielded ++ l.outcome-iterator.rest.items;
   all : (floor : ℕ) (pieces : List NumberedWord) → ForSome l.fn.book.plan (IsPlanOf l.shared.problem) → AreKept l.shared floor pieces l.fn.outcomes.items → AreApart l.shared pieces
-      → AreGathered l.shared floor l.gathering.book.plan (take (length l.yielded) pieces) l.gathering.gatherer l.gathering.low;
+      → AreGathered l.shared floor l.gathering.book.plan (take (length l.yielded) pieces) l.gathering.gatherer l.gathering.left.items;
 }

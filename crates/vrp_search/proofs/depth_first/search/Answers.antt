@@ -112,7 +112,7 @@ loop-found-preserved-else-prunes g c =
     let problem : c.push_counted.new.self.problem ≡ p = ap (λ (v : PartialPlan). v.problem) c.push_counted.ensures ∙ c.loop-found.invariant.problem in
     let longer : c.push_counted.new.self.word ≡ word ++ k ∷ [] = ap (λ (v : PartialPlan). v.word) c.push_counted.ensures in
     let falls : floor ≤ old = omega (arith, c.offer_complete-else-prunes.ensures.falls, c.least-least.ensures.falls) in
-    let promising = subst (λ (q : Problem). IsPromising q (word ++ k ∷ []) c.cost.result c.in-Some-promising.tally) c.loop-found.invariant.problem c.in-Some-promising.ensures in
+    let promising = subst (λ (q : Problem). IsPromising q (word ++ k ∷ []) c.cost.result c.in-Some-promising.tally) c.loop-found.invariant.problem c.in-Some-promising.ensures.of_use in
     let cheaper : word_cost p (word ++ k ∷ []) < cost_of first = omega (arith, promising.counted.cost, promising.cheaper, c.cost.ensures) in
     let kept = subst (λ (w : List ℕ). IsKept p w floor first new) longer (subst (λ (q : Problem). IsKept q c.push_counted.new.self.word floor first new) problem c.in_ok-offer_complete-in-Some-2.ensures.kept) in
     record {
@@ -138,7 +138,7 @@ loop-found-preserved-in_default-promising g c =
     let first = c.loop-found.found.plan in
     let child = subst (λ (q : Problem). IsNextChild q word c.loop-found.next k) c.loop-found.invariant.problem c.in-Some-next_child.ensures.next in
     let is_problem : IsProblem p = subst IsProblem (ap (λ (v : PartialPlan). v.problem) c.in_ok-partial.ensures) c.low.ensures.problem in
-    let none : NoneOfUse p (word ++ k ∷ []) c.least-least.result c.cost.result = subst (λ (q : Problem). NoneOfUse q (word ++ k ∷ []) c.least-least.result c.cost.result) c.loop-found.invariant.problem c.in_default-promising.ensures in
+    let none : NoneOfUse p (word ++ k ∷ []) c.least-least.result c.cost.result = subst (λ (q : Problem). NoneOfUse q (word ++ k ∷ []) c.least-least.result c.cost.result) c.loop-found.invariant.problem c.in_default-promising.ensures.of_use in
     record {
       problem = c.loop-found.invariant.problem;
       trees = c.loop-found.invariant.trees;

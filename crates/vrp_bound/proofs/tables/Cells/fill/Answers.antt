@@ -15,8 +15,8 @@ tours-requires-clause-room c =
     room_units c.args.scope.instance.now c.new-units.result.instance.now c.args.scope.customers.now c.new-units.result.customers.now c.unit_of.result c.new-units.result.unit c.whole_units-demand.result c.min-room.result
     c.new-units.ensures.instance c.new-units.ensures.customers c.new-units.ensures.unit c.unit_of.ensures.is_unit (omega (arith, c.whole_units-demand.ensures, ap (λ n. n / c.new-units.result.unit) c.demand_of_all.ensures.value)) (omega (arith, c.min-room.ensures, c.whole_units.ensures, ap (λ n. n / c.new-units.result.unit) c.capacity.ensures.value))
 
-pub homes-requires-clause-room : goal.homes-requires-clause-room
-homes-requires-clause-room c =
+pub homes_for-requires-clause-room : goal.homes_for-requires-clause-room
+homes_for-requires-clause-room c =
     room_units c.args.scope.instance.now c.new-units.result.instance.now c.args.scope.customers.now c.new-units.result.customers.now c.unit_of.result c.new-units.result.unit c.whole_units-demand.result c.min-room.result
     c.new-units.ensures.instance c.new-units.ensures.customers c.new-units.ensures.unit c.unit_of.ensures.is_unit (omega (arith, c.whole_units-demand.ensures, ap (λ n. n / c.new-units.result.unit) c.demand_of_all.ensures.value)) (omega (arith, c.min-room.ensures, c.whole_units.ensures, ap (λ n. n / c.new-units.result.unit) c.capacity.ensures.value))
 

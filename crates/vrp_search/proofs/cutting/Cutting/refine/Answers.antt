@@ -1,6 +1,6 @@
 use Rattle.std.proofs.Common.{true}
 use Rattle.vrp_search.specs.Cutting.{IsCutting, IsRefined}
-use Rattle.vrp_search.proofs.PieceRefined.{piece_front, piece_refined}
+use Rattle.vrp_search.proofs.PieceRefined.{piece_front, piece_refined, piece_refined_few}
 use Rattle.vrp_search.proofs.cutting.Cutting.refine.Goals as goal
 
 pub push_children-requires-clause-front : goal.push_children-requires-clause-front
@@ -21,3 +21,8 @@ returns-clause-refined c = (replaced c).0
 
 pub returns-clause-cutting : goal.returns-clause-cutting
 returns-clause-cutting c = (replaced c).1
+
+pub returns-clause-few : goal.returns-clause-few
+returns-clause-few c =
+    piece_refined_few c.args.instance.now c.args.piece c.word.result.now c.args.self.now c.push_copies.new.self c.push_children.new.self c.push_copies-2.new.self c.pieces-pieces.result.now
+    c.pieces-pieces.ensures.words c.requires.piece (rw c.none-next.ensures at c.in_ok-push_copies.ensures) c.in_ok-push_children.ensures.children c.in_ok-push_copies-2.ensures

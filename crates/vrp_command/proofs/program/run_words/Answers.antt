@@ -1,0 +1,14 @@
+use Rattle.std.proofs.Common.{◌≡◌}
+use Rattle.vrp_command.proofs.Endings.{printed_with_one}
+use Rattle.vrp_command.proofs.program.run_words.Goals as goal
+
+pub returns-in-Ok-clause-open : goal.returns-in-Ok-clause-open
+returns-in-Ok-clause-open g c one =
+    let found = printed_with_one c.run_gated-outcome.result c.end.result c.end.ensures one c.run_gated-outcome.ensures.printed in
+    record {
+      options = c.in-Ok.options;
+      in_range = c.in-Ok.ensures.in_range;
+      ended = found.0;
+      printed = found.1;
+      code_is = found.2;
+    }

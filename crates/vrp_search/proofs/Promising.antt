@@ -1,0 +1,32 @@
+-- When a plan under a front may be of use, by what its bound answers.
+use Rattle.std.proofs.Common.{◌≡◌, ◌⊎◌, inl, inr, ℕ, ◌≤◌, ◌<◌, true, false, true≢false, Option, Some, List, refl, sym, arith}
+use Rattle.std.specs.Prelude.{◌↔◌, IsTrue}
+use Rattle.vrp_model.specs.Problem.{IsProblem, Problem}
+use Rattle.vrp_model.specs.Word.{IsDead}
+use Rattle.vrp_search.specs.Search.{IsLow}
+use Rattle.vrp_search.specs.Inner.Pruned.{MayBeOfUse}
+use Rattle.vrp_search.proofs.OneLow.{one_low}
+
+-- the same fact on either side of a test that failed, or held
+never : (P : Type 0) → (P → ⊥) → IsTrue false ↔ P
+never P none = (λ yes. absurd (let is : false ≡ true = yes in true≢false (sym is)), λ is. absurd (none is))
+
+pub dead_of_no_use : (p : Problem) (among front : List ℕ) (least own : ℕ) → IsDead p front → IsTrue false ↔ MayBeOfUse p among front least own
+dead_of_no_use p among front least own dead = never (MayBeOfUse p among front least own) (λ may. may.alive dead)
+
+pub none_of_no_use : (p : Problem) (among front : List ℕ) (low : Option ℕ) (least own : ℕ) → IsProblem p → IsLow p among front low → ((some : ℕ) → low ≡ Some some → ⊥) → IsTrue false ↔ MayBeOfUse p among front least own
+none_of_no_use p among front low least own problem is none = never (MayBeOfUse p among front least own) (λ may. none may.low (one_low p among front low (Some may.low) problem is may.is_low))
+
+pub dear_of_no_use : (p : Problem) (among front : List ℕ) (low least own : ℕ) → IsProblem p → IsLow p among front (Some low) → (least < low) ⊎ (own ≤ low) → IsTrue false ↔ MayBeOfUse p among front least own
+dear_of_no_use p among front low least own problem is dear = never (MayBeOfUse p among front least own) (λ may.
+    let same = one_low p among front (Some low) (Some may.low) problem is may.is_low in
+    let equal : low ≡ may.low = cc (same) in
+    let no_more = may.no_more in
+    let cheaper = may.cheaper in
+    elim dear [
+      | inl above ↦ omega (arith, above, equal, no_more)
+      | inr no_less ↦ omega (arith, no_less, equal, cheaper)
+    ])
+
+pub may_be_of_use : (p : Problem) (among front : List ℕ) (low least own : ℕ) → (IsDead p front → ⊥) → IsLow p among front (Some low) → low ≤ least → low < own → IsTrue true ↔ MayBeOfUse p among front least own
+may_be_of_use p among front low least own alive is no_more cheaper = (λ yes. record { alive = alive; low = low; is_low = is; no_more = no_more; cheaper = cheaper }, λ may. refl)
