@@ -3,7 +3,7 @@
 //! solved by several workers, and without a limit on trucks by one alone too, and each line has the number of pieces that were asked
 //! for and the end of the report: the cost and the verdict, or that there is no plan; a last line says how many different reports
 //! there were, whoever worked. With a cost the search is given little, and each line says whether that cost lies between the bound
-//! and the cost that are printed.
+//! and the cost that are printed; one line more has the cost that is printed where the budget is just enough for ruin and recreate.
 #![tactic(auto)]
 
 use anyhow::{Context, Result, ensure};
@@ -29,6 +29,9 @@ const AMPLE: u64 = 1_000_000_000;
 // So few of a piece that the larger instances end soon.
 const LITTLE: u64 = 100;
 
+// The least budget in all with which the first plan comes by ruin and recreate.
+const ENOUGH_FOR_MOVES: u64 = 100_000;
+
 // What a report says of the cost of a cheapest plan.
 #[derive(Clone, Copy)]
 struct Range {
@@ -41,6 +44,7 @@ fn main(rt: HostRuntime) -> Result<()> {
         let word = word.as_str();
         if let Some((name, least)) = word.split_once(':') {
             print_ranges(&rt, name, least.parse::<u64>()?)?;
+            print_first_plan(&rt, name)?;
         } else if let Some((name, trucks)) = word.split_once('/') {
             print_endings(&rt, word, name, Some(trucks.parse::<u16>()?))?;
         } else {
@@ -106,6 +110,20 @@ fn print_ranges<R: Files + Print + AllocGlobal + Threads + Wait + Sync>(
         };
         println!(rt; "{name}, {pieces} pieces: {least} {lies} between the bound and the cost")?;
     }
+    Ok(())
+}
+
+// Prints what the plan of a file costs where little is searched, and the first plan is made with all effort.
+fn print_first_plan<R: Files + Print + AllocGlobal + Threads + Wait + Sync>(
+    rt: &R,
+    name: &str,
+) -> Result<()> {
+    let report = report(rt, name, None, 1, 1, ENOUGH_FOR_MOVES)?;
+    let range = read_range(last_two(rt.alloc(), str::from_utf8(&report)?)?.as_str())?;
+    println!(rt;
+        "{name}, a budget of {ENOUGH_FOR_MOVES}: Cost {}",
+        range.cost
+    )?;
     Ok(())
 }
 

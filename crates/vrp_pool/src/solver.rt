@@ -34,10 +34,11 @@ pub const MAX_WORKERS: u32 = 64;
 
 /// Searches all pieces of a cutting, each with this budget, by so many workers, each in a thread of its own where one can be made.
 /// They draw the pieces from one pile and offer their plans to one register, which opens with the plan of one truck for each
-/// customer, where there are so many trucks, and is offered a plan by savings before the search, if one is found and the budget is
-/// no less than 1,000. The search bounds by tables over all customers. A piece that it leaves unfinished is bounded once more at the
-/// end, where that may count, by tables over the customers that the piece leaves unserved; where each plan under it then costs more
-/// than the best one, it is finished. A gate is told before each piece. The cutting is given up.
+/// customer, where there are so many trucks, and is offered a first plan before the search, if one is found and the budget is no
+/// less than 1,000: by savings, and with no less than 100,000 partial plans for all pieces also by ruin and recreate. The search
+/// bounds by tables over all customers. A piece that it leaves unfinished is bounded once more at the end, where that may count, by
+/// tables over the customers that the piece leaves unserved; where each plan under it then costs more than the best one, it is
+/// finished. A gate is told before each piece. The cutting is given up.
 pub fn solve<R: Threads + Wait + Sync, G: Gate + Sync>(
     rt: &R,
     alloc: Global,

@@ -2,8 +2,10 @@
 #![tactic(auto)]
 
 mod joint;
+mod lawful;
 mod reach;
 mod routes;
 mod savings;
 
+pub use lawful::lawful_plan;
 pub use savings::savings_plan;

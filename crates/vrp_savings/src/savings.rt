@@ -6,11 +6,11 @@ ghost use Rattle.vrp_model.specs.Route.{IsPlanOf};
 ghost use Rattle.vrp_savings.specs.Inner.Joints.{IsBetween};
 
 use crate::joint::{Joint, list_joints, sort_joints};
+use crate::lawful::lawful_plan;
 use crate::reach::Reach;
 use crate::routes::Routes;
 use std::alloc::Global;
 use vrp_model::{Instance, NoMemory, Plan};
-use vrp_search::Partial;
 
 /// The weights of the way between two customers that are tried, in tenths.
 const LEAST_TENTHS: u64 = 4;
@@ -66,24 +66,7 @@ fn joined(alloc: Global, instance: &Instance, joints: &[Joint]) -> Result<Option
     let mut routes = Routes::one_each(alloc, instance)?;
     routes.join_all(instance, joints);
     let word = routes.word(alloc, instance)?;
-    plan_of(alloc, instance, &word)
-}
-
-// The plan of a word, if that is lawful.
-fn plan_of(alloc: Global, instance: &Instance, word: &[u16]) -> Result<Option<Plan>, NoMemory>
-    ensures { IfOk result (λ plan. IfSome plan (IsPlanOf instance.now)) }
-{
-    let mut partial = Partial::root(alloc, instance)?;
-    for symbol in word {
-        if !partial.child(*symbol) {
-            return Ok(None);
-        }
-        partial.push(*symbol);
-    }
-    if !partial.complete() {
-        return Ok(None);
-    }
-    Ok(Some(partial.plan(alloc)?))
+    lawful_plan(alloc, instance, &word)
 }
 
 #[cfg(test)]

@@ -9,7 +9,7 @@ use crate::fixture::{depot_alone, line, ring, ten_nodes, three_nodes};
 use crate::gates::NoGate;
 use std::process::Abort;
 use std::test::Fail;
-use vrp_savings::savings_plan;
+use vrp_first::first_plan;
 use vrp_search::MAX_PIECES;
 
 mod gated;
@@ -102,7 +102,7 @@ fn left_open(rt: HostRuntime) -> Result<(), Fail> {
 #[test]
 fn first_plan_by_savings(rt: HostRuntime) -> Result<(), Fail> {
     let free = line(rt.alloc())?;
-    let savings = savings_plan(rt.alloc(), &free)?.map(|plan| plan.cost());
+    let savings = first_plan(rt.alloc(), &free, 0)?.map(|plan| plan.cost());
     assert_eq!(rt; savings, Some(400));
     let limited = line(rt.alloc())?.with_trucks(2);
     for instance in [&free, &limited] {

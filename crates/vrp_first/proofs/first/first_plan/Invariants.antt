@@ -1,0 +1,6 @@
+use Rattle.std.specs.Prelude.{IfSome}
+use Rattle.vrp_model.specs.Route.{IsPlanOf}
+use Rattle.vrp_first.proofs.first.first_plan.Given as goal
+
+abbrev pub invariant-loop-number : goal.invariant-loop-number
+invariant-loop-number l = IfSome l.best (IsPlanOf l.instance)

@@ -1,0 +1,89 @@
+//! The first plan: the best of the plan by savings and of what runs of ruin and recreate make of it.
+ghost use Rattle.std.specs.Prelude.{◌≡◌, IfOk, IfSome};
+ghost use Rattle.vrp_model.specs.Problem.{place_count};
+ghost use Rattle.vrp_model.specs.Route.{IsPlanOf};
+
+use crate::run::run;
+use crate::setting::Setting;
+use crate::threshold::Threshold;
+use std::alloc::Global;
+use vrp_model::{Instance, NoMemory, Plan};
+use vrp_savings::{lawful_plan, savings_plan};
+
+/// With so many moves a run finds the cheapest plan of most instances of some 60 customers.
+pub const ENOUGH_MOVES: u32 = 20_000;
+
+const RUNS: u64 = 4;
+
+/// For each of its moves a run looks at so many positions at most.
+const POSITIONS_A_MOVE: u64 = 2_000;
+
+/// A plan near the best, by ruin and recreate, of Christiaens and Vanden Berghe (2020): from a plan strings of customers are taken
+/// out of a few routes that lie close together, and put back one by one where that costs least. The new plan is kept where it
+/// isn't dearer than the last by a threshold or more, which falls to nothing. There are four runs of so many moves each; with many
+/// customers there are fewer moves, since for each move at most 2,000 positions are looked at on average. The first run starts
+/// from the plan by savings, and each other from the best plan so far. What is answered is the best of all these plans, the first by
+/// cost and then by word, and the same at each call.
+///
+/// With a limit on trucks no route is opened beyond it. Where savings find no plan within the limit, the first run starts with
+/// nobody served; customers who find no place are tried again in each move, and a move that leaves more of them unserved is
+/// undone.
+///
+/// `None`: no lawful plan was found. Which lawful plan is answered is left open, and so is when there is none.
+pub fn first_plan(alloc: Global, instance: &Instance, moves: u32) -> Result<Option<Plan>, NoMemory>
+    ensures { IfOk result (λ plan. IfSome plan (IsPlanOf instance.now)) }
+{
+    let mut best = savings_plan(alloc, instance)?;
+    if moves == 0 || instance.customers() == 0 {
+        return Ok(best);
+    }
+    let setting = Setting::new(alloc, instance)?;
+    let threshold = threshold(instance, moves);
+    for number in 1..RUNS + 1 {
+        let word = match &best {
+            Some(plan) => run(alloc, &setting, plan.word(), threshold, number)?,
+            None => run(alloc, &setting, &[], threshold, number)?,
+        };
+        best = better(alloc, instance, &word, best)?;
+    }
+    Ok(best)
+}
+
+// The plan of a word, where it is before the best so far, or else that one.
+fn better(
+    alloc: Global,
+    instance: &Instance,
+    word: &[u16],
+    best: Option<Plan>,
+) -> Result<Option<Plan>, NoMemory>
+    requires { IfSome best (IsPlanOf instance.now) }
+    ensures { IfOk result (λ plan. IfSome plan (IsPlanOf instance.now)) }
+{
+    let Some(plan) = lawful_plan(alloc, instance, word)? else {
+        return Ok(best);
+    };
+    match best {
+        None => Ok(Some(plan)),
+        Some(best) => Ok(Some(if plan.is_before(&best) { plan } else { best })),
+    }
+}
+
+// How long a run of so many moves goes on, and a threshold that starts at a third of what a truck to one customer alone costs on
+// average, or at less where there are many customers.
+fn threshold(instance: &Instance, moves: u32) -> Threshold {
+    let customers = instance.customers();
+    let mut ways: u64 = 0;
+    for customer in 1..customers + 1 {
+        let there = instance.weight(0, customer);
+        ways = ways.saturating_add(there + instance.weight(customer, 0));
+    }
+    let parts = 3 + u64::from(customers) / 60;
+    Threshold {
+        start: (ways / (u64::from(customers).max(1) * parts)).max(1),
+        moves,
+        positions: u64::from(moves) * POSITIONS_A_MOVE,
+    }
+}
+
+#[cfg(test)]
+mod tests;

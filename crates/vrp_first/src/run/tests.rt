@@ -1,0 +1,54 @@
+//! Runs, with each plan looked at that they have.
+ghost use Rattle.std.specs.Prelude.{◌≡◌};
+ghost use Rattle.vrp_model.specs.Problem.{place_count};
+
+use super::*;
+use crate::fixture::scattered;
+use std::process::Abort;
+use std::test::Fail;
+use vrp_model::{Instance, Plan};
+use vrp_savings::lawful_plan;
+
+// The routes are a lawful plan that costs what they say, unless they say that somebody is unserved.
+fn assert_told(
+    rt: &impl Abort,
+    alloc: Global,
+    instance: &Instance,
+    routes: &Routes,
+) -> Result<(), Fail>
+    requires { routes.now ≡ place_count instance.now }
+{
+    let word = routes.word(alloc, instance)?;
+    let plan = lawful_plan(alloc, instance, &word)?;
+    let told = if routes.unserved() == 0 {
+        Some(routes.cost())
+    } else {
+        None
+    };
+    assert_eq!(rt; plan.as_ref().map(Plan::cost), told);
+    Ok(())
+}
+
+// Looks at the routes after each of some thousand moves, from nobody served on.
+fn assert_moves(rt: &impl Abort, alloc: Global, instance: &Instance) -> Result<(), Fail> {
+    let setting = Setting::new(alloc, instance)?;
+    let mut random = Random::new(1);
+    let mut taken = Taken::new(alloc, instance)?;
+    let mut states = States::new(alloc, &setting, &[])?;
+    for index in 0..2_000 {
+        states.change(&setting, &mut taken, &mut random, index);
+        assert_told(rt, alloc, instance, &states.next)?;
+        states.settle(20);
+    }
+    assert_told(rt, alloc, instance, &states.best)
+}
+
+// Each plan serves each customer once and carries no more than a truck can. The trucks are as many as are wanted, and few.
+#[test]
+fn plans_of_moves(rt: HostRuntime) -> Result<(), Fail> {
+    for (skew, trucks) in [(0, 0), (1, 0), (0, 2), (1, 1)] {
+        let instance = scattered(&rt, rt.alloc(), 40, skew, trucks)?;
+        assert_moves(&rt, rt.alloc(), &instance)?;
+    }
+    Ok(())
+}

@@ -1,0 +1,31 @@
+//! From a word that need not be trusted to a lawful plan.
+ghost use Rattle.std.specs.Prelude.{◌≡◌, IfOk, IfSome};
+ghost use Rattle.vrp_model.specs.Route.{IsPlanOf};
+ghost use Rattle.vrp_model.specs.Word.{word_of};
+
+use std::alloc::Global;
+use vrp_model::{Instance, NoMemory, Plan};
+use vrp_search::Partial;
+
+/// The plan of a word, if it is a lawful word of the instance. Each symbol is asked for before it is pushed, so the word need not be
+/// trusted.
+pub fn lawful_plan(
+    alloc: Global,
+    instance: &Instance,
+    word: &[u16],
+) -> Result<Option<Plan>, NoMemory>
+    ensures lawful { IfOk result (λ plan. IfSome plan (IsPlanOf instance.now)) }
+    ensures word { IfOk result (λ found. IfSome found (λ plan. word_of plan.routes ≡ word.now)) }
+{
+    let mut partial = Partial::root(alloc, instance)?;
+    for symbol in word {
+        if !partial.child(*symbol) {
+            return Ok(None);
+        }
+        partial.push(*symbol);
+    }
+    if !partial.complete() {
+        return Ok(None);
+    }
+    Ok(Some(partial.plan(alloc)?))
+}
