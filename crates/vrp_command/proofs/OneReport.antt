@@ -1,10 +1,10 @@
 -- Two runs that answer Proven print one report.
-use Rattle.std.proofs.Common.{◌≡◌, ◌∙◌, ℕ, Option, Some, List, sym, ap, subst}
+use Rattle.std.proofs.Common.{◌≡◌, ◌∙◌, ℕ, Option, List, sym, ap, subst}
 use Rattle.vrp_model.specs.Order.{IsFirst}
 use Rattle.vrp_model.specs.Problem.{Problem}
 use Rattle.vrp_model.specs.Route.{PricedPlan}
 use Rattle.vrp_text.specs.Meaning.{MeansProblem}
-use Rattle.vrp_command.specs.Answer.{IsCutAnswer}
+use Rattle.vrp_command.specs.Answer.{IsAnswerTo}
 use Rattle.vrp_command.specs.Report.{report_of}
 use Rattle.vrp_command.specs.Run.{AnswersBytes, ReportsAnswer, limited, status_of}
 use Rattle.vrp_command.specs.declared.options.Options.{Options}
@@ -24,10 +24,10 @@ record IsOfFirst (p : Problem) (report : List ℕ) : Type 0 where
   first : IsFirst p plan
   text : report ≡ report_of p (answer.Proven plan)
 
-of_answer : (p : Problem) (pieces budget : ℕ) (found : Answer) (report : List ℕ) → IsCutAnswer p pieces budget found → report ≡ report_of p found → status_of found ≡ status.Proven → IsOfFirst p report
-of_answer p pieces budget (answer.Proven plan) report cut text ends = record { plan = plan; first = cut.answer_is.1; text = text }
-of_answer p pieces budget (answer.Open plan low first) report cut text ends = absurd (let never : 1 ≡ 0 = ap code ends in cc)
-of_answer p pieces budget answer.NoPlan report cut text ends = absurd (let never : 2 ≡ 0 = ap code ends in cc)
+of_answer : (p : Problem) (pieces budget : ℕ) (found : Answer) (report : List ℕ) → IsAnswerTo p pieces budget found → report ≡ report_of p found → status_of found ≡ status.Proven → IsOfFirst p report
+of_answer p pieces budget (answer.Proven plan) report first text ends = record { plan = plan; first = first; text = text }
+of_answer p pieces budget (answer.Open plan low lowest) report left text ends = absurd (let never : 1 ≡ 0 = ap code ends in cc)
+of_answer p pieces budget answer.NoPlan report none text ends = absurd (let never : 2 ≡ 0 = ap code ends in cc)
 
 of_first : (options : Options) (p : Problem) (report : List ℕ) → ReportsAnswer options p report status.Proven → IsOfFirst p report
 of_first options p report reported = of_answer p options.pieces options.budget reported.found report reported.answer_is reported.text (sym reported.status)

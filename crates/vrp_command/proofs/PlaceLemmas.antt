@@ -5,9 +5,10 @@ use Rattle.std.proofs.lemmas.List.Elements.{All-cons, All-nil, Contains-get_or}
 use Rattle.std.proofs.lemmas.List.Sorted.{Contains-permutation}
 use Rattle.vrp_model.specs.Problem.{Problem, customers, place_count}
 use Rattle.vrp_model.proofs.CustomerPlaces.{customer_below}
-use Rattle.vrp_model.specs.Route.{IsLawful, IsPlanOf, PricedPlan}
+use Rattle.vrp_model.specs.Route.{IsLawful, IsPlanOf}
 use Rattle.std.specs.Option.{ForSome}
-use Rattle.vrp_pool.specs.Answer.{IsAnswer, known_plan}
+use Rattle.vrp_command.specs.Answer.{IsAnswerTo}
+use Rattle.vrp_pool.specs.Answer.{known_plan}
 use Rattle.vrp_pool.specs.declared.answers.Answer.{Answer}
 use Rattle.vrp_pool.specs.declared.answers.Answer.TheVariants.{NoPlan, Open, Proven}
 
@@ -28,7 +29,7 @@ stops_within p routes lawful =
     customer_below p (get_or (concat routes) k d) (Contains-permutation (concat routes) (customers p) (get_or (concat routes) k d) lawful.served (Contains-get_or (concat routes) k d lt)))
 
 -- the plan of an answer is lawful
-pub answer_lawful : (p : Problem) (cutting : List (List ℕ)) (budget : ℕ) (found : Answer) → IsAnswer p cutting budget found → ForSome (known_plan found) (IsPlanOf p)
-answer_lawful p cutting budget (Proven plan) (cheapest, first) = λ other same. (let one : plan ≡ other = cc in subst (IsPlanOf p) one first.plan_of)
-answer_lawful p cutting budget (Open plan low first) left = left.plan_of
-answer_lawful p cutting budget NoPlan nothing = λ other same. absurd (let never : None ≡ Some other = same in cc)
+pub answer_lawful : (p : Problem) (pieces budget : ℕ) (found : Answer) → IsAnswerTo p pieces budget found → ForSome (known_plan found) (IsPlanOf p)
+answer_lawful p pieces budget (Proven plan) first = λ other same. (let one : plan ≡ other = cc in subst (IsPlanOf p) one first.plan_of)
+answer_lawful p pieces budget (Open plan low lowest) left = left.left_open.plan_of
+answer_lawful p pieces budget NoPlan nothing = λ other same. absurd (let never : None ≡ Some other = same in cc)

@@ -5,7 +5,7 @@ use Rattle.vrp_model.specs.Problem.{Problem}
 use Rattle.vrp_text.specs.Meaning.{MeansProblem, MeansRefusal}
 use Rattle.vrp_text.specs.declared.error.TextError.{TextError}
 use Rattle.vrp_text.specs.declared.error.TextError.TheVariants as text
-use Rattle.vrp_command.specs.Answer.{IsCutAnswer}
+use Rattle.vrp_command.specs.Answer.{IsAnswerTo}
 use Rattle.vrp_command.specs.Input.{IsInput}
 use Rattle.vrp_command.specs.Output.{AppendsPart}
 use Rattle.vrp_command.specs.Report.{report_of}
@@ -31,7 +31,7 @@ limited (Some trucks) problem = record problem { trucks = Some trucks }
 -- the report of an answer to the problem
 pub record ReportsAnswer (options : Options) (problem : Problem) (report : List ℕ) (ended : Status) : Type 0 where
   pub found : Answer
-  pub answer_is : IsCutAnswer problem options.pieces options.budget found
+  pub answer_is : IsAnswerTo problem options.pieces options.budget found
   pub text : report ≡ report_of problem found
   pub status : ended ≡ status_of found
 

@@ -1,7 +1,7 @@
 //! The answer to an instance: it is cut into pieces, which are searched by several workers.
 ghost use Rattle.std.specs.Prelude.{◌≤◌, IfOk};
 ghost use Rattle.vrp_search.specs.declared.cutting.TheConstants.{MAX_PIECES};
-ghost use Rattle.vrp_command.specs.Answer.{IsCutAnswer};
+ghost use Rattle.vrp_command.specs.Answer.{IsAnswerTo};
 ghost use Rattle.vrp_pool.specs.declared.solver.TheConstants.{MAX_WORKERS};
 
 use std::alloc::Global;
@@ -25,7 +25,7 @@ pub(crate) fn cut_and_solve<T: Threads + Wait + Sync, G: Gate + Sync>(
     requires few_workers { workers ≤ MAX_WORKERS }
     requires pieces { pieces ≤ MAX_PIECES }
     requires budget { 1 ≤ budget }
-    ensures { IfOk result (IsCutAnswer instance.now pieces budget) }
+    ensures { IfOk result (IsAnswerTo instance.now pieces budget) }
 {
     let mut cutting = Cutting::whole(alloc, instance)?;
     cutting.at_least(alloc, instance, pieces)?;

@@ -1,17 +1,16 @@
 -- What is known after each piece that is left unfinished and settled.
-use Rattle.std.proofs.Common.{◌≡◌, ◌≢◌, ◌∙◌, ℕ, zero, suc, ◌≤◌, ◌<◌, ◌⊎◌, inl, inr, min, Bool, true, false, true≢false, Option, Some, None, List, [], ◌∷◌, map, length, get_or, set, refl, sym, subst, ap, arith}
-use Rattle.std.specs.List.{All, Contains}
+use Rattle.std.proofs.Common.{◌≡◌, ◌∙◌, ℕ, zero, suc, ◌≤◌, ◌<◌, ◌⊎◌, inl, inr, min, Bool, true, false, true≢false, Option, Some, None, List, ◌∷◌, length, get_or, set, refl, sym, subst, ap, arith}
+use Rattle.std.specs.List.{Contains}
 use Rattle.std.specs.List.Sorted.{IsPermutation}
 use Rattle.std.proofs.lemmas.Bool.{cases_Bool, cases_eq, cases_lt}
 use Rattle.std.proofs.lemmas.List.{get_or-set_other, get_or-set_same, get_or_default, length-set}
 use Rattle.std.proofs.lemmas.List.Elements.{All-tail}
 use Rattle.std.proofs.lemmas.List.Sorted.{All-permutation, Contains-permutation, IsPermutation-map, IsPermutation-sym}
 use Rattle.std.proofs.Math.ListN.{get_or-eq_default}
-use Rattle.vrp_model.specs.Cheapest.{cost_of}
 use Rattle.vrp_model.specs.Problem.{IsProblem, Problem, customers}
 use Rattle.vrp_model.specs.Route.{PricedPlan}
 use Rattle.vrp_model.specs.Word.{IsFront, NoneCheaperUnder, unserved_in}
-use Rattle.vrp_model.proofs.DistinctLists.{AreDistinct, AreDistinct-permutation, head_differs, in_tail, tail_distinct}
+use Rattle.vrp_model.proofs.DistinctLists.{AreDistinct-permutation, head_differs, tail_distinct}
 use Rattle.vrp_search.specs.Search.{IsLow, NoneBeforeUnder}
 use Rattle.vrp_pool.specs.Answer.{IsOwnLow, piece_of}
 use Rattle.vrp_pool.specs.Gathered.{IsAdded, IsGathered, IsMissing}

@@ -7,7 +7,7 @@ use Rattle.std.proofs.lemmas.Bool.{cases_Bool, cases_lt}
 use Rattle.std.proofs.lemmas.List.{get_or_default, length-map}
 use Rattle.std.proofs.lemmas.List.Elements.{All-contains}
 use Rattle.std.proofs.Math.ListN.{get_or-eq_default}
-use Rattle.vrp_model.specs.Cheapest.{HasNoPlan, IsCheapest, NoneCheaper, cost_of}
+use Rattle.vrp_model.specs.Cheapest.{HasNoPlan, NoneCheaper, cost_of}
 use Rattle.vrp_model.specs.Order.{IsEarlier, IsFirst}
 use Rattle.vrp_model.specs.Problem.{HasTrucks, IsProblem, Problem, customers}
 use Rattle.vrp_model.specs.Route.{IsLawful, IsPlanOf, PricedPlan, plan_cost}
@@ -16,7 +16,7 @@ use Rattle.vrp_model.specs.declared.limits.TheConstants.{NO_COST}
 use Rattle.vrp_pile.specs.Pile.{AreShared}
 use Rattle.vrp_search.specs.Cutting.{AreNumbered, IsCutting, NumberedWord}
 use Rattle.vrp_search.specs.Search.{IsNotBefore, NoneBeforeUnder}
-use Rattle.vrp_pool.specs.Answer.{IsAnswer, IsLeastLow, IsLeftOpen, IsOwnLow, piece_of}
+use Rattle.vrp_pool.specs.Answer.{IsAnswer, IsLeastLow, IsLeftOpen, piece_of}
 use Rattle.vrp_pool.specs.Gathered.{IsAdded, IsFirstMissing, IsMissing}
 use Rattle.vrp_pool.specs.Inner.Gathering.{AreGathered, AreSettling, IsLeftWith, IsNoLater, IsVerdict, numbers_of}
 use Rattle.vrp_pool.specs.Inner.Workers.{Search}
@@ -102,17 +102,14 @@ word_known : OnePiece → (s : Search) (cutting : List (List ℕ)) (floor : ℕ)
 word_known one s cutting floor best is_cutting all word lawful = let (k, lt, begins, only) = one s.problem cutting word is_cutting lawful in all k lt word lawful begins
 
 proven : OnePiece → PlansHaveWords → (s : Search) (cutting : List (List ℕ)) (floor : ℕ) (plan : PricedPlan) → IsCutting s.problem cutting → IsPlanOf s.problem plan → plan.cost ≤ floor
-    → ((number : ℕ) → number < length cutting → NoneBeforeUnder s.problem (piece_of cutting number) floor (Some plan)) → IsCheapest s.problem plan × IsFirst s.problem plan
-proven one have s cutting floor plan is_cutting plan_of falls all = (
-  record { plan_of = plan_of; none_cheaper = words_to_plans have s.problem plan.cost (λ word lawful. costs_no_less s.problem floor (Some plan) word falls (word_known one s cutting floor (Some plan) is_cutting all word lawful)) },
-  record {
-    plan_of = plan_of;
-    none_before = λ other other_of before.
-        let (word, lawful, price, no_later) = have s.problem other.routes other_of.lawful in
-        not_before_plan s.problem floor plan word falls (word_known one s cutting floor (Some plan) is_cutting all word lawful)
-        (word_before other plan (word_cost s.problem word) word (price ∙ sym other_of.priced) no_later before);
-  },
-)
+    → ((number : ℕ) → number < length cutting → NoneBeforeUnder s.problem (piece_of cutting number) floor (Some plan)) → IsFirst s.problem plan
+proven one have s cutting floor plan is_cutting plan_of falls all = record {
+  plan_of = plan_of;
+  none_before = λ other other_of before.
+      let (word, lawful, price, no_later) = have s.problem other.routes other_of.lawful in
+      not_before_plan s.problem floor plan word falls (word_known one s cutting floor (Some plan) is_cutting all word lawful)
+      (word_before other plan (word_cost s.problem word) word (price ∙ sym other_of.priced) no_later before);
+}
 
 no_plan : OnePiece → PlansHaveWords → PlansCostLess → (s : Search) (cutting : List (List ℕ)) (floor : ℕ) → IsProblem s.problem → IsCutting s.problem cutting → NO_COST ≤ floor
     → ((number : ℕ) → number < length cutting → NoneBeforeUnder s.problem (piece_of cutting number) floor None) → HasNoPlan s.problem

@@ -1,7 +1,7 @@
 -- What is known of the answer to an instance whose words are cut into pieces.
 use Rattle.std.specs.Prelude.{◌≡◌, ◌⊎◌, ℕ, ◌+◌, ◌≤◌, ◌<◌, Bool, false, true, Option, None, Some, List, [], length, slice_index_or}
 use Rattle.std.specs.Option.{ForSome}
-use Rattle.vrp_model.specs.Cheapest.{HasNoPlan, IsCheapest, NoneCheaper, cost_of}
+use Rattle.vrp_model.specs.Cheapest.{HasNoPlan, NoneCheaper, cost_of}
 use Rattle.vrp_model.specs.Order.{IsFirst}
 use Rattle.vrp_model.specs.Problem.{HasTrucks, Problem, customers}
 use Rattle.vrp_model.specs.Route.{IsPlanOf, PricedPlan}
@@ -51,8 +51,8 @@ known_plan (Proven plan) = Some plan
 known_plan (Open plan low first) = plan
 known_plan NoPlan = None
 
--- Proven: the plan is a cheapest one, and of those the one with the earliest word
+-- Proven: a cheapest plan, and of these the one with the earliest word. NoPlan: no plan is lawful. Only Open speaks of pieces
 abbrev pub IsAnswer : Problem → List (List ℕ) → ℕ → Answer → Type 0
-IsAnswer p cutting budget (Proven plan) = IsCheapest p plan × IsFirst p plan
+IsAnswer p cutting budget (Proven plan) = IsFirst p plan
 IsAnswer p cutting budget (Open plan low first) = IsLeftOpen p cutting budget plan low first
 IsAnswer p cutting budget NoPlan = HasNoPlan p

@@ -1,4 +1,3 @@
-use Rattle.std.proofs.Common.{◌≡◌}
 use Rattle.vrp_command.proofs.Endings.{printed_with_one}
 use Rattle.vrp_command.proofs.program.run_words.Goals as goal
 

@@ -1,10 +1,9 @@
-use Rattle.std.proofs.Common.{◌≡◌, ◌∙◌, ℕ, ◌≤◌, Option, None, Some, List, sym, subst, ap}
+use Rattle.std.proofs.Common.{◌≡◌, ◌∙◌, ℕ, None, Some, List, sym, subst, ap}
 use Rattle.std.specs.List.{All, Contains}
 use Rattle.std.specs.List.Sorted.{IsStrictlyIncreasing}
-use Rattle.std.specs.Option.{ForSome}
 use Rattle.std.proofs.lemmas.List.Elements.{All-contains_itself}
 use Rattle.vrp_bound.specs.Tables.{TablesOf}
-use Rattle.vrp_model.specs.Problem.{IsProblem, Problem, customers}
+use Rattle.vrp_model.specs.Problem.{customers}
 use Rattle.vrp_model.specs.Word.{NoneCheaperUnder, unserved_in}
 use Rattle.vrp_model.proofs.UnservedCustomers.{unserved_are_customers}
 use Rattle.vrp_search.specs.Search.{AreCovered, IsLow}

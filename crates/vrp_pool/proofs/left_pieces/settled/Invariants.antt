@@ -1,4 +1,4 @@
-use Rattle.std.proofs.Common.{◌≡◌, ℕ, Option, List}
+use Rattle.std.proofs.Common.{ℕ, Option, List}
 use Rattle.std.specs.List.{All}
 use Rattle.vrp_model.specs.Route.{PricedPlan}
 use Rattle.vrp_pool.specs.Inner.Gathering.{AreSettling}
