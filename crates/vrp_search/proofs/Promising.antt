@@ -1,10 +1,12 @@
 -- When a plan under a front may be of use, by what its bound answers.
-use Rattle.std.proofs.Common.{◌≡◌, ◌⊎◌, inl, inr, ℕ, ◌≤◌, ◌<◌, true, false, true≢false, Option, Some, List, refl, sym, arith}
-use Rattle.std.specs.Prelude.{◌↔◌, IsTrue}
+use Rattle.std.proofs.Common.{◌≡◌, ◌⊎◌, inl, inr, ℕ, ◌≤◌, ◌<◌, true, false, true≢false, Option, None, Some, List, refl, sym, arith}
+use Rattle.std.specs.Prelude.{◌↔◌, IsTrue, MatchOption}
 use Rattle.vrp_model.specs.Problem.{IsProblem, Problem}
 use Rattle.vrp_model.specs.Word.{IsDead}
 use Rattle.vrp_search.specs.Search.{IsLow}
-use Rattle.vrp_search.specs.Inner.Pruned.{MayBeOfUse}
+use Rattle.vrp_search.specs.Inner.Pruned.{IsPromising, MayBeOfUse}
+use Rattle.vrp_search.specs.Inner.Tallied.{IsTally}
+use Rattle.vrp_search.specs.declared.tally.Tally.{Tally}
 use Rattle.vrp_search.proofs.OneLow.{one_low}
 
 -- the same fact on either side of a test that failed, or held
@@ -30,3 +32,8 @@ dear_of_no_use p among front low least own problem is dear = never (MayBeOfUse p
 
 pub may_be_of_use : (p : Problem) (among front : List ℕ) (low least own : ℕ) → (IsDead p front → ⊥) → IsLow p among front (Some low) → low ≤ least → low < own → IsTrue true ↔ MayBeOfUse p among front least own
 may_be_of_use p among front low least own alive is no_more cheaper = (λ yes. record { alive = alive; low = low; is_low = is; no_more = no_more; cheaper = cheaper }, λ may. refl)
+
+-- what is counted along a front that may be of use
+pub counted_of : (p : Problem) (front : List ℕ) (own : ℕ) (none : Type 0) (result : Option Tally) → MatchOption result none (IsPromising p front own) → MatchOption result none (IsTally p front)
+counted_of p front own none None is = is
+counted_of p front own none (Some tally) is = is.counted

@@ -136,8 +136,12 @@ no_plan plan is = absurd (cc)
 cost_is : (first : Option PricedPlan) (plan : PricedPlan) → first ≡ Some plan → cost_of first ≡ plan.cost
 cost_is first plan is = ap cost_of is
 
-pub opened : (p : Problem) (root : List ℕ) (floor : ℕ) (first : Option PricedPlan) → IsFront p root → IsKept p root floor None first → Progress p root root 0 1 floor first
-opened p root floor first front kept = elim kept [
+-- each lawful word costs less than a plan that isn't there
+abbrev pub AllCostLess : Problem → Type 0
+AllCostLess p = (w : List ℕ) → IsLawfulWord p w → word_cost p w < NO_COST
+
+pub opened : (p : Problem) (root : List ℕ) (floor : ℕ) (first : Option PricedPlan) → IsFront p root → AllCostLess p → IsKept p root floor None first → Progress p root root 0 1 floor first
+opened p root floor first front less kept = elim kept [
   | inl taken ↦ subst (Progress p root root 0 1 floor) (sym taken.is) (record {
     under = itself root;
     seen = once;
@@ -153,7 +157,9 @@ opened p root floor first front kept = elim kept [
     under = itself root;
     seen = once;
     others = λ w lawful begins. elim (here_or_behind w begins) [
-      | inl same ↦ absurd (nothing.0 (subst (IsLawfulWord p) same lawful))
+      | inl same ↦ absurd (let small = less root (subst (IsLawfulWord p) same lawful) in
+          let no_less : NO_COST ≤ word_cost p root = nothing.0 (subst (IsLawfulWord p) same lawful) in
+          omega (arith, small, no_less))
       | inr behind ↦ inl behind
     ];
     found = λ plan is. absurd (no_plan plan is);
@@ -210,10 +216,10 @@ pruned p root word next k spent floor lower first progress child falls none =
       offered = λ plan is. omega (arith, falls, progress.offered plan is);
     }
 
--- a child that is gone below: less is paid along it than for the plan that was found before
+-- a child that is gone below
 pub descended : (p : Problem) (root word : List ℕ) (next k spent floor lower : ℕ) (first new : Option PricedPlan) → Progress p root word next spent floor first → IsNextChild p word next k → lower ≤ floor
-    → word_cost p (word ++ k ∷ []) < cost_of first → IsKept p (word ++ k ∷ []) lower first new → Progress p root (word ++ k ∷ []) 0 (spent + 1) lower new
-descended p root word next k spent floor lower first new progress child falls cheaper kept = elim kept [
+    → AllCostLess p → IsKept p (word ++ k ∷ []) lower first new → Progress p root (word ++ k ∷ []) 0 (spent + 1) lower new
+descended p root word next k spent floor lower first new progress child falls less kept = elim kept [
   | inl taken ↦ subst (Progress p root (word ++ k ∷ []) 0 (spent + 1) lower) (sym taken.is) (record {
     under = under;
     seen = more;
@@ -222,7 +228,7 @@ descended p root word next k spent floor lower first new progress child falls ch
         | inl same ↦ inr (subst (IsNotBefore p lower (Some taken.plan)) (sym same) (found_itself p lower (word ++ k ∷ []) taken.plan taken.found_at))
         | inr behind ↦ inl behind
       ]
-      | inr done ↦ inr (cheaper_found p floor lower first taken.plan w falls (λ before is. omega (arith, taken.found_at.priced, cheaper, cost_is first before is)) done)
+      | inr done ↦ inr (cheaper_found p floor lower first taken.plan w falls (λ before is. omega (arith, taken.cheaper, cost_is first before is)) done)
     ];
     found = λ plan is. subst (IsFoundUnder p root) (one_plan taken.plan plan is) (found_under p root (word ++ k ∷ []) taken.plan taken.lawful under taken.found_at);
     behind = λ plan is from. not_from_longer (word ++ k ∷ []) [] 0 (subst (IsFrom ((word ++ k ∷ []) ++ 0 ∷ [])) (ap (λ (v : PricedPlan). word_of v.routes) (sym (one_plan taken.plan plan is)) ∙ taken.found_at.is_word) from);
@@ -233,7 +239,8 @@ descended p root word next k spent floor lower first new progress child falls ch
     seen = more;
     others = λ w lawful begins. elim (progress.others w lawful begins) [
       | inl from ↦ elim (front_or_behind (word ++ k ∷ []) w (from_child p word next k child w lawful from)) [
-        | inl same ↦ absurd (nothing.0 (subst (IsLawfulWord p) same lawful))
+        | inl same ↦ inr (no_use p (word ++ next ∷ []) lower lower (cost_of first) first w (omega arith) refl (less w lawful) progress.behind from
+            (inr (subst (λ (v : List ℕ). cost_of first ≤ word_cost p v) (sym same) (nothing.0 (subst (IsLawfulWord p) same lawful)))))
         | inr behind ↦ inl behind
       ]
       | inr done ↦ inr (floor_falls p floor lower first w falls done)

@@ -3,3 +3,4 @@ pub mod Found
 pub mod Pass
 pub mod Pruned
 pub mod Tallied
+pub mod Under

@@ -1,13 +1,15 @@
 //! The search of a piece, depth first: it goes below a partial plan only where a plan under it may be of use.
 ghost use Rattle.std.specs.Prelude.{◌≡◌, ◌≤◌, IfOk};
-ghost use Rattle.vrp_model.specs.Word.{IsFront};
+ghost use Rattle.vrp_model.specs.Word.{IsFront, NoneCheaperUnder};
 ghost use Rattle.vrp_search.specs.Search.{AreCovered, EndsSearch};
+ghost use Rattle.vrp_search.specs.Inner.Under.{EndsUnder};
 
 use crate::board::Board;
+use crate::bounds::Bounds;
 use crate::found::Found;
 use crate::partial::Partial;
 use crate::piece::Piece;
-use crate::tree_pruning::TreePruning;
+use crate::pruning::Pruning;
 use std::alloc::Global;
 use vrp_bound::{Tables, bounds_hold};
 use vrp_model::{Instance, NoMemory, Plan, dead_fronts, plans_cost_less, words_are_plans};
@@ -48,15 +50,11 @@ pub fn search<B: Board>(
     ensures falls { B.floor board.new ≤ B.floor board.old }
     ensures ended { IfOk result (EndsSearch instance.now tables.now.among piece.now.word budget (B.floor board.new)) }
 {
-    let front = piece.word();
-    let mut partial = Partial::at_front(alloc, instance, front)?;
-    let mut spent = 1;
-    // Below no front is anything cheaper than its cost and bound, below a dead one there is nothing, and all plans cost less than
-    // `NO_COST`.
+    let partial = Partial::at_front(alloc, instance, piece.word())?;
+    let spent = 1;
+    // Below no front is anything cheaper than its cost and bound, and below a dead one there is nothing.
     bounds_hold();
     dead_fronts();
-    words_are_plans();
-    plans_cost_less();
     if partial.is_dead() {
         return Ok(Ended::Finished { spent, first: None });
     }
@@ -66,7 +64,34 @@ pub fn search<B: Board>(
     if board.least() < low {
         return Ok(Ended::Finished { spent, first: None });
     }
-    let mut trees = TreePruning::new(alloc, instance)?;
+    let bounds = Bounds::new(alloc, instance, tables)?;
+    search_under(alloc, partial, bounds, low, budget, board)
+}
+
+/// Searches the plans under the front that a partial plan has come to, its root, as `search` does, and prunes by what it is given.
+/// No plan under the root costs less than `low`, which is told where the budget is spent first.
+pub(crate) fn search_under<B: Board, P: Pruning + Drop>(
+    alloc: Global,
+    mut partial: Partial<'_>,
+    mut pruning: P,
+    low: u64,
+    budget: u64,
+    board: &mut B,
+) -> Result<Ended, NoMemory>
+    requires step { P.in_step pruning partial.problem partial.word partial.word }
+    requires low { NoneCheaperUnder partial.problem partial.word low }
+    requires board { B.serves board.old partial.problem }
+    requires budget { 1 ≤ budget }
+    ensures serves { B.serves board.new partial.entry.problem }
+    ensures keeps { (earlier : B) → B.keeps earlier board.old → B.keeps earlier board.new }
+    ensures falls { B.floor board.new ≤ B.floor board.old }
+    ensures ended { IfOk result (EndsUnder partial.entry.problem partial.entry.word low budget (B.floor board.new)) }
+{
+    // All plans cost less than `NO_COST`.
+    words_are_plans();
+    plans_cost_less();
+    let root = partial.depth();
+    let mut spent = 1;
     let mut found = Found::nothing();
     found.offer_complete(alloc, &partial, board)?;
     let mut next = 0;
@@ -76,10 +101,10 @@ pub fn search<B: Board>(
             Some(symbol) => {
                 spent += 1;
                 let least = board.least();
-                if let Some(tally) = partial.promising(tables, symbol, least, found.cost()) {
-                    partial.push_counted(symbol, tally);
-                    if trees.prunes(&partial, least, found.cost()) {
-                        next = partial.pop() + 1;
+                if let Some(counted) = pruning.promising(&partial, symbol, least, found.cost()) {
+                    pruning.push(&mut partial, symbol, counted);
+                    if pruning.prunes(&partial, least, found.cost()) {
+                        next = pruning.pop(&mut partial) + 1;
                     } else {
                         found.offer_complete(alloc, &partial, board)?;
                         next = 0;
@@ -88,11 +113,11 @@ pub fn search<B: Board>(
                     next = symbol + 1;
                 }
             }
-            None if partial.word().len() == front.len() => {
+            None if partial.depth() == root => {
                 let first = found.into_plan();
                 return Ok(Ended::Finished { spent, first });
             }
-            None => next = partial.pop() + 1,
+            None => next = pruning.pop(&mut partial) + 1,
         }
     }
 }

@@ -43,7 +43,7 @@ impl Found {
         self.plan
     }
 
-    /// Offers the plan of a complete word to the board, and keeps it.
+    /// Offers the plan of a complete word to the board, and keeps it, where it costs less than the one that is kept.
     // Few are complete, and the test comes at each push.
     #[inline(always)]
     pub(crate) fn offer_complete<B: Board>(
@@ -58,7 +58,7 @@ impl Found {
         ensures falls { B.floor board.new ≤ B.floor board.old }
         ensures kept { OnOk result (IsKept partial.now.problem partial.now.word (B.floor board.new) self.old.plan self.new.plan) }
     {
-        if partial.complete() {
+        if partial.complete() && partial.cost() < self.cost {
             let plan = partial.plan(alloc)?;
             board.offer(alloc, &plan)?;
             self.cost = plan.cost();

@@ -2,6 +2,7 @@
 #![tactic(auto)]
 
 mod board;
+mod bounds;
 mod cutting;
 mod depth_first;
 mod found;
@@ -9,6 +10,7 @@ mod law;
 mod local;
 mod partial;
 mod piece;
+mod pruning;
 #[cfg(test)]
 mod slow;
 mod tally;

@@ -123,6 +123,17 @@ impl<'a> Partial<'a> {
         self.word.as_slice()
     }
 
+    /// How many symbols there are.
+    #[inline(always)]
+    pub(crate) fn depth(&self) -> usize
+        ensures value { result ≡ length self.now.word }
+        // What is known of every partial plan.
+        ensures problem { IsProblem self.now.problem }
+        ensures front { IsFront self.now.problem self.now.word }
+    {
+        self.word.len()
+    }
+
     /// Whether it has every customer and no open route.
     pub fn complete(&self) -> bool
         ensures { IsTrue result ↔ IsLawfulWord self.now.problem self.now.word }

@@ -1,5 +1,6 @@
 -- What a search knows of the plan that it found last.
-use Rattle.std.specs.Prelude.{◌≡◌, ◌⊎◌, ℕ, ◌≤◌, Option, Some, List}
+use Rattle.std.specs.Prelude.{◌≡◌, ◌⊎◌, ℕ, ◌≤◌, ◌<◌, Option, Some, List}
+use Rattle.vrp_model.specs.Cheapest.{cost_of}
 use Rattle.vrp_model.specs.Problem.{Problem}
 use Rattle.vrp_model.specs.Route.{IsPlanOf, PricedPlan}
 use Rattle.vrp_model.specs.Word.{IsLawfulWord, word_cost, word_of}
@@ -10,14 +11,15 @@ pub record IsFoundAt (p : Problem) (word : List ℕ) (plan : PricedPlan) : Type 
   pub is_word : word_of plan.routes ≡ word
   pub priced : plan.cost ≡ word_cost p word
 
--- the plan of this word is found, and a floor is not above what it costs
-pub record IsTaken (p : Problem) (word : List ℕ) (floor : ℕ) (found : Option PricedPlan) : Type 0 where
+-- the plan of this word is found, it costs less than the one before, and a floor is not above what it costs
+pub record IsTaken (p : Problem) (word : List ℕ) (floor : ℕ) (old found : Option PricedPlan) : Type 0 where
   pub lawful : IsLawfulWord p word
   pub plan : PricedPlan
   pub is : found ≡ Some plan
   pub found_at : IsFoundAt p word plan
+  pub cheaper : plan.cost < cost_of old
   pub below : floor ≤ plan.cost
 
--- a complete word's plan is found; at any other word what was found before stays
+-- the plan of a complete word that costs less than what was found before is found; at any other word that stays
 abbrev pub IsKept : Problem → List ℕ → ℕ → Option PricedPlan → Option PricedPlan → Type 0
-IsKept p word floor old new = IsTaken p word floor new ⊎ ((IsLawfulWord p word → ⊥) × (new ≡ old))
+IsKept p word floor old new = IsTaken p word floor old new ⊎ ((IsLawfulWord p word → cost_of old ≤ word_cost p word) × (new ≡ old))

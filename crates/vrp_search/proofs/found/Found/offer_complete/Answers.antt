@@ -16,5 +16,6 @@ returns-in_ok-offer-clause-kept g c =
         is_word = c.in_ok-plan.ensures.word;
         priced = omega (arith, cost_of_word p c.in_ok-plan.plan.routes, word, c.in_ok-plan.ensures.lawful.priced);
       };
+      cheaper = omega (arith, c.if-cost-self.true, c.cost.ensures.value, c.args.self.now.priced, cost_of_word p c.in_ok-plan.plan.routes, word, c.in_ok-plan.ensures.lawful.priced);
       below = c.in_ok-offer.ensures.taken;
     })

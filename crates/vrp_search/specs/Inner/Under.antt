@@ -1,0 +1,9 @@
+-- How a search below a front ends.
+use Rattle.std.specs.Prelude.{ℕ, Some, List}
+use Rattle.vrp_model.specs.Problem.{Problem}
+use Rattle.vrp_search.specs.Search.{EndsSearch, IsLow}
+use Rattle.vrp_search.specs.declared.depth_first.Ended.{Ended}
+
+-- as the search of a piece with this word does, whichever tables give it this low
+abbrev pub EndsUnder : Problem → List ℕ → ℕ → ℕ → ℕ → Ended → Type 0
+EndsUnder p root low budget floor ended = (among : List ℕ) → IsLow p among root (Some low) → EndsSearch p among root budget floor ended

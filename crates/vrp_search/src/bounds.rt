@@ -1,0 +1,75 @@
+//! Pruning by the bounds on what is still to pay.
+ghost use Rattle.std.specs.Prelude.{◌≡◌, ◌↔◌, List, ℕ, [], ◌∷◌, ◌++◌, IfOk, IsTrue, MatchOption, is_some};
+ghost use Rattle.vrp_model.specs.Word.{IsFront};
+ghost use Rattle.vrp_search.specs.Inner.Pruned.{AreBoundsUnder, MayBeOfUse, NoneOfUse};
+ghost use Rattle.vrp_search.specs.Inner.Tallied.{IsTally};
+
+use crate::partial::Partial;
+use crate::pruning::Pruning;
+use crate::tally::Tally;
+use crate::tree_pruning::TreePruning;
+use std::alloc::Global;
+use vrp_bound::Tables;
+use vrp_model::{Instance, NoMemory};
+
+/// The bounds on what is still to pay: that of the tables and the capacity, and behind a push the tree bound, where it pays. They
+/// prune dead partial plans too.
+#[derive(Drop)]
+pub(crate) struct Bounds<'a> {
+    tables: &'a Tables<'a>,
+    trees: TreePruning<'a>,
+}
+
+impl<'a> Bounds<'a> {
+    /// The bounds by these tables, and by trees.
+    pub(crate) fn new(
+        alloc: Global,
+        instance: &'a Instance,
+        tables: &'a Tables<'a>,
+    ) -> Result<Bounds<'a>, NoMemory>
+        ensures tables { IfOk result (λ bounds. bounds.tables.now ≡ tables.now) }
+        ensures trees { IfOk result (λ bounds. bounds.trees.instance.now ≡ instance.now) }
+    {
+        let trees = TreePruning::new(alloc, instance)?;
+        Ok(Bounds { tables, trees })
+    }
+}
+
+impl<'a> Pruning for Bounds<'a> {
+    type Counted = Tally;
+
+    ghost in_step = { λ bounds p root word. AreBoundsUnder bounds.tables.now.problem bounds.tables.now.among bounds.trees.instance.now p root word };
+
+    ghost is_counted = { λ _ p word tally. IsTally p word tally };
+
+    #[inline(always)]
+    fn promising(
+        &self,
+        partial: &Partial<'_>,
+        symbol: u16,
+        least: u64,
+        own: u64,
+    ) -> Option<Tally>
+        requires step { (root : List ℕ) × AreBoundsUnder self.now.tables.now.problem self.now.tables.now.among self.now.trees.instance.now partial.now.problem root partial.now.word }
+        requires child { IsFront partial.now.problem (partial.now.word ++ symbol ∷ []) }
+        ensures of_use { MatchOption result (NoneOfUse partial.now.problem (partial.now.word ++ symbol ∷ []) least own) (IsTally partial.now.problem (partial.now.word ++ symbol ∷ [])) }
+        ensures exact { IsTrue (is_some result) ↔ MayBeOfUse partial.now.problem self.now.tables.now.among (partial.now.word ++ symbol ∷ []) least own }
+    {
+        partial.promising(self.tables, symbol, least, own)
+    }
+
+    #[inline(always)]
+    fn push(&mut self, partial: &mut Partial<'_>, symbol: u16, counted: Tally) {
+        partial.push_counted(symbol, counted);
+    }
+
+    #[inline(always)]
+    fn prunes(&mut self, partial: &Partial<'_>, least: u64, own: u64) -> bool {
+        self.trees.prunes(partial, least, own)
+    }
+
+    #[inline(always)]
+    fn pop(&mut self, partial: &mut Partial<'_>) -> u16 {
+        partial.pop()
+    }
+}

@@ -1,0 +1,58 @@
+//! What a search prunes by.
+ghost use Rattle.std.specs.Prelude.{◌≡◌, ◌<◌, ℕ, List, [], ◌∷◌, ◌++◌, length, IsTrue, MatchOption};
+ghost use Rattle.vrp_model.specs.Problem.{Problem};
+ghost use Rattle.vrp_model.specs.Word.{BeginsWith, IsFront};
+ghost use Rattle.vrp_model.specs.declared.limits.TheConstants.{MAX_NODES};
+ghost use Rattle.vrp_search.specs.Inner.Pruned.{NoneOfUse};
+
+use crate::partial::Partial;
+
+/// Prunes the tree of a problem below one front, the root, and keeps in step with a partial plan under it, whose symbols it pushes
+/// and pops. It may keep numbers of its own beside the word, as what is paid along it in another problem. Where it prunes, each plan
+/// under the child costs more than `least`, which the board answered, or no less than `own`, the cost of the last plan that the
+/// search offered. What it doesn't prune is left open.
+pub(crate) trait Pruning {
+    /// What is counted along a child's word before it is pushed.
+    type Counted: Copy;
+
+    // Of a problem, the root, and the word of a partial plan under it.
+    ghost in_step: { Self → Problem → List ℕ → List ℕ → Type 0 };
+
+    // Of a problem and a child's word.
+    ghost is_counted: { Self → Problem → List ℕ → Self.Counted → Type 0 };
+
+    /// What is counted along a child's word, or `None` where the child is pruned.
+    fn promising(
+        &self,
+        partial: &Partial<'_>,
+        symbol: u16,
+        least: u64,
+        own: u64,
+    ) -> Option<Self::Counted>
+        requires step { (root : List ℕ) × in_step self.now partial.now.problem root partial.now.word }
+        requires child { IsFront partial.now.problem (partial.now.word ++ symbol ∷ []) }
+        ensures of_use { MatchOption result (NoneOfUse partial.now.problem (partial.now.word ++ symbol ∷ []) least own) (is_counted self.now partial.now.problem (partial.now.word ++ symbol ∷ [])) };
+
+    /// Adds a symbol at the partial plan's end, where what is counted along the longer word is known.
+    fn push(&mut self, partial: &mut Partial<'_>, symbol: u16, counted: Self::Counted)
+        requires step { (root : List ℕ) × in_step self.old partial.old.problem root partial.old.word }
+        requires child { IsFront partial.old.problem (partial.old.word ++ symbol ∷ []) }
+        requires counted { is_counted self.old partial.old.problem (partial.old.word ++ symbol ∷ []) counted }
+        ensures partial { partial.new ≡ record { problem = partial.old.problem; word = partial.old.word ++ symbol ∷ [] } }
+        ensures step { (root : List ℕ) → in_step self.old partial.old.problem root partial.old.word → in_step self.new partial.old.problem root (partial.old.word ++ symbol ∷ []) };
+
+    /// Whether a child is pruned that was pushed: a second look, which may take longer.
+    fn prunes(&mut self, partial: &Partial<'_>, least: u64, own: u64) -> bool
+        requires step { (root : List ℕ) × in_step self.old partial.now.problem root partial.now.word }
+        ensures none { IsTrue result → NoneOfUse partial.now.problem partial.now.word least own }
+        ensures step { (root : List ℕ) → in_step self.old partial.now.problem root partial.now.word → in_step self.new partial.now.problem root partial.now.word };
+
+    /// Takes off the partial plan's last symbol, and answers it.
+    fn pop(&mut self, partial: &mut Partial<'_>) -> u16
+        requires some { 0 < length partial.old.word }
+        requires step { (root : List ℕ) × in_step self.old partial.old.problem root partial.old.word }
+        ensures problem { partial.new.problem ≡ partial.old.problem }
+        ensures word { partial.old.word ≡ partial.new.word ++ result ∷ [] }
+        ensures small { result < MAX_NODES }
+        ensures step { (root : List ℕ) → in_step self.old partial.old.problem root partial.old.word → BeginsWith partial.new.word root → in_step self.new partial.old.problem root partial.new.word };
+}
