@@ -43,13 +43,7 @@ impl<'a> Pruning for Bounds<'a> {
     ghost is_counted = { λ _ p word tally. IsTally p word tally };
 
     #[inline(always)]
-    fn promising(
-        &self,
-        partial: &Partial<'_>,
-        symbol: u16,
-        least: u64,
-        own: u64,
-    ) -> Option<Tally>
+    fn promising(&self, partial: &Partial<'_>, symbol: u16, least: u64, own: u64) -> Option<Tally>
         requires step { (root : List ℕ) × AreBoundsUnder self.now.tables.now.problem self.now.tables.now.among self.now.trees.instance.now partial.now.problem root partial.now.word }
         requires child { IsFront partial.now.problem (partial.now.word ++ symbol ∷ []) }
         ensures of_use { MatchOption result (NoneOfUse partial.now.problem (partial.now.word ++ symbol ∷ []) least own) (IsTally partial.now.problem (partial.now.word ++ symbol ∷ [])) }

@@ -1,7 +1,7 @@
-use Rattle.std.proofs.Common.{◌≡◌, ◌∙◌, ◌≤◌, ◌<◌, ℕ, Some, List, [], append-nil, refl, sym, subst, ap, arith}
+use Rattle.std.proofs.Common.{◌≡◌, ◌∙◌, ℕ, Some, List, [], append-nil, sym, subst, ap, arith}
 use Rattle.std.proofs.lemmas.Result.{IfOk-weaker}
 use Rattle.vrp_model.specs.Problem.{IsProblem, Problem}
-use Rattle.vrp_model.specs.Word.{IsDead, NoneCheaperUnder}
+use Rattle.vrp_model.specs.Word.{IsDead}
 use Rattle.vrp_search.specs.Partial.{PartialPlan}
 use Rattle.vrp_search.specs.Search.{AreCovered, EndsSearch, IsLow}
 use Rattle.vrp_search.specs.Inner.Under.{EndsUnder}

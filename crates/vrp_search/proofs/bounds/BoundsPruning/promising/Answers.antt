@@ -1,4 +1,4 @@
-use Rattle.std.proofs.Common.{◌≡◌, [], ◌∷◌, ◌++◌}
+use Rattle.std.proofs.Common.{[], ◌∷◌, ◌++◌}
 use Rattle.vrp_search.specs.Inner.Pruned.{NoneOfUse}
 use Rattle.vrp_search.proofs.LowBounds.{covered_under}
 use Rattle.vrp_search.proofs.Promising.{counted_of}
