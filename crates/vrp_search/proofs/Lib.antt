@@ -1,4 +1,5 @@
 pub mod BeginsCounted
+pub mod BoundsInStep
 pub mod ChildScan
 pub mod ChildrenListed
 pub mod CuttingPasses

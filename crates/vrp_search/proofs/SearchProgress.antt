@@ -75,7 +75,7 @@ pub record Progress (p : Problem) (root word : List ℕ) (next spent floor : ℕ
 itself : (word : List ℕ) → BeginsWith word word
 itself word = ([], sym (append-nil word))
 
-begins_more : (word root : List ℕ) (k : ℕ) → BeginsWith word root → BeginsWith (word ++ k ∷ []) root
+pub begins_more : (word root : List ℕ) (k : ℕ) → BeginsWith word root → BeginsWith (word ++ k ∷ []) root
 begins_more word root k begins = (begins.0 ++ k ∷ [], ap (λ (xs : List ℕ). xs ++ k ∷ []) begins.1 ∙ append_assoc root begins.0 (k ∷ []))
 
 -- ---- what is not before the plan that was found

@@ -1,7 +1,7 @@
 //! Pruning by the bounds on what is still to pay.
 ghost use Rattle.std.specs.Prelude.{◌≡◌, ◌↔◌, List, ℕ, [], ◌∷◌, ◌++◌, IfOk, IsTrue, MatchOption, is_some};
 ghost use Rattle.vrp_model.specs.Word.{IsFront};
-ghost use Rattle.vrp_search.specs.Inner.Pruned.{AreBoundsUnder, MayBeOfUse, NoneOfUse};
+ghost use Rattle.vrp_search.specs.Inner.Pruned.{AreBoundsUnder, MayBeOfUse, NoneOfUse, with_symbol};
 ghost use Rattle.vrp_search.specs.Inner.Tallied.{IsTally};
 
 use crate::partial::Partial;
@@ -38,15 +38,15 @@ impl<'a> Bounds<'a> {
 impl<'a> Pruning for Bounds<'a> {
     type Counted = Tally;
 
-    ghost in_step = { λ bounds p root word. AreBoundsUnder bounds.tables.now.problem bounds.tables.now.among bounds.trees.instance.now p root word };
+    ghost in_step = { λ bounds root at. AreBoundsUnder bounds.tables.now.problem bounds.tables.now.among bounds.trees.instance.now root at };
 
-    ghost is_counted = { λ _ p word tally. IsTally p word tally };
+    ghost is_counted = { λ _ at tally. IsTally at.problem at.word tally };
 
     #[inline(always)]
     fn promising(&self, partial: &Partial<'_>, symbol: u16, least: u64, own: u64) -> Option<Tally>
-        requires step { (root : List ℕ) × AreBoundsUnder self.now.tables.now.problem self.now.tables.now.among self.now.trees.instance.now partial.now.problem root partial.now.word }
+        requires step { let tables = self.now.tables.now in (root : List ℕ) × AreBoundsUnder tables.problem tables.among self.now.trees.instance.now root partial.now }
         requires child { IsFront partial.now.problem (partial.now.word ++ symbol ∷ []) }
-        ensures of_use { MatchOption result (NoneOfUse partial.now.problem (partial.now.word ++ symbol ∷ []) least own) (IsTally partial.now.problem (partial.now.word ++ symbol ∷ [])) }
+        ensures of_use { let child = with_symbol partial.now symbol in MatchOption result (NoneOfUse child.problem child.word least own) (IsTally child.problem child.word) }
         ensures exact { IsTrue (is_some result) ↔ MayBeOfUse partial.now.problem self.now.tables.now.among (partial.now.word ++ symbol ∷ []) least own }
     {
         partial.promising(self.tables, symbol, least, own)

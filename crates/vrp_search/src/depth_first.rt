@@ -78,7 +78,7 @@ pub(crate) fn search_under<B: Board, P: Pruning + Drop>(
     budget: u64,
     board: &mut B,
 ) -> Result<Ended, NoMemory>
-    requires step { P.in_step pruning partial.problem partial.word partial.word }
+    requires step { P.in_step pruning partial.word partial }
     requires low { NoneCheaperUnder partial.problem partial.word low }
     requires board { B.serves board.old partial.problem }
     requires budget { 1 ≤ budget }

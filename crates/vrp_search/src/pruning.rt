@@ -1,9 +1,9 @@
 //! What a search prunes by.
 ghost use Rattle.std.specs.Prelude.{◌≡◌, ◌<◌, ℕ, List, [], ◌∷◌, ◌++◌, length, IsTrue, MatchOption};
-ghost use Rattle.vrp_model.specs.Problem.{Problem};
 ghost use Rattle.vrp_model.specs.Word.{BeginsWith, IsFront};
 ghost use Rattle.vrp_model.specs.declared.limits.TheConstants.{MAX_NODES};
-ghost use Rattle.vrp_search.specs.Inner.Pruned.{NoneOfUse};
+ghost use Rattle.vrp_search.specs.Inner.Pruned.{NoneOfUse, with_symbol};
+ghost use Rattle.vrp_search.specs.Partial.{PartialPlan};
 
 use crate::partial::Partial;
 
@@ -15,11 +15,10 @@ pub(crate) trait Pruning {
     /// What is counted along a child's word before it is pushed.
     type Counted: Copy;
 
-    // Of a problem, the root, and the word of a partial plan under it.
-    ghost in_step: { Self → Problem → List ℕ → List ℕ → Type 0 };
+    // Of the root and a partial plan under it.
+    ghost in_step: { Self → List ℕ → PartialPlan → Type 0 };
 
-    // Of a problem and a child's word.
-    ghost is_counted: { Self → Problem → List ℕ → Self.Counted → Type 0 };
+    ghost is_counted: { Self → PartialPlan → Self.Counted → Type 0 };
 
     /// What is counted along a child's word, or `None` where the child is pruned.
     fn promising(
@@ -29,30 +28,30 @@ pub(crate) trait Pruning {
         least: u64,
         own: u64,
     ) -> Option<Self::Counted>
-        requires step { (root : List ℕ) × in_step self.now partial.now.problem root partial.now.word }
+        requires step { (root : List ℕ) × in_step self.now root partial.now }
         requires child { IsFront partial.now.problem (partial.now.word ++ symbol ∷ []) }
-        ensures of_use { MatchOption result (NoneOfUse partial.now.problem (partial.now.word ++ symbol ∷ []) least own) (is_counted self.now partial.now.problem (partial.now.word ++ symbol ∷ [])) };
+        ensures of_use { let child = with_symbol partial.now symbol in MatchOption result (NoneOfUse child.problem child.word least own) (is_counted self.now child) };
 
     /// Adds a symbol at the partial plan's end, where what is counted along the longer word is known.
     fn push(&mut self, partial: &mut Partial<'_>, symbol: u16, counted: Self::Counted)
-        requires step { (root : List ℕ) × in_step self.old partial.old.problem root partial.old.word }
+        requires step { (root : List ℕ) × in_step self.old root partial.old }
         requires child { IsFront partial.old.problem (partial.old.word ++ symbol ∷ []) }
-        requires counted { is_counted self.old partial.old.problem (partial.old.word ++ symbol ∷ []) counted }
-        ensures partial { partial.new ≡ record { problem = partial.old.problem; word = partial.old.word ++ symbol ∷ [] } }
-        ensures step { (root : List ℕ) → in_step self.old partial.old.problem root partial.old.word → in_step self.new partial.old.problem root (partial.old.word ++ symbol ∷ []) };
+        requires counted { is_counted self.old (with_symbol partial.old symbol) counted }
+        ensures partial { partial.new ≡ with_symbol partial.old symbol }
+        ensures step { (root : List ℕ) → in_step self.old root partial.old → in_step self.new root partial.new };
 
     /// Whether a child is pruned that was pushed: a second look, which may take longer.
     fn prunes(&mut self, partial: &Partial<'_>, least: u64, own: u64) -> bool
-        requires step { (root : List ℕ) × in_step self.old partial.now.problem root partial.now.word }
+        requires step { (root : List ℕ) × in_step self.old root partial.now }
         ensures none { IsTrue result → NoneOfUse partial.now.problem partial.now.word least own }
-        ensures step { (root : List ℕ) → in_step self.old partial.now.problem root partial.now.word → in_step self.new partial.now.problem root partial.now.word };
+        ensures step { (root : List ℕ) → in_step self.old root partial.now → in_step self.new root partial.now };
 
     /// Takes off the partial plan's last symbol, and answers it.
     fn pop(&mut self, partial: &mut Partial<'_>) -> u16
         requires some { 0 < length partial.old.word }
-        requires step { (root : List ℕ) × in_step self.old partial.old.problem root partial.old.word }
+        requires step { (root : List ℕ) × in_step self.old root partial.old }
         ensures problem { partial.new.problem ≡ partial.old.problem }
         ensures word { partial.old.word ≡ partial.new.word ++ result ∷ [] }
         ensures small { result < MAX_NODES }
-        ensures step { (root : List ℕ) → in_step self.old partial.old.problem root partial.old.word → BeginsWith partial.new.word root → in_step self.new partial.old.problem root partial.new.word };
+        ensures step { (root : List ℕ) → in_step self.old root partial.old → BeginsWith partial.new.word root → in_step self.new root partial.new };
 }

@@ -1,7 +1,8 @@
 -- When a plan under a front may be of use to a search, and when none is.
-use Rattle.std.specs.Prelude.{◌≡◌, ◌⊎◌, ℕ, ◌≤◌, ◌<◌, Some, List}
+use Rattle.std.specs.Prelude.{◌≡◌, ◌⊎◌, ℕ, ◌≤◌, ◌<◌, Some, List, [], ◌∷◌, ◌++◌}
 use Rattle.vrp_model.specs.Problem.{Problem}
 use Rattle.vrp_model.specs.Word.{BeginsWith, IsDead, IsLawfulWord, word_cost}
+use Rattle.vrp_search.specs.Partial.{PartialPlan}
 use Rattle.vrp_search.specs.Search.{AreCovered, IsLow}
 use Rattle.vrp_search.specs.Inner.Tallied.{IsTally}
 use Rattle.vrp_search.specs.declared.tally.Tally.{Tally}
@@ -18,13 +19,17 @@ pub record MayBeOfUse (p : Problem) (among front : List ℕ) (least own : ℕ) :
   pub no_more : low ≤ least
   pub cheaper : low < own
 
--- The tables and the trees are of this problem, each customer that the root leaves unserved is among the tables', and the word is
--- under the root.
-pub record AreBoundsUnder (tabled : Problem) (among : List ℕ) (treed p : Problem) (root word : List ℕ) : Type 0 where
-  pub tables : tabled ≡ p
-  pub trees : treed ≡ p
-  pub covered : AreCovered p among root
-  pub under : BeginsWith word root
+-- a partial plan with one more symbol
+abbrev pub with_symbol : PartialPlan → ℕ → PartialPlan
+with_symbol at k = record { problem = at.problem; word = at.word ++ k ∷ [] }
+
+-- The tables and the trees are of the partial plan's problem, each customer that the root leaves unserved is among the tables', and
+-- the word is under the root.
+pub record AreBoundsUnder (tabled : Problem) (among : List ℕ) (treed : Problem) (root : List ℕ) (at : PartialPlan) : Type 0 where
+  pub tables : tabled ≡ at.problem
+  pub trees : treed ≡ at.problem
+  pub covered : AreCovered at.problem among root
+  pub under : BeginsWith at.word root
 
 -- this is counted along the front, and less is paid along it than for the plan that this search has found
 pub record IsPromising (p : Problem) (front : List ℕ) (own : ℕ) (tally : Tally) : Type 0 where

@@ -51,14 +51,13 @@ pub prunes-requires : goal.prunes-requires
 prunes-requires g c =
     let root = c.args.partial.word in
     record {
-      step = (root, subst (λ (v : PartialPlan). g.P.Pruning.in_step c.push.new.self v.problem root v.word) (sym c.push.ensures.partial) (c.push.ensures.step root c.loop-found.invariant.step));
+      step = (root, c.push.ensures.step root c.loop-found.invariant.step);
     }
 
 pub pop-next-requires-clause-step : goal.pop-next-requires-clause-step
 pop-next-requires-clause-step g c =
     let root = c.args.partial.word in
-    let pushed = subst (λ (v : PartialPlan). g.P.Pruning.in_step c.push.new.self v.problem root v.word) (sym c.push.ensures.partial) (c.push.ensures.step root c.loop-found.invariant.step) in
-    (root, c.prunes.ensures.step root pushed)
+    (root, c.prunes.ensures.step root (c.push.ensures.step root c.loop-found.invariant.step))
 
 pub loop-found-preserved-then-prunes : goal.loop-found-preserved-then-prunes
 loop-found-preserved-then-prunes g c =
@@ -75,7 +74,6 @@ loop-found-preserved-then-prunes g c =
     let none = subst (λ (w : List ℕ). NoneOfUse p w c.least-least.result c.cost-in-Some-promising.result) longer
     (subst (λ (q : Problem). NoneOfUse q c.push.new.partial.word c.least-least.result c.cost-in-Some-promising.result) problem (c.prunes.ensures.none c.if-prunes.true)) in
     let parts = without_last c.pop-next.new.partial.word word c.pop-next.result k (sym c.pop-next.ensures.word ∙ longer) in
-    let pushed = subst (λ (v : PartialPlan). g.P.Pruning.in_step c.push.new.self v.problem root v.word) (sym c.push.ensures.partial) (c.push.ensures.step root c.loop-found.invariant.step) in
     let under = subst (λ (w : List ℕ). BeginsWith w root) (sym parts.0) c.loop-found.invariant.progress.under in
     let progress = pruned p root word c.loop-found.next k c.loop-found.spent old floor first c.loop-found.invariant.progress child c.least-least.ensures.falls
     (λ w lawful from begins.
@@ -84,8 +82,7 @@ loop-found-preserved-then-prunes g c =
     no_use p (word ++ c.loop-found.next ∷ []) floor c.least-least.result c.cost-in-Some-promising.result first w c.least-least.ensures.answered c.cost-in-Some-promising.ensures small c.loop-found.invariant.progress.behind from (none w lawful begins)) in
     record {
       problem = c.pop-next.ensures.problem ∙ problem;
-      step = subst (λ (q : Problem). g.P.Pruning.in_step c.pop-next.new.self q root c.pop-next.new.partial.word) (sym c.pop-next.ensures.problem)
-          (c.pop-next.ensures.step root (c.prunes.ensures.step root pushed) under);
+      step = c.pop-next.ensures.step root (c.prunes.ensures.step root (c.push.ensures.step root c.loop-found.invariant.step)) under;
       progress = subst (λ (w : List ℕ). Progress p root w (c.pop-next.result + 1) (c.loop-found.spent + 1) floor first) (sym parts.0)
           (subst (λ n. Progress p root word (n + 1) (c.loop-found.spent + 1) floor first) (sym parts.1) progress);
       serves = c.least-least.ensures.serves p c.loop-found.invariant.serves;
@@ -118,10 +115,9 @@ loop-found-preserved-else-prunes g c =
     let longer : c.push.new.partial.word ≡ word ++ k ∷ [] = ap (λ (v : PartialPlan). v.word) c.push.ensures.partial in
     let falls : floor ≤ old = omega (arith, c.offer_complete-else-prunes.ensures.falls, c.least-least.ensures.falls) in
     let kept = subst (λ (w : List ℕ). IsKept p w floor first new) longer (subst (λ (q : Problem). IsKept q c.push.new.partial.word floor first new) problem c.in_ok-offer_complete-in-Some-2.ensures.kept) in
-    let pushed = subst (λ (v : PartialPlan). g.P.Pruning.in_step c.push.new.self v.problem root v.word) (sym c.push.ensures.partial) (c.push.ensures.step root c.loop-found.invariant.step) in
     record {
       problem = problem;
-      step = c.prunes.ensures.step root pushed;
+      step = c.prunes.ensures.step root (c.push.ensures.step root c.loop-found.invariant.step);
       progress = subst (λ (w : List ℕ). Progress p root w 0 (c.loop-found.spent + 1) floor new) (sym longer)
           (descended p root word c.loop-found.next k c.loop-found.spent old floor first new c.loop-found.invariant.progress child falls
           (λ w lawful.
@@ -199,8 +195,7 @@ loop-found-preserved g c =
     (subst (λ (w : List ℕ). NoChildFrom p w c.loop-found.next) word none) longer in
     record {
       problem = c.pop-next-in-None-2.ensures.problem ∙ c.loop-found.invariant.problem;
-      step = subst (λ (q : Problem). g.P.Pruning.in_step c.pop-next-in-None-2.new.self q root popped) (sym c.pop-next-in-None-2.ensures.problem)
-          (c.pop-next-in-None-2.ensures.step root c.loop-found.invariant.step progress.under);
+      step = c.pop-next-in-None-2.ensures.step root c.loop-found.invariant.step progress.under;
       progress = progress;
       serves = c.loop-found.invariant.serves;
       keeps = c.loop-found.invariant.keeps;
