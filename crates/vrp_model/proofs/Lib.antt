@@ -22,6 +22,7 @@ pub mod InstanceLemmas
 pub mod LastRoute
 pub mod LeastWayLemmas
 pub mod OneRoute
+pub mod NewAmounts
 pub mod Ordered
 pub mod PlacesLemmas
 pub mod PlanLemmas

@@ -1,5 +1,5 @@
 //! An instance of the problem: the depot is place 0, and the customers are places 1 to m by rising node number.
-ghost use Rattle.std.specs.Prelude.{◌≡◌, ◌↔◌, ℕ, ◌+◌, ◌*◌, ◌-◌, ◌≤◌, ◌<◌, IsTrue, Option, Some, unwrap_or, IfOk, IfErr, OnOk, Bool, not, filter, map, List, ◌∷◌, ◌++◌, length, slice_index, true, false};
+ghost use Rattle.std.specs.Prelude.{◌≡◌, ◌↔◌, ℕ, ◌+◌, ◌*◌, ◌-◌, ◌≤◌, ◌<◌, IsTrue, Option, Some, unwrap_or, IfOk, IfErr, OnOk, Bool, not, filter, map, List, ◌∷◌, ◌++◌, length, slice_index, vec_len, true, false};
 ghost use Rattle.std.specs.List.{range_with_len, flat_map};
 ghost use Rattle.std.specs.Option.{ForSome};
 ghost use Rattle.vrp_model.specs.Grid.{entry_at};
@@ -11,6 +11,7 @@ ghost use Rattle.vrp_model.specs.Request.{is_listed, node_demand, IsAcceptable, 
 use crate::depots::Depots;
 use crate::least::least_ways;
 use crate::limits::{MAX_CAPACITY, MAX_NODES, MAX_WEIGHT, MAX_WHOLE_DEMAND};
+use crate::memory::NoMemory;
 use crate::places::{demands_of, places, weights_between};
 use crate::symmetry::is_symmetric;
 use crate::weights::Weights;
@@ -160,6 +161,37 @@ impl Instance {
             least_in,
             symmetric,
         }
+    }
+
+    /// The same places and trucks with other weights, demands and capacity. The weights stand row by row, from each place to each
+    /// place; the demands place by place.
+    pub fn with_amounts(
+        &self,
+        alloc: Global,
+        weights: Vec<u32>,
+        demands: Vec<u64>,
+        capacity: u64,
+    ) -> Result<Instance, NoMemory>
+        requires square { vec_len weights ≡ place_count self.now * place_count self.now }
+        requires small_weights { (k : ℕ) → slice_index weights.items k ≤ MAX_WEIGHT }
+        requires one_demand_each { vec_len demands ≡ place_count self.now }
+        requires empty_depot { slice_index demands.items 0 ≡ 0 }
+        requires fitting_demands { (place : ℕ) → slice_index demands.items place ≤ capacity }
+        requires small_capacity { capacity ≤ MAX_CAPACITY }
+        ensures { IfOk result (λ instance. instance ≡ record self.now { weights = weights.items; demands = demands.items; capacity = capacity }) }
+    {
+        let nodes = Vec::from_slice(alloc, &self.nodes)?;
+        let least_in = least_ways(alloc, &weights, nodes.len())?;
+        let symmetric = is_symmetric(&weights, nodes.len());
+        Ok(Instance {
+            nodes,
+            demands,
+            weights,
+            capacity,
+            trucks: self.trucks,
+            least_in,
+            symmetric,
+        })
     }
 
     /// How many trucks there are, from 1 to 1,200; `None` where there are as many as are wanted.

@@ -1,0 +1,12 @@
+pub mod BoundByRelaxation
+pub mod Crossed
+pub mod CustomerSums
+pub mod CutsByTest
+pub mod InUnits
+pub mod LawfulPrices
+pub mod MadeRelaxation
+pub mod PricedRows
+pub mod PricedWords
+pub mod PricesRelax
+pub mod Rounded
+pub mod RoutesServe

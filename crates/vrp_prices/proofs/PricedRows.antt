@@ -1,0 +1,31 @@
+-- Weights with prices, written row by row.
+use Rattle.std.proofs.Common.{◌≡◌, ◌≢◌, ℕ, ◌+◌, ◌*◌, ◌<◌, ◌≤◌, ℤ, inl, inr, List, [], ◌∷◌, ◌++◌, length, sym, ◌∙◌, arith}
+use Rattle.std.specs.Prelude.{slice_index}
+use Rattle.std.proofs.lemmas.Bool.{cases_lt}
+use Rattle.std.proofs.lemmas.List.{get_or_append_left, get_or_push, length_push}
+use Rattle.std.proofs.lemmas.Nat.{mul-add-lt, same_from_place}
+use Rattle.vrp_model.specs.Problem.{Problem, place_count, weight_of}
+use Rattle.vrp_model.proofs.BoundedLists.{bounded_push}
+use Rattle.vrp_prices.specs.Inner.Ways.{ArePricedWays, IsPricedWay}
+use Rattle.vrp_prices.specs.Priced.{price_in, rebate_in}
+
+-- one weight more, at the next place
+pub ways_more : (p : Problem) (scale : ℕ) (prices : List ℤ) (weights : List ℕ) (row column weight : ℕ) → length weights ≡ row * place_count p + column → column < place_count p
+    → IsPricedWay p scale prices row column weight → weight ≤ 1000000000 → ArePricedWays p scale prices weights → ArePricedWays p scale prices (weights ++ weight ∷ [])
+ways_more p scale prices weights row column weight next within way small so_far = record {
+  each = λ from to inside before.
+      elim (cases_lt (from * place_count p + to) (length weights)) [
+        | inl earlier ↦ rw (get_or_append_left weights (weight ∷ []) 0 (from * place_count p + to) earlier) (so_far.each from to inside earlier)
+        | inr last ↦
+            let e : from * place_count p + to ≡ length weights = omega (arith, length_push weights weight, before, last) in
+            let same = same_from_place from to row column (place_count p) inside within (e ∙ next) in
+            rw (get_or_push weights weight 0 (from * place_count p + to) (sym e), same.0, same.1) way
+      ];
+  small = bounded_push weights weight 1000000000 so_far.small small;
+}
+
+-- each way, once all are written
+pub all_ways : (p : Problem) (scale : ℕ) (prices : List ℤ) (weights : List ℕ) (from to : ℕ) → length weights ≡ place_count p * place_count p → ArePricedWays p scale prices weights → from < place_count p → to < place_count p → from ≢ to
+    → slice_index weights (from * place_count p + to) + rebate_in prices from + rebate_in prices to ≡ scale * weight_of p from to + price_in prices from + price_in prices to
+all_ways p scale prices weights from to square are here there differs =
+    are.each from to there (omega (arith, square, mul-add-lt from (place_count p) to (place_count p) here there)) differs

@@ -1,0 +1,5 @@
+pub mod Cut
+pub mod Inner
+pub mod Priced
+pub mod Relaxation
+pub mod Units

@@ -1,0 +1,26 @@
+//! A second problem beside an instance, whose ways have prices and whose demands are counted in a coarser unit: what a plan costs
+//! there bounds what it costs.
+#![tactic(auto)]
+
+mod amounts;
+mod law;
+mod lift;
+mod limits;
+mod prices;
+mod relaxation;
+mod rounds;
+#[cfg(test)]
+mod slow;
+mod step;
+mod tours_used;
+mod unit;
+mod walks;
+mod ways;
+
+pub use law::{
+    costs_with_prices, cuts_are_crossed, cuts_by_test, dear_fronts, prices_relax,
+    relaxations_bound, relaxed_fronts, rounded_words, same_symmetry, walks_bound,
+};
+pub use limits::MAX_SCALE;
+pub use relaxation::Relaxation;
+pub use rounds::find_prices;

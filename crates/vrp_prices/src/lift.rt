@@ -1,0 +1,25 @@
+//! How much is to be added for each unit of demand, so that no way costs less than nothing.
+use crate::walks::Walks;
+
+impl Walks {
+    /// The least such number, by the prices that were entered last.
+    pub(crate) fn least_lift(&self) -> i64 {
+        let mut lift = 0;
+        for to in 0..self.places() {
+            lift = self.lift_into(to).max(lift);
+        }
+        lift
+    }
+
+    // That for the ways into a place.
+    fn lift_into(&self, to: usize) -> i64 {
+        let mut lift = 0;
+        for from in 0..self.places() {
+            let units = self.demand(from).saturating_add(self.demand(to));
+            let units = i64::try_from(units).unwrap_or(i64::MAX).max(1);
+            let short = self.way(from, to).saturating_neg().max(0);
+            lift = lift.max(short.saturating_add(units.saturating_sub(1)) / units);
+        }
+        lift
+    }
+}

@@ -1,0 +1,80 @@
+//! Prices of places: what they add to a way, or take off, and together to or off a plan.
+ghost use Rattle.std.specs.Prelude.{◌≡◌, ◌↔◌, ◌*◌, ◌≤◌, ◌<◌, IsTrue, length};
+ghost use Rattle.std.specs.List.{sum_by};
+ghost use Rattle.vrp_model.specs.Problem.{IsProblem, customers, place_count};
+ghost use Rattle.vrp_model.specs.declared.limits.TheConstants.{MAX_NODES};
+ghost use Rattle.vrp_prices.specs.Inner.Ways.{AreModerate};
+ghost use Rattle.vrp_prices.specs.Priced.{price_in, rebate_in};
+ghost use Rattle.vrp_prices.specs.declared.limits.TheConstants.{MAX_CHARGES, MAX_REWARDS};
+
+use crate::limits::MAX_REBATE;
+use vrp_model::{Instance, MAX_WEIGHT};
+
+/// What a place's price adds to each of its ways; 0 where it is a rebate.
+pub(crate) fn price_at(prices: &[i64], place: u16) -> u64
+    requires { place < length prices.now }
+    ensures { result ≡ price_in prices.now place }
+{
+    let price = prices[usize::from(place)];
+    if place == 0 || price < 0 {
+        0
+    } else {
+        price as u64
+    }
+}
+
+/// What a place's rebate takes off each of its ways; 0 where it is a price.
+pub(crate) fn rebate_at(prices: &[i64], place: u16) -> u64
+    requires { place < length prices.now }
+    ensures { result ≡ rebate_in prices.now place }
+{
+    let price = prices[usize::from(place)];
+    if place > 0 && price < 0 {
+        price.unsigned_abs()
+    } else {
+        0
+    }
+}
+
+/// Whether no price is above what a way may cost, and no rebate above what a way costs before. Any others are unlawful.
+pub(crate) fn are_moderate(instance: &Instance, prices: &[i64]) -> bool
+    requires one_each { length prices.now ≡ place_count instance.now }
+    ensures moderate { IsTrue result ↔ AreModerate prices.now }
+    // What is known of every instance.
+    ensures problem { IsProblem instance.now }
+{
+    for place in 0..instance.customers() + 1 {
+        if price_at(prices, place) > MAX_WEIGHT || rebate_at(prices, place) > MAX_REBATE {
+            return false;
+        }
+    }
+    true
+}
+
+/// What prices add to each plan: each customer is entered and left once.
+pub(crate) fn charges(instance: &Instance, prices: &[i64]) -> u64
+    requires one_each { length prices.now ≡ place_count instance.now }
+    requires moderate { AreModerate prices.now }
+    ensures value { result ≡ 2 * sum_by (price_in prices.now) (customers instance.now) }
+    ensures small { result ≤ MAX_CHARGES }
+{
+    let mut whole = 0;
+    for index in 0..instance.customers() {
+        whole += price_at(prices, index + 1);
+    }
+    2 * whole
+}
+
+/// What rebates take off each plan.
+pub(crate) fn rewards(instance: &Instance, prices: &[i64]) -> u64
+    requires one_each { length prices.now ≡ place_count instance.now }
+    requires moderate { AreModerate prices.now }
+    ensures value { result ≡ 2 * sum_by (rebate_in prices.now) (customers instance.now) }
+    ensures small { result ≤ MAX_REWARDS }
+{
+    let mut whole = 0;
+    for index in 0..instance.customers() {
+        whole += rebate_at(prices, index + 1);
+    }
+    2 * whole
+}

@@ -1,0 +1,118 @@
+//! A relaxation of an instance by prices.
+ghost use Rattle.std.specs.Prelude.{◌≡◌, ◌≤◌, IfNone, IfOk, IfSome, length};
+ghost use Rattle.vrp_model.specs.Problem.{place_count};
+ghost use Rattle.vrp_model.specs.declared.limits.TheConstants.{MAX_CAPACITY, NO_COST};
+ghost use Rattle.vrp_prices.specs.Priced.{AreLawfulPrices, IsByPrices};
+ghost use Rattle.vrp_prices.specs.Relaxation.{Bounds, IsLimit};
+ghost use Rattle.vrp_prices.specs.Units.{rounded_capacity};
+
+use crate::amounts::{capacity_in_units, demands_in_units};
+use crate::limits::MAX_SCALE;
+use crate::prices::{are_moderate, charges, rewards};
+use crate::ways::priced_weights;
+use std::alloc::Global;
+use std::marker::Model;
+use vrp_model::{Instance, MAX_CAPACITY, NoMemory};
+
+/// An instance, and a second one whose plans bound its plans.
+#[derive(Debug, Drop)]
+pub struct Relaxation<'a> {
+    problem: &'a Instance,
+    relaxed: Instance,
+    scale: u64,
+    charges: u64,
+    rewards: u64,
+}
+
+impl<'a> Model for Relaxation<'a> {
+    ghost use Rattle.vrp_prices.specs.Relaxation.{RelaxationOf};
+    ghost use Rattle.vrp_prices.specs.Inner.Kept.{IsKept};
+
+    ghost Value = { RelaxationOf };
+
+    ghost view = { λ a. record { problem = a.problem.now; relaxed = a.relaxed; scale = a.scale; charges = a.charges; rewards = a.rewards } };
+
+    ghost invariant = { λ a. IsKept (record { problem = a.problem.now; relaxed = a.relaxed; scale = a.scale; charges = a.charges; rewards = a.rewards }) };
+}
+
+impl<'a> Relaxation<'a> {
+    /// The relaxation by a price for each place, in whole units of the scaled weights; one below 0 is a rebate, and the depot's
+    /// is not looked at. Each way costs `scale` times as much, and more by the prices of its two ends. Demands, and what one
+    /// truck can carry, are counted in units. `None` where a way would cost less than 0 or more than 1,000,000,000, or one truck
+    /// would carry more than that in units.
+    pub fn new(
+        alloc: Global,
+        instance: &'a Instance,
+        scale: u64,
+        unit: u64,
+        prices: &[i64],
+    ) -> Result<Option<Relaxation<'a>>, NoMemory>
+        requires some_scale { 1 ≤ scale }
+        requires small_scale { scale ≤ MAX_SCALE }
+        requires some_unit { 1 ≤ unit }
+        requires one_each { length prices.now ≡ place_count instance.now }
+        ensures priced { IfOk result (λ made. IfSome made (λ relaxation. IsByPrices instance.now unit scale prices.now relaxation)) }
+        ensures none { IfOk result (λ made. IfNone made
+            (AreLawfulPrices instance.now scale prices.now → rounded_capacity instance.now unit ≤ MAX_CAPACITY → ⊥)) }
+    {
+        if !are_moderate(instance, prices) {
+            return Ok(None);
+        }
+        let capacity = capacity_in_units(instance, unit);
+        if capacity > MAX_CAPACITY {
+            return Ok(None);
+        }
+        let Some(weights) = priced_weights(alloc, instance, scale, prices)? else {
+            return Ok(None);
+        };
+        let demands = demands_in_units(alloc, instance, unit)?;
+        let relaxed = instance.with_amounts(alloc, weights, demands, capacity)?;
+        Ok(Some(Relaxation {
+            problem: instance,
+            relaxed,
+            scale,
+            charges: charges(instance, prices),
+            rewards: rewards(instance, prices),
+        }))
+    }
+
+    /// The instance that is relaxed.
+    pub fn problem(&self) -> &'a Instance
+        ensures { result.now ≡ self.now.problem }
+    {
+        self.problem
+    }
+
+    /// The instance whose plans bound those of the other.
+    pub fn relaxed(&self) -> &Instance
+        ensures value { result.now ≡ self.now.relaxed }
+        // What is known of every relaxation.
+        ensures bounds { Bounds self.now }
+    {
+        &self.relaxed
+    }
+
+    /// How many times as much each way costs in the relaxed instance, before prices.
+    pub fn scale(&self) -> u64
+        ensures value { result ≡ self.now.scale }
+        ensures small { result ≤ MAX_SCALE }
+    {
+        self.scale
+    }
+
+    /// What a lawful word costs in the relaxed instance at most, where it costs no more than this in the other. `None`: no lawful
+    /// word costs so little.
+    pub fn limit(&self, cost: u64) -> Option<u64>
+        requires { cost ≤ NO_COST }
+        ensures limit { IsLimit self.now cost result }
+        // What is known of every relaxation.
+        ensures bounds { Bounds self.now }
+    {
+        let dear = self.scale * cost + self.charges;
+        if dear < self.rewards {
+            None
+        } else {
+            Some(dear - self.rewards)
+        }
+    }
+}

@@ -1,0 +1,75 @@
+//! How prices are found: rounds of filling tables and stepping towards a higher bound.
+ghost use Rattle.std.specs.Prelude.{◌≡◌, ◌≤◌, IfOk, IfSome, vec_len};
+ghost use Rattle.vrp_model.specs.Problem.{place_count};
+ghost use Rattle.vrp_prices.specs.declared.limits.TheConstants.{MAX_SCALE};
+
+use crate::limits::MAX_SCALE;
+use crate::relaxation::Relaxation;
+use crate::step::Ascent;
+use crate::unit::{Size, unit_for};
+use crate::walks::{Walks, at};
+use std::alloc::Global;
+use vrp_model::{Instance, NoMemory};
+
+// The most rounds; few instances take as many.
+const MAX_ROUNDS: u64 = 600;
+
+// What a plan should cost at most by the scale.
+const SCALED_COST: u64 = 1_000_000_000;
+
+/// A relaxation by prices that bound the instance's plans well, where a plan of it costs so much. At most so many steps are taken
+/// to find them: looks from one cell of a table at another. `None` where no unit makes the tables small, or the prices are out of
+/// range. Which prices they are is left open: any bound the instance's plans.
+pub fn find_prices<'a>(
+    alloc: Global,
+    instance: &'a Instance,
+    cost: u64,
+    steps: u64,
+) -> Result<Option<Relaxation<'a>>, NoMemory>
+    ensures { IfOk result (λ found. IfSome found (λ relaxation. relaxation.problem ≡ instance.now)) }
+{
+    let Some(unit) = unit_for(instance) else {
+        return Ok(None);
+    };
+    let scale = (SCALED_COST / cost.max(1)).clamp(1, MAX_SCALE);
+    let size = Size::in_units(instance, unit);
+    let rounds = (steps / size.steps().max(1)).min(MAX_ROUNDS);
+    let mut walks = Walks::new(alloc, instance, scale, unit, size)?;
+    let places = usize::from(instance.customers()) + 1;
+    let aim = i64::try_from(cost).unwrap_or(i64::MAX);
+    let mut ascent = Ascent::new(alloc, places, scale as i64, aim)?;
+    for _ in 0..rounds {
+        let Some(tours) = walks.fill(ascent.prices()) else {
+            break;
+        };
+        if !ascent.step(&walks, tours) {
+            break;
+        }
+    }
+    let prices = lifted(alloc, instance, &mut walks, ascent.best())?;
+    match Relaxation::new(alloc, instance, scale, unit, &prices)? {
+        Some(relaxation) => Ok(Some(relaxation)),
+        None => Ok(None),
+    }
+}
+
+// The same prices, and so much more for each unit of a customer's demand that no way costs less than nothing. All walks of a load
+// pay the same for it.
+fn lifted(
+    alloc: Global,
+    instance: &Instance,
+    walks: &mut Walks,
+    prices: &[i64],
+) -> Result<Vec<i64>, NoMemory>
+    ensures { IfOk result (λ lifted. vec_len lifted ≡ place_count instance.now) }
+{
+    walks.enter_prices(prices);
+    let lift = walks.least_lift();
+    let mut lifted = Vec::with_capacity(alloc, usize::from(instance.customers()) + 1)?;
+    for place in 0..instance.customers() + 1 {
+        let demand = i64::try_from(walks.demand(usize::from(place))).unwrap_or(0);
+        let price = at(prices, usize::from(place));
+        lifted.push(price.wrapping_add(lift.wrapping_mul(demand)))?;
+    }
+    Ok(lifted)
+}
