@@ -2,7 +2,7 @@
 ghost use Rattle.std.specs.Int.{IsGcd};
 
 /// The greatest common divisor; of two zeros it is 0.
-pub(crate) fn gcd(one: u64, other: u64) -> u64
+pub fn gcd(one: u64, other: u64) -> u64
     ensures { IsGcd one other result }
 {
     let mut divisor = one;

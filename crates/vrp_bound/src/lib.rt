@@ -25,6 +25,7 @@ mod way;
 mod ways;
 
 pub use capacity::cap_bound;
+pub use divisor::gcd;
 pub use greater::bound;
 pub use law::{
     bounds_hold, capacity_bounds, fewer_customers, one_tree_bound, relaxed_completions,

@@ -2,6 +2,7 @@
 ghost use Rattle.std.specs.Prelude.{◌≤◌, IfSome};
 
 use crate::amounts::{capacity_in_units, demand_in_units};
+use vrp_bound::gcd;
 use vrp_model::Instance;
 
 /// The most cells that one round of filling tables looks at.
@@ -12,9 +13,6 @@ const MAX_HOMES: u64 = 16_000_000;
 
 // More halvings than any capacity has.
 const HALVINGS: u32 = 40;
-
-// More steps than Euclid's algorithm takes at numbers of 64 bits.
-const DIVISIONS: u32 = 100;
 
 /// How large the tables are, by demands in units.
 #[derive(Clone, Copy, Debug)]
@@ -97,19 +95,7 @@ fn whole_in_units(instance: &Instance, unit: u64) -> u64
 fn common_divisor(instance: &Instance) -> u64 {
     let mut divisor = 0;
     for index in 0..instance.customers() {
-        divisor = divisor_of_two(divisor, instance.demand(index + 1));
-    }
-    divisor
-}
-
-// By Euclid's algorithm.
-fn divisor_of_two(one: u64, other: u64) -> u64 {
-    let (mut divisor, mut rest) = (one, other);
-    for _ in 0..DIVISIONS {
-        if rest == 0 {
-            break;
-        }
-        (divisor, rest) = (rest, divisor % rest);
+        divisor = gcd(divisor, instance.demand(index + 1));
     }
     divisor
 }
