@@ -1,47 +1,19 @@
--- What follows once all is drawn, and once the register is closed.
-use Rattle.std.proofs.Common.{◌≡◌, ◌∙◌, ℕ, zero, suc, ◌≤◌, ◌<◌, inl, inr, Bool, true, false, min, ◌==◌, Option, eq-eqb, List, [], ◌∷◌, ◌++◌, length, length-append, get_or, refl, sym, subst, ap, arith}
+-- What follows once the register is closed.
+use Rattle.std.proofs.Common.{◌≡◌, ◌∙◌, ℕ, zero, suc, ◌≤◌, ◌<◌, inl, inr, Bool, true, min, ◌==◌, eq-eqb, List, [], ◌∷◌, length, get_or, refl, sym, subst, ap, arith}
 use Rattle.std.specs.Prelude.{map}
 use Rattle.std.specs.List.{All, Contains, filter}
 use Rattle.std.proofs.lemmas.Bool.{cases_Bool}
 use Rattle.std.proofs.lemmas.List.{get_or-map, length-map}
-use Rattle.std.proofs.lemmas.List.Elements.{All-append, All-contains, All-cons, All-head, All-nil, All-tail, Contains-get_or}
-use Rattle.vrp_model.proofs.FrontWithSymbol.{All-last, All-left}
+use Rattle.std.proofs.lemmas.List.Elements.{All-contains, All-head, All-tail, Contains-get_or}
 use Rattle.vrp_model.specs.Cheapest.{cost_of}
-use Rattle.vrp_model.specs.Route.{PricedPlan}
-use Rattle.vrp_pile.specs.Pile.{AreShared, DrawerState}
-use Rattle.vrp_pile.specs.declared.limits.TheConstants.{MAX_DRAWERS}
-use Rattle.vrp_register.specs.Caller.{CallerState, IsCallerOf, RegisterState}
+use Rattle.vrp_register.specs.Caller.{CallerState, RegisterState}
 use Rattle.vrp_register.specs.Costs.{IsHistoryOf, IsKnown, least_of}
 use Rattle.vrp_register.specs.declared.view.Known.{Known}
 use Rattle.vrp_register.specs.declared.view.Offer.{Offer}
 use Rattle.vrp_register.proofs.LeastCosts.{falls}
 use Rattle.vrp_pool.specs.SeatBoard.{least_seen}
-use Rattle.vrp_pool.specs.Inner.Workers.{CostsNoLess, IsFound, IsLead, IsSameLead, IsSearched, IsWhole, LeadState, Search}
-use Rattle.vrp_pool.specs.declared.outcome.Outcome.{Outcome}
-
--- the lead has drawn what was left
-pub all_found : (s : Search) (register : RegisterState) (whole lead : LeadState) (callers : List CallerState) → IsWhole s register whole → IsLead s lead → IsSameLead whole lead → lead.worker.refused ≡ false
-    → (lead.worker.refused ≡ false → lead.owner.parts ≡ MAX_DRAWERS → AreShared lead.owner.drawn [] lead.owner.put) → IsCallerOf lead.worker.board.register lead.worker.board.caller → CostsNoLess (cost_of lead.worker.board.best) lead.worker.board.caller
-    → callers ≡ lead.taken_in ++ lead.worker.board.caller ∷ [] → IsFound s register callers lead.owner lead.worker.outcomes lead.worker.board.best
-all_found s register whole lead callers before now same fine drawn one_of no_less is =
-    let caller = lead.worker.board.caller in
-    let cost = cost_of lead.worker.board.best in
-    let mine : IsCallerOf register caller = subst (λ (r : RegisterState). IsCallerOf r caller) (same.register ∙ before.of_register) one_of in
-    let others : All (IsCallerOf register) lead.taken_in = subst (All (IsCallerOf register)) (sym same.taken_in) before.taken_in in
-    record {
-      all_callers = rw is (
-        omega (arith, before.callers, ap length same.taken_in, length-append lead.taken_in (caller ∷ [])),
-        All-append (IsCallerOf register) lead.taken_in (caller ∷ []) others (All-cons (IsCallerOf register) caller [] mine (All-nil (IsCallerOf register))),
-      );
-      best_of = now.serves;
-      offered = rw is (All-append (CostsNoLess cost) lead.taken_in (caller ∷ []) now.offered (All-cons (CostsNoLess cost) caller [] no_less (All-nil (CostsNoLess cost))));
-      all = drawn fine (same.parts ∙ before.parts);
-      kept = λ least above.
-          (let below = subst (All (λ c. least ≤ least_seen c)) is above in
-          now.kept fine least (All-last (λ c. least ≤ least_seen c) lead.taken_in caller below, All-left (λ c. least ≤ least_seen c) lead.taken_in (caller ∷ []) below));
-    }
-
--- ---- the register is closed
+use Rattle.vrp_pool.specs.Inner.Workers.{AreBack, CostsNoLess, IsSearched, Search}
+use Rattle.vrp_pool.specs.declared.outcome.Searched.{Searched}
 
 -- no caller has seen less than the least of all costs
 none_saw_less : (opening : ℕ) (callers : List CallerState) (history : List Offer) → IsHistoryOf opening (map (λ c. c.known) callers) history → All (λ caller. least_of opening history ≤ least_seen caller) callers
@@ -94,12 +66,13 @@ reached opening cost (offer ∷ history) opens all =
 no_less_lower : (old new : ℕ) (callers : List CallerState) → new ≤ old → All (CostsNoLess old) callers → All (CostsNoLess new) callers
 no_less_lower old new callers falls all = λ k d lt j o within. omega (arith, falls, all k d lt j o within)
 
-pub all_searched : (s : Search) (register : RegisterState) (callers : List CallerState) (pile : DrawerState) (outcomes : List Outcome) (best : Option PricedPlan) (least : ℕ) (history : List Offer)
-    → IsFound s register callers pile outcomes best → IsHistoryOf register.opening (map (λ c. c.known) callers) history → least ≡ least_of register.opening history → IsSearched s register.opening pile outcomes best least
-all_searched s register callers pile outcomes best least history found is least_is = rw least_is (record {
-  best_of = found.best_of;
-  all = found.all;
-  kept = found.kept (least_of register.opening history) (none_saw_less register.opening callers history is);
+pub all_searched : (s : Search) (register : RegisterState) (callers : List CallerState) (searched : Searched) (history : List Offer) → AreBack s register callers searched → IsHistoryOf register.opening (map (λ c. c.known) callers) history
+    → IsSearched s register.opening searched
+all_searched s register callers searched history back is = record {
+  least = least_of register.opening history;
+  best_of = back.best_of;
+  all = back.all;
+  kept = back.kept (least_of register.opening history) (none_saw_less register.opening callers history is);
   reached = λ cost opens below.
-      reached register.opening cost history opens (none_offered_less register.opening cost callers history is (no_less_lower (cost_of best) cost callers below found.offered));
-})
+      reached register.opening cost history opens (none_offered_less register.opening cost callers history is (no_less_lower (cost_of searched.best) cost callers below back.offered));
+}

@@ -15,7 +15,7 @@ use Rattle.vrp_search.specs.Cutting.{NumberedWord}
 use Rattle.vrp_search.specs.Search.{NoneBeforeUnder}
 use Rattle.vrp_pool.specs.Gathered.{IsAdded, IsGathered}
 use Rattle.vrp_pool.specs.Inner.Gathering.{AreApart, AreGathered, IsLeftOf, IsNoLater, IsNoted, IsOfferedTo, numbers_of, piece_numbers}
-use Rattle.vrp_pool.specs.Inner.Workers.{AreKept, IsFinishedPiece, IsKept, IsLeftPiece, Search}
+use Rattle.vrp_pool.specs.Inner.Workers.{AreOutcomes, IsFinishedPiece, IsOutcome, IsLeftPiece, Search}
 use Rattle.vrp_pool.specs.declared.gathering.GatherError.{GatherError}
 use Rattle.vrp_pool.specs.declared.gathering.GatherError.TheVariants.{Double, Stranger}
 use Rattle.vrp_pool.specs.declared.conclusion.Gathering.{Gathering}
@@ -192,7 +192,7 @@ none_before_it s pieces k d apart lt (place, within, is) =
 -- ---- all outcomes
 
 -- one more outcome was taken note of
-pub one_noted : (s : Search) (floor : ℕ) (old new : Gathering) (pieces : List NumberedWord) (outcomes yielded rest : List Outcome) (one : Outcome) → outcomes ≡ yielded ++ one ∷ rest → AreKept s floor pieces outcomes → AreApart s pieces
+pub one_noted : (s : Search) (floor : ℕ) (old new : Gathering) (pieces : List NumberedWord) (outcomes yielded rest : List Outcome) (one : Outcome) → outcomes ≡ yielded ++ one ∷ rest → AreOutcomes s floor pieces outcomes → AreApart s pieces
     → AreGathered s floor old.book.plan (take (length yielded) pieces) old.gatherer old.left.items → IsNoted old one new → AreGathered s floor new.book.plan (take (length yielded + 1) pieces) new.gatherer new.left.items
 one_noted s floor old new pieces outcomes yielded rest one split kept apart so_far noted =
     let none : NumberedWord = record { number = 0; word = [] } in
@@ -200,11 +200,11 @@ one_noted s floor old new pieces outcomes yielded rest one split kept apart so_f
     let piece = get_or pieces k none in
     let lt : k < length pieces = omega (arith, kept.many, ap length split, length-append yielded (one ∷ rest)) in
     let at : get_or outcomes k one ≡ one = ap (λ (os : List Outcome). get_or os k one) split ∙ get_or-append_seam yielded one rest one in
-    let is : IsKept s floor piece one = subst (IsKept s floor piece) at (kept.each k none one lt) in
+    let is : IsOutcome s floor piece one = subst (IsOutcome s floor piece) at (kept.each k none one lt) in
     subst (λ (ps : List NumberedWord). AreGathered s floor new.book.plan ps new.gatherer new.left.items) (sym (take_more pieces k none lt))
     (by_outcome one piece is (none_before_it s pieces k none apart lt) (apart.below k none lt) noted)
   where
-    by_outcome : (one : Outcome) (piece : NumberedWord) → IsKept s floor piece one → (Contains (piece_numbers (take (length yielded) pieces)) piece.number → ⊥) → piece.number < s.pieces → IsNoted old one new
+    by_outcome : (one : Outcome) (piece : NumberedWord) → IsOutcome s floor piece one → (Contains (piece_numbers (take (length yielded) pieces)) piece.number → ⊥) → piece.number < s.pieces → IsNoted old one new
         → AreGathered s floor new.book.plan (take (length yielded) pieces ++ piece ∷ []) new.gatherer new.left.items
     by_outcome (outcome.Finished done) piece is fresh below (offered, (answer, gathered), left) = rw left
         (one_finished s floor old.book.plan new.book.plan (take (length yielded) pieces) old.gatherer new.gatherer old.left.items piece done answer so_far fresh below is offered gathered)

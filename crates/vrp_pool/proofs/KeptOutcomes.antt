@@ -3,11 +3,11 @@ use Rattle.std.proofs.Common.{ℕ, zero, suc, ◌-◌, ◌≤◌, ◌<◌, inl, 
 use Rattle.std.proofs.lemmas.Bool.{cases_lt}
 use Rattle.std.proofs.lemmas.List.{get_or_append_left, get_or-append_right}
 use Rattle.vrp_search.specs.Cutting.{NumberedWord}
-use Rattle.vrp_pool.specs.Inner.Workers.{AreKept, IsKept, Search}
+use Rattle.vrp_pool.specs.Inner.Workers.{AreOutcomes, IsOutcome, Search}
 use Rattle.vrp_pool.specs.declared.outcome.Outcome.{Outcome}
 use Rattle.vrp_pool.specs.declared.outcome.Outcome.TheVariants.{Finished, Unfinished}
 
-pub one_lower : (s : Search) (least lower : ℕ) (piece : NumberedWord) (one : Outcome) → lower ≤ least → IsKept s least piece one → IsKept s lower piece one
+pub one_lower : (s : Search) (least lower : ℕ) (piece : NumberedWord) (one : Outcome) → lower ≤ least → IsOutcome s least piece one → IsOutcome s lower piece one
 one_lower s least lower piece (Finished done) falls kept = record {
   number = kept.number;
   above = omega (arith, falls, kept.above);
@@ -17,26 +17,26 @@ one_lower s least lower piece (Finished done) falls kept = record {
 one_lower s least lower piece (Unfinished low) falls kept = kept
 
 -- what is kept for a number is kept for a lower one
-pub kept_lower : (s : Search) (least lower : ℕ) (pieces : List NumberedWord) (outcomes : List Outcome) → lower ≤ least → AreKept s least pieces outcomes → AreKept s lower pieces outcomes
+pub kept_lower : (s : Search) (least lower : ℕ) (pieces : List NumberedWord) (outcomes : List Outcome) → lower ≤ least → AreOutcomes s least pieces outcomes → AreOutcomes s lower pieces outcomes
 kept_lower s least lower pieces outcomes falls kept = record {
   many = kept.many;
   each = λ place piece one lt. one_lower s least lower (get_or pieces place piece) (get_or outcomes place one) falls (kept.each place piece one lt);
 }
 
-pub none_kept : (s : Search) (least : ℕ) → AreKept s least [] []
+pub none_kept : (s : Search) (least : ℕ) → AreOutcomes s least [] []
 none_kept s least = record { many = refl; each = λ place piece one lt. absurd (omega (arith, lt)) }
 
-one_kept : (s : Search) (least : ℕ) (piece : NumberedWord) (one : Outcome) → IsKept s least piece one → AreKept s least (piece ∷ []) (one ∷ [])
+pub one_kept : (s : Search) (least : ℕ) (piece : NumberedWord) (one : Outcome) → IsOutcome s least piece one → AreOutcomes s least (piece ∷ []) (one ∷ [])
 one_kept s least piece one kept = record {
   many = refl;
   each = each;
 }
   where
-    each : (place : ℕ) (p : NumberedWord) (o : Outcome) → place < 1 → IsKept s least (get_or (piece ∷ []) place p) (get_or (one ∷ []) place o)
+    each : (place : ℕ) (p : NumberedWord) (o : Outcome) → place < 1 → IsOutcome s least (get_or (piece ∷ []) place p) (get_or (one ∷ []) place o)
     each zero p o lt = kept
     each (suc place) p o lt = absurd (omega (arith, lt))
 
-pub kept_together : (s : Search) (least : ℕ) (pieces more : List NumberedWord) (outcomes others : List Outcome) → AreKept s least pieces outcomes → AreKept s least more others → AreKept s least (pieces ++ more) (outcomes ++ others)
+pub kept_together : (s : Search) (least : ℕ) (pieces more : List NumberedWord) (outcomes others : List Outcome) → AreOutcomes s least pieces outcomes → AreOutcomes s least more others → AreOutcomes s least (pieces ++ more) (outcomes ++ others)
 kept_together s least pieces more outcomes others kept also = record {
   many = omega (arith, kept.many, also.many, length-append pieces more, length-append outcomes others);
   each = λ place piece one lt. elim (cases_lt place (length pieces)) [
@@ -47,8 +47,3 @@ kept_together s least pieces more outcomes others kept also = record {
         (also.each left piece one (omega (arith, lt, behind, length-append pieces more)))
   ];
 }
-
--- and one more
-pub kept_more : (s : Search) (least lower : ℕ) (pieces : List NumberedWord) (outcomes : List Outcome) (piece : NumberedWord) (one : Outcome) → lower ≤ least → AreKept s least pieces outcomes → IsKept s lower piece one
-    → AreKept s lower (pieces ++ piece ∷ []) (outcomes ++ one ∷ [])
-kept_more s least lower pieces outcomes piece one falls kept also = kept_together s lower pieces (piece ∷ []) outcomes (one ∷ []) (kept_lower s least lower pieces outcomes falls kept) (one_kept s lower piece one also)

@@ -1,13 +1,12 @@
 mod BestPlan
 mod Closings
 mod DrawnPieces
-mod Draws
 mod Floors
 mod Gatherings
-mod Joins
 mod KeptOutcomes
 mod NewCallers
 mod Outcomes
 mod Settlings
 mod Teams
 mod Verdicts
+mod Works

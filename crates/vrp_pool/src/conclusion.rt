@@ -12,23 +12,12 @@ ghost use Rattle.vrp_pool.specs.Inner.Workers.{IsSearched};
 use crate::answers::Answer;
 use crate::gathering::Gatherer;
 use crate::left_pieces::{Settling, settled};
-use crate::outcome::{Left, Outcome};
+use crate::outcome::{Left, Outcome, Searched};
 use crate::shared::Shared;
 use std::alloc::Global;
 use vrp_model::{NO_COST, NoMemory, Plan, plans_cost_less, plans_have_words};
-use vrp_pile::Owner;
 use vrp_register::Book;
 use vrp_search::one_piece;
-
-/// All pieces were searched: the pile of which nothing is left, the outcome of each piece, a plan that costs no more than any that
-/// a worker offered, and the least cost that any of them knew.
-#[derive(Drop)]
-pub(crate) struct Searched {
-    pub(crate) pile: Owner,
-    pub(crate) outcomes: Vec<Outcome>,
-    pub(crate) best: Option<Plan>,
-    pub(crate) least: u64,
-}
 
 // The last book, which is offered each plan that is known, the pieces that are finished, and those that are not.
 #[derive(Drop)]
@@ -48,7 +37,7 @@ pub(crate) fn conclude<R, G>(
 ) -> Result<Answer, NoMemory>
     requires singles { ForSome singles (IsPlanOf shared.now.problem) }
     requires some { IsTrue (is_some singles) ↔ HasTrucks shared.now.problem (length (customers shared.now.problem)) }
-    requires searched { IsSearched shared.now (cost_of singles) searched.pile searched.outcomes.items searched.best searched.least }
+    requires searched { IsSearched shared.now (cost_of singles) searched }
     requires cutting { IsCutting shared.now.problem (map (λ piece. piece.word) searched.pile.put) }
     requires numbers { AreNumbered searched.pile.put }
     requires pieces { shared.now.pieces ≡ length searched.pile.put }

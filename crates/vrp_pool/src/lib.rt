@@ -3,14 +3,12 @@
 
 mod answers;
 mod conclusion;
+mod draws;
 mod first_plan;
 #[cfg(test)]
 mod fixture;
-mod found;
 mod gates;
 mod gathering;
-mod helper;
-mod lead;
 mod left_pieces;
 mod outcome;
 mod seat_board;

@@ -1,5 +1,6 @@
-//! What a worker leaves of a piece.
+//! What workers leave of the pieces.
 use vrp_model::Plan;
+use vrp_pile::Owner;
 use vrp_search::Piece;
 
 /// A piece of which all is known: each word under it costs more than the floor, or is not before `first`, the first plan that its
@@ -28,4 +29,13 @@ pub(crate) enum Outcome {
     Finished(Finished),
     /// The budget was spent.
     Unfinished(Left),
+}
+
+/// All pieces were searched: the pile of which nothing is left, the outcome of each piece, and a plan that costs no more than any
+/// that a worker offered.
+#[derive(Drop)]
+pub(crate) struct Searched {
+    pub(crate) pile: Owner,
+    pub(crate) outcomes: Vec<Outcome>,
+    pub(crate) best: Option<Plan>,
 }

@@ -6,15 +6,12 @@ ghost use Rattle.vrp_search.specs.Cutting.{IsCutting};
 ghost use Rattle.vrp_search.specs.declared.cutting.TheConstants.{MAX_REFINED};
 ghost use Rattle.vrp_pool.specs.declared.solver.TheConstants.{MAX_WORKERS};
 ghost use Rattle.vrp_pool.specs.Answer.{IsAnswer};
-ghost use Rattle.vrp_pool.specs.Inner.Workers.{AreFronts, AreNewCallers, IsFound, IsSearched};
 
 use crate::answers::{Answer, SolveError};
-use crate::conclusion::{Searched, conclude};
-use crate::first_plan::first_plan;
-use crate::found::{Found, what_was_found};
+use crate::conclusion::conclude;
 use crate::gates::Gate;
 use crate::shared::Shared;
-use crate::team::{led, new_team};
+use crate::team::searched_by_all;
 use std::alloc::Global;
 use std::marker::Brand;
 use std::sync::Wait;
@@ -89,57 +86,9 @@ fn solve_pile<L: Ledger + Send + Sync, R: Threads + Wait + Sync, G: Gate + Sync>
     let opening = copied(shared.alloc, singles.as_ref())?;
     let workers = thieves.len() as u32 + 1;
     let (register, callers) = Register::<L>::new(shared.alloc, opening, blank, workers)?;
-    let found = found_by_all(shared, &register, owner, thieves, callers)?;
-    let (book, searched) = closed(shared, register, found);
+    let (callers, searched) = searched_by_all(shared, &register, owner, thieves, callers)?;
+    let Closed { book, .. } = register.close(callers);
     conclude(shared, singles, book.plan(), searched)
-}
-
-// What all workers find, each of whom is one of the callers.
-fn found_by_all<'a, L: Ledger + Send + Sync, R: Threads + Wait + Sync, G: Gate + Sync>(
-    shared: &Shared<'a, R, G>,
-    register: &Register<L>,
-    owner: Owner,
-    thieves: Vec<Thief>,
-    callers: Vec<Caller<L>>,
-) -> Result<Found<L>, NoMemory>
-    requires pile { IsNewPile (map (λ piece. piece.word) owner.put) (vec_len thieves) owner thieves.items }
-    requires fronts { AreFronts shared.now owner.put }
-    requires callers { AreNewCallers register.now callers.items }
-    requires as_many { vec_len callers ≡ vec_len thieves + 1 }
-    requires all { register.now.callers ≡ vec_len callers }
-    ensures found { IfOk result (λ found. IsFound shared.now register.entry.now found.callers.items found.pile found.outcomes.items found.best) }
-    ensures pile { IfOk result (λ found. found.pile.put ≡ owner.put) }
-{
-    let first = first_plan(shared)?;
-    let team = new_team(shared, register, owner, thieves, callers)?;
-    let lead = led(shared, team, first.as_ref())?;
-    what_was_found(shared, lead)
-}
-
-// The register's book, and what is known now that all callers are back.
-fn closed<R, L: Ledger, G>(
-    shared: &Shared<'_, R, G>,
-    register: Register<L>,
-    found: Found<L>,
-) -> (Book, Searched)
-    requires { IsFound shared.now register found.callers.items found.pile found.outcomes.items found.best }
-    ensures searched { IsSearched shared.now register.opening result.1.pile result.1.outcomes.items result.1.best result.1.least }
-    ensures pile { result.1.pile ≡ found.pile }
-{
-    let Found {
-        callers,
-        pile,
-        outcomes,
-        best,
-    } = found;
-    let Closed { book, least } = register.close(callers);
-    let searched = Searched {
-        pile,
-        outcomes,
-        best,
-        least,
-    };
-    (book, searched)
 }
 
 // The same plan once more, if there is one.

@@ -1,155 +1,166 @@
-//! A worker: it searches pieces one by one, and keeps what is known of each.
-ghost use Rattle.std.specs.Prelude.{◌≡◌, ◌≤◌, IfOk, OnOk, List, is_some, true, false, [], ◌∷◌, ◌++◌};
+//! A worker: it draws pieces and searches them one by one, and keeps what is known of each.
+ghost use Rattle.std.specs.Prelude.{◌≡◌, ◌≤◌, IfOk, OnOk, false};
 ghost use Rattle.std.specs.Option.{ForSome, option_map};
 ghost use Rattle.vrp_model.specs.Cheapest.{cost_of};
 ghost use Rattle.vrp_model.specs.Route.{IsPlanOf};
 ghost use Rattle.vrp_model.specs.Word.{IsFront};
-ghost use Rattle.vrp_register.specs.Caller.{IsCallerOf};
 ghost use Rattle.vrp_pool.specs.SeatBoard.{IsLater, floor_of};
-ghost use Rattle.vrp_pool.specs.Inner.Workers.{CostsNoLess, IsKept};
+ghost use Rattle.vrp_pool.specs.Inner.Workers.{CanWork, HasHelped, HasSearched, IsNewCaller, IsOutcome, IsTakenOver, IsWorked, IsWorker, new_worker};
 
+use crate::draws::Draws;
 use crate::gates::Gate;
 use crate::outcome::{Finished, Left, Outcome};
 use crate::seat_board::SeatBoard;
 use crate::shared::Shared;
-use std::alloc::Global;
 use std::marker::Model;
 use std::sync::Wait;
 use std::sync::ledger::Ledger;
 use vrp_model::{NoMemory, Plan, plans_cost_less};
-use vrp_register::Caller;
+use vrp_pile::{Drawn, Owner, Thief};
+use vrp_register::{Caller, Register};
 use vrp_search::{Board, Ended, Piece, search};
 
-/// A worker's own state: its board, an outcome for each piece that it drew, and the refusal that it met, if any.
+// How often in a row a worker may be told that others were drawing, before it draws no more.
+const MAX_BUSY: u32 = 1_000;
+
+/// Draws from a pile, offers plans to its board, and has an outcome for each piece that it drew.
 #[derive(Drop)]
-pub(crate) struct Worker<'a, R: Wait, L: Ledger> {
+pub(crate) struct Worker<'a, D: Draws, R: Wait, L: Ledger> {
     number: u32,
-    board: SeatBoard<'a, R, L>,
-    outcomes: Vec<Outcome>,
+    pub(crate) drawer: D,
+    pub(crate) board: SeatBoard<'a, R, L>,
+    pub(crate) outcomes: Vec<Outcome>,
+    // Met by a helper.
     refused: Option<NoMemory>,
 }
 
-impl<'a, R: Wait, L: Ledger> Model for Worker<'a, R, L> {
+impl<'a, D: Draws, R: Wait, L: Ledger> Model for Worker<'a, D, R, L> {
     ghost use Rattle.std.specs.Prelude.{is_some};
     ghost use Rattle.vrp_pool.specs.Inner.Workers.{WorkerState};
 
     ghost Value = { WorkerState };
 
-    ghost view = { λ w. record { board = w.board; outcomes = w.outcomes.items; refused = is_some w.refused } };
+    ghost view = { λ w. record { drawer = D.drawer w.drawer; board = w.board; outcomes = w.outcomes.items; refused = is_some w.refused } };
 }
 
-impl<'a, R: Wait, L: Ledger> Worker<'a, R, L> {
-    /// A worker that has done nothing yet.
-    pub(crate) fn new(alloc: Global, number: u32, board: SeatBoard<'a, R, L>) -> Worker<'a, R, L>
-        ensures { result ≡ record { board = board.entry; outcomes = []; refused = false } }
+impl<'a, D: Draws, R: Wait, L: Ledger> Worker<'a, D, R, L> {
+    /// The worker who is this caller, and has done nothing yet.
+    pub(crate) fn new<G>(
+        shared: &Shared<'a, R, G>,
+        register: &'a Register<L>,
+        caller: Caller<L>,
+        drawer: D,
+    ) -> Worker<'a, D, R, L>
+        requires { IsNewCaller register.now caller }
+        ensures { result ≡ new_worker register.entry.now caller (D.drawer drawer) }
     {
         Worker {
-            number,
-            board,
-            outcomes: Vec::new(alloc),
+            number: caller.number(),
+            drawer,
+            board: SeatBoard::new(shared.rt, register, caller),
+            outcomes: Vec::new(shared.alloc),
             refused: None,
         }
     }
 
-    /// Makes room for the outcomes of so many pieces.
-    pub(crate) fn reserve(&mut self, pieces: u32) -> Result<(), NoMemory>
-        ensures { self.new ≡ self.old }
-    {
-        self.outcomes.reserve(pieces as usize)?;
-        Ok(())
-    }
-
-    /// The refusal of memory that it met, if any.
-    pub(crate) fn refusal(&self) -> Option<NoMemory>
-        ensures { is_some result ≡ self.now.refused }
-    {
-        self.refused
-    }
-
-    /// Takes note that memory was refused.
-    pub(crate) fn refuse(&mut self, refusal: NoMemory)
-        ensures { self.new ≡ record { board = self.old.board; outcomes = self.old.outcomes; refused = true } }
-    {
-        self.refused = Some(refusal);
-    }
-
-    /// Searches a piece, and keeps the outcome.
-    pub(crate) fn search_piece<G: Gate>(
-        &mut self,
+    /// The worker, once it has offered a lawful plan to its board, if there is one.
+    pub(crate) fn offered<G>(
+        mut self,
         shared: &Shared<'_, R, G>,
-        piece: Piece,
-    ) -> Result<(), NoMemory>
-        requires front { IsFront shared.now.problem piece.word }
-        requires serves { ForSome self.old.board.best (IsPlanOf shared.now.problem) }
-        ensures serves { ForSome self.new.board.best (IsPlanOf shared.now.problem) }
-        ensures falls { floor_of self.new.board ≤ floor_of self.old.board }
-        ensures later { IsLater self.old.board self.new.board }
-        ensures refused { self.new.refused ≡ self.old.refused }
-        ensures kept { OnOk result ((outcome : _) × (self.new.outcomes ≡ self.old.outcomes ++ outcome ∷ []) × IsKept shared.now (floor_of self.new.board) piece outcome) }
+        plan: Option<&Plan>,
+    ) -> Result<Worker<'a, D, R, L>, NoMemory>
+        requires can { CanWork shared.now self }
+        requires plan { ForSome (option_map (λ plan. plan.now) plan) (IsPlanOf shared.now.problem) }
+        ensures worked { IfOk result (IsWorked shared.now self.entry) }
+        ensures searched { IfOk result (HasSearched shared.now self.entry) }
     {
-        shared.gate.begins(self.number, piece.number());
-        let outcome = searched(shared, piece, &mut self.board)?;
-        self.outcomes.push(outcome)?;
-        Ok(())
+        let Some(plan) = plan else {
+            return Ok(self);
+        };
+        self.board.offer(shared.alloc, plan)?;
+        Ok(self)
     }
 
-    /// Offers a lawful plan to its board.
-    pub(crate) fn offer<G>(
-        &mut self,
+    /// The worker, after its work as the lead: it makes room for the outcomes of all pieces, and draws.
+    pub(crate) fn led<G: Gate>(
+        mut self,
         shared: &Shared<'_, R, G>,
-        plan: &Plan,
-    ) -> Result<(), NoMemory>
-        requires serves { ForSome self.old.board.best (IsPlanOf shared.now.problem) }
-        requires plan { IsPlanOf shared.now.problem plan.now }
-        ensures serves { ForSome self.new.board.best (IsPlanOf shared.now.problem) }
-        ensures falls { floor_of self.new.board ≤ floor_of self.old.board }
-        ensures later { IsLater self.old.board self.new.board }
-        ensures outcomes { self.new.outcomes ≡ self.old.outcomes }
-        ensures refused { self.new.refused ≡ self.old.refused }
-        ensures taken { OnOk result (floor_of self.new.board ≤ plan.now.cost) }
+    ) -> Result<Worker<'a, D, R, L>, NoMemory>
+        requires { CanWork shared.now self }
+        ensures worked { IfOk result (IsWorked shared.now self.entry) }
+        ensures searched { IfOk result (HasSearched shared.now self.entry) }
     {
-        self.board.offer(shared.alloc, plan)
+        self.outcomes.reserve(shared.pieces as usize)?;
+        self.draw_all(shared)?;
+        Ok(self)
     }
 
-    /// The outcomes, the caller, and the first plan that the worker's board was offered.
-    pub(crate) fn into_parts(self) -> (Vec<Outcome>, Caller<L>, Option<Plan>)
-        ensures outcomes { result.0.items ≡ self.entry.outcomes }
-        ensures caller { result.1 ≡ self.entry.board.caller }
-        ensures best { result.2 ≡ self.entry.board.best }
-        ensures one_of { IsCallerOf self.entry.board.register result.1 }
-        ensures no_less { CostsNoLess (cost_of result.2) result.1 }
+    /// Works as a helper, and takes note where memory is refused. Where there is no room for the outcomes of all pieces it draws
+    /// none.
+    pub(crate) fn help<G: Gate>(&mut self, shared: &Shared<'_, R, G>)
+        requires { CanWork shared.now self.old }
+        ensures { HasHelped shared.now self.old self.new }
     {
-        let Worker {
-            board,
-            outcomes,
-            ..
-        } = self;
-        let (caller, best) = board.into_parts();
-        (outcomes, caller, best)
+        if self.outcomes.reserve(shared.pieces as usize).is_ok() {
+            self.refused = self.draw_all(shared).err();
+        }
     }
 
-    /// Takes the outcomes and the plan of another worker over, and answers its caller. Where memory is refused not all of it is
-    /// taken over.
+    /// Draws pieces and searches them until none is left, or it was told too often that others were drawing.
+    pub(crate) fn draw_all<G: Gate>(&mut self, shared: &Shared<'_, R, G>) -> Result<(), NoMemory>
+        requires { CanWork shared.now self.old }
+        ensures worked { IsWorked shared.now self.old self.new }
+        ensures searched { OnOk result (HasSearched shared.now self.old self.new) }
+        ensures at_end { OnOk result (D.at_end self.new.drawer) }
+    {
+        let mut busy = 0;
+        for _ in shared.rt.forever() {
+            match self.drawer.draw() {
+                Drawn::Piece(piece) => {
+                    shared.gate.begins(self.number, piece.number());
+                    let outcome = searched(shared, piece, &mut self.board)?;
+                    self.outcomes.push(outcome)?;
+                    busy = 0;
+                }
+                Drawn::Busy if busy < MAX_BUSY - 1 => busy += 1,
+                Drawn::Busy | Drawn::Empty => return Ok(()),
+            }
+        }
+        unreachable!()
+    }
+}
+
+impl<'a, R: Wait, L: Ledger> Worker<'a, Owner, R, L> {
+    /// Takes over what a helper drew, its outcomes and its plan, and answers its caller. Where memory is or was refused not all of it
+    /// is taken over.
     pub(crate) fn take_over<G>(
         &mut self,
         shared: &Shared<'_, R, G>,
-        other: Worker<'_, R, L>,
+        helper: Worker<'_, Thief, R, L>,
     ) -> Result<Caller<L>, NoMemory>
-        requires serves { ForSome self.old.board.best (IsPlanOf shared.now.problem) }
-        requires other { ForSome other.board.best (IsPlanOf shared.now.problem) }
-        ensures serves { OnOk result (ForSome self.new.board.best (IsPlanOf shared.now.problem)) }
-        ensures later { OnOk result (IsLater self.old.board self.new.board) }
-        ensures caller { OnOk result (self.new.board.caller ≡ self.old.board.caller) }
-        ensures outcomes { OnOk result (self.new.outcomes ≡ self.old.outcomes ++ other.entry.outcomes) }
-        ensures refused { OnOk result (self.new.refused ≡ false → (self.old.refused ≡ false) × (other.entry.refused ≡ false)) }
-        ensures other { IfOk result (λ caller. caller ≡ other.entry.board.caller) }
-        ensures one_of { IfOk result (IsCallerOf other.entry.board.register) }
-        ensures no_less { IfOk result (CostsNoLess (cost_of self.new.board.best)) }
+        requires lead { IsWorker shared.now self.old.board.register self.old.drawer.pile self.old }
+        requires helper { IsWorker shared.now self.old.board.register self.old.drawer.pile helper }
+        ensures { IfOk result (λ caller. IsTakenOver shared.now self.old helper.entry caller self.new) }
     {
-        self.refused = self.refused.or(other.refusal());
-        let (mut outcomes, caller, best) = other.into_parts();
+        let Worker {
+            drawer,
+            board,
+            mut outcomes,
+            refused,
+            ..
+        } = helper;
+        if let Some(refusal) = refused {
+            return Err(refusal);
+        }
+        self.drawer.take_in(drawer);
         self.outcomes.append(&mut outcomes)?;
-        keep_some(shared, &mut self.board, best.as_ref())?;
+        let (caller, best) = board.into_parts();
+        // All plans cost less than `NO_COST`.
+        let _customers = shared.instance.customers();
+        plans_cost_less();
+        if let Some(best) = &best {
+            self.board.keep(shared.alloc, best)?;
+        }
         Ok(caller)
     }
 }
@@ -165,7 +176,7 @@ fn searched<R: Wait, L: Ledger, G: Gate>(
     ensures serves { ForSome board.new.best (IsPlanOf shared.now.problem) }
     ensures falls { floor_of board.new ≤ floor_of board.old }
     ensures later { IsLater board.old board.new }
-    ensures kept { IfOk result (IsKept shared.now (floor_of board.new) piece) }
+    ensures kept { IfOk result (IsOutcome shared.now (floor_of board.new) piece) }
 {
     let ended = search(
         shared.alloc,
@@ -183,26 +194,4 @@ fn searched<R: Wait, L: Ledger, G: Gate>(
         })),
         Ended::Unfinished { low, .. } => Ok(Outcome::Unfinished(Left { piece, low })),
     }
-}
-
-// Keeps a plan that another board was offered, if there is one.
-fn keep_some<R: Wait, L: Ledger, G>(
-    shared: &Shared<'_, R, G>,
-    board: &mut SeatBoard<'_, R, L>,
-    plan: Option<&Plan>,
-) -> Result<(), NoMemory>
-    requires serves { ForSome board.old.best (IsPlanOf shared.now.problem) }
-    requires plan { ForSome (option_map (λ plan. plan.now) plan) (IsPlanOf shared.now.problem) }
-    ensures serves { ForSome board.new.best (IsPlanOf shared.now.problem) }
-    ensures later { IsLater board.old board.new }
-    ensures caller { board.new.caller ≡ board.old.caller }
-    ensures taken { OnOk result (cost_of board.new.best ≤ cost_of (option_map (λ plan. plan.now) plan.entry)) }
-{
-    // All plans cost less than `NO_COST`.
-    let _customers = shared.instance.customers();
-    plans_cost_less();
-    if let Some(plan) = plan {
-        board.keep(shared.alloc, plan)?;
-    }
-    Ok(())
 }

@@ -10,7 +10,7 @@ use Rattle.vrp_search.specs.Cutting.{NumberedWord}
 use Rattle.vrp_search.specs.Search.{NoneBeforeUnder}
 use Rattle.vrp_pool.specs.Answer.{IsLeft, IsOwnLow, piece_of}
 use Rattle.vrp_pool.specs.Gathered.{IsAdded, IsFirstMissing, IsGathered, IsMissing}
-use Rattle.vrp_pool.specs.Inner.Workers.{AreKept, IsLeftPiece, Search}
+use Rattle.vrp_pool.specs.Inner.Workers.{AreOutcomes, IsLeftPiece, Search}
 use Rattle.vrp_pool.specs.declared.answers.Answer.{Answer}
 use Rattle.vrp_pool.specs.declared.answers.Answer.TheVariants.{Proven, Open, NoPlan}
 use Rattle.vrp_pool.specs.declared.conclusion.Gathering.{Gathering}
@@ -69,7 +69,7 @@ pub record AreGathered (s : Search) (floor : ℕ) (best : Option PricedPlan) (pi
 -- what is known of all outcomes together, whichever pieces they belong to
 abbrev pub GathersAll : Search → Option PricedPlan → List Outcome → Gathering → Type 0
 GathersAll s opening outcomes gathering =
-    (floor : ℕ) (pieces : List NumberedWord) → ForSome opening (IsPlanOf s.problem) → AreKept s floor pieces outcomes → AreApart s pieces → AreGathered s floor gathering.book.plan pieces gathering.gatherer gathering.left.items
+    (floor : ℕ) (pieces : List NumberedWord) → ForSome opening (IsPlanOf s.problem) → AreOutcomes s floor pieces outcomes → AreApart s pieces → AreGathered s floor gathering.book.plan pieces gathering.gatherer gathering.left.items
 
 -- ---- what becomes of the pieces that are left
 

@@ -1,21 +1,22 @@
 -- What workers leave of the pieces that they draw.
-use Rattle.std.specs.Prelude.{◌≡◌, ℕ, ◌+◌, ◌≤◌, ◌<◌, Bool, false, Option, Some, List, [], ◌∷◌, ◌++◌, length, slice_index_or}
+use Rattle.std.specs.Prelude.{◌≡◌, ℕ, ◌+◌, ◌≤◌, ◌<◌, Bool, false, None, Some, List, [], ◌++◌, length, slice_index_or}
 use Rattle.std.specs.List.{All}
 use Rattle.std.specs.Option.{ForSome}
 use Rattle.vrp_model.specs.Cheapest.{cost_of}
 use Rattle.vrp_model.specs.Problem.{Problem, customers}
-use Rattle.vrp_model.specs.Route.{IsPlanOf, PricedPlan}
+use Rattle.vrp_model.specs.Route.{IsPlanOf}
 use Rattle.vrp_model.specs.Word.{IsFront, NoneCheaperUnder, TreeHasAtLeast}
-use Rattle.vrp_pile.specs.Pile.{AreShared, DrawerState}
+use Rattle.vrp_pile.specs.Pile.{AreShared, DrawerState, IsTakenIn, PileId}
 use Rattle.vrp_pile.specs.declared.limits.TheConstants.{MAX_DRAWERS}
 use Rattle.vrp_register.specs.Caller.{AreCallersOf, CallerState, IsCallerOf, RegisterState}
 use Rattle.vrp_search.specs.Cutting.{NumberedWord}
 use Rattle.vrp_search.specs.Search.{IsLow, NoneBeforeUnder}
-use Rattle.vrp_pool.specs.SeatBoard.{SeatBoardState, floor_of, least_seen}
+use Rattle.vrp_pool.specs.SeatBoard.{IsLater, SeatBoardState, floor_of, least_seen}
 use Rattle.vrp_pool.specs.declared.outcome.Finished.{Finished}
 use Rattle.vrp_pool.specs.declared.outcome.Left.{Left}
 use Rattle.vrp_pool.specs.declared.outcome.Outcome.{Outcome}
 use Rattle.vrp_pool.specs.declared.outcome.Outcome.TheVariants as outcome
+use Rattle.vrp_pool.specs.declared.outcome.Searched.{Searched}
 
 -- what is searched, in how many pieces, and how many partial plans may be looked at in each
 pub record Search : Type 0 where
@@ -24,6 +25,7 @@ pub record Search : Type 0 where
   pub budget : ℕ
 
 pub record WorkerState : Type 0 where
+  pub drawer : DrawerState
   pub board : SeatBoardState
   pub outcomes : List Outcome
   pub refused : Bool
@@ -44,78 +46,54 @@ pub record IsLeftPiece (s : Search) (piece : NumberedWord) (left : Left) : Type 
   pub is_low : IsLow s.problem (customers s.problem) piece.word (Some left.low)
   pub none_cheaper : NoneCheaperUnder s.problem piece.word left.low
 
-abbrev pub IsKept : Search → ℕ → NumberedWord → Outcome → Type 0
-IsKept s least piece (outcome.Finished done) = IsFinishedPiece s least piece done
-IsKept s least piece (outcome.Unfinished left) = IsLeftPiece s piece left
+-- what is known of a piece that was searched
+abbrev pub IsOutcome : Search → ℕ → NumberedWord → Outcome → Type 0
+IsOutcome s least piece (outcome.Finished done) = IsFinishedPiece s least piece done
+IsOutcome s least piece (outcome.Unfinished left) = IsLeftPiece s piece left
 
 -- each piece has its outcome, at the same place
-pub record AreKept (s : Search) (least : ℕ) (pieces : List NumberedWord) (outcomes : List Outcome) : Type 0 where
+pub record AreOutcomes (s : Search) (least : ℕ) (pieces : List NumberedWord) (outcomes : List Outcome) : Type 0 where
   pub many : length outcomes ≡ length pieces
-  pub each : (place : ℕ) (piece : NumberedWord) (one : Outcome) → place < length pieces → IsKept s least (slice_index_or pieces place piece) (slice_index_or outcomes place one)
+  pub each : (place : ℕ) (piece : NumberedWord) (one : Outcome) → place < length pieces → IsOutcome s least (slice_index_or pieces place piece) (slice_index_or outcomes place one)
 
 -- every piece on the pile is a front of the problem
 abbrev pub AreFronts : Search → List NumberedWord → Type 0
 AreFronts s pieces = All (λ piece. IsFront s.problem piece.word) pieces
 
-pub record HelperState : Type 0 where
-  pub thief : DrawerState
-  pub worker : WorkerState
+-- ---- the work of one worker
 
--- a worker that draws as a thief: its plan is lawful, and unless memory was refused it has an outcome for each piece that it drew
-pub record IsHelper (s : Search) (helper : HelperState) : Type 0 where
-  pub fronts : AreFronts s helper.thief.put
-  pub serves : ForSome helper.worker.board.best (IsPlanOf s.problem)
-  pub kept : helper.worker.refused ≡ false → AreKept s (floor_of helper.worker.board) helper.thief.drawn helper.worker.outcomes
+-- a worker whose plan is lawful, and that draws from a pile of fronts
+pub record CanWork (s : Search) (worker : WorkerState) : Type 0 where
+  pub fronts : AreFronts s worker.drawer.put
+  pub serves : ForSome worker.board.best (IsPlanOf s.problem)
 
--- the same helper, after work: it belongs to the same pile and register
-pub record IsSameHelper (old new : HelperState) : Type 0 where
-  pub pile : new.thief.pile ≡ old.thief.pile
-  pub parts : new.thief.parts ≡ old.thief.parts
-  pub put : new.thief.put ≡ old.thief.put
-  pub register : new.worker.board.register ≡ old.worker.board.register
+-- the same worker, later: it draws from the same pile, its plan is lawful, and neither that nor the floor costs more
+pub record IsWorked (s : Search) (old new : WorkerState) : Type 0 where
+  pub pile : new.drawer.pile ≡ old.drawer.pile
+  pub parts : new.drawer.parts ≡ old.drawer.parts
+  pub put : new.drawer.put ≡ old.drawer.put
+  pub serves : ForSome new.board.best (IsPlanOf s.problem)
+  pub later : IsLater old.board new.board
+  pub falls : floor_of new.board ≤ floor_of old.board
 
-pub record LeadState : Type 0 where
-  pub owner : DrawerState
-  pub worker : WorkerState
-  pub taken_in : List CallerState
+-- each piece that it drew meanwhile has its outcome
+pub record HasSearched (s : Search) (old new : WorkerState) : Type 0 where
+  pub pieces : List NumberedWord
+  pub outcomes : List Outcome
+  pub drawn : new.drawer.drawn ≡ old.drawer.drawn ++ pieces
+  pub more : new.outcomes ≡ old.outcomes ++ outcomes
+  pub kept : AreOutcomes s (floor_of new.board) pieces outcomes
 
--- a number is no more than what the callers have seen
-abbrev pub IsBelowAll : ℕ → SeatBoardState → List CallerState → Type 0
-IsBelowAll least board callers = (least ≤ floor_of board) × All (λ caller. least ≤ least_seen caller) callers
+-- a helper, after its work: unless memory was refused each piece that it drew has its outcome
+pub record HasHelped (s : Search) (old new : WorkerState) : Type 0 where
+  pub worked : IsWorked s old new
+  pub searched : new.refused ≡ false → HasSearched s old new
 
--- each cost that a caller offered is no less than this plan's
-abbrev pub CostsNoLess : ℕ → CallerState → Type 0
-CostsNoLess cost caller = All (λ offer. cost ≤ offer.cost) caller.known.mine
-
--- The worker that draws as the owner, with the callers of those that it has taken in: its plan is lawful and costs no more than any
--- that they offered, and unless memory was refused there is an outcome for each piece that it or they drew
-pub record IsLead (s : Search) (lead : LeadState) : Type 0 where
-  pub fronts : AreFronts s lead.owner.put
-  pub serves : ForSome lead.worker.board.best (IsPlanOf s.problem)
-  pub offered : All (CostsNoLess (cost_of lead.worker.board.best)) lead.taken_in
-  pub kept : lead.worker.refused ≡ false → (least : ℕ) → IsBelowAll least lead.worker.board lead.taken_in → AreKept s least lead.owner.drawn lead.worker.outcomes
-
-pub record IsSameLead (old new : LeadState) : Type 0 where
-  pub pile : new.owner.pile ≡ old.owner.pile
-  pub parts : new.owner.parts ≡ old.owner.parts
-  pub put : new.owner.put ≡ old.owner.put
-  pub register : new.worker.board.register ≡ old.worker.board.register
-  pub taken_in : new.taken_in ≡ old.taken_in
-
--- a helper was taken in: what it drew counts as drawn by the lead
-pub record IsJoined (old : LeadState) (helper : HelperState) (new : LeadState) : Type 0 where
-  pub pile : new.owner.pile ≡ old.owner.pile
-  pub parts : new.owner.parts ≡ old.owner.parts + 1
-  pub put : new.owner.put ≡ old.owner.put
-  pub register : new.worker.board.register ≡ old.worker.board.register
-  pub taken_in : new.taken_in ≡ old.taken_in ++ helper.worker.board.caller ∷ []
-  pub caller : IsCallerOf helper.worker.board.register helper.worker.board.caller
-
--- all helpers, after work
-pub record AreWorked (s : Search) (old new : List HelperState) : Type 0 where
+pub record HaveHelped (s : Search) (old new : List WorkerState) : Type 0 where
   pub many : length new ≡ length old
-  pub helpers : All (IsHelper s) new
-  pub same : (place : ℕ) (helper : HelperState) → place < length old → IsSameHelper (slice_index_or old place helper) (slice_index_or new place helper)
+  pub each : (place : ℕ) (helper : WorkerState) → place < length old → HasHelped s (slice_index_or old place helper) (slice_index_or new place helper)
+
+-- ---- all workers
 
 -- a caller of the register that has offered nothing yet
 abbrev pub IsNewCaller : RegisterState → CallerState → Type 0
@@ -124,38 +102,61 @@ IsNewCaller register caller = IsCallerOf register caller × (caller.known.mine �
 abbrev pub AreNewCallers : RegisterState → List CallerState → Type 0
 AreNewCallers register callers = All (IsNewCaller register) callers
 
--- all workers, which draw from one pile and offer to one register
-pub record IsTeam (s : Search) (register : RegisterState) (lead : LeadState) (helpers : List HelperState) : Type 0 where
-  pub lead_is : IsLead s lead
-  pub alone : lead.taken_in ≡ []
-  pub helpers_are : All (IsHelper s) helpers
-  pub piles : All (λ helper. helper.thief.pile ≡ lead.owner.pile) helpers
-  pub parts : lead.owner.parts + length helpers ≡ MAX_DRAWERS
-  pub of_register : lead.worker.board.register ≡ register
-  pub registers : All (λ helper. helper.worker.board.register ≡ register) helpers
+-- the worker who is this caller, and has done nothing yet
+abbrev pub new_worker : RegisterState → CallerState → DrawerState → WorkerState
+new_worker register caller drawer = record { drawer = drawer; board = record { register = register; caller = caller; best = None }; outcomes = []; refused = false }
+
+-- a worker that can work, draws from this pile and offers to this register
+pub record IsWorker (s : Search) (register : RegisterState) (pile : PileId) (worker : WorkerState) : Type 0 where
+  pub can : CanWork s worker
+  pub of_pile : worker.drawer.pile ≡ pile
+  pub of_register : worker.board.register ≡ register
+
+-- each piece that it drew has its outcome
+abbrev pub HasOutcomes : Search → WorkerState → Type 0
+HasOutcomes s worker = AreOutcomes s (floor_of worker.board) worker.drawer.drawn worker.outcomes
+
+-- The lead draws as the owner of the pile and each helper as a thief. The drawers are all of the pile's, and the workers are all
+-- callers of the register
+pub record IsTeam (s : Search) (register : RegisterState) (lead : WorkerState) (helpers : List WorkerState) : Type 0 where
+  pub lead_is : IsWorker s register lead.drawer.pile lead
+  pub lead_has : HasOutcomes s lead
+  pub helpers_are : All (IsWorker s register lead.drawer.pile) helpers
+  pub helpers_have : All (λ helper. helper.refused ≡ false → HasOutcomes s helper) helpers
+  pub parts : lead.drawer.parts + length helpers ≡ MAX_DRAWERS
   pub callers : length helpers + 1 ≡ register.callers
 
--- the lead has taken all helpers in
-pub record IsWhole (s : Search) (register : RegisterState) (lead : LeadState) : Type 0 where
-  pub lead_is : IsLead s lead
-  pub parts : lead.owner.parts ≡ MAX_DRAWERS
-  pub of_register : lead.worker.board.register ≡ register
-  pub taken_in : All (IsCallerOf register) lead.taken_in
-  pub callers : length lead.taken_in + 1 ≡ register.callers
+-- each cost that a caller offered is no less than this plan's
+abbrev pub CostsNoLess : ℕ → CallerState → Type 0
+CostsNoLess cost caller = All (λ offer. cost ≤ offer.cost) caller.known.mine
+
+-- The lead took in a helper, to whom memory was not refused, and this is the helper's caller: what the helper drew counts as drawn
+-- by the lead, its outcomes are the lead's, and its plan is not before the lead's
+pub record IsTakenOver (s : Search) (old helper : WorkerState) (caller : CallerState) (new : WorkerState) : Type 0 where
+  pub fine : helper.refused ≡ false
+  pub drawer : IsTakenIn old.drawer helper.drawer new.drawer
+  pub outcomes : new.outcomes ≡ old.outcomes ++ helper.outcomes
+  pub serves : ForSome new.board.best (IsPlanOf s.problem)
+  pub later : IsLater old.board new.board
+  pub same : new.board.caller ≡ old.board.caller
+  pub caller_is : caller ≡ helper.board.caller
+  pub one_of : IsCallerOf helper.board.register caller
+  pub no_less : CostsNoLess (cost_of new.board.best) caller
 
 -- All pieces are drawn, and each has its outcome. The callers are all of the register's, and none has offered a cost below that of
 -- the best plan
-pub record IsFound (s : Search) (register : RegisterState) (callers : List CallerState) (pile : DrawerState) (outcomes : List Outcome) (best : Option PricedPlan) : Type 0 where
+pub record AreBack (s : Search) (register : RegisterState) (callers : List CallerState) (searched : Searched) : Type 0 where
   pub all_callers : AreCallersOf register callers
-  pub best_of : ForSome best (IsPlanOf s.problem)
-  pub offered : All (CostsNoLess (cost_of best)) callers
-  pub all : AreShared pile.drawn [] pile.put
-  pub kept : (least : ℕ) → All (λ caller. least ≤ least_seen caller) callers → AreKept s least pile.drawn outcomes
+  pub best_of : ForSome searched.best (IsPlanOf s.problem)
+  pub offered : All (CostsNoLess (cost_of searched.best)) callers
+  pub all : AreShared searched.pile.drawn [] searched.pile.put
+  pub kept : (least : ℕ) → All (λ caller. least ≤ least_seen caller) callers → AreOutcomes s least searched.pile.drawn searched.outcomes.items
 
 -- All pieces are drawn, and each has its outcome, with a floor that is no less than `least`: the least of the opening cost and all
 -- that was offered. So what costs no more than the opening plan and the best one costs no more than `least`
-pub record IsSearched (s : Search) (opening : ℕ) (pile : DrawerState) (outcomes : List Outcome) (best : Option PricedPlan) (least : ℕ) : Type 0 where
-  pub best_of : ForSome best (IsPlanOf s.problem)
-  pub all : AreShared pile.drawn [] pile.put
-  pub kept : AreKept s least pile.drawn outcomes
-  pub reached : (cost : ℕ) → cost ≤ opening → cost ≤ cost_of best → cost ≤ least
+pub record IsSearched (s : Search) (opening : ℕ) (searched : Searched) : Type 0 where
+  pub least : ℕ
+  pub best_of : ForSome searched.best (IsPlanOf s.problem)
+  pub all : AreShared searched.pile.drawn [] searched.pile.put
+  pub kept : AreOutcomes s least searched.pile.drawn searched.outcomes.items
+  pub reached : (cost : ℕ) → cost ≤ opening → cost ≤ cost_of searched.best → cost ≤ least

@@ -19,7 +19,7 @@ settled-requires g c =
     let put = c.args.searched.pile.put in
     let drawn = c.args.searched.pile.drawn in
     let apart = are_apart s drawn put c.requires.numbers c.requires.searched.all c.requires.pieces in
-    let gathered = c.in_ok-gathering.ensures.all c.args.searched.least drawn c.in_ok-last.ensures.lawful c.requires.searched.kept apart in
+    let gathered = c.in_ok-gathering.ensures.all c.requires.searched.least drawn c.in_ok-last.ensures.lawful c.requires.searched.kept apart in
     λ k d lt. (gathered.are_left k d lt).1
 
 pub returns : goal.returns
@@ -30,7 +30,7 @@ returns g c =
     let best = c.args.searched.best in
     let put = c.args.searched.pile.put in
     let drawn = c.args.searched.pile.drawn in
-    let least = c.args.searched.least in
+    let least = c.requires.searched.least in
     let less = c.plans_cost_less.ensures in
     let problem = subst (λ (t : Search). IsProblem t.problem) c.shared.view_is c.customers-customers.ensures.problem in
     let opened = c.in_ok-last.last.plan in

@@ -18,11 +18,6 @@ loop-thief-preserved g c =
       thieves = All-left (IsNewThief owner) c.pop.new.self.items (c.in-Some.thief ∷ []) thieves;
       callers = All-left (IsNewCaller register) c.pop-in-Some.new.self.items (c.in-Some-pop.caller ∷ []) callers;
       as_many = search rules;
-      helpers = one_more_helper s register owner c.in-Some.thief c.in-Some-pop.caller c.loop-thief.helpers.items c.push.new.self.items c.worker-worker.result c.requires.fronts new c.worker-worker.ensures c.loop-thief.invariant.helpers (search rules);
+      helpers = one_more_helper s register owner c.in-Some.thief c.in-Some-pop.caller c.new.result c.loop-thief.helpers.items c.push.new.self.items c.requires.fronts new c.new.ensures c.loop-thief.invariant.helpers (search rules);
       many = search rules;
     }
-
-pub worker-requires : goal.worker-requires
-worker-requires g c =
-    let register = c.args.register.now in
-    All-last (IsNewCaller register) c.pop-2.new.self.items c.in-Some-pop-2.caller (subst (All (IsNewCaller register)) c.in-Some-pop-2.ensures.items c.loop-thief.invariant.callers)

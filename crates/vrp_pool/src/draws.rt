@@ -1,0 +1,41 @@
+//! How a worker draws from the pile: as its owner, or as a thief.
+ghost use Rattle.std.specs.Prelude.{◌≡◌, []};
+ghost use Rattle.vrp_pile.specs.Drawn.{MatchDrawn};
+ghost use Rattle.vrp_pile.specs.Pile.{AreShared, DrawerState, IsDrawn};
+ghost use Rattle.vrp_pile.specs.declared.limits.TheConstants.{MAX_DRAWERS};
+
+use vrp_pile::{Drawn, Owner, Thief};
+
+/// Draws from a pile.
+pub(crate) trait Draws: Drop {
+    ghost drawer: { Self → DrawerState };
+
+    // What is known where a draw answers no piece.
+    ghost at_end: { DrawerState → Type 0 } = { λ _. Unit {0} };
+
+    /// The oldest piece that is left, if any.
+    fn draw(&mut self) -> Drawn
+        ensures drawn { MatchDrawn result (drawer self.new ≡ drawer self.old) (λ piece. IsDrawn (drawer self.old) piece (drawer self.new)) }
+        ensures at_end { MatchDrawn result (at_end (drawer self.new)) (λ _. Unit {0}) };
+}
+
+impl Draws for Owner {
+    ghost drawer = { λ owner. owner };
+
+    ghost at_end = { λ owner. owner.parts ≡ MAX_DRAWERS → AreShared owner.drawn [] owner.put };
+
+    fn draw(&mut self) -> Drawn {
+        match self.take() {
+            Some(piece) => Drawn::Piece(piece),
+            None => Drawn::Empty,
+        }
+    }
+}
+
+impl Draws for Thief {
+    ghost drawer = { λ thief. thief };
+
+    fn draw(&mut self) -> Drawn {
+        self.take()
+    }
+}
