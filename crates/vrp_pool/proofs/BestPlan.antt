@@ -11,7 +11,7 @@ use Rattle.vrp_model.specs.Word.{word_cost, word_of}
 use Rattle.vrp_model.specs.declared.limits.TheConstants.{NO_COST}
 use Rattle.vrp_model.proofs.Ordered.{before_irreflexive, before_total, before_transitive, earlier_total, earlier_transitive}
 use Rattle.vrp_search.specs.Search.{IsNotBefore, NoneBeforeUnder}
-use Rattle.vrp_pool.specs.Inner.Gathering.{IsNoLater, IsOfferedTo}
+use Rattle.vrp_pool.specs.Inner.Conclusion.{IsNoLater, IsOfferedTo}
 
 -- the plan, if there is one
 abbrev pub some_of : PricedPlan → Option PricedPlan → PricedPlan

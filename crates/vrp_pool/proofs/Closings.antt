@@ -13,6 +13,7 @@ use Rattle.vrp_register.specs.declared.view.Offer.{Offer}
 use Rattle.vrp_register.proofs.LeastCosts.{falls}
 use Rattle.vrp_pool.specs.SeatBoard.{least_seen}
 use Rattle.vrp_pool.specs.Inner.Workers.{AreBack, CostsNoLess, IsSearched, Search}
+use Rattle.vrp_pool.proofs.Teams.{offered_lower}
 use Rattle.vrp_pool.specs.declared.outcome.Searched.{Searched}
 
 -- no caller has seen less than the least of all costs
@@ -63,9 +64,6 @@ reached opening cost (offer ∷ history) opens all =
     let here : cost ≤ offer.cost = All-head (λ (o : Offer). cost ≤ o.cost) offer history all in
     reached (min opening offer.cost) cost history (omega (arith, opens, here)) (All-tail (λ (o : Offer). cost ≤ o.cost) offer history all)
 
-no_less_lower : (old new : ℕ) (callers : List CallerState) → new ≤ old → All (CostsNoLess old) callers → All (CostsNoLess new) callers
-no_less_lower old new callers falls all = λ k d lt j o within. omega (arith, falls, all k d lt j o within)
-
 pub all_searched : (s : Search) (register : RegisterState) (callers : List CallerState) (searched : Searched) (history : List Offer) → AreBack s register callers searched → IsHistoryOf register.opening (map (λ c. c.known) callers) history
     → IsSearched s register.opening searched
 all_searched s register callers searched history back is = record {
@@ -74,5 +72,5 @@ all_searched s register callers searched history back is = record {
   all = back.all;
   kept = back.kept (least_of register.opening history) (none_saw_less register.opening callers history is);
   reached = λ cost opens below.
-      reached register.opening cost history opens (none_offered_less register.opening cost callers history is (no_less_lower (cost_of searched.best) cost callers below back.offered));
+      reached register.opening cost history opens (none_offered_less register.opening cost callers history is (offered_lower (cost_of searched.best) cost callers below back.offered));
 }

@@ -1,6 +1,5 @@
 -- The pieces that were drawn, where all were: by their numbers.
 use Rattle.std.proofs.Common.{◌≡◌, ◌∙◌, ℕ, ◌<◌, List, [], length, get_or, sym, subst, ap, arith}
-use Rattle.std.specs.Prelude.{map}
 use Rattle.std.specs.List.{Contains}
 use Rattle.std.specs.List.Sorted.{IsPermutation}
 use Rattle.std.proofs.lemmas.List.{append-nil, get_or-map}
@@ -10,11 +9,8 @@ use Rattle.vrp_pile.specs.Pile.{AreShared}
 use Rattle.vrp_pile.proofs.SharedPieces.{all_drawn, drawn_once}
 use Rattle.vrp_search.specs.Cutting.{AreNumbered, NumberedWord}
 use Rattle.vrp_pool.specs.Answer.{piece_of}
-use Rattle.vrp_pool.specs.Inner.Gathering.{AreApart}
-use Rattle.vrp_pool.specs.Inner.Workers.{Search}
-
-abbrev pub words_of : List NumberedWord → List (List ℕ)
-words_of put = map (λ piece. piece.word) put
+use Rattle.vrp_pool.specs.Inner.Conclusion.{AreApart}
+use Rattle.vrp_pool.specs.Inner.Workers.{Search, words_of}
 
 pub none : NumberedWord
 none = record { number = 0; word = [] }

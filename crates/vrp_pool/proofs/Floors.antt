@@ -1,8 +1,7 @@
 -- The least cost that a caller has seen falls as it sees more.
-use Rattle.std.proofs.Common.{◌≡◌, ◌∙◌, ℕ, ◌≤◌, min, List, [], ◌∷◌, ◌++◌, refl, sym, subst, arith}
+use Rattle.std.proofs.Common.{◌∙◌, ℕ, ◌≤◌, min, List, [], ◌∷◌, ◌++◌, refl, arith}
 use Rattle.std.specs.List.{All}
 use Rattle.std.proofs.lemmas.List.{append_assoc}
-use Rattle.std.proofs.lemmas.List.Elements.{All-append, All-cons, All-nil}
 use Rattle.vrp_register.specs.Costs.{IsOffered, IsSeen, StartsWith, least_of}
 use Rattle.vrp_register.specs.declared.view.Known.{Known}
 use Rattle.vrp_register.specs.declared.view.Offer.{Offer}
@@ -11,9 +10,6 @@ use Rattle.vrp_pool.specs.SeatBoard.{IsLater, SeatBoardState}
 
 pub seen_falls : (known after : Known) (answer : ℕ) → IsSeen known answer after → least_of after.opening after.seen ≤ least_of known.opening known.seen
 seen_falls known after answer is = rw is.opening (falls known.opening after.seen known.seen is.seen)
-
-pub seen_answer : (known after : Known) (answer : ℕ) → IsSeen known answer after → answer ≡ least_of after.opening after.seen
-seen_answer known after answer is = rw is.opening is.least
 
 pub offered_falls : (known after : Known) (cost answer : ℕ) → IsOffered known cost answer after → least_of after.opening after.seen ≤ least_of known.opening known.seen
 offered_falls known after cost answer is =
@@ -27,13 +23,6 @@ least_last opening (other ∷ seen) offer = least_last (min opening other.cost) 
 
 pub offered_taken : (known after : Known) (cost answer : ℕ) → IsOffered known cost answer after → least_of after.opening after.seen ≤ cost
 offered_taken known after cost answer is = rw (is.opening, is.seen) (least_last known.opening (known.seen ++ is.between) record { caller = known.number; cost = cost })
-
--- one more offer of a caller, and a plan that costs no more than it and than the old one
-pub offered_no_less : (known after : Known) (cost answer old new : ℕ) → IsOffered known cost answer after → new ≤ old → new ≤ cost → All (λ (o : Offer). old ≤ o.cost) known.mine → All (λ (o : Offer). new ≤ o.cost) after.mine
-offered_no_less known after cost answer old new is falls taken all =
-    let offer : Offer = record { caller = known.number; cost = cost } in
-    subst (All (λ (o : Offer). new ≤ o.cost)) (sym is.mine)
-    (All-append (λ (o : Offer). new ≤ o.cost) known.mine (offer ∷ []) (λ k d lt. omega (arith, falls, all k d lt)) (All-cons (λ (o : Offer). new ≤ o.cost) offer [] taken (All-nil (λ (o : Offer). new ≤ o.cost))))
 
 pub still_no_less : (old new : ℕ) (offers : List Offer) → new ≤ old → All (λ (o : Offer). old ≤ o.cost) offers → All (λ (o : Offer). new ≤ o.cost) offers
 still_no_less old new offers falls all = λ k d lt. omega (arith, falls, all k d lt)

@@ -2,9 +2,9 @@ mod BestPlan
 mod Closings
 mod DrawnPieces
 mod Floors
-mod Gatherings
 mod KeptOutcomes
 mod NewCallers
+mod NotedOutcomes
 mod Outcomes
 mod Settlings
 mod Teams

@@ -14,11 +14,11 @@ use Rattle.vrp_model.proofs.DistinctLists.{AreDistinct-permutation, head_differs
 use Rattle.vrp_search.specs.Search.{IsLow, NoneBeforeUnder}
 use Rattle.vrp_pool.specs.Answer.{IsOwnLow, piece_of}
 use Rattle.vrp_pool.specs.Gathered.{IsAdded, IsGathered, IsMissing}
-use Rattle.vrp_pool.specs.Inner.Gathering.{AreSettling, IsLeftAt, IsLeftWith, IsLowFor, IsSettled, numbers_of}
+use Rattle.vrp_pool.specs.Inner.Conclusion.{AreSettling, IsLeftAt, IsLeftWith, IsLowFor, IsSettled, numbers_of}
 use Rattle.vrp_pool.specs.Inner.Workers.{IsLeftPiece, Search}
 use Rattle.vrp_pool.specs.declared.left_pieces.Settling.{Settling}
 use Rattle.vrp_pool.specs.declared.outcome.Left.{Left}
-use Rattle.vrp_pool.proofs.Gatherings.{added_now}
+use Rattle.vrp_pool.proofs.NotedOutcomes.{added_now}
 
 -- what a front's own tables answer is one number
 abbrev pub OneLow : Type 0

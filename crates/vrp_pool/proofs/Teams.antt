@@ -32,13 +32,6 @@ pub record AreNewHelpers (s : Search) (register : RegisterState) (owner : Drawer
   pub have : All (λ helper. helper.refused ≡ false → HasOutcomes s helper) helpers
   pub fine : All (λ helper. helper.refused ≡ false) helpers
 
-pub no_helpers : (s : Search) (register : RegisterState) (owner : DrawerState) → AreNewHelpers s register owner []
-no_helpers s register owner = record {
-  are = All-nil (IsWorker s register owner.pile);
-  have = All-nil (λ helper. helper.refused ≡ false → HasOutcomes s helper);
-  fine = All-nil (λ helper. helper.refused ≡ false);
-}
-
 -- one more helper
 pub one_more_helper : (s : Search) (register : RegisterState) (owner thief : DrawerState) (caller : CallerState) (helper : WorkerState) (helpers more : List WorkerState) → AreFronts s owner.put → IsNewThief owner thief
     → helper ≡ new_worker register caller thief → AreNewHelpers s register owner helpers → more ≡ helpers ++ helper ∷ [] → AreNewHelpers s register owner more
@@ -131,7 +124,7 @@ none_taken_over s register put lead helpers team same = record {
 }
 
 -- the callers have offered nothing that costs less, also where the plan costs less than it did
-offered_lower : (old new : ℕ) (callers : List CallerState) → new ≤ old → All (CostsNoLess old) callers → All (CostsNoLess new) callers
+pub offered_lower : (old new : ℕ) (callers : List CallerState) → new ≤ old → All (CostsNoLess old) callers → All (CostsNoLess new) callers
 offered_lower old new callers falls all = λ k d lt j o within. omega (arith, falls, all k d lt j o within)
 
 pub one_taken_over : (s : Search) (register : RegisterState) (put : List NumberedWord) (callers : List CallerState) (caller : CallerState) (helper : WorkerState) (rest : List WorkerState) (lead later : WorkerState)

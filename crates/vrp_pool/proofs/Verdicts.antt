@@ -18,14 +18,14 @@ use Rattle.vrp_search.specs.Cutting.{AreNumbered, IsCutting, NumberedWord}
 use Rattle.vrp_search.specs.Search.{IsNotBefore, NoneBeforeUnder}
 use Rattle.vrp_pool.specs.Answer.{IsAnswer, IsLeastLow, IsLeftOpen, piece_of}
 use Rattle.vrp_pool.specs.Gathered.{IsAdded, IsFirstMissing, IsMissing}
-use Rattle.vrp_pool.specs.Inner.Gathering.{AreGathered, AreSettling, IsLeftWith, IsNoLater, IsVerdict, numbers_of}
-use Rattle.vrp_pool.specs.Inner.Workers.{Search}
+use Rattle.vrp_pool.specs.Inner.Conclusion.{AreNoted, AreSettling, IsLeftWith, IsNoLater, IsVerdict, numbers_of}
+use Rattle.vrp_pool.specs.Inner.Workers.{Search, words_of}
 use Rattle.vrp_pool.specs.declared.answers.Answer.{Answer}
 use Rattle.vrp_pool.specs.declared.answers.Answer.TheVariants.{Proven, Open, NoPlan}
 use Rattle.vrp_pool.specs.declared.left_pieces.Settling.{Settling}
 use Rattle.vrp_pool.specs.declared.outcome.Left.{Left}
 use Rattle.vrp_pool.proofs.BestPlan.{PlansCostLess, costs_no_less, not_before_plan, word_before}
-use Rattle.vrp_pool.proofs.DrawnPieces.{drawn_at, front_at, is_numbered, none, number_at, words_of}
+use Rattle.vrp_pool.proofs.DrawnPieces.{drawn_at, front_at, is_numbered, none, number_at}
 use Rattle.vrp_pool.proofs.Outcomes.{none_before_lower}
 use Rattle.vrp_pool.proofs.Settlings.{added_or_missing, missing_within, not_both}
 
@@ -40,7 +40,7 @@ PlansHaveWords = (p : Problem) (routes : List (List ℕ)) → IsLawful p routes 
 
 -- ---- what is known, by the numbers of the cutting's pieces
 
-by_number : (s : Search) (drawn put : List NumberedWord) (floor : ℕ) (best : Option PricedPlan) (added : List Bool) (left : List Left) (number : ℕ) → AreNumbered put → AreShared drawn [] put → AreGathered s floor best drawn added left → number < length put
+by_number : (s : Search) (drawn put : List NumberedWord) (floor : ℕ) (best : Option PricedPlan) (added : List Bool) (left : List Left) (number : ℕ) → AreNumbered put → AreShared drawn [] put → AreNoted s floor best drawn added left → number < length put
     → Contains (numbers_of left) number ⊎ (IsAdded added number × NoneBeforeUnder s.problem (piece_of (words_of put) number) floor best)
 by_number s drawn put floor best added left number numbers shared gathered within =
     let piece = get_or put number none in
@@ -53,7 +53,7 @@ by_number s drawn put floor best added left number numbers shared gathered withi
 
 -- before any piece is settled
 pub none_settled : (s : Search) (drawn put : List NumberedWord) (floor : ℕ) (best : Option PricedPlan) (added : List Bool) (left : List Left) → AreNumbered put → AreShared drawn [] put → s.pieces ≡ length put → cost_of best ≤ floor
-    → AreGathered s floor best drawn added left → AreSettling s (words_of put) best (record { gatherer = added; cost = cost_of best; low = cost_of best }) left
+    → AreNoted s floor best drawn added left → AreSettling s (words_of put) best (record { gatherer = added; cost = cost_of best; low = cost_of best }) left
 none_settled s drawn put floor best added left numbers shared pieces falls gathered = record {
   priced = refl;
   count = count;

@@ -1,11 +1,8 @@
 -- What a worker knows after it drew, and after it took a helper over.
-use Rattle.std.proofs.Common.{◌≡◌, ◌∙◌, ◌≤◌, Bool, List, [], ◌∷◌, ◌++◌, refl, sym, subst, arith}
-use Rattle.std.specs.List.{Contains}
+use Rattle.std.proofs.Common.{◌≡◌, ◌∙◌, ◌≤◌, Bool, [], ◌∷◌, ◌++◌, refl, sym, subst, arith}
 use Rattle.std.specs.Option.{ForSome}
 use Rattle.std.proofs.lemmas.List.{append-nil, append_assoc}
-use Rattle.std.proofs.lemmas.List.Elements.{All-contains}
 use Rattle.vrp_model.specs.Route.{IsPlanOf}
-use Rattle.vrp_model.specs.Word.{IsFront}
 use Rattle.vrp_pile.specs.Pile.{IsDrawn}
 use Rattle.vrp_search.specs.Cutting.{NumberedWord}
 use Rattle.vrp_pool.specs.SeatBoard.{IsLater, floor_of}
@@ -13,9 +10,6 @@ use Rattle.vrp_pool.specs.Inner.Workers.{AreFronts, CanWork, HasOutcomes, HasSea
 use Rattle.vrp_pool.specs.declared.outcome.Outcome.{Outcome}
 use Rattle.vrp_pool.proofs.Floors.{later_itself, later_still}
 use Rattle.vrp_pool.proofs.KeptOutcomes.{kept_lower, kept_together, none_kept, one_kept}
-
-pub front_of : (s : Search) (put : List NumberedWord) (piece : NumberedWord) → AreFronts s put → Contains put piece → IsFront s.problem piece.word
-front_of s put piece fronts among = All-contains (λ (p : NumberedWord). IsFront s.problem p.word) put piece fronts among
 
 -- ---- a worker that does nothing
 

@@ -1,3 +1,3 @@
 -- What inner contracts alone cite: nobody has to believe it.
-pub mod Gathering
+pub mod Conclusion
 pub mod Workers

@@ -6,29 +6,21 @@ ghost use Rattle.vrp_model.specs.Problem.{HasTrucks, customers};
 ghost use Rattle.vrp_model.specs.Route.{IsPlanOf};
 ghost use Rattle.vrp_search.specs.Cutting.{AreNumbered, IsCutting};
 ghost use Rattle.vrp_pool.specs.Answer.{IsAnswer};
-ghost use Rattle.vrp_pool.specs.Inner.Gathering.{GathersAll, IsNoLater, IsNoted, IsOfferedTo, IsVerdict};
-ghost use Rattle.vrp_pool.specs.Inner.Workers.{IsSearched};
+ghost use Rattle.vrp_pool.specs.Inner.Conclusion.{IsOfferedTo, IsVerdict};
+ghost use Rattle.vrp_pool.specs.Inner.Workers.{IsSearched, words_of};
 
 use crate::answers::Answer;
 use crate::gathering::Gatherer;
 use crate::left_pieces::{Settling, settled};
-use crate::outcome::{Left, Outcome, Searched};
+use crate::outcome::{Outcome, Searched};
 use crate::shared::Shared;
 use std::alloc::Global;
 use vrp_model::{NO_COST, NoMemory, Plan, plans_cost_less, plans_have_words};
 use vrp_register::Book;
 use vrp_search::one_piece;
 
-// The last book, which is offered each plan that is known, the pieces that are finished, and those that are not.
-#[derive(Drop)]
-struct Gathering {
-    book: Book,
-    gatherer: Gatherer,
-    left: Vec<Left>,
-}
-
-/// The plan and the verdict. The last book opens with the plan of one truck for each customer, if there is one, and is offered the
-/// plan that the register kept.
+/// The plan and the verdict. The last book opens with the plan of one truck for each customer, if there is one. It is offered the
+/// plan that the register kept, the best of the workers' own, and the first plan of each finished piece.
 pub(crate) fn conclude<R, G>(
     shared: &Shared<'_, R, G>,
     singles: Option<Plan>,
@@ -38,48 +30,36 @@ pub(crate) fn conclude<R, G>(
     requires singles { ForSome singles (IsPlanOf shared.now.problem) }
     requires some { IsTrue (is_some singles) ↔ HasTrucks shared.now.problem (length (customers shared.now.problem)) }
     requires searched { IsSearched shared.now (cost_of singles) searched }
-    requires cutting { IsCutting shared.now.problem (map (λ piece. piece.word) searched.pile.put) }
+    requires cutting { IsCutting shared.now.problem (words_of searched.pile.put) }
     requires numbers { AreNumbered searched.pile.put }
     requires pieces { shared.now.pieces ≡ length searched.pile.put }
-    ensures { IfOk result (IsAnswer shared.now.problem (map (λ piece. piece.word) searched.pile.put) shared.now.budget) }
+    ensures { IfOk result (IsAnswer shared.now.problem (words_of searched.pile.put) shared.now.budget) }
 {
     let Searched { outcomes, best, .. } = searched;
-    let last = last_book(shared, singles, kept, best.as_ref())?;
-    let gathering = gather(shared, last, outcomes)?;
+    let mut book = Book::open(shared.alloc, singles)?;
+    offer_some(shared.alloc, &mut book, fitting(shared, kept))?;
+    offer_some(shared.alloc, &mut book, best.as_ref())?;
+    let mut gatherer = Gatherer::new(shared.alloc, shared.pieces)?;
+    let mut left = Vec::new(shared.alloc);
+    for outcome in outcomes {
+        match outcome {
+            Outcome::Finished(finished) => {
+                offer_some(shared.alloc, &mut book, finished.first.as_ref())?;
+                // Each number comes once, so none is refused.
+                let _ = gatherer.add(finished);
+            }
+            Outcome::Unfinished(unfinished) => left.push(unfinished)?,
+        }
+    }
     // What is known of words holds of plans, and all plans cost less than `NO_COST`.
     let _customers = shared.instance.customers();
     one_piece();
     plans_have_words();
     plans_cost_less();
-    let Gathering {
-        book,
-        gatherer,
-        left,
-    } = gathering;
     let plan = book.into_plan();
     let cost = cost(plan.as_ref());
     let settling = settled(shared, gatherer, left, cost)?;
     Ok(verdict(plan, settling))
-}
-
-// The last book: it opens with the plan of one truck for each customer, if there is one, and is offered the plan that the register
-// kept, and the best of the workers' own.
-fn last_book<R, G>(
-    shared: &Shared<'_, R, G>,
-    singles: Option<Plan>,
-    kept: Option<&Plan>,
-    best: Option<&Plan>,
-) -> Result<Book, NoMemory>
-    requires singles { ForSome singles (IsPlanOf shared.now.problem) }
-    requires best { ForSome (option_map (λ plan. plan.now) best) (IsPlanOf shared.now.problem) }
-    ensures lawful { IfOk result (λ book. ForSome book.plan (IsPlanOf shared.now.problem)) }
-    ensures than_singles { IfOk result (λ book. IsNoLater book.plan singles) }
-    ensures than_best { IfOk result (λ book. IsNoLater book.plan (option_map (λ plan. plan.now) best.entry)) }
-{
-    let mut last = Book::open(shared.alloc, singles)?;
-    offer_some(shared.alloc, &mut last, fitting(shared, kept))?;
-    offer_some(shared.alloc, &mut last, best)?;
-    Ok(last)
 }
 
 // A plan of which nothing is known, where it is a lawful plan of the instance and of its cost there.
@@ -100,43 +80,6 @@ fn offer_some(alloc: Global, book: &mut Book, plan: Option<&Plan>) -> Result<(),
         book.offer(alloc, 0, plan)?;
     }
     Ok(())
-}
-
-// All outcomes, brought together: the book is offered the first plan of each finished piece.
-fn gather<R, G>(
-    shared: &Shared<'_, R, G>,
-    book: Book,
-    outcomes: Vec<Outcome>,
-) -> Result<Gathering, NoMemory>
-    ensures later { IfOk result (λ gathering. IsNoLater gathering.book.plan book.plan) }
-    ensures all { IfOk result (GathersAll shared.now book.plan outcomes.items) }
-{
-    let mut gathering = Gathering {
-        book,
-        gatherer: Gatherer::new(shared.alloc, shared.pieces)?,
-        left: Vec::new(shared.alloc),
-    };
-    for outcome in outcomes {
-        gathering.note(shared.alloc, outcome)?;
-    }
-    Ok(gathering)
-}
-
-impl Gathering {
-    // Takes note of an outcome.
-    fn note(&mut self, alloc: Global, outcome: Outcome) -> Result<(), NoMemory>
-        ensures { OnOk result (IsNoted self.old outcome self.new) }
-    {
-        match outcome {
-            Outcome::Finished(finished) => {
-                offer_some(alloc, &mut self.book, finished.first.as_ref())?;
-                // Each number comes once, so none is refused.
-                let _ = self.gatherer.add(finished);
-            }
-            Outcome::Unfinished(left) => self.left.push(left)?,
-        }
-        Ok(())
-    }
 }
 
 // What a plan costs, `NO_COST` where there is none.

@@ -4,7 +4,7 @@ ghost use Rattle.std.specs.List.{All};
 ghost use Rattle.vrp_model.specs.Cheapest.{cost_of};
 ghost use Rattle.vrp_model.specs.Word.{NoneCheaperUnder};
 ghost use Rattle.vrp_pool.specs.Answer.{IsOwnLow};
-ghost use Rattle.vrp_pool.specs.Inner.Gathering.{IsSettled, SettlesAll};
+ghost use Rattle.vrp_pool.specs.Inner.Conclusion.{IsSettled, SettlesAll};
 ghost use Rattle.vrp_pool.specs.Inner.Workers.{IsLeftPiece};
 
 use crate::gathering::Gatherer;

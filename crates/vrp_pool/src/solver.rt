@@ -1,11 +1,12 @@
 //! The search of an instance by several workers.
-ghost use Rattle.std.specs.Prelude.{◌≡◌, ◌+◌, ◌*◌, ◌≤◌, IfOk, length, map, vec_len};
+ghost use Rattle.std.specs.Prelude.{◌≡◌, ◌+◌, ◌*◌, ◌≤◌, IfOk, length, vec_len};
 ghost use Rattle.std.specs.Option.{option_map};
 ghost use Rattle.vrp_pile.specs.Pile.{IsNewPile};
 ghost use Rattle.vrp_search.specs.Cutting.{IsCutting};
 ghost use Rattle.vrp_search.specs.declared.cutting.TheConstants.{MAX_REFINED};
 ghost use Rattle.vrp_pool.specs.declared.solver.TheConstants.{MAX_WORKERS};
 ghost use Rattle.vrp_pool.specs.Answer.{IsAnswer};
+ghost use Rattle.vrp_pool.specs.Inner.Workers.{words_of};
 
 use crate::answers::{Answer, SolveError};
 use crate::conclusion::conclude;
@@ -74,13 +75,13 @@ fn solve_pile<L: Ledger + Send + Sync, R: Threads + Wait + Sync, G: Gate + Sync>
     thieves: Vec<Thief>,
     blank: Blank,
 ) -> Result<Answer, NoMemory>
-    requires pile { IsNewPile (map (λ piece. piece.word) owner.put) (vec_len thieves) owner thieves.items }
-    requires cutting { IsCutting shared.now.problem (map (λ piece. piece.word) owner.put) }
+    requires pile { IsNewPile (words_of owner.put) (vec_len thieves) owner thieves.items }
+    requires cutting { IsCutting shared.now.problem (words_of owner.put) }
     requires pieces { shared.now.pieces ≡ length owner.put }
     requires name { blank.name ≡ L.name }
     requires parts { blank.parts ≡ L.parts }
     requires as_many { blank.parts ≡ vec_len thieves + 1 }
-    ensures { IfOk result (IsAnswer shared.now.problem (map (λ piece. piece.word) owner.put) shared.now.budget) }
+    ensures { IfOk result (IsAnswer shared.now.problem (words_of owner.put) shared.now.budget) }
 {
     let singles = Plan::singles(shared.alloc, shared.instance)?;
     let opening = copied(shared.alloc, singles.as_ref())?;

@@ -1,10 +1,10 @@
 //! All workers: how they are made, work in threads of their own, and are brought together.
-ghost use Rattle.std.specs.Prelude.{◌≡◌, ◌+◌, IfOk, OnOk, false, map, vec_len};
+ghost use Rattle.std.specs.Prelude.{◌≡◌, ◌+◌, IfOk, OnOk, false, vec_len};
 ghost use Rattle.std.specs.List.{All};
 ghost use Rattle.std.specs.Option.{ForSome, option_map};
 ghost use Rattle.vrp_model.specs.Route.{IsPlanOf};
 ghost use Rattle.vrp_pile.specs.Pile.{IsNewPile};
-ghost use Rattle.vrp_pool.specs.Inner.Workers.{AreBack, AreFronts, AreNewCallers, CanWork, HasHelped, HasSearched, HaveHelped, IsTeam, IsWorked};
+ghost use Rattle.vrp_pool.specs.Inner.Workers.{AreBack, AreFronts, AreNewCallers, CanWork, HasHelped, HasWorked, HaveHelped, IsTeam, words_of};
 
 use crate::first_plan::first_plan;
 use crate::gates::Gate;
@@ -32,7 +32,7 @@ pub(crate) fn searched_by_all<
     thieves: Vec<Thief>,
     callers: Vec<Caller<L>>,
 ) -> Result<(Vec<Caller<L>>, Searched), NoMemory>
-    requires pile { IsNewPile (map (λ piece. piece.word) owner.put) (vec_len thieves) owner thieves.items }
+    requires pile { IsNewPile (words_of owner.put) (vec_len thieves) owner thieves.items }
     requires fronts { AreFronts shared.now owner.put }
     requires callers { AreNewCallers register.now callers.items }
     requires as_many { vec_len callers ≡ vec_len thieves + 1 }
@@ -53,7 +53,7 @@ fn new_team<'a, R: Wait, L: Ledger, G>(
     mut thieves: Vec<Thief>,
     mut callers: Vec<Caller<L>>,
 ) -> Result<(Worker<'a, Owner, R, L>, Vec<Worker<'a, Thief, R, L>>), NoMemory>
-    requires pile { IsNewPile (map (λ piece. piece.word) owner.put) (vec_len thieves) owner thieves.items }
+    requires pile { IsNewPile (words_of owner.put) (vec_len thieves) owner thieves.items }
     requires fronts { AreFronts shared.now owner.put }
     requires callers { AreNewCallers register.now callers.items }
     requires as_many { vec_len callers ≡ vec_len thieves + 1 }
@@ -93,7 +93,7 @@ fn worked<'a, 'b, R: Threads + Wait + Sync, L: Ledger + Send + Sync, G: Gate + S
         shared.rt,
         || -> Result<Worker<'_, Owner, R, L>, NoMemory>
             requires { CanWork shared.now lead }
-            ensures { IfOk result (λ led. IsWorked shared.entry.now lead.entry led × HasSearched shared.entry.now lead.entry led) }
+            ensures { IfOk result (HasWorked shared.entry.now lead.entry) }
         { lead.led(shared) },
         || -> Vec<Worker<'_, Thief, R, L>>
             requires { All (CanWork shared.now) helpers.items }

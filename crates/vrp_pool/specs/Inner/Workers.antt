@@ -1,5 +1,5 @@
 -- What workers leave of the pieces that they draw.
-use Rattle.std.specs.Prelude.{◌≡◌, ℕ, ◌+◌, ◌≤◌, ◌<◌, Bool, false, None, Some, List, [], ◌++◌, length, slice_index_or}
+use Rattle.std.specs.Prelude.{◌≡◌, ℕ, ◌+◌, ◌≤◌, ◌<◌, Bool, false, None, Some, List, [], ◌++◌, length, map, slice_index_or}
 use Rattle.std.specs.List.{All}
 use Rattle.std.specs.Option.{ForSome}
 use Rattle.vrp_model.specs.Cheapest.{cost_of}
@@ -56,6 +56,9 @@ pub record AreOutcomes (s : Search) (least : ℕ) (pieces : List NumberedWord) (
   pub many : length outcomes ≡ length pieces
   pub each : (place : ℕ) (piece : NumberedWord) (one : Outcome) → place < length pieces → IsOutcome s least (slice_index_or pieces place piece) (slice_index_or outcomes place one)
 
+abbrev pub words_of : List NumberedWord → List (List ℕ)
+words_of pieces = map (λ piece. piece.word) pieces
+
 -- every piece on the pile is a front of the problem
 abbrev pub AreFronts : Search → List NumberedWord → Type 0
 AreFronts s pieces = All (λ piece. IsFront s.problem piece.word) pieces
@@ -83,6 +86,10 @@ pub record HasSearched (s : Search) (old new : WorkerState) : Type 0 where
   pub drawn : new.drawer.drawn ≡ old.drawer.drawn ++ pieces
   pub more : new.outcomes ≡ old.outcomes ++ outcomes
   pub kept : AreOutcomes s (floor_of new.board) pieces outcomes
+
+-- both of it
+abbrev pub HasWorked : Search → WorkerState → WorkerState → Type 0
+HasWorked s old new = IsWorked s old new × HasSearched s old new
 
 -- a helper, after its work: unless memory was refused each piece that it drew has its outcome
 pub record HasHelped (s : Search) (old new : WorkerState) : Type 0 where

@@ -1,7 +1,7 @@
 use Rattle.std.proofs.Common.{Option, ap, subst, sym}
 use Rattle.std.specs.Option.{option_map}
 use Rattle.vrp_model.specs.Route.{PricedPlan}
-use Rattle.vrp_pool.specs.Inner.Gathering.{IsOfferedTo}
+use Rattle.vrp_pool.specs.Inner.Conclusion.{IsOfferedTo}
 use Rattle.vrp_pool.proofs.BestPlan.{after_offer, nothing_offered}
 use Rattle.vrp_pool.proofs.conclusion.offer_some.Goals as goal
 

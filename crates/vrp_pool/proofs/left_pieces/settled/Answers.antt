@@ -3,7 +3,7 @@ use Rattle.std.specs.List.{All}
 use Rattle.std.proofs.lemmas.List.Elements.{All-tail}
 use Rattle.std.proofs.lemmas.List.Sorted.{All-permutation}
 use Rattle.vrp_model.specs.Problem.{IsProblem}
-use Rattle.vrp_pool.specs.Inner.Gathering.{AreSettling}
+use Rattle.vrp_pool.specs.Inner.Conclusion.{AreSettling}
 use Rattle.vrp_pool.specs.Inner.Workers.{IsLeftPiece, Search}
 use Rattle.vrp_pool.specs.declared.left_pieces.Settling.{Settling}
 use Rattle.vrp_pool.specs.declared.outcome.Left.{Left}

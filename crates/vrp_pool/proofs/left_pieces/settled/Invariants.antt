@@ -1,7 +1,7 @@
 use Rattle.std.proofs.Common.{ℕ, Option, List}
 use Rattle.std.specs.List.{All}
 use Rattle.vrp_model.specs.Route.{PricedPlan}
-use Rattle.vrp_pool.specs.Inner.Gathering.{AreSettling}
+use Rattle.vrp_pool.specs.Inner.Conclusion.{AreSettling}
 use Rattle.vrp_pool.specs.Inner.Workers.{IsLeftPiece}
 use Rattle.vrp_pool.specs.declared.outcome.Left.{Left}
 use Rattle.vrp_pool.proofs.left_pieces.settled.Given as goal

@@ -3,7 +3,7 @@ use Rattle.vrp_model.specs.Word.{NoneCheaperUnder}
 use Rattle.vrp_pool.specs.Answer.{IsOwnLow}
 use Rattle.vrp_pool.specs.Gathered.{IsGathered}
 use Rattle.std.specs.Prelude.{Some}
-use Rattle.vrp_pool.specs.Inner.Gathering.{IsLowFor, IsSettled}
+use Rattle.vrp_pool.specs.Inner.Conclusion.{IsLowFor, IsSettled}
 use Rattle.vrp_pool.proofs.left_pieces.Settling.settle.Goals as goal
 use Rattle.vrp_pool.proofs.left_pieces.Settling.settle.Goals.{then-asks_for_own_low+in_ok-low, else-asks_for_own_low, then-self-low, else-self-low}
 

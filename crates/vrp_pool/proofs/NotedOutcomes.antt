@@ -14,16 +14,14 @@ use Rattle.vrp_model.proofs.DistinctLists.{AreDistinct, AreDistinct-permutation}
 use Rattle.vrp_search.specs.Cutting.{NumberedWord}
 use Rattle.vrp_search.specs.Search.{NoneBeforeUnder}
 use Rattle.vrp_pool.specs.Gathered.{IsAdded, IsGathered}
-use Rattle.vrp_pool.specs.Inner.Gathering.{AreApart, AreGathered, IsLeftOf, IsNoLater, IsNoted, IsOfferedTo, numbers_of, piece_numbers}
+use Rattle.vrp_pool.specs.Inner.Conclusion.{AreApart, AreNoted, IsLeftOf, IsOfferedTo, numbers_of, piece_numbers}
 use Rattle.vrp_pool.specs.Inner.Workers.{AreOutcomes, IsFinishedPiece, IsOutcome, IsLeftPiece, Search}
 use Rattle.vrp_pool.specs.declared.gathering.GatherError.{GatherError}
 use Rattle.vrp_pool.specs.declared.gathering.GatherError.TheVariants.{Double, Stranger}
-use Rattle.vrp_pool.specs.declared.conclusion.Gathering.{Gathering}
 use Rattle.vrp_pool.specs.declared.outcome.Finished.{Finished}
 use Rattle.vrp_pool.specs.declared.outcome.Left.{Left}
 use Rattle.vrp_pool.specs.declared.outcome.Outcome.{Outcome}
-use Rattle.vrp_pool.specs.declared.outcome.Outcome.TheVariants as outcome
-use Rattle.vrp_pool.proofs.BestPlan.{no_later_itself, still_lawful, still_none}
+use Rattle.vrp_pool.proofs.BestPlan.{still_lawful, still_none}
 use Rattle.vrp_pool.proofs.Outcomes.{none_before_lower}
 
 -- ---- lists with one more element
@@ -34,12 +32,6 @@ contains_before xs more x (place, lt, is) = (place, omega (arith, lt, length-app
 contains_last : {X : Type 0} (xs : List X) (x : X) → Contains (xs ++ x ∷ []) x
 contains_last [] x = (0, omega arith, refl)
 contains_last (y ∷ xs) x = let (place, lt, is) = contains_last xs x in (suc place, omega (arith, lt), is)
-
-contains_more : (number other : ℕ) (numbers : List ℕ) → Contains numbers other → Contains (number ∷ numbers) other
-contains_more number other numbers (k, lt, is) = (suc k, omega (arith, lt), is)
-
-number_of : NumberedWord → ℕ
-number_of piece = piece.number
 
 number_before : (done : List NumberedWord) (piece : NumberedWord) (number : ℕ) → Contains (piece_numbers done) number → Contains (piece_numbers (done ++ piece ∷ [])) number
 number_before done piece number inside = subst (λ (ns : List ℕ). Contains ns number) (sym (map-append (λ (p : NumberedWord). p.number) done (piece ∷ []))) (contains_before (piece_numbers done) (piece.number ∷ []) number inside)
@@ -93,7 +85,7 @@ added_now old new number (Err (Stranger other)) fresh within (same, above, is) =
 
 -- ---- one more outcome
 
-pub none_gathered : (s : Search) (floor : ℕ) (best : Option PricedPlan) → ForSome best (IsPlanOf s.problem) → AreGathered s floor best [] (replicate s.pieces false) []
+pub none_gathered : (s : Search) (floor : ℕ) (best : Option PricedPlan) → ForSome best (IsPlanOf s.problem) → AreNoted s floor best [] (replicate s.pieces false) []
 none_gathered s floor best plan_of = record {
   plan_of = plan_of;
   count = length-replicate s.pieces false;
@@ -111,8 +103,8 @@ none_gathered s floor best plan_of = record {
 
 -- the piece is finished, and what its search found was offered
 pub one_finished : (s : Search) (floor : ℕ) (best new : Option PricedPlan) (pieces : List NumberedWord) (added now : List Bool) (left : List Left) (piece : NumberedWord) (done : Finished) (answer : Result (Unit {0}) GatherError)
-    → AreGathered s floor best pieces added left → (Contains (piece_numbers pieces) piece.number → ⊥) → piece.number < s.pieces → IsFinishedPiece s floor piece done → IsOfferedTo best done.first new → IsGathered added done.number answer now
-    → AreGathered s floor new (pieces ++ piece ∷ []) now left
+    → AreNoted s floor best pieces added left → (Contains (piece_numbers pieces) piece.number → ⊥) → piece.number < s.pieces → IsFinishedPiece s floor piece done → IsOfferedTo best done.first new → IsGathered added done.number answer now
+    → AreNoted s floor new (pieces ++ piece ∷ []) now left
 one_finished s floor best new pieces added now left piece done answer so_far fresh below finished offered gathered =
     let number = piece.number in
     let not_added : IsAdded added number → ⊥ = λ is. fresh (so_far.only number is) in
@@ -151,7 +143,7 @@ one_finished s floor best new pieces added now left piece done answer so_far fre
 
 -- the piece is left unfinished
 pub one_left : (s : Search) (floor : ℕ) (best : Option PricedPlan) (pieces : List NumberedWord) (added : List Bool) (left : List Left) (piece : NumberedWord) (one : Left)
-    → AreGathered s floor best pieces added left → (Contains (piece_numbers pieces) piece.number → ⊥) → IsLeftPiece s piece one → AreGathered s floor best (pieces ++ piece ∷ []) added (left ++ one ∷ [])
+    → AreNoted s floor best pieces added left → (Contains (piece_numbers pieces) piece.number → ⊥) → IsLeftPiece s piece one → AreNoted s floor best (pieces ++ piece ∷ []) added (left ++ one ∷ [])
 one_left s floor best pieces added left piece one so_far fresh is =
     let same : piece ≡ one.piece = sym is.same in
     let number : piece.number ≡ one.piece.number = ap (λ (p : NumberedWord). p.number) same in
@@ -191,29 +183,28 @@ none_before_it s pieces k d apart lt (place, within, is) =
 
 -- ---- all outcomes
 
--- one more outcome was taken note of
-pub one_noted : (s : Search) (floor : ℕ) (old new : Gathering) (pieces : List NumberedWord) (outcomes yielded rest : List Outcome) (one : Outcome) → outcomes ≡ yielded ++ one ∷ rest → AreOutcomes s floor pieces outcomes → AreApart s pieces
-    → AreGathered s floor old.book.plan (take (length yielded) pieces) old.gatherer old.left.items → IsNoted old one new → AreGathered s floor new.book.plan (take (length yielded + 1) pieces) new.gatherer new.left.items
-one_noted s floor old new pieces outcomes yielded rest one split kept apart so_far noted =
+-- the next piece, and its outcome
+pub record IsNext (s : Search) (floor : ℕ) (pieces : List NumberedWord) (k : ℕ) (one : Outcome) (piece : NumberedWord) : Type 0 where
+  pub kept : IsOutcome s floor piece one
+  pub fresh : Contains (piece_numbers (take k pieces)) piece.number → ⊥
+  pub below : piece.number < s.pieces
+  pub more : take (k + 1) pieces ≡ take k pieces ++ piece ∷ []
+
+pub next_piece : (s : Search) (floor : ℕ) (pieces : List NumberedWord) (outcomes yielded rest : List Outcome) (one : Outcome) → outcomes ≡ yielded ++ one ∷ rest → AreOutcomes s floor pieces outcomes → AreApart s pieces
+    → IsNext s floor pieces (length yielded) one (get_or pieces (length yielded) (record { number = 0; word = [] }))
+next_piece s floor pieces outcomes yielded rest one split kept apart =
     let none : NumberedWord = record { number = 0; word = [] } in
     let k = length yielded in
     let piece = get_or pieces k none in
     let lt : k < length pieces = omega (arith, kept.many, ap length split, length-append yielded (one ∷ rest)) in
     let at : get_or outcomes k one ≡ one = ap (λ (os : List Outcome). get_or os k one) split ∙ get_or-append_seam yielded one rest one in
-    let is : IsOutcome s floor piece one = subst (IsOutcome s floor piece) at (kept.each k none one lt) in
-    subst (λ (ps : List NumberedWord). AreGathered s floor new.book.plan ps new.gatherer new.left.items) (sym (take_more pieces k none lt))
-    (by_outcome one piece is (none_before_it s pieces k none apart lt) (apart.below k none lt) noted)
-  where
-    by_outcome : (one : Outcome) (piece : NumberedWord) → IsOutcome s floor piece one → (Contains (piece_numbers (take (length yielded) pieces)) piece.number → ⊥) → piece.number < s.pieces → IsNoted old one new
-        → AreGathered s floor new.book.plan (take (length yielded) pieces ++ piece ∷ []) new.gatherer new.left.items
-    by_outcome (outcome.Finished done) piece is fresh below (offered, (answer, gathered), left) = rw left
-        (one_finished s floor old.book.plan new.book.plan (take (length yielded) pieces) old.gatherer new.gatherer old.left.items piece done answer so_far fresh below is offered gathered)
-    by_outcome (outcome.Unfinished one) piece is fresh below (plan, gatherer, left) = rw (plan, gatherer, left) (one_left s floor old.book.plan (take (length yielded) pieces) old.gatherer old.left.items piece one so_far fresh is)
+    record {
+      kept = subst (IsOutcome s floor piece) at (kept.each k none one lt);
+      fresh = none_before_it s pieces k none apart lt;
+      below = apart.below k none lt;
+      more = take_more pieces k none lt;
+    }
 
-pub noted_later : (old new : Gathering) (one : Outcome) → IsNoted old one new → IsNoLater new.book.plan old.book.plan
-noted_later old new (outcome.Finished done) noted = noted.0.later
-noted_later old new (outcome.Unfinished left) noted = subst (λ (plan : Option PricedPlan). IsNoLater plan old.book.plan) (sym noted.0) (no_later_itself old.book.plan)
-
-pub at_last : (s : Search) (floor : ℕ) (best : Option PricedPlan) (pieces : List NumberedWord) (added : List Bool) (left : List Left) (count : ℕ) → count ≡ length pieces → AreGathered s floor best (take count pieces) added left → AreGathered s floor best pieces added left
+pub at_last : (s : Search) (floor : ℕ) (best : Option PricedPlan) (pieces : List NumberedWord) (added : List Bool) (left : List Left) (count : ℕ) → count ≡ length pieces → AreNoted s floor best (take count pieces) added left → AreNoted s floor best pieces added left
 at_last s floor best pieces added left count all so_far =
-    subst (λ (ps : List NumberedWord). AreGathered s floor best ps added left) (ap (λ n. take n pieces) all ∙ take-length pieces) so_far
+    subst (λ (ps : List NumberedWord). AreNoted s floor best ps added left) (ap (λ n. take n pieces) all ∙ take-length pieces) so_far

@@ -1,5 +1,5 @@
--- What is known while the outcomes of all workers are brought together.
-use Rattle.std.specs.Prelude.{◌≡◌, ◌≢◌, ◌⊎◌, ℕ, ◌≤◌, ◌<◌, Bool, min, Option, None, Some, Result, List, [], ◌∷◌, ◌++◌, length, map, slice_index_or}
+-- What is known while the outcomes of all workers make a plan and a verdict.
+use Rattle.std.specs.Prelude.{◌≡◌, ◌≢◌, ◌⊎◌, ℕ, ◌≤◌, ◌<◌, Bool, min, Option, None, Some, Result, List, [], length, map, slice_index_or}
 use Rattle.std.specs.List.{All, AllPairs, Contains}
 use Rattle.std.specs.Option.{ForSome}
 use Rattle.vrp_model.specs.Cheapest.{cost_of}
@@ -10,15 +10,12 @@ use Rattle.vrp_search.specs.Cutting.{NumberedWord}
 use Rattle.vrp_search.specs.Search.{NoneBeforeUnder}
 use Rattle.vrp_pool.specs.Answer.{IsLeft, IsOwnLow, piece_of}
 use Rattle.vrp_pool.specs.Gathered.{IsAdded, IsFirstMissing, IsGathered, IsMissing}
-use Rattle.vrp_pool.specs.Inner.Workers.{AreOutcomes, IsLeftPiece, Search}
+use Rattle.vrp_pool.specs.Inner.Workers.{IsLeftPiece, Search}
 use Rattle.vrp_pool.specs.declared.answers.Answer.{Answer}
 use Rattle.vrp_pool.specs.declared.answers.Answer.TheVariants.{Proven, Open, NoPlan}
-use Rattle.vrp_pool.specs.declared.conclusion.Gathering.{Gathering}
 use Rattle.vrp_pool.specs.declared.gathering.GatherError.{GatherError}
 use Rattle.vrp_pool.specs.declared.left_pieces.Settling.{Settling}
 use Rattle.vrp_pool.specs.declared.outcome.Left.{Left}
-use Rattle.vrp_pool.specs.declared.outcome.Outcome.{Outcome}
-use Rattle.vrp_pool.specs.declared.outcome.Outcome.TheVariants as outcome
 
 -- where there was a plan there is one, and the old one is not before the new one
 abbrev pub IsNoLater : Option PricedPlan → Option PricedPlan → Type 0
@@ -49,15 +46,9 @@ pub record IsOfferedTo (old offered new : Option PricedPlan) : Type 0 where
 abbrev pub IsAddedOrNot : List Bool → ℕ → List Bool → Type 0
 IsAddedOrNot old number new = (answer : Result (Unit {0}) GatherError) × IsGathered old number answer new
 
--- an outcome was taken note of
-abbrev pub IsNoted : Gathering → Outcome → Gathering → Type 0
-IsNoted old (outcome.Finished done) new =
-    IsOfferedTo old.book.plan done.first new.book.plan × IsAddedOrNot old.gatherer done.number new.gatherer × (new.left.items ≡ old.left.items)
-IsNoted old (outcome.Unfinished left) new = (new.book.plan ≡ old.book.plan) × (new.gatherer ≡ old.gatherer) × (new.left.items ≡ old.left.items ++ left ∷ [])
-
 -- Of these pieces some are left. The others were added: each word under them costs more than the floor, or is not before the best
 -- plan. No other number was added
-pub record AreGathered (s : Search) (floor : ℕ) (best : Option PricedPlan) (pieces : List NumberedWord) (added : List Bool) (left : List Left) : Type 0 where
+pub record AreNoted (s : Search) (floor : ℕ) (best : Option PricedPlan) (pieces : List NumberedWord) (added : List Bool) (left : List Left) : Type 0 where
   pub plan_of : ForSome best (IsPlanOf s.problem)
   pub count : length added ≡ s.pieces
   pub are_left : All (IsLeftOf s pieces) left
@@ -65,11 +56,6 @@ pub record AreGathered (s : Search) (floor : ℕ) (best : Option PricedPlan) (pi
   pub only : (number : ℕ) → IsAdded added number → Contains (piece_numbers pieces) number
   pub apart : (number : ℕ) → IsAdded added number → Contains (numbers_of left) number → ⊥
   pub each : All (λ piece. Contains (numbers_of left) piece.number ⊎ (IsAdded added piece.number × NoneBeforeUnder s.problem piece.word floor best)) pieces
-
--- what is known of all outcomes together, whichever pieces they belong to
-abbrev pub GathersAll : Search → Option PricedPlan → List Outcome → Gathering → Type 0
-GathersAll s opening outcomes gathering =
-    (floor : ℕ) (pieces : List NumberedWord) → ForSome opening (IsPlanOf s.problem) → AreOutcomes s floor pieces outcomes → AreApart s pieces → AreGathered s floor gathering.book.plan pieces gathering.gatherer gathering.left.items
 
 -- ---- what becomes of the pieces that are left
 
