@@ -57,7 +57,7 @@ pub(crate) fn conclude<R, G>(
     plans_have_words();
     plans_cost_less();
     let plan = book.into_plan();
-    let cost = cost(plan.as_ref());
+    let cost = plan.as_ref().map_or(NO_COST, |plan| plan.cost());
     let settling = settled(shared, gatherer, left, cost)?;
     Ok(verdict(plan, settling))
 }
@@ -80,16 +80,6 @@ fn offer_some(alloc: Global, book: &mut Book, plan: Option<&Plan>) -> Result<(),
         book.offer(alloc, 0, plan)?;
     }
     Ok(())
-}
-
-// What a plan costs, `NO_COST` where there is none.
-fn cost(plan: Option<&Plan>) -> u64
-    ensures { result ≡ cost_of (option_map (λ plan. plan.now) plan.entry) }
-{
-    match plan {
-        Some(plan) => plan.cost(),
-        None => NO_COST,
-    }
 }
 
 // The best plan, if there is one, and what follows of it.

@@ -127,7 +127,7 @@ returns g c =
     let gathered = at_last s least kept drawn added left (length yielded) all (so_far.all least c.requires.searched.kept (are_apart s drawn put c.requires.numbers c.requires.searched.all c.requires.pieces)) in
     let falls : cost_of kept ≤ least = c.requires.searched.reached (cost_of kept) (costs_no_more less p kept singles problem gathered.plan_of so_far.than_singles) (costs_no_more less p kept best problem gathered.plan_of so_far.than_best) in
     let known = none_settled s drawn put least kept added left c.requires.numbers c.requires.searched.all c.requires.pieces falls gathered in
-    let cost : c.cost-cost.result ≡ cost_of kept = c.cost-cost.ensures ∙ ap cost_of (c.as_ref-2.ensures.value ∙ c.into_plan-plan.ensures) in
+    let cost : c.map_or-cost.result ≡ cost_of kept = search (rules, c.map_or-cost.ensures) in
     let settled = c.in_ok-settling.ensures (words_of put) kept (subst (λ n. AreSettling s (words_of put) kept (record { gatherer = added; cost = n; low = n }) left) (sym cost) known) in
     answer_is c.one_piece.ensures c.plans_have_words.ensures less s (words_of put) singles kept c.in_ok-settling.settling c.verdict.result problem c.requires.cutting gathered.plan_of c.requires.some so_far.than_singles settled
     (subst (λ (plan : Option PricedPlan). IsVerdict plan c.in_ok-settling.settling c.verdict.result) c.into_plan-plan.ensures c.verdict.ensures)
