@@ -1,5 +1,5 @@
 //! How a worker draws from the pile: as its owner, or as a thief.
-ghost use Rattle.std.specs.Prelude.{◌≡◌, []};
+ghost use Rattle.std.specs.Prelude.{◌≡◌, [], ⊤};
 ghost use Rattle.vrp_pile.specs.Drawn.{MatchDrawn};
 ghost use Rattle.vrp_pile.specs.Pile.{AreShared, DrawerState, IsDrawn};
 ghost use Rattle.vrp_pile.specs.declared.limits.TheConstants.{MAX_DRAWERS};
@@ -11,12 +11,12 @@ pub(crate) trait Draws: Drop {
     ghost drawer: { Self → DrawerState };
 
     // What is known where a draw answers no piece.
-    ghost at_end: { DrawerState → Type 0 } = { λ _. Unit {0} };
+    ghost at_end: { DrawerState → Type 0 } = { λ _. ⊤ };
 
     /// The oldest piece that is left, if any.
     fn draw(&mut self) -> Drawn
         ensures drawn { MatchDrawn result (drawer self.new ≡ drawer self.old) (λ piece. IsDrawn (drawer self.old) piece (drawer self.new)) }
-        ensures at_end { MatchDrawn result (at_end (drawer self.new)) (λ _. Unit {0}) };
+        ensures at_end { MatchDrawn result (at_end (drawer self.new)) (λ _. ⊤) };
 }
 
 impl Draws for Owner {

@@ -1,7 +1,6 @@
 //! The pieces that are left unfinished: which of them are done with all the same, and the least low of the others.
 ghost use Rattle.std.specs.Prelude.{◌≡◌, ◌≤◌, Some, false, IfOk, OnOk};
 ghost use Rattle.std.specs.List.{All};
-ghost use Rattle.vrp_model.specs.Cheapest.{cost_of};
 ghost use Rattle.vrp_model.specs.Word.{NoneCheaperUnder};
 ghost use Rattle.vrp_pool.specs.Answer.{IsOwnLow};
 ghost use Rattle.vrp_pool.specs.Inner.Conclusion.{IsSettled, SettlesAll};

@@ -1,5 +1,5 @@
 //! All workers: how they are made, work in threads of their own, and are brought together.
-ghost use Rattle.std.specs.Prelude.{◌≡◌, ◌+◌, IfOk, OnOk, false, vec_len};
+ghost use Rattle.std.specs.Prelude.{◌≡◌, ◌+◌, IfOk, false, vec_len};
 ghost use Rattle.std.specs.List.{All};
 ghost use Rattle.std.specs.Option.{ForSome, option_map};
 ghost use Rattle.vrp_model.specs.Route.{IsPlanOf};
@@ -18,7 +18,7 @@ use vrp_model::{NoMemory, Plan};
 use vrp_pile::{Owner, Thief};
 use vrp_register::{Caller, Register};
 
-/// What all workers leave, each of whom is one of the register's callers, and the callers. The lead offers a first plan before they
+/// The register's callers, after each has worked, and what they leave of the pieces. The lead offers a first plan before they
 /// search, if one is found.
 pub(crate) fn searched_by_all<
     'a,
@@ -75,7 +75,7 @@ fn new_team<'a, R: Wait, L: Ledger, G>(
     Ok((Worker::new(shared, register, caller, owner), helpers))
 }
 
-// The lead and all helpers, after their work, each in a thread of its own where one can be made.
+// The lead and the helpers, after each worked in a thread of its own, where one can be made.
 fn worked<'a, 'b, R: Threads + Wait + Sync, L: Ledger + Send + Sync, G: Gate + Sync>(
     shared: &Shared<'_, R, G>,
     lead: Worker<'a, Owner, R, L>,
@@ -103,7 +103,7 @@ fn worked<'a, 'b, R: Threads + Wait + Sync, L: Ledger + Send + Sync, G: Gate + S
     Ok((lead?, helpers))
 }
 
-// The helpers, after each worked in a thread of its own.
+// The same, of the helpers alone.
 fn helped<'a, R: Threads + Wait + Sync, L: Ledger + Send + Sync, G: Gate + Sync>(
     shared: &Shared<'_, R, G>,
     mut helpers: Vec<Worker<'a, Thief, R, L>>,
@@ -124,7 +124,8 @@ fn helped<'a, R: Threads + Wait + Sync, L: Ledger + Send + Sync, G: Gate + Sync>
     helpers
 }
 
-// What all leave. The lead takes the helpers over, and draws once more, since they may have left pieces.
+// The callers and what they leave, after all have worked. Then the lead takes the helpers over, and draws on: they may have left
+// pieces.
 fn all_searched<R: Threads + Wait + Sync, L: Ledger + Send + Sync, G: Gate + Sync>(
     shared: &Shared<'_, R, G>,
     first: Option<&Plan>,

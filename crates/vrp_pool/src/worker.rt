@@ -1,7 +1,6 @@
 //! A worker: it draws pieces and searches them one by one, and keeps what is known of each.
-ghost use Rattle.std.specs.Prelude.{◌≡◌, ◌≤◌, IfOk, OnOk, false};
+ghost use Rattle.std.specs.Prelude.{◌≡◌, ◌≤◌, IfOk, OnOk};
 ghost use Rattle.std.specs.Option.{ForSome, option_map};
-ghost use Rattle.vrp_model.specs.Cheapest.{cost_of};
 ghost use Rattle.vrp_model.specs.Route.{IsPlanOf};
 ghost use Rattle.vrp_model.specs.Word.{IsFront};
 ghost use Rattle.vrp_pool.specs.SeatBoard.{IsLater, floor_of};
@@ -30,7 +29,7 @@ pub(crate) struct Worker<'a, D: Draws, R: Wait, L: Ledger> {
     pub(crate) drawer: D,
     pub(crate) board: SeatBoard<'a, R, L>,
     pub(crate) outcomes: Vec<Outcome>,
-    // Met by a helper.
+    // The refusal of memory that it met as a helper, if any.
     refused: Option<NoMemory>,
 }
 
