@@ -33,3 +33,4 @@ pub use law::{
 };
 pub use tables::Tables;
 pub use tree::TreeRoom;
+pub use trucks_left::can_carry;

@@ -1,5 +1,5 @@
 -- Demands in units, entered one by one; none is above what one truck can carry.
-use Rattle.std.proofs.Common.{◌≡◌, ℕ, zero, suc, ◌+◌, ◌/◌, ◌≤◌, ◌<◌, max, true, false, nat_lt, inl, inr, if◌then◌else◌, List, [], ◌∷◌, ◌++◌, length, refl, sym, ap, subst, ◌∙◌, arith}
+use Rattle.std.proofs.Common.{◌≡◌, ℕ, zero, suc, ◌/◌, ◌≤◌, ◌<◌, true, false, nat_lt, inl, inr, List, [], ◌∷◌, ◌++◌, length, refl, sym, ap, subst, ◌∙◌, arith}
 use Rattle.std.specs.Prelude.{slice_index}
 use Rattle.std.specs.List.{All, Contains, sum_by}
 use Rattle.std.proofs.lemmas.Bool.{cases_lt}
@@ -11,7 +11,7 @@ use Rattle.std.proofs.lemmas.Nat.{div-mul-add}
 use Rattle.vrp_model.specs.Problem.{IsProblem, Problem, customers, demand_of, place_count}
 use Rattle.vrp_model.proofs.CustomerPlaces.{customer_below, customer_is_some, is_customer}
 use Rattle.vrp_bound.proofs.WholeUnits.{units_rise, units_within}
-use Rattle.vrp_prices.specs.Units.{light_count, light_one, rounded_capacity, units_of}
+use Rattle.vrp_prices.specs.Units.{light_one, rounded_capacity, units_of}
 
 -- what each customer demands in units, so far
 abbrev pub AreInUnits : Problem → ℕ → List ℕ → Type 0

@@ -4,7 +4,7 @@ use Rattle.std.specs.Prelude.{slice_index_or}
 use Rattle.std.proofs.lemmas.Nat.{mul-le}
 use Rattle.vrp_model.specs.Problem.{IsProblem, Problem, place_count, weight_of}
 use Rattle.vrp_prices.specs.Inner.Ways.{AreModerate}
-use Rattle.vrp_prices.specs.Priced.{AreLawfulPrices, above_nothing, below_nothing, price_in, rebate_in}
+use Rattle.vrp_prices.specs.Priced.{AreLawfulPrices, above_nothing, below_nothing}
 
 pub not_both : (b : Bool) → b ≡ false → b ≡ true → ⊥
 not_both b is_false is_true = let never : false ≡ true = sym is_false ∙ is_true in cc

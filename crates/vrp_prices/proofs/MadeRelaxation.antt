@@ -1,5 +1,5 @@
 -- An instance with priced weights and demands in units has the prices, and is a relaxation.
-use Rattle.std.proofs.Common.{◌≡◌, ℕ, ◌+◌, ◌*◌, ◌≤◌, ℤ, List, [], length, refl, sym, subst, ◌∙◌, arith}
+use Rattle.std.proofs.Common.{◌≡◌, ℕ, ◌*◌, ◌≤◌, ℤ, List, [], length, refl, sym, ◌∙◌, arith}
 use Rattle.std.specs.Prelude.{slice_index}
 use Rattle.std.specs.List.{All, sum_by}
 use Rattle.std.proofs.lemmas.List.Elements.{All-nil}
@@ -7,7 +7,7 @@ use Rattle.vrp_model.specs.Problem.{IsProblem, Problem, customers, demand_of, pl
 use Rattle.vrp_prices.specs.Cut.{IsCut}
 use Rattle.vrp_prices.specs.Inner.Kept.{IsKept}
 use Rattle.vrp_prices.specs.Inner.Ways.{ArePricedWays}
-use Rattle.vrp_prices.specs.Priced.{IsByPrices, IsPriced, charges_of, price_in, rebate_in, rewards_of}
+use Rattle.vrp_prices.specs.Priced.{IsByPrices, IsPriced, price_in, rebate_in, rewards_of}
 use Rattle.vrp_prices.specs.Units.{rounded_capacity, units_of}
 use Rattle.vrp_prices.proofs.PricedRows.{all_ways}
 use Rattle.vrp_prices.proofs.PricesRelax.{priced_relaxation}

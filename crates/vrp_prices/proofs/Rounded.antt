@@ -1,19 +1,19 @@
 -- Fronts stay fronts, and lawful words lawful, where demands and what a truck can carry are counted in units.
-use Rattle.std.proofs.Common.{◌≡◌, ℕ, zero, suc, ◌+◌, ◌*◌, ◌-◌, ◌/◌, ◌≤◌, ◌<◌, max, Bool, true, false, if◌then◌else◌, nat_lt, inl, inr, List, [], ◌∷◌, length, get_or, refl, sym, ap, subst, ◌∙◌, arith}
+use Rattle.std.proofs.Common.{◌≡◌, ℕ, ◌+◌, ◌*◌, ◌-◌, ◌/◌, ◌≤◌, ◌<◌, max, true, false, if◌then◌else◌, nat_lt, inl, inr, List, [], ◌∷◌, length, get_or, refl, sym, ap, subst, ◌∙◌, arith}
 use Rattle.std.specs.List.{All, Contains, filter, range_with_len, sum_by}
-use Rattle.std.proofs.lemmas.Bool.{cases_Bool, cases_lt}
+use Rattle.std.proofs.lemmas.Bool.{cases_lt}
 use Rattle.std.proofs.lemmas.Bool.Decides.{nat_tests}
 use Rattle.std.proofs.lemmas.List.Elements.{All-tail}
 use Rattle.std.proofs.lemmas.List.Sums.{sum_by-cons}
 use Rattle.std.proofs.lemmas.Nat.{div-add-mod', div-mul-add}
 use Rattle.vrp_model.specs.Front.{routes_left}
-use Rattle.vrp_model.specs.Problem.{IsProblem, IsSymmetric, Problem, customers, demand_of, place_count}
+use Rattle.vrp_model.specs.Problem.{IsSymmetric, Problem, customers, demand_of, place_count}
 use Rattle.vrp_model.specs.Route.{load_of}
 use Rattle.vrp_model.specs.Word.{IsFront, IsLawfulWord, routes_of, served_in, unserved_in}
 use Rattle.vrp_model.proofs.DistinctLists.{member_at}
 use Rattle.vrp_model.proofs.DistinctWithin.{sum_among}
 use Rattle.vrp_bound.proofs.WholeUnits.{units_within}
-use Rattle.vrp_prices.specs.Units.{IsRounded, light_count, light_one, rounded_capacity, units_of}
+use Rattle.vrp_prices.specs.Units.{IsRounded, light_count, light_one, units_of}
 use Rattle.vrp_prices.proofs.RoutesServe.{all_of_route, sum_of_route}
 
 -- ---- loads

@@ -10,6 +10,7 @@ pub mod LowBounds
 pub mod OneLow
 pub mod OnePlace
 pub mod OwnLows
+pub mod PaidAlong
 pub mod PartialViews
 pub mod PieceRefined
 pub mod Promising

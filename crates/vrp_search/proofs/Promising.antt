@@ -1,8 +1,12 @@
--- When a plan under a front may be of use, by what its bound answers.
-use Rattle.std.proofs.Common.{◌≡◌, ◌⊎◌, inl, inr, ℕ, ◌≤◌, ◌<◌, true, false, true≢false, Option, None, Some, List, refl, sym, arith}
+-- When a plan under a front may be of use, by what its bound answers; and when none is under it.
+use Rattle.std.proofs.Common.{◌≡◌, ◌⊎◌, inl, inr, ℕ, ◌-◌, ◌≤◌, ◌<◌, ◌++◌, true, false, true≢false, Option, None, Some, List, refl, sym, subst, arith}
 use Rattle.std.specs.Prelude.{◌↔◌, IsTrue, MatchOption}
+use Rattle.std.specs.Option.{option_map}
+use Rattle.vrp_model.specs.Front.{open_load, routes_left}
 use Rattle.vrp_model.specs.Problem.{IsProblem, Problem}
-use Rattle.vrp_model.specs.Word.{IsDead}
+use Rattle.vrp_model.specs.Route.{load_of}
+use Rattle.vrp_model.specs.Word.{BeginsWith, IsDead, IsLawfulWord, last_symbol, unserved_in}
+use Rattle.vrp_bound.specs.Capacity.{CanCarry}
 use Rattle.vrp_search.specs.Search.{IsLow}
 use Rattle.vrp_search.specs.Inner.Pruned.{IsPromising, MayBeOfUse}
 use Rattle.vrp_search.specs.Inner.Tallied.{IsTally}
@@ -37,3 +41,13 @@ may_be_of_use p among front low least own alive is no_more cheaper = (λ yes. re
 pub counted_of : (p : Problem) (front : List ℕ) (own : ℕ) (none : Type 0) (result : Option Tally) → MatchOption result none (IsPromising p front own) → MatchOption result none (IsTally p front)
 counted_of p front own none None is = is
 counted_of p front own none (Some tally) is = is.counted
+
+-- ---- fronts under which too few trucks are left
+
+abbrev pub TrucksLeftCarry : Type 0
+TrucksLeftCarry = (p : Problem) (front more : List ℕ) → IsProblem p → IsLawfulWord p (front ++ more) → CanCarry p (last_symbol front) (open_load p front) (load_of p (unserved_in p front)) (routes_left p front)
+
+-- where a plan is under a front, the trucks that are left carry what is left, by what is counted along it
+pub carried : TrucksLeftCarry → (p : Problem) (front : List ℕ) (t : Tally) → IsProblem p → IsTally p front t → (w : List ℕ) → IsLawfulWord p w → BeginsWith w front
+    → CanCarry p (last_symbol front) t.load t.rest (option_map (λ trucks. trucks - t.routes) p.trucks)
+carried law p front t problem tally w lawful begins = rw (tally.load, tally.rest, tally.routes) (law p front begins.0 problem (subst (IsLawfulWord p) begins.1 lawful))

@@ -8,6 +8,7 @@ use Rattle.std.proofs.lemmas.Bool.{cases_lt}
 use Rattle.std.proofs.lemmas.List.{get_or_default, get_or-set_same, get_or-set_other, length-set, take-append-le}
 use Rattle.vrp_model.specs.declared.limits.TheConstants.{MAX_WAYS}
 use Rattle.vrp_model.specs.Problem.{HasTrucks, IsProblem, IsSymmetric, Problem, customers, demand_of, place_count, weight_of}
+use Rattle.vrp_model.specs.Front.{open_load}
 use Rattle.vrp_model.specs.Route.{load_of}
 use Rattle.vrp_model.specs.Word.{IsFront, IsLawfulWord, IsOpen, MakesChild, last_route, routes_of, last_symbol, served_in, stands_in, unserved_in, word_cost}
 use Rattle.vrp_model.proofs.Words.{last_is}
@@ -77,26 +78,27 @@ pub record Added (p : Problem) (word : List ℕ) (k : ℕ) (t : Tally) : Type 0 
   pub some_left : 1 ≤ t.unserved
   pub load : t.load + demand_of p k ≡ load_of p (last_route (word ++ k ∷ []))
 
-load_of_added : (p : Problem) (word : List ℕ) (k : ℕ) (t : Tally) → IsProblem p → IsFront p word → 0 < k → MakesChild p word k → IsTally p word t
-    → (t.load + demand_of p k ≤ p.capacity) × (t.load + demand_of p k ≡ load_of p (last_route (word ++ k ∷ [])))
-load_of_added p word k t problem front some made tally =
+-- what the open route carries then, where it carries so much before
+pub load_of_added : (p : Problem) (word : List ℕ) (k load : ℕ) → IsProblem p → IsFront p word → 0 < k → MakesChild p word k → load ≡ open_load p word
+    → (load + demand_of p k ≤ p.capacity) × (load + demand_of p k ≡ load_of p (last_route (word ++ k ∷ [])))
+load_of_added p word k load problem front some made is =
     let with_stop = last_route_with word k front.stops some in
     elim made [
       | inl depot ↦ absurd (omega (arith, depot.0, some))
       | inr (inl inside) ↦
-          let load : t.load ≡ load_of p (last_route word) = tally.load ∙ load_at_customer p word inside.1 in
+          let before : load ≡ load_of p (last_route word) = is ∙ load_at_customer p word inside.1 in
           let more : load_of p (last_route (word ++ k ∷ [])) ≡ load_of p (last_route word) + demand_of p k = ap (load_of p) (with_stop.grows inside.1) ∙ load_with p (last_route word) k in
-          (omega (arith, load, inside.2), omega (arith, load, more))
+          (omega (arith, before, inside.2), omega (arith, before, more))
       | inr (inr behind) ↦
-          let load : t.load ≡ 0 = tally.load ∙ load_at_depot p word behind.1 in
+          let before : load ≡ 0 = is ∙ load_at_depot p word behind.1 in
           let one : load_of p (k ∷ []) ≡ demand_of p k = omega arith in
           let more : load_of p (last_route (word ++ k ∷ [])) ≡ demand_of p k = ap (load_of p) (with_stop.starts behind.1) ∙ one in
-          (omega (arith, load, problem.fitting_demands k), omega (arith, load, more))
+          (omega (arith, before, problem.fitting_demands k), omega (arith, before, more))
     ]
 
 pub added : (p : Problem) (word : List ℕ) (k : ℕ) (t : Tally) → IsProblem p → IsFront p word → 0 < k → IsFront p (word ++ k ∷ []) → IsTally p word t → Added p word k t
 added p word k t problem front some after tally =
-    let loads = load_of_added p word k t problem front some ((cases_of_child p word k problem front).0 after) tally in
+    let loads = load_of_added p word k t.load problem front some ((cases_of_child p word k problem front).0 after) tally.load in
     let served : load_of p (served_in (word ++ k ∷ [])) ≡ load_of p (served_in word) + demand_of p k = ap (load_of p) (served_with word k some) ∙ load_with p (served_in word) k in
     let long : length (served_in (word ++ k ∷ [])) ≡ length (served_in word) + 1 = ap length (served_with word k some) ∙ length-append (served_in word) (k ∷ []) in
     record {

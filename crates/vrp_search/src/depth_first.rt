@@ -1,14 +1,16 @@
 //! The search of a piece, depth first: it goes below a partial plan only where a plan under it may be of use.
-ghost use Rattle.std.specs.Prelude.{◌≡◌, ◌≤◌, IfOk};
+ghost use Rattle.std.specs.Prelude.{◌≡◌, ◌≤◌, Some, IfNone, IfOk, IfSome};
 ghost use Rattle.vrp_model.specs.Word.{IsFront, NoneCheaperUnder};
-ghost use Rattle.vrp_search.specs.Search.{AreCovered, EndsSearch};
-ghost use Rattle.vrp_search.specs.Inner.Under.{EndsUnder};
+ghost use Rattle.vrp_search.specs.Search.{AreCovered, EndsSearch, IsLow};
+ghost use Rattle.vrp_search.specs.Inner.Under.{AllCostMore, EndsUnder};
 
 use crate::board::Board;
 use crate::bounds::Bounds;
+use crate::by_prices::ByPrices;
 use crate::found::Found;
 use crate::partial::Partial;
 use crate::piece::Piece;
+use crate::prices::Prices;
 use crate::pruning::Pruning;
 use std::alloc::Global;
 use vrp_bound::{Tables, bounds_hold};
@@ -50,22 +52,90 @@ pub fn search<B: Board>(
     ensures falls { B.floor board.new ≤ B.floor board.old }
     ensures ended { IfOk result (EndsSearch instance.now tables.now.among piece.now.word budget (B.floor board.new)) }
 {
+    let Some(Root { partial, low }) = opened(alloc, instance, tables, piece, board)? else {
+        return Ok(Ended::Finished {
+            spent: 1,
+            first: None,
+        });
+    };
+    let bounds = Bounds::new(alloc, instance, tables)?;
+    search_under(alloc, partial, bounds, low, budget, board)
+}
+
+/// Searches the plans under a piece as `search` does, and prunes by prices: it doesn't go below a partial plan where the prices tell
+/// that each plan under it costs more than the board answers, or no less than the last plan that the search offered, or that is
+/// dead, or for which too few trucks are left. The tables bound the piece as a whole, and give its `low`.
+pub fn search_by_prices<B: Board>(
+    alloc: Global,
+    instance: &Instance,
+    tables: &Tables<'_>,
+    prices: &Prices<'_>,
+    piece: &Piece,
+    budget: u64,
+    board: &mut B,
+) -> Result<Ended, NoMemory>
+    requires tables { tables.now.problem ≡ instance.now }
+    requires prices { prices.now.problem ≡ instance.now }
+    requires covered { AreCovered instance.now tables.now.among piece.now.word }
+    requires piece { IsFront instance.now piece.now.word }
+    requires board { B.serves board.old instance.now }
+    requires budget { 1 ≤ budget }
+    ensures serves { B.serves board.new instance.now }
+    ensures keeps { (earlier : B) → B.keeps earlier board.old → B.keeps earlier board.new }
+    ensures falls { B.floor board.new ≤ B.floor board.old }
+    ensures ended { IfOk result (EndsSearch instance.now tables.now.among piece.now.word budget (B.floor board.new)) }
+{
+    let Some(Root { partial, low }) = opened(alloc, instance, tables, piece, board)? else {
+        return Ok(Ended::Finished {
+            spent: 1,
+            first: None,
+        });
+    };
+    let by_prices = ByPrices::at(alloc, prices, &partial)?;
+    search_under(alloc, partial, by_prices, low, budget, board)
+}
+
+// A partial plan at a piece's front, and what each plan under it costs at least.
+#[derive(Drop)]
+struct Root<'a> {
+    partial: Partial<'a>,
+    low: u64,
+}
+
+// Comes to a piece's front. `None` where no plan under it costs as little as the board answers.
+fn opened<'a, B: Board>(
+    alloc: Global,
+    instance: &'a Instance,
+    tables: &Tables<'_>,
+    piece: &Piece,
+    board: &mut B,
+) -> Result<Option<Root<'a>>, NoMemory>
+    requires tables { tables.now.problem ≡ instance.now }
+    requires covered { AreCovered instance.now tables.now.among piece.now.word }
+    requires piece { IsFront instance.now piece.now.word }
+    requires board { B.serves board.old instance.now }
+    ensures serves { B.serves board.new instance.now }
+    ensures keeps { (earlier : B) → B.keeps earlier board.old → B.keeps earlier board.new }
+    ensures falls { B.floor board.new ≤ B.floor board.old }
+    ensures none { IfOk result (λ root. IfNone root (AllCostMore instance.now piece.now.word (B.floor board.new))) }
+    ensures at { IfOk result (λ root. IfSome root (λ root. root.partial ≡ record { problem = instance.now; word = piece.now.word })) }
+    ensures low { IfOk result (λ root. IfSome root (λ root. IsLow instance.now tables.now.among piece.now.word (Some root.low))) }
+    ensures none_cheaper { IfOk result (λ root. IfSome root (λ root. NoneCheaperUnder instance.now piece.now.word root.low)) }
+{
     let partial = Partial::at_front(alloc, instance, piece.word())?;
-    let spent = 1;
     // Below no front is anything cheaper than its cost and bound, and below a dead one there is nothing.
     bounds_hold();
     dead_fronts();
     if partial.is_dead() {
-        return Ok(Ended::Finished { spent, first: None });
+        return Ok(None);
     }
     let Some(low) = partial.low(tables) else {
-        return Ok(Ended::Finished { spent, first: None });
+        return Ok(None);
     };
     if board.least() < low {
-        return Ok(Ended::Finished { spent, first: None });
+        return Ok(None);
     }
-    let bounds = Bounds::new(alloc, instance, tables)?;
-    search_under(alloc, partial, bounds, low, budget, board)
+    Ok(Some(Root { partial, low }))
 }
 
 /// Searches the plans under the front that a partial plan has come to, its root, as `search` does, and prunes by what it is given.

@@ -3,13 +3,16 @@
 
 mod board;
 mod bounds;
+mod by_prices;
 mod cutting;
 mod depth_first;
 mod found;
 mod law;
 mod local;
+mod paid;
 mod partial;
 mod piece;
+mod prices;
 mod pruning;
 #[cfg(test)]
 mod slow;
@@ -18,8 +21,9 @@ mod tree_pruning;
 
 pub use board::Board;
 pub use cutting::{Cutting, MAX_PIECES, MAX_REFINED};
-pub use depth_first::{Ended, search};
+pub use depth_first::{Ended, search, search_by_prices};
 pub use law::{one_low, one_piece, own_low_no_lower};
 pub use local::Local;
 pub use partial::Partial;
 pub use piece::Piece;
+pub use prices::Prices;

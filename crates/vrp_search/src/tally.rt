@@ -1,13 +1,13 @@
 //! What is counted along a word, and what a plan under it costs at least.
 ghost use Rattle.std.specs.Prelude.{◌≡◌, ◌↔◌, ◌⊎◌, ◌-◌, ◌*◌, ◌≤◌, ◌<◌, [], IsTrue};
 ghost use Rattle.std.specs.Option.{option_map};
-ghost use Rattle.vrp_bound.specs.Capacity.{IsInsOf};
+ghost use Rattle.vrp_bound.specs.Capacity.{CanCarry, IsInsOf};
 ghost use Rattle.vrp_model.specs.Problem.{HasTrucks, customers, place_count};
 ghost use Rattle.vrp_model.specs.Route.{load_of};
 ghost use Rattle.vrp_model.specs.declared.limits.TheConstants.{MAX_WAYS};
 ghost use Rattle.vrp_search.specs.Inner.Tallied.{IsLowOf, IsTally};
 
-use vrp_bound::{Tables, bound};
+use vrp_bound::{Tables, bound, can_carry};
 use vrp_model::Instance;
 
 /// What is counted along a word.
@@ -76,6 +76,17 @@ impl Tally {
         let left = self.routes_left(instance);
         let more = bound(tables, instance, at, self.load, self.ins, self.rest, left)?;
         Some(self.cost + more)
+    }
+
+    /// Whether the trucks that are left can carry what is left, where the word ends at this place.
+    #[inline(always)]
+    pub(crate) fn can_carry(self, instance: &Instance, at: u16) -> bool
+        requires load { self.load ≤ instance.now.capacity }
+        requires trucks { HasTrucks instance.now self.routes }
+        ensures { IsTrue result ↔ CanCarry instance.now at self.load self.rest (option_map (λ trucks. trucks - self.routes) instance.now.trucks) }
+    {
+        let left = self.routes_left(instance);
+        can_carry(instance, at, self.load, self.rest, left)
     }
 
     // How many routes may still be opened; `None` where there are as many trucks as are wanted.

@@ -11,6 +11,10 @@ use Rattle.vrp_search.specs.declared.tally.Tally.{Tally}
 abbrev pub NoneOfUse : Problem → List ℕ → ℕ → ℕ → Type 0
 NoneOfUse p front least own = (word : List ℕ) → IsLawfulWord p word → BeginsWith word front → (least < word_cost p word) ⊎ (own ≤ word_cost p word)
 
+-- no plan is under the front
+abbrev pub NoPlanUnder : Problem → List ℕ → Type 0
+NoPlanUnder p front = (word : List ℕ) → IsLawfulWord p word → BeginsWith word front → ⊥
+
 -- the front is not dead, and its bound is no more than what was answered, and below the plan that this search has found
 pub record MayBeOfUse (p : Problem) (among front : List ℕ) (least own : ℕ) : Type 0 where
   pub alive : IsDead p front → ⊥

@@ -3,12 +3,12 @@ ghost use Rattle.std.specs.Prelude.{◌≡◌, ◌↔◌, [], ◌∷◌, ◌++�
 ghost use Rattle.vrp_model.specs.Problem.{IsProblem};
 ghost use Rattle.vrp_model.specs.Word.{IsDead, IsFront};
 ghost use Rattle.vrp_search.specs.Search.{AreCovered, IsLow};
-ghost use Rattle.vrp_search.specs.Inner.Pruned.{IsPromising, MayBeOfUse, NoneOfUse};
+ghost use Rattle.vrp_search.specs.Inner.Pruned.{IsPromising, MayBeOfUse, NoPlanUnder, NoneOfUse};
 ghost use Rattle.vrp_search.specs.Inner.Tallied.{IsTally};
 
 use crate::partial::Partial;
 use crate::tally::Tally;
-use vrp_bound::{Tables, bounds_hold};
+use vrp_bound::{Tables, bounds_hold, trucks_left_carry};
 use vrp_model::dead_fronts;
 
 impl<'a> Partial<'a> {
@@ -65,6 +65,22 @@ impl<'a> Partial<'a> {
         } else {
             None
         }
+    }
+
+    /// What is counted along a child's word. `None` where no plan is under it: the child is dead, or the trucks that are left can't
+    /// carry what is left.
+    #[inline(always)]
+    pub(crate) fn alive_after(&self, symbol: u16) -> Option<Tally>
+        requires { IsFront self.now.problem (self.now.word ++ symbol ∷ []) }
+        ensures { MatchOption result (NoPlanUnder self.now.problem (self.now.word ++ symbol ∷ [])) (IsTally self.now.problem (self.now.word ++ symbol ∷ [])) }
+    {
+        dead_fronts();
+        trucks_left_carry();
+        let tally = self.tally_after(symbol);
+        if self.child_is_dead(symbol, tally) || !tally.can_carry(self.instance, symbol) {
+            return None;
+        }
+        Some(tally)
     }
 
     // Whether a child's word is a dead front, where this is counted along it.

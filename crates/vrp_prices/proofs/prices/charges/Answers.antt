@@ -1,4 +1,4 @@
-use Rattle.std.proofs.Common.{◌≡◌, ◌≤◌, ◌<◌, ◌+◌, ◌*◌, length, ap, ◌∙◌, arith}
+use Rattle.std.proofs.Common.{◌<◌, ◌+◌, ◌*◌, length, ap, ◌∙◌, arith}
 use Rattle.vrp_prices.specs.Priced.{price_in}
 use Rattle.vrp_prices.proofs.CustomerSums.{sum_all, sum_more}
 use Rattle.vrp_prices.proofs.prices.charges.Goals as goal

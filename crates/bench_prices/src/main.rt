@@ -1,0 +1,142 @@
+//! How good prices are, and how fast the search by them looks: it finds prices for the instance in a CVRP file, with a first plan's cost
+//! to aim at, and searches its whole tree till the budget is spent. The command line names the file, the budget in partial plans, and
+//! the steps that may be taken to find prices. What was found goes to standard output, and how long it took to standard error.
+#![tactic(auto)]
+
+ghost use Rattle.std.specs.Prelude.{◌≡◌, ◌≤◌, IfOk};
+ghost use Rattle.std.specs.Option.{ForSome};
+ghost use Rattle.vrp_model.specs.Route.{IsPlanOf};
+
+use anyhow::{Context, Result, ensure};
+use std::alloc::Global;
+use std::rt::{Clock, Files};
+use std::time::{Duration, Instant};
+use std::{env, fs};
+use vrp_bound::Tables;
+use vrp_first::{ENOUGH_MOVES, first_plan};
+use vrp_model::{Instance, Plan};
+use vrp_prices::{Relaxation, find_prices};
+use vrp_search::{Cutting, Ended, Local, Prices, search_by_prices};
+
+fn main(rt: HostRuntime) -> Result<()> {
+    let mut words = env::args(&rt)?.skip(1);
+    let name = words.next().context("no file is named")?;
+    let budget = words.next().context("no budget is named")?.parse::<u64>()?;
+    ensure!(budget >= 1, "the budget is 0");
+    let steps = words.next().context("no steps are named")?.parse::<u64>()?;
+    let instance = read(&rt, name.as_str())?;
+    measure(&rt, name.as_str(), &instance, budget, steps)
+}
+
+// The instance in a file.
+fn read<R: Files + AllocGlobal>(rt: &R, name: &str) -> Result<Instance> {
+    let bytes = fs::read(rt, name)?;
+    Ok(vrp_text::read(rt.alloc(), &bytes, None)?)
+}
+
+// Finds prices and searches by them, and prints what came of it.
+fn measure<R: Clock + Print + Eprint + AllocGlobal>(
+    rt: &R,
+    name: &str,
+    instance: &Instance,
+    budget: u64,
+    steps: u64,
+) -> Result<()>
+    requires { 1 ≤ budget }
+{
+    let plan = timed_plan(rt, instance)?;
+    let first = plan.cost();
+    let relaxation = timed_prices(rt, instance, first, steps)?;
+    let mut board = Local::open(Some(plan));
+    let ended = timed_search(rt, instance, &relaxation, budget, &mut board)?;
+    let cost = board.plan().context("no plan")?.cost();
+    let (verdict, looked) = match ended {
+        Ended::Finished { spent, .. } => ("finished", spent),
+        Ended::Unfinished { spent, .. } => ("unfinished", spent),
+    };
+    println!(rt;
+        "{name}: first plan {first}, {verdict}, {looked} partial plans looked at, cost {cost}"
+    )?;
+    Ok(())
+}
+
+// The first plan, and prints how long it took.
+fn timed_plan<R: Clock + Eprint + AllocGlobal>(rt: &R, instance: &Instance) -> Result<Plan>
+    ensures { IfOk result (IsPlanOf instance.now) }
+{
+    let start = Instant::now(rt)?;
+    let found = first_plan(rt.alloc(), instance, ENOUGH_MOVES)?;
+    print_time(rt, "first plan", start.elapsed(rt)?)?;
+    found.context("no first plan")
+}
+
+// Prices, and prints how long they took.
+fn timed_prices<'a, R: Clock + Eprint + AllocGlobal>(
+    rt: &R,
+    instance: &'a Instance,
+    cost: u64,
+    steps: u64,
+) -> Result<Relaxation<'a>>
+    ensures { IfOk result (λ relaxation. relaxation.problem ≡ instance.now) }
+{
+    let start = Instant::now(rt)?;
+    let found = find_prices(rt.alloc(), instance, cost, steps)?;
+    print_time(rt, "prices", start.elapsed(rt)?)?;
+    found.context("no prices")
+}
+
+// How the search of the whole tree ends, and prints how fast it looked.
+fn timed_search<R: Clock + Eprint + AllocGlobal>(
+    rt: &R,
+    instance: &Instance,
+    relaxation: &Relaxation<'_>,
+    budget: u64,
+    board: &mut Local,
+) -> Result<Ended>
+    requires relaxation { relaxation.now.problem ≡ instance.now }
+    requires board { ForSome board.old (IsPlanOf instance.now) }
+    requires budget { 1 ≤ budget }
+{
+    let start = Instant::now(rt)?;
+    let ended = search_whole(rt.alloc(), instance, relaxation, budget, board)?;
+    let time = start.elapsed(rt)?;
+    let (Ended::Finished { spent, .. } | Ended::Unfinished { spent, .. }) = &ended;
+    print_rate(rt, *spent, time)?;
+    Ok(ended)
+}
+
+// Searches the whole tree by prices.
+fn search_whole(
+    alloc: Global,
+    instance: &Instance,
+    relaxation: &Relaxation<'_>,
+    budget: u64,
+    board: &mut Local,
+) -> Result<Ended>
+    requires relaxation { relaxation.now.problem ≡ instance.now }
+    requires board { ForSome board.old (IsPlanOf instance.now) }
+    requires budget { 1 ≤ budget }
+{
+    let tables = Tables::over_all(alloc, instance)?;
+    let prices = Prices::new(alloc, relaxation)?;
+    let cutting = Cutting::whole(alloc, instance)?;
+    let piece = cutting.pieces().first().context("no piece")?;
+    Ok(search_by_prices(alloc, instance, &tables, &prices, piece, budget, board)?)
+}
+
+// Prints how long something took.
+fn print_time(rt: &impl Eprint, what: &str, time: Duration) -> Result<()> {
+    let milliseconds = time.as_millis();
+    eprintln!(rt; "{what}: {milliseconds} milliseconds")?;
+    Ok(())
+}
+
+// Prints the time, and the rate in millions a second, to its first place behind the point.
+fn print_rate(rt: &impl Eprint, looked: u64, time: Duration) -> Result<()> {
+    let microseconds = u64::try_from(time.as_micros()).unwrap_or(u64::MAX).max(1);
+    let tenths = looked.saturating_mul(10) / microseconds;
+    let (seconds, thousandths) = (microseconds / 1_000_000, microseconds / 1_000 % 1_000);
+    let (millions, tenth) = (tenths / 10, tenths % 10);
+    eprintln!(rt; "{seconds}.{thousandths:03} seconds, {millions}.{tenth} million each second")?;
+    Ok(())
+}

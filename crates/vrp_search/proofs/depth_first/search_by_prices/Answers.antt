@@ -1,0 +1,40 @@
+use Rattle.std.proofs.Common.{◌≡◌, ℕ, Option, Some, List, sym, subst}
+use Rattle.std.specs.Prelude.{IfNone, IfSome}
+use Rattle.std.proofs.lemmas.Result.{IfOk-weaker}
+use Rattle.vrp_model.specs.Word.{NoneCheaperUnder}
+use Rattle.vrp_search.specs.Partial.{PartialPlan}
+use Rattle.vrp_search.specs.Search.{EndsSearch, IsLow}
+use Rattle.vrp_search.specs.Inner.Under.{AllCostMore, EndsUnder}
+use Rattle.vrp_search.specs.declared.depth_first.Root.{Root}
+use Rattle.vrp_search.proofs.SearchProgress.{ends_at_root}
+use Rattle.vrp_search.proofs.depth_first.search_by_prices.Goals as goal
+
+pub returns-in_default-clause-ended : goal.returns-in_default-clause-ended
+returns-in_default-clause-ended g c =
+    let p = c.args.instance.now in
+    let root = c.args.piece.now.word in
+    let floor = g.B.Board.floor c.opened.new.board in
+    ends_at_root p root c.args.budget floor c.requires.piece c.requires.budget
+    (subst (λ (o : Option Root). IfNone o (AllCostMore p root floor)) c.in_default.is c.in_ok-partial.ensures.none)
+
+pub search_under-requires-clause-low : goal.search_under-requires-clause-low
+search_under-requires-clause-low g c =
+    let p = c.args.instance.now in
+    let root = c.args.piece.now.word in
+    let at : c.in-Some.field-0.partial ≡ record { problem = p; word = root } = subst (λ (o : Option Root). IfSome o (λ one. one.partial ≡ record { problem = p; word = root })) c.in-Some.is c.in_ok-partial.ensures.at in
+    let none = subst (λ (o : Option Root). IfSome o (λ one. NoneCheaperUnder p root one.low)) c.in-Some.is c.in_ok-partial.ensures.none_cheaper in
+    subst (λ (v : PartialPlan). NoneCheaperUnder v.problem v.word c.in-Some.field-0.low) (sym at) none
+
+pub returns-clause-ended : goal.returns-clause-ended
+returns-clause-ended g c =
+    let p = c.args.instance.now in
+    let among = c.args.tables.now.among in
+    let root = c.args.piece.now.word in
+    let one = c.in-Some.field-0 in
+    let budget = c.args.budget in
+    let floor = g.B.Board.floor c.search_under.new.board in
+    let at : one.partial ≡ record { problem = p; word = root } = subst (λ (o : Option Root). IfSome o (λ one. one.partial ≡ record { problem = p; word = root })) c.in-Some.is c.in_ok-partial.ensures.at in
+    let is_low : IsLow p among root (Some one.low) = subst (λ (o : Option Root). IfSome o (λ one. IsLow p among root (Some one.low))) c.in-Some.is c.in_ok-partial.ensures.low in
+    IfOk-weaker c.search_under.result (EndsUnder one.partial.problem one.partial.word one.low budget floor) (EndsSearch p among root budget floor)
+    (λ ended ends. subst (λ (v : PartialPlan). (among : List ℕ) → IsLow v.problem among v.word (Some one.low) → EndsSearch v.problem among v.word budget floor ended) at ends among is_low)
+    c.search_under.ensures.ended

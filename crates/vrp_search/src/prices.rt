@@ -1,0 +1,70 @@
+//! The prices that a search prunes by.
+ghost use Rattle.std.specs.Prelude.{◌≡◌, ℕ, ◌≤◌, List, IfOk, IsTrue};
+ghost use Rattle.vrp_model.specs.declared.limits.TheConstants.{NO_COST};
+ghost use Rattle.vrp_prices.specs.Relaxation.{Bounds};
+ghost use Rattle.vrp_search.specs.Inner.Paid.{IsPaidAt};
+ghost use Rattle.vrp_search.specs.Inner.Under.{AllCostMore};
+
+use crate::paid::Paid;
+use std::alloc::Global;
+use std::marker::Model;
+use vrp_bound::Tables;
+use vrp_model::{Instance, NoMemory};
+use vrp_prices::{Relaxation, dear_fronts};
+
+/// A relaxation of an instance by prices, and tables over all customers in it.
+#[derive(Drop)]
+pub struct Prices<'a> {
+    relaxation: &'a Relaxation<'a>,
+    tables: Tables<'a>,
+}
+
+impl<'a> Model for Prices<'a> {
+    ghost use Rattle.std.specs.Prelude.{◌≡◌};
+    ghost use Rattle.vrp_model.specs.Problem.{customers};
+    ghost use Rattle.vrp_prices.specs.Relaxation.{RelaxationOf};
+
+    ghost Value = { RelaxationOf };
+
+    ghost view = { λ a. a.relaxation.now };
+
+    ghost invariant = { λ a. a.tables ≡ record { problem = a.relaxation.now.relaxed; among = customers a.relaxation.now.relaxed } };
+}
+
+impl<'a> Prices<'a> {
+    /// The prices of a relaxation.
+    pub fn new(alloc: Global, relaxation: &'a Relaxation<'a>) -> Result<Prices<'a>, NoMemory>
+        ensures { IfOk result (λ prices. prices ≡ relaxation.now) }
+    {
+        let tables = Tables::over_all(alloc, relaxation.relaxed())?;
+        Ok(Prices { relaxation, tables })
+    }
+
+    /// The instance with prices.
+    #[inline(always)]
+    pub(crate) fn relaxed(&self) -> &Instance
+        ensures value { result.now ≡ self.now.relaxed }
+        // What is known of every relaxation.
+        ensures bounds { Bounds self.now }
+    {
+        self.relaxation.relaxed()
+    }
+
+    /// Whether the prices tell that each plan under a front costs more than this, where the front ends at this place and so much is
+    /// counted along it. Where they don't, nothing is said.
+    #[inline(always)]
+    pub(crate) fn is_dear(&self, at: u16, paid: Paid, cost: u64) -> bool
+        requires front { (front : List ℕ) × IsPaidAt self.now.relaxed front at paid }
+        requires cost { cost ≤ NO_COST }
+        ensures { IsTrue result → (front : List ℕ) → IsPaidAt self.now.relaxed front at paid → AllCostMore self.now.problem front cost }
+    {
+        dear_fronts();
+        let Some(limit) = self.relaxation.limit(cost) else {
+            return true;
+        };
+        match self.tables.q_bound(at, paid.load, paid.rest) {
+            Some(more) => limit < paid.cost + more,
+            None => true,
+        }
+    }
+}
