@@ -114,3 +114,6 @@ impl<'a> Pruning for ByPrices<'a> {
         partial.pop()
     }
 }
+
+#[cfg(test)]
+pub(crate) mod tests;

@@ -117,20 +117,20 @@ fn tables_over_those_left_are_tighter(rt: HostRuntime) -> Result<(), Fail> {
 // How a search is to end: how many partial plans it looks at, and then the word of the plan that it found, which is empty where it
 // found none; or, where it is left unfinished, the low.
 #[derive(Clone, Copy, Debug, PartialEq, Eq)]
-enum End {
+pub(crate) enum End {
     Finished(u64, &'static [u16]),
     Unfinished(u64, u64),
 }
 
-fn finished(spent: u64, first: &'static [u16]) -> End {
+pub(crate) fn finished(spent: u64, first: &'static [u16]) -> End {
     End::Finished(spent, first)
 }
 
-fn unfinished(spent: u64, low: u64) -> End {
+pub(crate) fn unfinished(spent: u64, low: u64) -> End {
     End::Unfinished(spent, low)
 }
 
-fn assert_end(rt: &impl Abort, ended: &Ended, end: End) {
+pub(crate) fn assert_end(rt: &impl Abort, ended: &Ended, end: End) {
     match (ended, end) {
         (Ended::Finished { spent, first }, End::Finished(looked, word)) => {
             assert_eq!(rt; *spent, looked);
@@ -174,7 +174,11 @@ fn assert_search(
 }
 
 // The depot and two customers on a line, five apart.
-fn three_on_a_line(rt: &impl Abort, alloc: Global, capacity: u64) -> Result<Instance, Fail> {
+pub(crate) fn three_on_a_line(
+    rt: &impl Abort,
+    alloc: Global,
+    capacity: u64,
+) -> Result<Instance, Fail> {
     assert!(rt; capacity <= 2);
     let points = [(0, 0), (3, 4), (6, 8)];
     let weights = Weights::points(alloc, Metric::Euc2d, &points)?;
@@ -182,7 +186,7 @@ fn three_on_a_line(rt: &impl Abort, alloc: Global, capacity: u64) -> Result<Inst
 }
 
 // Two customers, each a step from the depot, and nine steps from one another.
-fn two_far_apart(rt: &impl Abort, alloc: Global) -> Result<Instance, Fail> {
+pub(crate) fn two_far_apart(rt: &impl Abort, alloc: Global) -> Result<Instance, Fail> {
     let ways = [0, 1, 1, 1, 0, 9, 1, 9, 0];
     assert!(rt; ways.len() == Layout::FullMatrix.entries(3));
     assert!(rt; ways.iter().all(|&way| way <= 9));
@@ -191,7 +195,11 @@ fn two_far_apart(rt: &impl Abort, alloc: Global) -> Result<Instance, Fail> {
 }
 
 // The plan of one truck for two customers.
-fn one_truck(rt: &impl Abort, alloc: Global, instance: &Instance) -> Result<Plan, NoMemory>
+pub(crate) fn one_truck(
+    rt: &impl Abort,
+    alloc: Global,
+    instance: &Instance,
+) -> Result<Plan, NoMemory>
     ensures { IfOk result (IsPlanOf instance.now) }
 {
     let mut partial = Partial::root(alloc, instance)?;
@@ -255,7 +263,7 @@ fn round_trip(rt: &impl Abort, alloc: Global, instance: &Instance) -> Result<Pla
 }
 
 // So many nodes on a line, a step apart, the depot first. Each truck carries two customers.
-fn on_a_line(rt: &impl Abort, alloc: Global, nodes: u16) -> Result<Instance, Fail> {
+pub(crate) fn on_a_line(rt: &impl Abort, alloc: Global, nodes: u16) -> Result<Instance, Fail> {
     assert!(rt; 1 <= nodes && nodes <= MAX_NODES);
     let mut ways = Vec::new(alloc);
     for from in 0..nodes {
@@ -273,7 +281,7 @@ fn on_a_line(rt: &impl Abort, alloc: Global, nodes: u16) -> Result<Instance, Fai
 }
 
 // The piece by which each of the first customers has a truck of its own.
-fn singles_front(
+pub(crate) fn singles_front(
     rt: &impl Abort,
     alloc: Global,
     instance: &Instance,

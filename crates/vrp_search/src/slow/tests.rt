@@ -3,6 +3,7 @@ ghost use Rattle.std.specs.Option.{ForSome};
 ghost use Rattle.vrp_model.specs.Route.{IsPlanOf};
 
 use super::{Case, NODES, Small, begins_with, routes};
+use crate::by_prices::tests::search_all_by_prices;
 use crate::cutting::{Cutting, MAX_PIECES};
 use crate::depth_first::Ended;
 use crate::depth_first::tests::search_all;
@@ -12,6 +13,7 @@ use std::alloc::{AllocError, Global};
 use std::process::Abort;
 use std::test::Fail;
 use vrp_model::{Instance, NoMemory, Plan};
+use vrp_prices::Relaxation;
 
 // More steps than a walk through any of the trees takes.
 const MOST_STEPS: u32 = 10_000;
@@ -34,6 +36,19 @@ const CASES: [Case; 12] = [
     (3, [0, 1, 0, 2], 2),
     (3, [0, 0, 0, 0], 1),
 ];
+
+// Prices on the places, the depot's first, which is of no account, and a unit for the demands.
+const PRICES: [([i64; 4], u64); 6] = [
+    ([0, 0, 0, 0], 1),
+    ([9, 40, 10, 25], 1),
+    ([0, 35, 75, 20], 2),
+    ([0, 1_000, 0, 500], 3),
+    ([0, -8, -3, 12], 1),
+    ([0, -25, 90, 5], 2),
+];
+
+// How many times as much each way costs before prices.
+const SCALE: u64 = 10;
 
 #[test]
 fn walks_meet_all_fronts(rt: HostRuntime) -> Result<(), Fail> {
@@ -110,6 +125,56 @@ fn the_first_word_is_found(rt: HostRuntime) -> Result<(), Fail> {
         }
     }
     Ok(())
+}
+
+// So does the search by prices, whichever they are and in whichever unit. Rebates may make a way cost less than nothing: then there
+// are no prices.
+#[test]
+fn the_first_word_is_found_by_prices(rt: HostRuntime) -> Result<(), Fail> {
+    let mut found = 0u32;
+    for case in CASES {
+        for small in Small::kinds(case) {
+            let instance = small.instance(&rt, rt.alloc())?;
+            for (prices, unit) in PRICES {
+                let has_prices = assert_first_by_prices(
+                    &rt,
+                    rt.alloc(),
+                    &small,
+                    &instance,
+                    prices,
+                    unit,
+                )?;
+                assert!(rt; has_prices || prices.iter().any(|&price| price < 0));
+                found = found.saturating_add(u32::from(has_prices));
+            }
+        }
+    }
+    assert!(rt; found > 200, "{found}");
+    Ok(())
+}
+
+// Tells whether there are prices.
+fn assert_first_by_prices(
+    rt: &impl Abort,
+    alloc: Global,
+    small: &Small,
+    instance: &Instance,
+    prices: [i64; 4],
+    unit: u64,
+) -> Result<bool, Fail> {
+    assert!(rt; unit >= 1 && instance.customers() <= 3);
+    let prices = &prices[..usize::from(instance.customers()) + 1];
+    let Some(relaxation) = Relaxation::new(alloc, instance, SCALE, unit, prices)? else {
+        return Ok(false);
+    };
+    let mut board = Local::open(Plan::singles(alloc, instance)?);
+    let ended = search_all_by_prices(alloc, instance, &relaxation, u64::MAX, &mut board)?;
+    assert!(rt; matches!(&ended, Ended::Finished { .. }));
+    let first = small.first(alloc)?;
+    let wanted = first.as_ref().map(|(cost, word)| (*cost, word.as_slice()));
+    let kept = board.plan().map(|plan| (plan.cost(), plan.word()));
+    assert_eq!(rt; kept, wanted, "{small:?} {prices:?} {unit}");
+    Ok(true)
 }
 
 // The board that was opened with this plan, or with none, has the first one in the end.
