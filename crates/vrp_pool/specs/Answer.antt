@@ -56,3 +56,7 @@ abbrev pub IsAnswer : Problem → List (List ℕ) → ℕ → Answer → Type 0
 IsAnswer p cutting budget (Proven plan) = IsFirst p plan
 IsAnswer p cutting budget (Open plan low first) = IsLeftOpen p cutting budget plan low first
 IsAnswer p cutting budget NoPlan = HasNoPlan p
+
+-- an answer that speaks of no pieces
+abbrev pub AnswersAll : Problem → Answer → Type 0
+AnswersAll p answer = (cutting : List (List ℕ)) (budget : ℕ) → IsAnswer p cutting budget answer

@@ -4,13 +4,13 @@
 mod answers;
 mod conclusion;
 mod draws;
-mod first_plan;
 #[cfg(test)]
 mod fixture;
 mod gates;
 mod gathering;
 mod left_pieces;
 mod outcome;
+mod preparation;
 mod seat_board;
 mod shared;
 mod solver;

@@ -4,9 +4,11 @@ ghost use Rattle.std.specs.Prelude.{◌≡◌};
 use std::alloc::Global;
 use std::marker::Model;
 use vrp_bound::Tables;
-use vrp_model::Instance;
+use vrp_model::{Instance, Plan};
+use vrp_search::Prices;
 
-/// What is searched, how many partial plans may be looked at in each of so many pieces, and what is told before each.
+/// What is searched, and what was made before; how many partial plans may be looked at in each of so many pieces, and what is told
+/// before each.
 #[derive(Drop)]
 pub(crate) struct Shared<'a, R, G> {
     pub(crate) rt: &'a R,
@@ -14,6 +16,10 @@ pub(crate) struct Shared<'a, R, G> {
     pub(crate) instance: &'a Instance,
     // Over all customers.
     pub(crate) tables: &'a Tables<'a>,
+    // Is offered before the search.
+    pub(crate) first: Option<&'a Plan>,
+    // Where there are any, the search prunes by them alone.
+    pub(crate) prices: Option<&'a Prices<'a>>,
     pub(crate) pieces: u32,
     pub(crate) budget: u64,
     pub(crate) gate: &'a G,
@@ -21,12 +27,28 @@ pub(crate) struct Shared<'a, R, G> {
 
 impl<'a, R, G> Model for Shared<'a, R, G> {
     ghost use Rattle.std.specs.Prelude.{◌≡◌, ◌≤◌};
+    ghost use Rattle.std.specs.Option.{ForSome, option_map};
     ghost use Rattle.vrp_model.specs.Problem.{customers};
+    ghost use Rattle.vrp_model.specs.Route.{IsPlanOf};
     ghost use Rattle.vrp_pool.specs.Inner.Workers.{Search};
 
     ghost Value = { Search };
 
     ghost view = { λ s. record { problem = s.instance.now; pieces = s.pieces; budget = s.budget } };
 
-    ghost invariant = { λ s. (s.tables.now ≡ record { problem = s.instance.now; among = customers s.instance.now }) × (1 ≤ s.budget) };
+    ghost invariant = { λ s. (s.tables.now ≡ record { problem = s.instance.now; among = customers s.instance.now }) × (1 ≤ s.budget)
+        × ForSome (option_map (λ plan. plan.now) s.first) (IsPlanOf s.instance.now) × ForSome (option_map (λ prices. prices.now) s.prices) (λ prices. prices.problem ≡ s.instance.now) };
+}
+
+impl<'a, R, G> Shared<'a, R, G> {
+    /// The same, with prices to prune by.
+    pub(crate) fn by_prices(self, prices: &'a Prices<'a>) -> Shared<'a, R, G>
+        requires { prices.now.problem ≡ self.problem }
+        ensures { result ≡ self.entry }
+    {
+        Shared {
+            prices: Some(prices),
+            ..self
+        }
+    }
 }

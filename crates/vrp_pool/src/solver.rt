@@ -1,16 +1,18 @@
 //! The search of an instance by several workers.
-ghost use Rattle.std.specs.Prelude.{◌≡◌, ◌+◌, ◌*◌, ◌≤◌, IfOk, length, vec_len};
+ghost use Rattle.std.specs.Prelude.{◌≡◌, ◌+◌, ◌*◌, ◌≤◌, IfOk, IfSome, length, vec_len};
 ghost use Rattle.std.specs.Option.{option_map};
+ghost use Rattle.vrp_model.specs.Problem.{customers};
 ghost use Rattle.vrp_pile.specs.Pile.{IsNewPile};
 ghost use Rattle.vrp_search.specs.Cutting.{IsCutting};
 ghost use Rattle.vrp_search.specs.declared.cutting.TheConstants.{MAX_REFINED};
 ghost use Rattle.vrp_pool.specs.declared.solver.TheConstants.{MAX_WORKERS};
-ghost use Rattle.vrp_pool.specs.Answer.{IsAnswer};
+ghost use Rattle.vrp_pool.specs.Answer.{AnswersAll, IsAnswer};
 ghost use Rattle.vrp_pool.specs.Inner.Workers.{words_of};
 
 use crate::answers::{Answer, SolveError};
 use crate::conclusion::conclude;
-use crate::gates::Gate;
+use crate::gates::{Gate, NoGate};
+use crate::preparation::{LEAST_PREPARED_BUDGET, first_plan, relaxation};
 use crate::shared::Shared;
 use crate::team::searched_by_all;
 use std::alloc::Global;
@@ -22,7 +24,7 @@ use vrp_bound::Tables;
 use vrp_model::{Instance, NoMemory, Plan};
 use vrp_pile::{Owner, Pile, Thief};
 use vrp_register::{Book, Caller, Closed, Register};
-use vrp_search::Cutting;
+use vrp_search::{Cutting, Prices};
 
 #[cfg(test)]
 mod tests;
@@ -30,21 +32,27 @@ mod tests;
 /// The most workers that may be asked for.
 pub const MAX_WORKERS: u32 = 64;
 
+// How many partial plans of the whole tree are looked at before anything else is done: small trees end there.
+const FIRST_LOOK: u64 = 20_000;
+
 /// Searches all pieces of a cutting, each with this budget, by so many workers, each in a thread of its own where one can be made.
 /// They draw the pieces from one pile and offer their plans to one register, which opens with the plan of one truck for each
-/// customer, where there are so many trucks, and is offered a first plan before the search, if one is found and the budget is no
-/// less than 1,000: by savings, and with no less than 100,000 partial plans for all pieces also by ruin and recreate. The search
-/// bounds by tables over all customers. A piece that it leaves unfinished is bounded once more at the end, where that may count, by
-/// tables over the customers that the piece leaves unserved; where each plan under it then costs more than the best one, it is
-/// finished. A gate is told before each piece. The cutting is given up.
-pub fn solve<R: Threads + Wait + Sync, G: Gate + Sync>(
-    rt: &R,
+/// customer, where there are so many trucks. The search bounds by tables over all customers. A piece that it leaves unfinished is
+/// bounded once more at the end, where that may count, by tables over the customers that the piece leaves unserved; where each plan
+/// under it then costs more than the best one, it is finished. A gate is told before each piece. The cutting is given up.
+///
+/// Where the budget is no less than 1,000, there is more before. One worker looks at the whole tree, at no more than 20,000 partial
+/// plans and no more than the budget: where that is enough, nothing else is done, and the gate is told nothing. Else a first plan is
+/// offered, if one is found: by savings, and with no less than 100,000 partial plans for all pieces also by ruin and recreate. And
+/// prices are made, if there is such a plan and prices are found: then the search of a piece prunes by them.
+pub fn solve<'a, R: Threads + Wait + Sync, G: Gate + Sync>(
+    rt: &'a R,
     alloc: Global,
-    instance: &Instance,
+    instance: &'a Instance,
     cutting: Cutting,
     workers: u32,
     budget: u64,
-    gate: &G,
+    gate: &'a G,
 ) -> Result<Answer, SolveError>
     requires cutting { IsCutting instance.now cutting }
     requires few { length cutting ≤ 2 * MAX_REFINED }
@@ -54,18 +62,90 @@ pub fn solve<R: Threads + Wait + Sync, G: Gate + Sync>(
     ensures { IfOk result (IsAnswer instance.now cutting budget) }
 {
     let tables = Tables::over_all(alloc, instance)?;
+    if let Some(answer) = looked_at(rt, alloc, instance, &tables, budget)? {
+        return Ok(answer);
+    }
+    let pieces = cutting.pieces().len() as u32;
+    let in_all = budget.saturating_mul(u64::from(pieces));
+    let first = first_plan(alloc, instance, budget, in_all)?;
+    let Some(relaxation) = relaxation(alloc, instance, first.as_ref(), in_all)? else {
+        let shared = Shared {
+            rt,
+            alloc,
+            instance,
+            tables: &tables,
+            first: first.as_ref(),
+            prices: None,
+            pieces,
+            budget,
+            gate,
+        };
+        return Ok(solve_pieces(&shared, cutting, workers)?);
+    };
+    let prices = Prices::new(alloc, &relaxation)?;
     let shared = Shared {
         rt,
         alloc,
         instance,
         tables: &tables,
-        pieces: cutting.pieces().len() as u32,
+        first: first.as_ref(),
+        prices: Some(&prices),
+        pieces,
         budget,
         gate,
     };
-    let (owner, thieves) = Pile::new(alloc, cutting, workers - 1)?;
+    Ok(solve_pieces(&shared, cutting, workers)?)
+}
+
+// What a look at the whole tree by one worker answers. `None` where there is none with so small a budget, or it is not enough.
+fn looked_at<'a, R: Threads + Wait + Sync>(
+    rt: &'a R,
+    alloc: Global,
+    instance: &'a Instance,
+    tables: &'a Tables<'a>,
+    budget: u64,
+) -> Result<Option<Answer>, NoMemory>
+    requires tables { tables.now ≡ record { problem = instance.now; among = customers instance.now } }
+    ensures { IfOk result (λ found. IfSome found (AnswersAll instance.now)) }
+{
+    if budget < LEAST_PREPARED_BUDGET {
+        return Ok(None);
+    }
+    let whole = Cutting::whole(alloc, instance)?;
+    let shared = Shared {
+        rt,
+        alloc,
+        instance,
+        tables,
+        first: None,
+        prices: None,
+        pieces: whole.pieces().len() as u32,
+        budget: budget.min(FIRST_LOOK),
+        gate: &NoGate,
+    };
+    match solve_pieces(&shared, whole, 1)? {
+        Answer::Proven(plan) => Ok(Some(Answer::Proven(plan))),
+        Answer::NoPlan => Ok(Some(Answer::NoPlan)),
+        Answer::Open { .. } => Ok(None),
+    }
+}
+
+// Searches all pieces of a cutting by so many workers, who draw them from one pile.
+fn solve_pieces<R: Threads + Wait + Sync, G: Gate + Sync>(
+    shared: &Shared<'_, R, G>,
+    cutting: Cutting,
+    workers: u32,
+) -> Result<Answer, NoMemory>
+    requires cutting { IsCutting shared.now.problem cutting }
+    requires few { length cutting ≤ 2 * MAX_REFINED }
+    requires pieces { shared.now.pieces ≡ length cutting }
+    requires some_worker { 1 ≤ workers }
+    requires few_workers { workers ≤ MAX_WORKERS }
+    ensures { IfOk result (IsAnswer shared.now.problem cutting shared.now.budget) }
+{
+    let (owner, thieves) = Pile::new(shared.alloc, cutting, workers - 1)?;
     let blank = Blank::new(u64::from(workers));
-    Ok(solve_pile::<Brand, R, G>(&shared, owner, thieves, blank)?)
+    solve_pile::<Brand, R, G>(shared, owner, thieves, blank)
 }
 
 // The same, by workers who draw as the owner and the thieves of a pile. The blank becomes the ledger of their accepted offers.

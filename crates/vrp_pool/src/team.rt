@@ -6,7 +6,6 @@ ghost use Rattle.vrp_model.specs.Route.{IsPlanOf};
 ghost use Rattle.vrp_pile.specs.Pile.{IsNewPile};
 ghost use Rattle.vrp_pool.specs.Inner.Workers.{AreBack, AreFronts, AreNewCallers, CanWork, HasHelped, HasWorked, HaveHelped, IsTeam, words_of};
 
-use crate::first_plan::first_plan;
 use crate::gates::Gate;
 use crate::outcome::Searched;
 use crate::shared::Shared;
@@ -14,12 +13,12 @@ use crate::worker::Worker;
 use std::sync::Wait;
 use std::sync::ledger::Ledger;
 use std::thread::{Threads, for_each_mut, join};
-use vrp_model::{NoMemory, Plan};
+use vrp_model::NoMemory;
 use vrp_pile::{Owner, Thief};
 use vrp_register::{Caller, Register};
 
-/// The register's callers, after each has worked, and what they leave of the pieces. The lead offers a first plan before they
-/// search, if one is found.
+/// The register's callers, after each has worked, and what they leave of the pieces. The lead offers the first plan before they
+/// search, if there is one.
 pub(crate) fn searched_by_all<
     'a,
     R: Threads + Wait + Sync,
@@ -40,9 +39,8 @@ pub(crate) fn searched_by_all<
     ensures back { IfOk result (λ found. AreBack shared.now register.entry.now found.0.items found.1) }
     ensures put { IfOk result (λ found. found.1.pile.put ≡ owner.put) }
 {
-    let first = first_plan(shared)?;
     let (lead, helpers) = new_team(shared, register, owner, thieves, callers)?;
-    all_searched(shared, first.as_ref(), lead, helpers)
+    all_searched(shared, lead, helpers)
 }
 
 // Worker 0, who draws as the owner of the pile, and a helper for each thief. Each is one of the callers.
@@ -128,17 +126,15 @@ fn helped<'a, R: Threads + Wait + Sync, L: Ledger + Send + Sync, G: Gate + Sync>
 // pieces.
 fn all_searched<R: Threads + Wait + Sync, L: Ledger + Send + Sync, G: Gate + Sync>(
     shared: &Shared<'_, R, G>,
-    first: Option<&Plan>,
     lead: Worker<'_, Owner, R, L>,
     helpers: Vec<Worker<'_, Thief, R, L>>,
 ) -> Result<(Vec<Caller<L>>, Searched), NoMemory>
     requires team { IsTeam shared.now lead.board.register lead helpers.items }
     requires fine { All (λ helper. helper.refused ≡ false) helpers.items }
-    requires first { ForSome (option_map (λ plan. plan.now) first) (IsPlanOf shared.now.problem) }
     ensures back { IfOk result (λ found. AreBack shared.now lead.entry.board.register found.0.items found.1) }
     ensures put { IfOk result (λ found. found.1.pile.put ≡ lead.entry.drawer.put) }
 {
-    let lead = lead.offered(shared, first)?;
+    let lead = lead.offered(shared, shared.first)?;
     let (mut lead, helpers) = worked(shared, lead, helpers)?;
     let mut callers = Vec::new(shared.alloc);
     for helper in helpers {

@@ -4,7 +4,7 @@ ghost use Rattle.std.specs.Option.{ForSome, option_map};
 ghost use Rattle.vrp_model.specs.Route.{IsPlanOf};
 ghost use Rattle.vrp_model.specs.Word.{IsFront};
 ghost use Rattle.vrp_pool.specs.SeatBoard.{IsLater, floor_of};
-ghost use Rattle.vrp_pool.specs.Inner.Workers.{CanWork, HasHelped, HasSearched, IsNewCaller, IsOutcome, IsTakenOver, IsWorked, IsWorker, new_worker};
+ghost use Rattle.vrp_pool.specs.Inner.Workers.{CanWork, EndsPiece, HasHelped, HasSearched, IsNewCaller, IsOutcome, IsTakenOver, IsWorked, IsWorker, new_worker};
 
 use crate::draws::Draws;
 use crate::gates::Gate;
@@ -17,7 +17,7 @@ use std::sync::ledger::Ledger;
 use vrp_model::{NoMemory, Plan, plans_cost_less};
 use vrp_pile::{Drawn, Owner, Thief};
 use vrp_register::{Caller, Register};
-use vrp_search::{Board, Ended, Piece, search};
+use vrp_search::{Board, Ended, Piece, search, search_by_prices};
 
 // How often in a row a worker may be told that others were drawing, before it draws no more.
 const MAX_BUSY: u32 = 1_000;
@@ -177,14 +177,7 @@ fn searched<R: Wait, L: Ledger, G: Gate>(
     ensures later { IsLater board.old board.new }
     ensures kept { IfOk result (IsOutcome shared.now (floor_of board.new) piece) }
 {
-    let ended = search(
-        shared.alloc,
-        shared.instance,
-        shared.tables,
-        &piece,
-        shared.budget,
-        board,
-    )?;
+    let ended = end_of_search(shared, &piece, board)?;
     match ended {
         Ended::Finished { first, .. } => Ok(Outcome::Finished(Finished {
             number: piece.number(),
@@ -192,5 +185,33 @@ fn searched<R: Wait, L: Ledger, G: Gate>(
             first,
         })),
         Ended::Unfinished { low, .. } => Ok(Outcome::Unfinished(Left { piece, low })),
+    }
+}
+
+// The search of a piece: by prices, where there are any.
+fn end_of_search<R: Wait, L: Ledger, G: Gate>(
+    shared: &Shared<'_, R, G>,
+    piece: &Piece,
+    board: &mut SeatBoard<'_, R, L>,
+) -> Result<Ended, NoMemory>
+    requires front { IsFront shared.now.problem piece.now.word }
+    requires serves { ForSome board.old.best (IsPlanOf shared.now.problem) }
+    ensures serves { ForSome board.new.best (IsPlanOf shared.now.problem) }
+    ensures falls { floor_of board.new ≤ floor_of board.old }
+    ensures later { IsLater board.old board.new }
+    ensures ended { IfOk result (EndsPiece shared.now piece.now.word (floor_of board.new)) }
+{
+    let (alloc, instance, tables) = (shared.alloc, shared.instance, shared.tables);
+    match shared.prices {
+        Some(prices) => search_by_prices(
+            alloc,
+            instance,
+            tables,
+            prices,
+            piece,
+            shared.budget,
+            board,
+        ),
+        None => search(alloc, instance, tables, piece, shared.budget, board),
     }
 }

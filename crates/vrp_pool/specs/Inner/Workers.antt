@@ -10,7 +10,8 @@ use Rattle.vrp_pile.specs.Pile.{AreShared, DrawerState, IsTakenIn, PileId}
 use Rattle.vrp_pile.specs.declared.limits.TheConstants.{MAX_DRAWERS}
 use Rattle.vrp_register.specs.Caller.{AreCallersOf, CallerState, IsCallerOf, RegisterState}
 use Rattle.vrp_search.specs.Cutting.{NumberedWord}
-use Rattle.vrp_search.specs.Search.{IsLow, NoneBeforeUnder}
+use Rattle.vrp_search.specs.declared.depth_first.Ended.{Ended}
+use Rattle.vrp_search.specs.Search.{EndsSearch, IsLow, NoneBeforeUnder}
 use Rattle.vrp_pool.specs.SeatBoard.{IsLater, SeatBoardState, floor_of, least_seen}
 use Rattle.vrp_pool.specs.declared.outcome.Finished.{Finished}
 use Rattle.vrp_pool.specs.declared.outcome.Left.{Left}
@@ -47,6 +48,10 @@ pub record IsLeftPiece (s : Search) (piece : NumberedWord) (left : Left) : Type 
   pub none_cheaper : NoneCheaperUnder s.problem piece.word left.low
 
 -- what is known of a piece that was searched
+-- as a search does that has tables over all customers
+abbrev pub EndsPiece : Search → List ℕ → ℕ → Ended → Type 0
+EndsPiece s word floor ended = EndsSearch s.problem (customers s.problem) word s.budget floor ended
+
 abbrev pub IsOutcome : Search → ℕ → NumberedWord → Outcome → Type 0
 IsOutcome s least piece (outcome.Finished done) = IsFinishedPiece s least piece done
 IsOutcome s least piece (outcome.Unfinished left) = IsLeftPiece s piece left

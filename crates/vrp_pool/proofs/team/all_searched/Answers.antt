@@ -1,8 +1,10 @@
 use Rattle.std.proofs.Common.{◌≡◌, ◌∙◌, List, [], length, ap, subst, sym, rules}
 use Rattle.std.specs.List.{All}
+use Rattle.std.specs.Option.{ForSome, option_map}
+use Rattle.vrp_model.specs.Route.{IsPlanOf}
 use Rattle.std.proofs.lemmas.List.Elements.{All-head}
 use Rattle.vrp_register.specs.Caller.{CallerState, IsCallerOf, RegisterState}
-use Rattle.vrp_pool.specs.Inner.Workers.{IsTeam, IsWorker, WorkerState}
+use Rattle.vrp_pool.specs.Inner.Workers.{IsTeam, IsWorker, Search, WorkerState}
 use Rattle.vrp_pool.proofs.Teams.{IsPartly, all_back, lead_worked, none_taken_over, one_taken_over}
 use Rattle.vrp_pool.proofs.team.all_searched.Goals as goal
 
@@ -66,3 +68,6 @@ returns-clause-back g c =
     (all_back s register put callers caller rest lead later _ none c.loop-helper.invariant drawn.worked drawn.searched drawn.at_end (parts.caller ∙ ap (λ (w : WorkerState). w.board.caller) view)
     (subst (λ (w : WorkerState). IsCallerOf w.board.register caller) view parts.one_of) parts.no_less
     (ap (λ (w : WorkerState). w.drawer) view) (ap (λ (w : WorkerState). w.outcomes) view) (parts.best ∙ ap (λ (w : WorkerState). w.board.best) view))
+
+pub offered-requires-clause-plan : goal.offered-requires-clause-plan
+offered-requires-clause-plan g c = subst (λ (s : Search). ForSome (option_map (λ plan. plan.now) c.shared.inside.first) (IsPlanOf s.problem)) c.shared.view_is c.shared.invariant.2

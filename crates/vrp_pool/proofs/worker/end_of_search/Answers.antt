@@ -1,0 +1,65 @@
+use Rattle.std.proofs.Common.{ap, sym, subst}
+use Rattle.std.specs.Prelude.{IfOk}
+use Rattle.std.proofs.lemmas.Result.{IfOk-weaker}
+use Rattle.std.specs.Option.{ForSome, option_map}
+use Rattle.vrp_bound.specs.Tables.{TablesOf}
+use Rattle.vrp_model.specs.Route.{IsPlanOf}
+use Rattle.vrp_model.proofs.UnservedCustomers.{unserved_are_customers}
+use Rattle.vrp_search.specs.Search.{AreCovered, EndsSearch}
+use Rattle.vrp_pool.specs.SeatBoard.{floor_of}
+use Rattle.vrp_pool.specs.Inner.Workers.{EndsPiece, Search}
+use Rattle.vrp_pool.proofs.Floors.{later_itself}
+use Rattle.vrp_pool.proofs.worker.end_of_search.Goals as goal
+
+pub search_by_prices-requires-clause-prices : goal.search_by_prices-requires-clause-prices
+search_by_prices-requires-clause-prices g c = c.shared.invariant.3 c.in-Some.prices.now (ap (option_map (λ prices. prices.now)) c.in-Some.is)
+
+pub search_by_prices-requires-clause-covered : goal.search_by_prices-requires-clause-covered
+search_by_prices-requires-clause-covered g c =
+    let p = c.shared.inside.instance.now in
+    let front = c.args.piece.now.word in
+    subst (λ (tables : TablesOf). AreCovered p tables.among front) (sym c.shared.invariant.0) (unserved_are_customers p front)
+
+pub search_by_prices-requires-clause-board : goal.search_by_prices-requires-clause-board
+search_by_prices-requires-clause-board g c = subst (λ (s : Search). ForSome c.args.board.now.best (IsPlanOf s.problem)) (sym c.shared.view_is) c.requires.serves
+
+pub search-requires-clause-covered : goal.search-requires-clause-covered
+search-requires-clause-covered g c =
+    let p = c.shared.inside.instance.now in
+    let front = c.args.piece.now.word in
+    subst (λ (tables : TablesOf). AreCovered p tables.among front) (sym c.shared.invariant.0) (unserved_are_customers p front)
+
+pub search-requires-clause-board : goal.search-requires-clause-board
+search-requires-clause-board g c = subst (λ (s : Search). ForSome c.args.board.now.best (IsPlanOf s.problem)) (sym c.shared.view_is) c.requires.serves
+
+pub returns-in-Some-clause-serves : goal.returns-in-Some-clause-serves
+returns-in-Some-clause-serves g c = subst (λ (s : Search). ForSome c.search_by_prices.new.board.best (IsPlanOf s.problem)) c.shared.view_is c.search_by_prices.ensures.serves
+
+pub returns-in-Some-clause-later : goal.returns-in-Some-clause-later
+returns-in-Some-clause-later g c = c.search_by_prices.ensures.keeps c.args.board.now (later_itself c.args.board.now)
+
+pub returns-in-None-clause-serves : goal.returns-in-None-clause-serves
+returns-in-None-clause-serves g c = subst (λ (s : Search). ForSome c.search.new.board.best (IsPlanOf s.problem)) c.shared.view_is c.search.ensures.serves
+
+pub returns-in-None-clause-later : goal.returns-in-None-clause-later
+returns-in-None-clause-later g c = c.search.ensures.keeps c.args.board.now (later_itself c.args.board.now)
+
+pub returns-in-Some-clause-ended : goal.returns-in-Some-clause-ended
+returns-in-Some-clause-ended g c =
+    let p = c.shared.inside.instance.now in
+    let s : Search = record { problem = p; pieces = c.shared.inside.pieces; budget = c.shared.inside.budget } in
+    let floor = floor_of c.search_by_prices.new.board in
+    let word = c.args.piece.now.word in
+    subst (λ (s : Search). IfOk c.search_by_prices.result (EndsPiece s word floor)) c.shared.view_is
+    (IfOk-weaker c.search_by_prices.result (EndsSearch p c.shared.inside.tables.now.among word s.budget floor) (EndsPiece s word floor)
+    (λ ended ends. subst (λ (tables : TablesOf). EndsSearch p tables.among word s.budget floor ended) c.shared.invariant.0 ends) c.search_by_prices.ensures.ended)
+
+pub returns-in-None-clause-ended : goal.returns-in-None-clause-ended
+returns-in-None-clause-ended g c =
+    let p = c.shared.inside.instance.now in
+    let s : Search = record { problem = p; pieces = c.shared.inside.pieces; budget = c.shared.inside.budget } in
+    let floor = floor_of c.search.new.board in
+    let word = c.args.piece.now.word in
+    subst (λ (s : Search). IfOk c.search.result (EndsPiece s word floor)) c.shared.view_is
+    (IfOk-weaker c.search.result (EndsSearch p c.shared.inside.tables.now.among word s.budget floor) (EndsPiece s word floor)
+    (λ ended ends. subst (λ (tables : TablesOf). EndsSearch p tables.among word s.budget floor ended) c.shared.invariant.0 ends) c.search.ensures.ended)
