@@ -14,12 +14,15 @@ use vrp_model::{Instance, NoMemory};
 // The most rounds; few instances take as many.
 const MAX_ROUNDS: u64 = 600;
 
+// With fewer rounds prices would prune less than what they stand in for.
+const LEAST_ROUNDS: u64 = 100;
+
 // What a plan should cost at most by the scale.
 const SCALED_COST: u64 = 1_000_000_000;
 
 /// A relaxation by prices that bound the instance's plans well, where a plan of it costs so much. At most so many steps are taken
-/// to find them: looks from one cell of a table at another. `None` where no unit makes the tables small, or the prices are out of
-/// range. Which prices they are is left open: any bound the instance's plans.
+/// to find them: looks from one cell of a table at another. `None` where these are too few for a hundred rounds, or no unit makes
+/// the tables small, or the prices are out of range. Which prices they are is left open: any bound the instance's plans.
 pub fn find_prices<'a>(
     alloc: Global,
     instance: &'a Instance,
@@ -34,6 +37,9 @@ pub fn find_prices<'a>(
     let scale = (SCALED_COST / cost.max(1)).clamp(1, MAX_SCALE);
     let size = Size::in_units(instance, unit);
     let rounds = (steps / size.steps().max(1)).min(MAX_ROUNDS);
+    if rounds < LEAST_ROUNDS {
+        return Ok(None);
+    }
     let mut walks = Walks::new(alloc, instance, scale, unit, size)?;
     let places = usize::from(instance.customers()) + 1;
     let aim = i64::try_from(cost).unwrap_or(i64::MAX);

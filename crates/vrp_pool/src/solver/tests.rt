@@ -16,6 +16,9 @@ mod gated;
 
 const AMPLE: u64 = 1_000_000;
 
+// The largest budget with which nothing comes before the pieces; it is enough for each piece of a small tree.
+const ENOUGH: u64 = 999;
+
 // A cutting into at least so many pieces, or as many as there can be.
 fn cut(alloc: Global, instance: &Instance, pieces: u32) -> Result<Cutting, NoMemory>
     requires { pieces ≤ MAX_PIECES }
@@ -52,7 +55,8 @@ fn no_customers(rt: HostRuntime) -> Result<(), Fail> {
     assert_proven(&rt, rt.alloc(), &instance, (2, 2), 0, &[])
 }
 
-// Asserts that a search by so many workers of so many pieces proves a plan, its cost and its word.
+// Asserts that a search by so many workers of so many pieces proves a plan, its cost and its word: by the pieces, and by a look before
+// them.
 fn assert_proven<R: Abort + Threads + Wait + Sync>(
     rt: &R,
     alloc: Global,
@@ -63,14 +67,16 @@ fn assert_proven<R: Abort + Threads + Wait + Sync>(
 ) -> Result<(), Fail> {
     assert!(rt; 1 <= workers && workers <= MAX_WORKERS);
     assert!(rt; pieces <= MAX_PIECES);
-    let cutting = cut(alloc, instance, pieces)?;
-    match solve(rt, alloc, instance, cutting, workers, AMPLE, &NoGate)? {
-        Answer::Proven(plan) => {
-            assert_eq!(rt; plan.cost(), cost, "{workers} {pieces}");
-            assert_eq!(rt; plan.word(), word, "{workers} {pieces}");
-        }
-        Answer::Open { .. } | Answer::NoPlan => {
-            assert!(rt; false, "{workers} {pieces}: not proven")
+    for budget in [ENOUGH, AMPLE] {
+        let cutting = cut(alloc, instance, pieces)?;
+        match solve(rt, alloc, instance, cutting, workers, budget, &NoGate)? {
+            Answer::Proven(plan) => {
+                assert_eq!(rt; plan.cost(), cost, "{workers} {pieces} {budget}");
+                assert_eq!(rt; plan.word(), word, "{workers} {pieces} {budget}");
+            }
+            Answer::Open { .. } | Answer::NoPlan => {
+                assert!(rt; false, "{workers} {pieces} {budget}: not proven")
+            }
         }
     }
     Ok(())
@@ -172,8 +178,22 @@ fn too_few_trucks(rt: HostRuntime) -> Result<(), Fail> {
     let instance = three_nodes(rt.alloc(), 1)?.with_trucks(1);
     for (workers, pieces) in [(1, 1), (2, 2), (8, 4)] {
         let cutting = cut(rt.alloc(), &instance, pieces)?;
-        let answer = solve(&rt, rt.alloc(), &instance, cutting, workers, AMPLE, &NoGate)?;
+        let answer = solve(
+            &rt,
+            rt.alloc(),
+            &instance,
+            cutting,
+            workers,
+            ENOUGH,
+            &NoGate,
+        )?;
         assert!(rt; matches!(answer, Answer::NoPlan), "{workers} {pieces}");
+        let cutting = cut(rt.alloc(), &instance, pieces)?;
+        let answer = solve(&rt, rt.alloc(), &instance, cutting, workers, AMPLE, &NoGate)?;
+        assert!(rt;
+            matches!(answer, Answer::NoPlan),
+            "{workers} {pieces}, by a look"
+        );
     }
     Ok(())
 }

@@ -171,7 +171,7 @@ fn one_helper_searches_all_others(rt: HostRuntime) -> Result<(), Fail> {
     let gate = Holds::until(Held::Lead, cutting.pieces().len() as u64);
     let wanted = Wanted {
         workers: 2,
-        budget: AMPLE,
+        budget: ENOUGH,
         gate: &gate,
         cost: 100,
     };
@@ -188,7 +188,7 @@ fn all_work_at_once(rt: HostRuntime) -> Result<(), Fail> {
         let gate = Holds::until(Held::All, u64::from(workers));
         let wanted = Wanted {
             workers,
-            budget: AMPLE,
+            budget: ENOUGH,
             gate: &gate,
             cost: 100,
         };
