@@ -39,16 +39,3 @@ impl<'a, R, G> Model for Shared<'a, R, G> {
     ghost invariant = { λ s. (s.tables.now ≡ record { problem = s.instance.now; among = customers s.instance.now }) × (1 ≤ s.budget)
         × ForSome (option_map (λ plan. plan.now) s.first) (IsPlanOf s.instance.now) × ForSome (option_map (λ prices. prices.now) s.prices) (λ prices. prices.problem ≡ s.instance.now) };
 }
-
-impl<'a, R, G> Shared<'a, R, G> {
-    /// The same, with prices to prune by.
-    pub(crate) fn by_prices(self, prices: &'a Prices<'a>) -> Shared<'a, R, G>
-        requires { prices.now.problem ≡ self.problem }
-        ensures { result ≡ self.entry }
-    {
-        Shared {
-            prices: Some(prices),
-            ..self
-        }
-    }
-}
