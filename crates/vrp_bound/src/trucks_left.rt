@@ -6,13 +6,7 @@ use vrp_model::Instance;
 
 /// Whether the truck that is out at a place with this load, and so many that may still leave the depot, can carry the rest. Where
 /// their number isn't known, as many may leave as are wanted.
-pub fn can_carry(
-    instance: &Instance,
-    at: u16,
-    load: u64,
-    rest: u64,
-    left: Option<u16>,
-) -> bool
+pub fn can_carry(instance: &Instance, at: u16, load: u64, rest: u64, left: Option<u16>) -> bool
     requires load { load ≤ instance.now.capacity }
     ensures { IsTrue result ↔ CanCarry instance.now at load rest left }
 {
