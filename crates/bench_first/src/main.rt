@@ -34,7 +34,7 @@ fn read<R: Files + AllocGlobal>(rt: &R, name: &str) -> Result<Instance> {
     Ok(vrp_text::read(rt.alloc(), &bytes, None)?)
 }
 
-// The instance in a file with so many trucks.
+// The instance in a file with this many trucks.
 fn limited<R: Files + AllocGlobal>(rt: &R, name: &str, trucks: u16) -> Result<Instance> {
     ensure!(1 <= trucks && trucks <= MAX_TRUCKS, "{trucks} trucks");
     Ok(read(rt, name)?.with_trucks(trucks))

@@ -14,7 +14,7 @@ use std::time::{Duration, Instant};
 use std::{env, fs};
 use vrp_bound::Tables;
 use vrp_first::{ENOUGH_MOVES, first_plan};
-use vrp_model::{Instance, Plan};
+use vrp_model::{Instance, NO_COST, Plan};
 use vrp_prices::{Relaxation, find_prices};
 use vrp_search::{Cutting, Ended, Local, Prices, search_by_prices};
 
@@ -47,6 +47,7 @@ fn measure<R: Clock + Print + Eprint + AllocGlobal>(
     let plan = timed_plan(rt, instance)?;
     let first = plan.cost();
     let relaxation = timed_prices(rt, instance, first, steps)?;
+    print_bound(rt, &relaxation, first.min(NO_COST))?;
     let mut board = Local::open(Some(plan));
     let ended = timed_search(rt, instance, &relaxation, budget, &mut board)?;
     let cost = board.plan().context("no plan")?.cost();
@@ -83,6 +84,27 @@ fn timed_prices<'a, R: Clock + Eprint + AllocGlobal>(
     let found = find_prices(rt.alloc(), instance, cost, steps)?;
     print_time(rt, "prices", start.elapsed(rt)?)?;
     found.context("no prices")
+}
+
+// Prints what each plan costs at least by the prices, to its second place behind the point.
+fn print_bound<R: Eprint + AllocGlobal>(
+    rt: &R,
+    relaxation: &Relaxation<'_>,
+    cost: u64,
+) -> Result<()>
+    requires { cost ≤ NO_COST }
+{
+    let tables = Tables::over_all(rt.alloc(), relaxation.relaxed())?;
+    let whole = relaxation.relaxed().whole_demand();
+    let tours = tables.q_bound(0, 0, whole).context("no tours")?;
+    let limit = relaxation.limit(cost).context("no limit")?;
+    // Each plan costs at least as much less than this one as the least tours cost less than its limit.
+    let scale = relaxation.scale().max(1);
+    let less = limit.saturating_sub(tours).saturating_mul(100) / scale;
+    let bound = cost.saturating_mul(100).saturating_sub(less);
+    let (whole, hundredths) = (bound / 100, bound % 100);
+    eprintln!(rt; "no plan costs less than {whole}.{hundredths:02}")?;
+    Ok(())
 }
 
 // How the search of the whole tree ends, and prints how fast it looked.

@@ -54,7 +54,7 @@ fn main(rt: HostRuntime) -> Result<()> {
     Ok(())
 }
 
-// Prints for each number of pieces the end of the report on a file, with so many trucks or as many as are wanted. Each line
+// Prints for each number of pieces the end of the report on a file, with this many trucks or as many as are wanted. Each line
 // begins with the word.
 fn print_endings<R: Files + Print + AllocGlobal + Threads + Wait + Sync>(
     rt: &R,
@@ -77,7 +77,7 @@ fn print_endings<R: Files + Print + AllocGlobal + Threads + Wait + Sync>(
     Ok(())
 }
 
-// How many workers search so many pieces.
+// How many workers search this many pieces.
 fn crew(pieces: u32) -> u32 {
     match pieces {
         1 => 8,
@@ -144,7 +144,7 @@ fn read_range(ending: &str) -> Result<Range> {
     Ok(Range { lower, cost })
 }
 
-// The report on a file, with so many trucks and this budget for each piece.
+// The report on a file, with this many trucks and this budget for each piece.
 fn report<R: Files + AllocGlobal + Threads + Wait + Sync>(
     rt: &R,
     name: &str,

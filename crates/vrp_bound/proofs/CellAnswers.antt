@@ -26,7 +26,7 @@ least_same_list : (p q : Problem) (among others : List ℕ) (at load rest cell :
 least_same_list p q among others at load rest cell same_problem same_list least =
     subst (λ a. IsLeastCell (HasRelaxed p a at load rest) cell) same_list (subst (λ b. IsLeastCell (HasRelaxed b others at load rest) cell) same_problem least)
 
--- a rest of so many units lies in the table of the tours
+-- a rest of this many units lies in the table of the tours
 pub carried_within : (unit : ℕ) (p : Problem) (among : List ℕ) (rest carried : ℕ) → IsUnit p among unit → rest ≤ load_of p among → carried ≡ rest / unit → carried ≤ load_of (in_units unit p) among
 carried_within unit p among rest carried is within carried_is =
     omega (arith, units_rise unit rest (load_of p among) is.some within, whole_load unit p among is, carried_is)

@@ -8,7 +8,7 @@ use Rattle.vrp_model.specs.Problem.{Problem, weight_of}
 use Rattle.vrp_model.specs.Route.{cost_along}
 use Rattle.vrp_model.specs.Word.{served_in}
 use Rattle.vrp_model.proofs.Words.{serves_customer}
-use Rattle.vrp_bound.specs.SpanningTree.{IsTree, Step, link_weight, tree_weight}
+use Rattle.vrp_bound.specs.SpanningTree.{IsSpanningTree, Step, link_weight, tree_weight}
 use Rattle.vrp_bound.specs.TreeBound.{homes_cost, to_join}
 use Rattle.vrp_bound.proofs.GrownTrees.{behind, grows_within, here, new_places, weight_first, within_cons}
 use Rattle.vrp_bound.proofs.RoutesOpened.{opened}
@@ -17,7 +17,7 @@ use Rattle.vrp_bound.proofs.SymbolBySymbol.{HoldsBySymbol}
 -- Of what is driven behind a place: a tree from there, and the ways home of the routes that are opened
 pub record HasTree (p : Problem) (at : ℕ) (more : List ℕ) : Type 0 where
   pub steps : List Step
-  pub tree : IsTree (at ∷ []) (to_join at (served_in more)) steps
+  pub tree : IsSpanningTree (at ∷ []) (to_join at (served_in more)) steps
   pub last_stops : List ℕ
   pub others : List ℕ
   pub parts : IsPermutation (last_stops ++ others) (served_in more)
@@ -27,7 +27,7 @@ pub record HasTree (p : Problem) (at : ℕ) (more : List ℕ) : Type 0 where
 -- The same where the route that is open is a later one: it is joined to the depot already, and its way home is one of them
 pub record HasLaterTree (p : Problem) (at : ℕ) (more : List ℕ) : Type 0 where
   pub steps : List Step
-  pub tree : IsTree (at ∷ 0 ∷ []) (served_in more) steps
+  pub tree : IsSpanningTree (at ∷ 0 ∷ []) (served_in more) steps
   pub last_stops : List ℕ
   pub others : List ℕ
   pub parts : IsPermutation (last_stops ++ others) (at ∷ served_in more)

@@ -14,7 +14,7 @@ pub record IsGreater (p : Problem) (among : List ℕ) (at load ins rest : ℕ) (
   pub is_capacity : IsCapacityBound p at load ins rest capacity
   pub greater : answer ≡ option_map (λ least. max least capacity) relaxed
 
--- What is at least still to pay, where so many routes may still be opened: the greater of the two. None also where the trucks that
+-- What is at least still to pay, where this many routes may still be opened: the greater of the two. None also where the trucks that
 -- are left can't carry the rest.
 pub record IsLowerBound (p : Problem) (among : List ℕ) (at load ins rest : ℕ) (left answer : Option ℕ) : Type 0 where
   pub enough : CanCarry p at load rest left → IsGreater p among at load ins rest answer

@@ -21,7 +21,7 @@ free_room p at load = if at == 0 then 0 else p.capacity - load
 abbrev pub CanCarry : Problem → ℕ → ℕ → ℕ → Option ℕ → Type 0
 CanCarry p at load rest left = ForSome left (λ trucks. rest ≤ free_room p at load + trucks * p.capacity)
 
--- the least number of trucks that carry so much: no fewer carry it, and so many do
+-- the least number of trucks that carry so much: no fewer carry it, and this many do
 pub record IsTrucks (capacity amount trucks : ℕ) : Type 0 where
   pub enough : amount ≤ trucks * capacity
   pub least : (fewer : ℕ) → amount ≤ fewer * capacity → trucks ≤ fewer

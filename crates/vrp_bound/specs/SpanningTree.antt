@@ -19,7 +19,7 @@ Grows taken [] = Unit {0}
 Grows taken (step ∷ steps) = Contains taken step.joined × Grows (step.place ∷ taken) steps
 
 -- the steps of a tree that joins places to those that are in already: each of the places is taken in once, and nothing else is
-pub record IsTree (taken places : List ℕ) (steps : List Step) : Type 0 where
+pub record IsSpanningTree (taken places : List ℕ) (steps : List Step) : Type 0 where
   pub grows : Grows taken steps
   pub spans : IsPermutation (map (λ step. step.place) steps) places
 
@@ -28,5 +28,5 @@ tree_weight p steps = sum_by (λ step. link_weight p step.joined step.place) ste
 
 -- a tree has this weight, and none has less
 pub record IsLeastTree (p : Problem) (taken places : List ℕ) (weight : ℕ) : Type 0 where
-  pub met : (steps : List Step) × IsTree taken places steps × (tree_weight p steps ≡ weight)
-  pub least : (steps : List Step) → IsTree taken places steps → weight ≤ tree_weight p steps
+  pub met : (steps : List Step) × IsSpanningTree taken places steps × (tree_weight p steps ≡ weight)
+  pub least : (steps : List Step) → IsSpanningTree taken places steps → weight ≤ tree_weight p steps

@@ -24,7 +24,7 @@ pub record IsLaterRoutes (p : Problem) (at load : ℕ) (unserved : List ℕ) (re
   pub carry : IsTrucks p.capacity (rest - free_room p at load) trucks
   pub all : later ≡ max trucks (first_route at unserved)
 
--- so many of these customers, or all where there are fewer
+-- this many of these customers, or all where there are fewer
 pub record AreSomeOf (customers : List ℕ) (most : ℕ) (chosen : List ℕ) : Type 0 where
   pub others : List ℕ
   pub parts : IsPermutation (chosen ++ others) customers
@@ -33,7 +33,7 @@ pub record AreSomeOf (customers : List ℕ) (most : ℕ) (chosen : List ℕ) : T
 abbrev pub homes_cost : Problem → List ℕ → ℕ
 homes_cost p chosen = sum_by (λ customer. weight_of p customer 0) chosen
 
--- so many customers' ways home have this weight, and no others have less
+-- this many customers' ways home have this weight, and no others have less
 pub record AreLeastHomes (p : Problem) (customers : List ℕ) (most weight : ℕ) : Type 0 where
   pub met : (chosen : List ℕ) × AreSomeOf customers most chosen × (homes_cost p chosen ≡ weight)
   pub least : (chosen : List ℕ) → AreSomeOf customers most chosen → weight ≤ homes_cost p chosen

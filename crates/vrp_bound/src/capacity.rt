@@ -20,13 +20,13 @@ pub fn cap_bound(instance: &Instance, at: u16, load: u64, ins: u64, rest: u64) -
     let home = instance.least_home();
     let capacity = instance.capacity();
     let room = if at == 0 { 0 } else { capacity - load };
-    let trucks = trucks(capacity, rest.saturating_sub(room));
+    let trucks = trucks_needed(capacity, rest.saturating_sub(room));
     let returns = if at == 0 { trucks } else { trucks + 1 };
     ins + returns * home
 }
 
 /// The least number of trucks that carry so much.
-pub(crate) fn trucks(capacity: u64, amount: u64) -> u64
+pub fn trucks_needed(capacity: u64, amount: u64) -> u64
     requires { 0 < amount → 0 < capacity }
     ensures { IsTrucks capacity amount result }
 {

@@ -21,7 +21,7 @@ pub(crate) fn are_customers(instance: &Instance, places: &[u16]) -> bool
     true
 }
 
-/// The least cost by trying each next stop, and each behind it, with so many steps at most.
+/// The least cost by trying each next stop, and each behind it, with this many steps at most.
 pub(crate) fn every_walk(scope: Scope<'_>, at: u16, load: u64, rest: u64, steps: u16) -> Option<u64>
     requires { at < place_count scope.instance.now }
 {

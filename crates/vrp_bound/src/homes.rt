@@ -4,7 +4,7 @@ ghost use Rattle.vrp_model.specs.Problem.{place_count};
 ghost use Rattle.vrp_model.specs.Route.{load_of};
 ghost use Rattle.vrp_bound.specs.Inner.Cells.{AreHomes, AreHomesSoFar, AreTours, AreWalks, HasRelaxed, IsLeastCell, mark, small_mark};
 ghost use Rattle.vrp_bound.specs.Tables.{room_of};
-ghost use Rattle.vrp_bound.specs.Inner.Units.{in_units};
+ghost use Rattle.vrp_bound.specs.Inner.Scaled.{scaled};
 
 use crate::units::UnitScope;
 use crate::walks::MARK;
@@ -12,7 +12,7 @@ use std::alloc::Global;
 use vrp_model::NoMemory;
 
 // What stands where there is no way home: above every cost in the table.
-const SMALL_MARK: u32 = 1_000_000_000;
+const SMALL_MARK: u32 = 4_000_000_000;
 
 // How many cells the table may have.
 const MOST_CELLS: usize = 64_000_000;
@@ -34,10 +34,11 @@ pub(crate) fn homes_for(
     tours: &[u64],
     room: u64,
 ) -> Result<Option<Vec<u32>>, NoMemory>
-    requires walks { AreWalks (in_units scope.unit scope.instance.now) scope.customers.now walks.now }
-    requires tours { AreTours (in_units scope.unit scope.instance.now) scope.customers.now tours.now }
-    requires room { room ≡ room_of (in_units scope.unit scope.instance.now) scope.customers.now }
-    ensures { IfOk result (λ cells. IfSome cells (λ homes. AreHomes (in_units scope.entry.unit scope.entry.instance.now) scope.entry.customers.now homes.items)) }
+    requires walks { AreWalks (scaled scope) scope.customers.now walks.now }
+    requires tours { AreTours (scaled scope) scope.customers.now tours.now }
+    requires room { room ≡ room_of (scaled scope) scope.customers.now }
+    ensures { IfOk result (λ cells. IfSome cells
+        (λ homes. AreHomes (scaled scope.entry) scope.entry.customers.now homes.items)) }
 {
     match looks {
         Looks::Many => homes(alloc, scope, walks, tours, room),
@@ -54,10 +55,11 @@ fn homes(
     tours: &[u64],
     room: u64,
 ) -> Result<Option<Vec<u32>>, NoMemory>
-    requires walks { AreWalks (in_units scope.unit scope.instance.now) scope.customers.now walks.now }
-    requires tours { AreTours (in_units scope.unit scope.instance.now) scope.customers.now tours.now }
-    requires room { room ≡ room_of (in_units scope.unit scope.instance.now) scope.customers.now }
-    ensures { IfOk result (λ cells. IfSome cells (λ homes. AreHomes (in_units scope.entry.unit scope.entry.instance.now) scope.entry.customers.now homes.items)) }
+    requires walks { AreWalks (scaled scope) scope.customers.now walks.now }
+    requires tours { AreTours (scaled scope) scope.customers.now tours.now }
+    requires room { room ≡ room_of (scaled scope) scope.customers.now }
+    ensures { IfOk result (λ cells. IfSome cells
+        (λ homes. AreHomes (scaled scope.entry) scope.entry.customers.now homes.items)) }
 {
     let rooms = room as usize + 1;
     let rows = scope.places * rooms;
@@ -83,16 +85,16 @@ fn push_row(
     at: u16,
     room: usize,
 ) -> bool
-    requires walks { AreWalks (in_units scope.unit scope.instance.now) scope.customers.now walks.now }
-    requires tours { AreTours (in_units scope.unit scope.instance.now) scope.customers.now tours.now }
+    requires walks { AreWalks (scaled scope) scope.customers.now walks.now }
+    requires tours { AreTours (scaled scope) scope.customers.now tours.now }
     requires place { at < place_count scope.instance.now }
-    requires room { room ≤ room_of (in_units scope.unit scope.instance.now) scope.customers.now }
-    requires so_far { AreHomesSoFar (in_units scope.unit scope.instance.now) scope.customers.now cells.old.items }
-    requires next { vec_len cells.old ≡ (at * (room_of (in_units scope.unit scope.instance.now) scope.customers.now + 1) + room) * length tours.now }
+    requires room { room ≤ room_of (scaled scope) scope.customers.now }
+    requires so_far { AreHomesSoFar (scaled scope) scope.customers.now cells.old.items }
+    requires next { vec_len cells.old ≡ (at * (room_of (scaled scope) scope.customers.now + 1) + room) * length tours.now }
     requires fits { vec_len cells.old + length tours.now ≤ vec_capacity cells.old }
     ensures len { IsTrue result → vec_len cells.new ≡ vec_len cells.old + length tours.now }
     ensures capacity { vec_capacity cells.new ≡ vec_capacity cells.old }
-    ensures so_far { IsTrue result → AreHomesSoFar (in_units scope.entry.unit scope.entry.instance.now) scope.entry.customers.now cells.new.items }
+    ensures so_far { IsTrue result → AreHomesSoFar (scaled scope.entry) scope.entry.customers.now cells.new.items }
 {
     let walk = walks[room * scope.places + usize::from(at)];
     for rest in 0..tours.len() {
@@ -130,6 +132,7 @@ fn lesser(less: u32, whole: u64) -> Option<u32>
 }
 
 /// The same as `least_way_home`, by one look into the table.
+#[inline(always)]
 pub(crate) fn looked_up(
     scope: UnitScope<'_>,
     cells: &[u32],
@@ -139,14 +142,14 @@ pub(crate) fn looked_up(
     free: u64,
     rest: u64,
 ) -> u64
-    requires homes { AreHomes (in_units scope.unit scope.instance.now) scope.customers.now cells.now }
-    requires tours { AreTours (in_units scope.unit scope.instance.now) scope.customers.now tours.now }
-    requires room { room ≡ room_of (in_units scope.unit scope.instance.now) scope.customers.now }
+    requires homes { AreHomes (scaled scope) scope.customers.now cells.now }
+    requires tours { AreTours (scaled scope) scope.customers.now tours.now }
+    requires room { room ≡ room_of (scaled scope) scope.customers.now }
     requires customer { at ≢ 0 }
     requires place { at < place_count scope.instance.now }
-    requires free { free ≤ (in_units scope.unit scope.instance.now).capacity }
-    requires rest { rest ≤ load_of (in_units scope.unit scope.instance.now) scope.customers.now }
-    ensures { let p = in_units scope.entry.unit scope.entry.instance.now in IsLeastCell (HasRelaxed p scope.entry.customers.now at (p.capacity - free) rest) result }
+    requires free { free ≤ (scaled scope).capacity }
+    requires rest { rest ≤ load_of (scaled scope) scope.customers.now }
+    ensures { let p = scaled scope.entry in IsLeastCell (HasRelaxed p scope.entry.customers.now at (p.capacity - free) rest) result }
 {
     let left = free.min(room) as usize;
     let row = usize::from(at) * (room as usize + 1) + left;
@@ -168,13 +171,13 @@ pub(crate) fn least_way_home(
     free: u64,
     rest: u64,
 ) -> u64
-    requires walks { AreWalks (in_units scope.unit scope.instance.now) scope.customers.now walks.now }
-    requires tours { AreTours (in_units scope.unit scope.instance.now) scope.customers.now tours.now }
+    requires walks { AreWalks (scaled scope) scope.customers.now walks.now }
+    requires tours { AreTours (scaled scope) scope.customers.now tours.now }
     requires customer { at ≢ 0 }
     requires place { at < place_count scope.instance.now }
-    requires free { free ≤ (in_units scope.unit scope.instance.now).capacity }
-    requires rest { rest ≤ load_of (in_units scope.unit scope.instance.now) scope.customers.now }
-    ensures least { let p = in_units scope.entry.unit scope.entry.instance.now in IsLeastCell (HasRelaxed p scope.entry.customers.now at (p.capacity - free) rest) result }
+    requires free { free ≤ (scaled scope).capacity }
+    requires rest { rest ≤ load_of (scaled scope) scope.customers.now }
+    ensures least { let p = scaled scope.entry in IsLeastCell (HasRelaxed p scope.entry.customers.now at (p.capacity - free) rest) result }
 {
     let rest = rest as usize;
     let room = free as usize;

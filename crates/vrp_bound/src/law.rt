@@ -21,7 +21,8 @@ pub fn relaxed_completions()
 
 /// No lawful word that begins with a front adds less to it than the lower bound; and where that is `None`, there is no such word.
 pub fn bounds_hold()
-    ensures { (p : Problem) (front more among : List ℕ) (ins : ℕ) (answer : Option ℕ) → IsProblem p → IsLawfulWord p (front ++ more) → All (Contains among) (unserved_in p front) → IsInsOf p front ins
+    ensures { (p : Problem) (front more among : List ℕ) (ins : ℕ) (answer : Option ℕ)
+        → IsProblem p → IsLawfulWord p (front ++ more) → All (Contains among) (unserved_in p front) → IsInsOf p front ins
         → IsLowerBound p among (last_symbol front) (open_load p front) ins (load_of p (unserved_in p front)) (routes_left p front) answer
         → MatchOption answer ⊥ (λ least. word_cost p front + least ≤ word_cost p (front ++ more)) }
 {}
@@ -40,7 +41,8 @@ pub fn tree_bounds()
 
 /// The tree bound is one number.
 pub fn one_tree_bound()
-    ensures { (p : Problem) (at load : ℕ) (unserved : List ℕ) (rest bound other : ℕ) → IsTreeBound p at load unserved rest bound → IsTreeBound p at load unserved rest other → bound ≡ other }
+    ensures { (p : Problem) (at load : ℕ) (unserved : List ℕ) (rest bound other : ℕ)
+        → IsTreeBound p at load unserved rest bound → IsTreeBound p at load unserved rest other → bound ≡ other }
 {}
 
 /// Where a lawful word begins with a front, the trucks that the front leaves can carry what it leaves.

@@ -1,5 +1,5 @@
-//! The least ways home from so many of some customers.
-ghost use Rattle.std.specs.Prelude.{◌≡◌, ◌*◌, ◌≤◌, ◌<◌, All, length, vec_len, vec_capacity};
+//! The least ways home from this many of some customers.
+ghost use Rattle.std.specs.Prelude.{◌≡◌, ◌*◌, ◌≤◌, ◌<◌, All, length, vec_capacity};
 ghost use Rattle.vrp_model.specs.Problem.{place_count};
 ghost use Rattle.vrp_model.specs.declared.limits.TheConstants.{MAX_NODES, MAX_WEIGHT};
 ghost use Rattle.vrp_bound.specs.Inner.Ways.{IsSmallWay, ways_home};
@@ -9,7 +9,7 @@ use crate::way::Way;
 use crate::ways::take_least;
 use vrp_model::Instance;
 
-/// What the least ways home from so many of these customers cost together, or from all where there are fewer. The list has room
+/// What the least ways home from this many of these customers cost together, or from all where there are fewer. The list has room
 /// for all of them.
 pub(crate) fn least_homes(
     ways: &mut Vec<Way>,

@@ -24,7 +24,7 @@ mod walks;
 mod way;
 mod ways;
 
-pub use capacity::cap_bound;
+pub use capacity::{cap_bound, trucks_needed};
 pub use divisor::gcd;
 pub use greater::bound;
 pub use law::{

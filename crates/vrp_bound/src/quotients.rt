@@ -30,6 +30,7 @@ impl Quotients {
     }
 
     /// How many whole units this amount has.
+    #[inline(always)]
     pub(crate) fn whole_units(&self, amount: u64) -> u64
         ensures { result ≡ amount / self.now.unit }
     {

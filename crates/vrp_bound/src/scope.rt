@@ -1,5 +1,5 @@
 //! What tables are over: some customers of an instance.
-ghost use Rattle.std.specs.Prelude.{◌≡◌, ◌+◌, ◌*◌, ◌≤◌, ◌<◌, ◌↔◌, All, Contains, IsTrue, length, min};
+ghost use Rattle.std.specs.Prelude.{◌≡◌, ◌+◌, ◌*◌, ◌≤◌, ◌<◌, ◌↔◌, All, Contains, IsTrue, length};
 ghost use Rattle.std.specs.List.Sorted.{IsStrictlyIncreasing};
 ghost use Rattle.vrp_model.specs.Problem.{customers as customers_of, demand_of, place_count, IsProblem};
 ghost use Rattle.vrp_model.specs.Route.{load_of};

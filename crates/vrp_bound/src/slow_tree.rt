@@ -179,7 +179,7 @@ fn weight_of_tree(instance: &Instance, places: &[u16], code: usize) -> u64 {
     weight
 }
 
-// The least sum of so many customers' ways home: by each choice of some of five.
+// The least sum of this many customers' ways home: by each choice of some of five.
 fn least_of_homes(instance: &Instance, customers: &[u16], count: u64) -> u64 {
     let mut least = u64::MAX;
     for choice in 0..32u32 {
@@ -198,7 +198,7 @@ fn least_of_homes(instance: &Instance, customers: &[u16], count: u64) -> u64 {
     least
 }
 
-/// The least cost of a completion, by each next stop and each behind it, with so many steps at most; the greatest number where
+/// The least cost of a completion, by each next stop and each behind it, with this many steps at most; the greatest number where
 /// there is none.
 pub(crate) fn least_completion(instance: &Instance, situation: Situation, steps: u16) -> u64 {
     let at = situation.at;

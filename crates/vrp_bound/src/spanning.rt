@@ -1,5 +1,5 @@
 //! The least spanning tree over some places, by Prim's algorithm (1957).
-ghost use Rattle.std.specs.Prelude.{◌≡◌, ◌*◌, ◌≤◌, ◌<◌, [], ◌∷◌, All, length, map, vec_len, vec_capacity};
+ghost use Rattle.std.specs.Prelude.{◌≡◌, ◌*◌, ◌≤◌, ◌<◌, [], ◌∷◌, All, length, map, vec_capacity};
 ghost use Rattle.vrp_model.specs.Problem.{place_count};
 ghost use Rattle.vrp_model.specs.declared.limits.TheConstants.{MAX_NODES, MAX_WEIGHT};
 ghost use Rattle.vrp_bound.specs.Inner.Ways.{IsSmallWay, linked, links_to};

@@ -1,5 +1,5 @@
 //! The tables over some customers of an instance, and what they answer.
-ghost use Rattle.std.specs.Prelude.{◌≡◌, ◌≤◌, ◌<◌, All, Contains, IfOk, IfSome, length};
+ghost use Rattle.std.specs.Prelude.{◌≡◌, ◌≤◌, ◌<◌, All, Contains, IfOk, IfSome};
 ghost use Rattle.std.specs.List.Sorted.{IsStrictlyIncreasing};
 ghost use Rattle.vrp_model.specs.Problem.{customers, place_count};
 ghost use Rattle.vrp_model.specs.Route.{load_of};
@@ -81,7 +81,7 @@ impl<'a> Tables<'a> {
         Tables::for_looks(alloc, instance, unserved, Looks::Few)
     }
 
-    // Tables over these customers, for so many looks.
+    // Tables over these customers, for this many looks.
     fn for_looks(
         alloc: Global,
         instance: &'a Instance,
@@ -116,6 +116,8 @@ impl<'a> Tables<'a> {
     /// The least cost of what carries the rest from a place: the walk home of the open truck with this load, where one is out
     /// at a customer, and tours. A walk may come to a customer again, but not straight from itself. `None`: nothing carries
     /// exactly the rest. Where a customer has no demand, or the tables would be too large, the answer is 0.
+    // Asked at each partial plan that is looked at.
+    #[inline(always)]
     pub fn q_bound(&self, at: u16, load: u64, rest: u64) -> Option<u64>
         requires place { at < place_count self.now.problem }
         requires load { load ≤ self.now.problem.capacity }
@@ -162,6 +164,7 @@ impl Cells {
 
     // The least cost of what carries the rest from a place, or the mark or more where nothing does. Every walk takes up a whole
     // number of units: so nothing carries a rest that is none, and what the open truck can still take is floored.
+    #[inline(always)]
     fn least(&self, scope: Scope<'_>, at: u16, load: u64, rest: u64) -> u64
         requires cells { AreCells scope.instance.now scope.customers.now self.now }
         requires place { at < place_count scope.instance.now }
@@ -200,10 +203,30 @@ mod tests {
     use crate::fixture::{are_customers, every_walk};
     use std::process::Abort;
     use std::test::Fail;
-    use vrp_model::{Metric, Weights};
+    use vrp_model::{Layout, Metric, Weights};
 
     // A place, a load, a rest, and what is answered.
     type Asked = (u16, u64, u64, Option<u64>);
+
+    // Weights near the greatest: two routes cost more than the table of the ways home can hold.
+    const FAR: [u64; 16] = [
+        0,
+        999_999_990,
+        1_000_000_000,
+        999_999_985,
+        999_999_991,
+        0,
+        999_999_998,
+        1_000_000_000,
+        999_999_999,
+        999_999_987,
+        0,
+        999_999_993,
+        999_999_996,
+        999_999_994,
+        999_999_989,
+        0,
+    ];
 
     #[test]
     fn bounds_over_two_customers(rt: HostRuntime) -> Result<(), Fail> {
@@ -356,16 +379,16 @@ mod tests {
             let near = Weights::points(rt.alloc(), Metric::Euc2d, &points)?;
             assert_lists(&rt, rt.alloc(), near, &demands, capacity, true)?;
             // too far for the table of the ways home
-            let points = [
-                (-100_000_000, -100_000_000),
-                (100_000_000, 100_000_000),
-                (99_999_997, 99_999_996),
-                (99_999_988, 100_000_000),
-            ];
-            let far = Weights::points(rt.alloc(), Metric::Euc2d, &points)?;
+            let far = far_apart(&rt, rt.alloc())?;
             assert_lists(&rt, rt.alloc(), far, &demands, capacity, false)?;
         }
         Ok(())
+    }
+
+    fn far_apart(rt: &impl Abort, alloc: Global) -> Result<Weights, NoMemory> {
+        assert!(rt; FAR.len() == Layout::FullMatrix.entries(4));
+        assert!(rt; FAR.iter().all(|&entry| entry <= 1_000_000_000));
+        Weights::matrix(alloc, Layout::FullMatrix, &FAR, 4)
     }
 
     // Over some of three customers; over all of them with the table of the ways home or without.

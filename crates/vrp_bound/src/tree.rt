@@ -5,7 +5,7 @@ ghost use Rattle.vrp_model.specs.Problem.{IsProblem, customers, place_count};
 ghost use Rattle.vrp_model.specs.Route.{load_of};
 ghost use Rattle.vrp_bound.specs.TreeBound.{IsLaterRoutes, IsTreeBound};
 
-use crate::capacity::trucks;
+use crate::capacity::trucks_needed;
 use crate::least_homes::least_homes;
 use crate::spanning::least_tree;
 use crate::way::Way;
@@ -79,7 +79,7 @@ fn later_routes(instance: &Instance, at: u16, load: u64, unserved: &[u16], rest:
     prove!(at <= instance.customers());
     let capacity = instance.capacity();
     let room = if at == 0 { 0 } else { capacity - load };
-    let trucks = trucks(capacity, rest.saturating_sub(room));
+    let trucks = trucks_needed(capacity, rest.saturating_sub(room));
     if at == 0 && !unserved.is_empty() {
         trucks.max(1)
     } else {

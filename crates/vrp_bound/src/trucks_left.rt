@@ -1,10 +1,10 @@
 //! Whether the trucks that are left can carry what is left.
-ghost use Rattle.std.specs.Prelude.{◌≡◌, ◌↔◌, ◌≤◌, IsTrue};
+ghost use Rattle.std.specs.Prelude.{◌↔◌, ◌≤◌, IsTrue};
 ghost use Rattle.vrp_bound.specs.Capacity.{CanCarry};
 
 use vrp_model::Instance;
 
-/// Whether the truck that is out at a place with this load, and so many that may still leave the depot, can carry the rest. Where
+/// Whether the truck that is out at a place with this load, and this many that may still leave the depot, can carry the rest. Where
 /// their number isn't known, as many may leave as are wanted.
 pub fn can_carry(instance: &Instance, at: u16, load: u64, rest: u64, left: Option<u16>) -> bool
     requires load { load ≤ instance.now.capacity }

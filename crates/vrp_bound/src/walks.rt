@@ -3,7 +3,7 @@ ghost use Rattle.std.specs.Prelude.{◌≡◌, ◌+◌, ◌*◌, ◌≤◌, ◌<
 ghost use Rattle.vrp_model.specs.Problem.{place_count};
 ghost use Rattle.vrp_bound.specs.Inner.Cells.{AreWalks, AreWalksSoFar, HasWalk, IsLeastCell, mark};
 ghost use Rattle.vrp_bound.specs.Tables.{room_of};
-ghost use Rattle.vrp_bound.specs.Inner.Units.{in_units};
+ghost use Rattle.vrp_bound.specs.Inner.Scaled.{scaled};
 
 use crate::units::UnitScope;
 use std::alloc::Global;
@@ -19,9 +19,9 @@ pub(crate) fn walks(
     demands: &[u64],
     room: u64,
 ) -> Result<Vec<u64>, NoMemory>
-    requires demands { demands.now ≡ (in_units scope.unit scope.instance.now).demands }
-    requires room { room ≡ room_of (in_units scope.unit scope.instance.now) scope.customers.now }
-    ensures { IfOk result (λ cells. AreWalks (in_units scope.entry.unit scope.entry.instance.now) scope.entry.customers.now cells.items) }
+    requires demands { demands.now ≡ (scaled scope).demands }
+    requires room { room ≡ room_of (scaled scope) scope.customers.now }
+    ensures { IfOk result (λ cells. AreWalks (scaled scope.entry) scope.entry.customers.now cells.items) }
 {
     let loads = room as usize + 1;
     let mut cells = Vec::with_capacity(alloc, loads * scope.places)?;
@@ -33,13 +33,13 @@ pub(crate) fn walks(
 
 // Adds the cells of a load, after those of less.
 fn push_row(cells: &mut Vec<u64>, scope: UnitScope<'_>, demands: &[u64], load: usize)
-    requires demands { demands.now ≡ (in_units scope.unit scope.instance.now).demands }
-    requires so_far { AreWalksSoFar (in_units scope.unit scope.instance.now) scope.customers.now cells.old.items }
+    requires demands { demands.now ≡ (scaled scope).demands }
+    requires so_far { AreWalksSoFar (scaled scope) scope.customers.now cells.old.items }
     requires next { vec_len cells.old ≡ load * place_count scope.instance.now }
     requires fits { vec_len cells.old + place_count scope.instance.now ≤ vec_capacity cells.old }
     ensures len { vec_len cells.new ≡ vec_len cells.old + place_count scope.entry.instance.now }
     ensures capacity { vec_capacity cells.new ≡ vec_capacity cells.old }
-    ensures so_far { AreWalksSoFar (in_units scope.entry.unit scope.entry.instance.now) scope.entry.customers.now cells.new.items }
+    ensures so_far { AreWalksSoFar (scaled scope.entry) scope.entry.customers.now cells.new.items }
 {
     for at in 0..scope.places as u16 {
         let cell = least_walk(scope, demands, cells, load, at);
@@ -49,11 +49,11 @@ fn push_row(cells: &mut Vec<u64>, scope: UnitScope<'_>, demands: &[u64], load: u
 
 // The least cost of a walk from a place that takes up this load: by its first stop, and the walk from there.
 fn least_walk(scope: UnitScope<'_>, demands: &[u64], cells: &[u64], load: usize, at: u16) -> u64
-    requires demands { demands.now ≡ (in_units scope.unit scope.instance.now).demands }
-    requires so_far { AreWalksSoFar (in_units scope.unit scope.instance.now) scope.customers.now cells.now }
+    requires demands { demands.now ≡ (scaled scope).demands }
+    requires so_far { AreWalksSoFar (scaled scope) scope.customers.now cells.now }
     requires place { at < place_count scope.instance.now }
     requires next { length cells.now ≡ load * place_count scope.instance.now + at }
-    ensures least { IsLeastCell (HasWalk (in_units scope.entry.unit scope.entry.instance.now) scope.entry.customers.now at load) result }
+    ensures least { IsLeastCell (HasWalk (scaled scope.entry) scope.entry.customers.now at load) result }
     ensures within { result ≤ mark }
 {
     if load == 0 {

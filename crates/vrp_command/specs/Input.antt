@@ -10,7 +10,7 @@ pub record IsInput (old new : Option (List ℕ)) (bytes : List ℕ) : Type 0 whe
   pub bounded : length bytes ≤ MAX_BYTES + 1
   pub whole : length bytes < MAX_BYTES + 1 → IsAtEnd new
 
--- Some of the bytes that a reader has left, and no more than so many.
+-- Some of the bytes that a reader has left, and no more than this many.
 pub record TakesAtMost (most : ℕ) (old new : Option (List ℕ)) : Type 0 where
   pub bytes : List ℕ
   pub taken : Consumes old new bytes

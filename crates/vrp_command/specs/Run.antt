@@ -23,7 +23,7 @@ status_of (answer.Proven plan) = status.Proven
 status_of (answer.Open plan low first) = status.Open
 status_of answer.NoPlan = status.NoPlan
 
--- the problem with so many trucks, if a number was asked for
+-- the problem with this many trucks, if a number was asked for
 abbrev pub limited : Option ℕ → Problem → Problem
 limited None problem = problem
 limited (Some trucks) problem = record problem { trucks = Some trucks }

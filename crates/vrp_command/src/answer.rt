@@ -11,7 +11,7 @@ use vrp_model::Instance;
 use vrp_pool::{Answer, Gate, SolveError, solve};
 use vrp_search::Cutting;
 
-/// Cuts the tree of an instance into so many pieces, and has each searched with this budget, by so many workers.
+/// Cuts the tree of an instance into this many pieces, and has each searched with this budget, by this many workers.
 pub(crate) fn cut_and_solve<T: Threads + Wait + Sync, G: Gate + Sync>(
     rt: &T,
     alloc: Global,

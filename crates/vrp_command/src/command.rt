@@ -35,7 +35,8 @@ pub fn run<T: Threads + Wait + Sync, R: Read, W: Write>(
     requires { AreInRange options }
     ensures printed { IfOk result (PrintsAnswer options (R.remaining input.old) (R.remaining input.new) (W.contents output.old) (W.contents output.new)) }
     ensures refused { IfErr result (λ fault. OnRefusedFile fault (RefusesInput options.depot (R.remaining input.old) (R.remaining input.new))) }
-    ensures begun { IfErr result (λ fault. fault ≡ RunError.Write → PrintsPart options (R.remaining input.old) (R.remaining input.new) (W.contents output.old) (W.contents output.new)) }
+    ensures begun { IfErr result (λ fault. fault ≡ RunError.Write → PrintsPart options
+        (R.remaining input.old) (R.remaining input.new) (W.contents output.old) (W.contents output.new)) }
     ensures failed { IfErr result (λ fault. fault ≡ RunError.Read → TakesAtMost MAX_BYTES (R.remaining input.old) (R.remaining input.new)) }
     ensures taken { TakesAtMost (MAX_BYTES + 1) (R.remaining input.old) (R.remaining input.new) }
     ensures silent { IfErr result (λ fault. fault ≢ RunError.Write → Keeps (W.contents output.old) (W.contents output.new)) }
@@ -55,7 +56,8 @@ pub(crate) fn run_gated<T: Threads + Wait + Sync, R: Read, W: Write, G: Gate + S
     requires { AreInRange options }
     ensures printed { IfOk result (PrintsAnswer options (R.remaining input.old) (R.remaining input.new) (W.contents output.old) (W.contents output.new)) }
     ensures refused { IfErr result (λ fault. OnRefusedFile fault (RefusesInput options.depot (R.remaining input.old) (R.remaining input.new))) }
-    ensures begun { IfErr result (λ fault. fault ≡ RunError.Write → PrintsPart options (R.remaining input.old) (R.remaining input.new) (W.contents output.old) (W.contents output.new)) }
+    ensures begun { IfErr result (λ fault. fault ≡ RunError.Write → PrintsPart options
+        (R.remaining input.old) (R.remaining input.new) (W.contents output.old) (W.contents output.new)) }
     ensures failed { IfErr result (λ fault. fault ≡ RunError.Read → TakesAtMost MAX_BYTES (R.remaining input.old) (R.remaining input.new)) }
     ensures taken { TakesAtMost (MAX_BYTES + 1) (R.remaining input.old) (R.remaining input.new) }
     ensures silent { IfErr result (λ fault. fault ≢ RunError.Write → Keeps (W.contents output.old) (W.contents output.new)) }
@@ -68,7 +70,7 @@ pub(crate) fn run_gated<T: Threads + Wait + Sync, R: Read, W: Write, G: Gate + S
     Ok(outcome.status)
 }
 
-// The instance with so many trucks, if a number was asked for.
+// The instance with this many trucks, if a number was asked for.
 fn limited(instance: Instance, trucks: Option<u16>) -> Instance
     requires some { ForSome trucks (λ most. 1 ≤ most) }
     requires few { ForSome trucks (λ most. most ≤ MAX_NODES) }

@@ -32,7 +32,7 @@ pub(crate) fn read_input<R: Read>(alloc: Global, input: &mut R) -> Result<Vec<u8
     Ok(bytes)
 }
 
-// So many bytes to read into.
+// This many bytes to read into.
 fn zeros(alloc: Global, room: usize) -> Result<Vec<u8>, AllocError>
     ensures { IfOk result (λ buffer. vec_len buffer ≡ room) }
 {

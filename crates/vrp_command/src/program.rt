@@ -28,7 +28,8 @@ pub fn run_words<T: Threads + Wait + Sync, R: Read, W: Write, E: Write, G: Gate 
     gate: &G,
 ) -> u8
     ensures known { result ≤ 5 }
-    ensures done { result ≡ 0 → Keeps (R.remaining input.old) (R.remaining input.new) ⊎ PrintsReport (R.remaining input.old) (R.remaining input.new) (W.contents output.old) (W.contents output.new) result }
+    ensures done { result ≡ 0 → Keeps (R.remaining input.old) (R.remaining input.new)
+        ⊎ PrintsReport (R.remaining input.old) (R.remaining input.new) (W.contents output.old) (W.contents output.new) result }
     ensures open { result ≡ 1 → PrintsReport (R.remaining input.old) (R.remaining input.new) (W.contents output.old) (W.contents output.new) result }
     ensures refused { result ≡ 2 → Keeps (R.remaining input.old) (R.remaining input.new) }
     ensures silent { 2 ≤ result → result ≤ 4 → Keeps (W.contents output.old) (W.contents output.new) }

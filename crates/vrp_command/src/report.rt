@@ -1,5 +1,5 @@
 //! The report: a line for each route and the cost, where there is a plan, and the verdict.
-ghost use Rattle.std.specs.Prelude.{◌≡◌, ℕ, ◌+◌, ◌<◌, OnOk, IfOk, List, ◌++◌, decimal, string_bytes, All};
+ghost use Rattle.std.specs.Prelude.{◌≡◌, ◌+◌, ◌<◌, OnOk, IfOk, ◌++◌, decimal, string_bytes, All};
 ghost use Rattle.std.specs.Option.{ForSome};
 ghost use Rattle.vrp_model.specs.Problem.{place_count};
 ghost use Rattle.vrp_pool.specs.Answer.{known_plan};

@@ -45,7 +45,7 @@ fn assert_run<R: Abort + Threads + Wait + Sync>(
     assert_eq!(rt; written.as_slice(), report.as_bytes());
 }
 
-// Asserts how a run over a text ends that may make so many pieces, and spend so much on each, and what it writes last.
+// Asserts how a run over a text ends that may make this many pieces, and spend so much on each, and what it writes last.
 fn assert_end<R: Abort + Threads + Wait + Sync>(
     rt: &R,
     alloc: Global,

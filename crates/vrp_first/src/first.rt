@@ -1,6 +1,5 @@
 //! The first plan: the best of the plan by savings and of what runs of ruin and recreate make of it.
-ghost use Rattle.std.specs.Prelude.{◌≡◌, IfOk, IfSome};
-ghost use Rattle.vrp_model.specs.Problem.{place_count};
+ghost use Rattle.std.specs.Prelude.{IfOk, IfSome};
 ghost use Rattle.vrp_model.specs.Route.{IsPlanOf};
 
 use crate::run::run;
@@ -10,17 +9,17 @@ use std::alloc::Global;
 use vrp_model::{Instance, NoMemory, Plan};
 use vrp_savings::{lawful_plan, savings_plan};
 
-/// With so many moves a run finds the cheapest plan of most instances of some 60 customers.
+/// With this many moves a run finds the cheapest plan of most instances of some 60 customers.
 pub const ENOUGH_MOVES: u32 = 20_000;
 
 const RUNS: u64 = 4;
 
-/// For each of its moves a run looks at so many positions at most.
+/// For each of its moves a run looks at this many positions at most.
 const POSITIONS_A_MOVE: u64 = 2_000;
 
 /// A plan near the best, by ruin and recreate, of Christiaens and Vanden Berghe (2020): from a plan strings of customers are taken
 /// out of a few routes that lie close together, and put back one by one where that costs least. The new plan is kept where it
-/// isn't dearer than the last by a threshold or more, which falls to nothing. There are four runs of so many moves each; with many
+/// isn't dearer than the last by a threshold or more, which falls to nothing. There are four runs of this many moves each; with many
 /// customers there are fewer moves, since for each move at most 2,000 positions are looked at on average. The first run starts
 /// from the plan by savings, and each other from the best plan so far. What is answered is the best of all these plans, the first by
 /// cost and then by word, and the same at each call.
@@ -68,7 +67,7 @@ fn better(
     }
 }
 
-// How long a run of so many moves goes on, and a threshold that starts at a third of what a truck to one customer alone costs on
+// How long a run of this many moves goes on, and a threshold that starts at a third of what a truck to one customer alone costs on
 // average, or at less where there are many customers.
 fn threshold(instance: &Instance, moves: u32) -> Threshold {
     let customers = instance.customers();

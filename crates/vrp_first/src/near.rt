@@ -38,7 +38,7 @@ impl Model for Near {
 }
 
 impl Near {
-    /// The places near each of so many, by the weights of the ways between them.
+    /// The places near each of this many, by the weights of the ways between them.
     pub(crate) fn new(alloc: Global, ways: &Ways, places: u16) -> Result<Near, NoMemory>
         requires ways { ways.now ≡ places }
         requires few { places ≤ MAX_NODES }
@@ -53,7 +53,7 @@ impl Near {
         Ok(Near { places, order })
     }
 
-    /// The place that so many places are nearer to a place than.
+    /// The place that this many places are nearer to a place than.
     #[inline(always)]
     pub(crate) fn nearest(&self, place: u16, rank: u16) -> u16
         requires place { place < self.now }

@@ -4,7 +4,7 @@ ghost use Rattle.std.specs.Prelude.{◌<◌};
 use rand_core::Rng;
 use rand_pcg::Pcg32;
 
-/// So many positions at most are looked at before one is passed over, and half as many on average.
+/// This many positions at most are looked at before one is passed over, and half as many on average.
 const MOST_BEFORE_BLINK: u16 = 199;
 
 /// A generator, and how many positions are looked at before the next one is passed over.

@@ -112,7 +112,7 @@ fn take_string(setting: &Setting<'_>, routes: &mut Routes, taken: &mut Taken, fi
     }
 }
 
-// How many stops are before a customer on its route, which has at most so many.
+// How many stops are before a customer on its route, which has at most this many.
 fn position(routes: &Routes, customer: u16, most: u16) -> u16
     requires customer { customer < routes.now }
     requires most { most < MAX_NODES }
@@ -128,7 +128,7 @@ fn position(routes: &Routes, customer: u16, most: u16) -> u16
     0
 }
 
-// The place so many stops before a customer.
+// The place this many stops before a customer.
 fn step_back(routes: &Routes, customer: u16, steps: u16) -> u16
     requires { customer < routes.now }
     ensures { result < routes.now }
@@ -140,7 +140,7 @@ fn step_back(routes: &Routes, customer: u16, steps: u16) -> u16
     at
 }
 
-// Draws what is taken out of a route of so many stops: a string with the one at a position in it. Half of the longer strings keep
+// Draws what is taken out of a route of this many stops: a string with the one at a position in it. Half of the longer strings keep
 // some of their midst.
 fn draw_cut(random: &mut Random, stops: u16, position: u16, longest: u16) -> Cut
     requires { position < MAX_NODES }

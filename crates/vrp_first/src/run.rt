@@ -33,7 +33,7 @@ impl Model for States {
     ghost invariant = { λ a. (a.last ≡ a.next) × (a.best ≡ a.next) };
 }
 
-/// What a run of so many moves, whose chances go by a number, makes of a word: the word of the cheapest routes that it had.
+/// What a run of this many moves, whose chances go by a number, makes of a word: the word of the cheapest routes that it had.
 pub(crate) fn run(
     alloc: Global,
     setting: &Setting<'_>,

@@ -5,15 +5,15 @@
 pub(crate) struct Threshold {
     pub start: u64,
     pub moves: u32,
-    /// No move is begun when so many positions were looked at.
+    /// No move is begun when this many positions were looked at.
     pub positions: u64,
 }
 
-/// What is left of a run is told in so many parts of it.
+/// What is left of a run is told in this many parts of it.
 const PARTS: u64 = 4_096;
 
 impl Threshold {
-    /// How much dearer a plan may be after so many moves and so many positions.
+    /// How much dearer a plan may be after this many moves and this many positions.
     pub(crate) fn after(self, moves: u32, positions: u64) -> u64 {
         let by_moves = parts(u64::from(moves), u64::from(self.moves));
         let by_positions = parts(positions, self.positions);

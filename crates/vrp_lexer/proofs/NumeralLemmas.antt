@@ -80,7 +80,7 @@ both_fit number whole fraction small few =
 pub all_are_digits : (text : List ℕ) → length text ≤ prefix_len is_ascii_digit text → (k : ℕ) → k < length text → IsTrue (is_ascii_digit (get_or text k 0))
 all_are_digits text all k lt = prefix_len_passes is_ascii_digit text k 0 (omega arith)
 
--- so many digits leave the number small
+-- this many digits leave the number small
 pub one_part_fits : (n : ℕ) → n ≤ 18 → (0 + 1) * 10 ^ n ≤ 10 ^ 18
 one_part_fits n few = power_grows 1 n 18 few
 

@@ -6,7 +6,7 @@ use Rattle.vrp_model.specs.declared.limits.TheConstants.{MAX_WEIGHT, NO_COST}
 use Rattle.vrp_model.proofs.TurnedRoutes.{word_for_plan}
 use Rattle.vrp_model.proofs.WordReading.{word_is_short}
 
--- so many ways cost at most so many times the greatest weight
+-- this many ways cost at most this many times the greatest weight
 cost_at_most : (p : Problem) (at : ℕ) (word : List ℕ) → IsProblem p → cost_along p at word ≤ MAX_WEIGHT * length word
 cost_at_most p at [] problem = omega arith
 cost_at_most p at (symbol ∷ word) problem = omega (arith, problem.small_weights (at * place_count p + symbol), cost_at_most p symbol word problem)

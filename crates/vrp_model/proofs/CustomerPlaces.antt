@@ -41,7 +41,7 @@ up_to p i lt =
     let same : get_or (customers p) i 0 ≡ i + 1 = omega (arith, value) in
     take_more (customers p) i 0 within ∙ ap (λ k. take i (customers p) ++ k ∷ []) same
 
--- so many taken are all
+-- this many taken are all
 pub all_taken : (p : Problem) (count : ℕ) → count + 1 ≡ place_count p → take count (customers p) ≡ customers p
 all_taken p count all = take_all count (customers p) (omega (arith, all, length-range_with_len 1 (place_count p - 1)))
 

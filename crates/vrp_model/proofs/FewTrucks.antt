@@ -7,7 +7,7 @@ use Rattle.vrp_model.specs.LeastWay.{IsLeastIn}
 use Rattle.vrp_model.specs.Problem.{HasTrucks, Problem}
 use Rattle.vrp_model.specs.declared.limits.TheConstants.{MAX_NODES}
 
--- where there are trucks for so many routes, there are for fewer
+-- where there are trucks for this many routes, there are for fewer
 pub fewer_routes : (p : Problem) (some all : ℕ) → some ≤ all → HasTrucks p all → HasTrucks p some
 fewer_routes p some all less may = λ trucks is. omega (arith, less, may trucks is)
 

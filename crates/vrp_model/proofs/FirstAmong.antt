@@ -49,7 +49,7 @@ both_searched P key Here There (inl first) (inl second) =
       | inr (inr later) ↦ inl (flipped P key Here There (keeps P key There Here second (λ other here has before. first.none_before other here has (earlier_transitive (key other) (key second.word) (key first.word) before later))))
     ]
 
--- words of at most so many symbols, all below a bound
+-- words of at most this many symbols, all below a bound
 pub record IsBounded (most bound : ℕ) (word : List ℕ) : Type 0 where
   pub short : length word ≤ most
   pub below : All (λ symbol. symbol < bound) word

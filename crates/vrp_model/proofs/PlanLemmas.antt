@@ -12,7 +12,7 @@ use Rattle.vrp_model.proofs.DistinctLists.{range_rises}
 use Rattle.vrp_model.proofs.PlacesLemmas.{range_with_len_more}
 use Rattle.vrp_model.specs.Problem.{HasTrucks, Problem, IsProblem, customers}
 use Rattle.vrp_model.specs.Route.{IsLawful, load_of, plan_cost, route_cost}
-use Rattle.vrp_model.specs.Inner.Stops.{routes_in, AreWithin, IsKept, IsWithin}
+use Rattle.vrp_model.specs.Inner.Stops.{routes_in, AreWithin, ArePlanStops, IsWithin}
 use Rattle.vrp_model.specs.Word.{first_stops, word_of}
 use Rattle.vrp_model.specs.declared.plan.Span.{Span}
 
@@ -41,8 +41,8 @@ routes_in_push word route spans span within start end =
     map-append _ spans (span ∷ []) ∙ cc
 
 -- the word, and the spans within it, when a route is appended
-pub IsKept-push : (word route : List ℕ) (spans : List Span) (span : Span) → IsKept word spans → IsStrictlyIncreasing (first_stops (routes_in word spans ++ route ∷ [])) → span.start ≡ length word → span.end ≡ length word + length route → IsKept ((word ++ route) ++ 0 ∷ []) (spans ++ span ∷ [])
-IsKept-push word route spans span kept rising start end =
+pub ArePlanStops-push : (word route : List ℕ) (spans : List Span) (span : Span) → ArePlanStops word spans → IsStrictlyIncreasing (first_stops (routes_in word spans ++ route ∷ [])) → span.start ≡ length word → span.end ≡ length word + length route → ArePlanStops ((word ++ route) ++ 0 ∷ []) (spans ++ span ∷ [])
+ArePlanStops-push word route spans span kept rising start end =
     let long : length ((word ++ route) ++ 0 ∷ []) ≡ length word + length route + 1 = length-append (word ++ route) (0 ∷ []) ∙ ap (λ n. n + 1) (length-append word route) in
     let routes = routes_in_push word route spans span kept.within start end in
     record {
@@ -84,7 +84,7 @@ first_of_singles : (xs : List ℕ) → first_stops (map (λ x. x ∷ []) xs) ≡
 first_of_singles [] = refl
 first_of_singles (x ∷ xs) = ap (λ rest. x ∷ rest) (first_of_singles xs)
 
--- the routes of so many customers, one each, rise by first customer
+-- the routes of this many customers, one each, rise by first customer
 pub rising_singles : (count : ℕ) → IsStrictlyIncreasing (first_stops (map (λ customer. customer ∷ []) (range_with_len 1 count)))
 rising_singles count = subst IsStrictlyIncreasing (sym (first_of_singles (range_with_len 1 count))) (range_rises count)
 

@@ -31,7 +31,7 @@ demand_of p place = slice_index p.demands place
 abbrev pub weight_of : Problem → ℕ → ℕ → ℕ
 weight_of p from to = slice_index p.weights (from * place_count p + to)
 
--- there are trucks for so many routes
+-- there are trucks for this many routes
 abbrev pub HasTrucks : Problem → ℕ → Type 0
 HasTrucks p routes = ForSome p.trucks (λ trucks. routes ≤ trucks)
 

@@ -70,7 +70,7 @@ BeginsWith word front = (rest : List ℕ) × (word ≡ front ++ rest)
 abbrev pub NoneCheaperUnder : Problem → List ℕ → ℕ → Type 0
 NoneCheaperUnder p front cost = (word : List ℕ) → IsLawfulWord p word → BeginsWith word front → cost ≤ word_cost p word
 
--- the tree of a front has at least so many fronts: those that begin with it, itself among them
+-- the tree of a front has at least this many fronts: those that begin with it, itself among them
 abbrev pub TreeHasAtLeast : Problem → List ℕ → ℕ → Type 0
 TreeHasAtLeast p front n =
     (fronts : List (List ℕ)) × AllPairs (λ a b. a ≢ b) fronts × All (λ w. IsFront p w × BeginsWith w front) fronts × (n ≤ length fronts)
@@ -81,7 +81,7 @@ pub record IsTree (p : Problem) (front : List ℕ) (fronts : List (List ℕ)) : 
   pub each : All (λ w. IsFront p w × BeginsWith w front) fronts
   pub every : (w : List ℕ) → IsFront p w → BeginsWith w front → Contains fronts w
 
--- so many fronts are in it
+-- this many fronts are in it
 abbrev pub TreeHas : Problem → List ℕ → ℕ → Type 0
 TreeHas p front n = (fronts : List (List ℕ)) × IsTree p front fronts × (length fronts ≡ n)
 

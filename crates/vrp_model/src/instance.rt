@@ -1,12 +1,10 @@
 //! An instance of the problem: the depot is place 0, and the customers are places 1 to m by rising node number.
-ghost use Rattle.std.specs.Prelude.{◌≡◌, ◌↔◌, ℕ, ◌+◌, ◌*◌, ◌-◌, ◌≤◌, ◌<◌, IsTrue, Option, Some, unwrap_or, IfOk, IfErr, OnOk, Bool, not, filter, map, List, ◌∷◌, ◌++◌, length, slice_index, vec_len, true, false};
-ghost use Rattle.std.specs.List.{range_with_len, flat_map};
+ghost use Rattle.std.specs.Prelude.{◌≡◌, ◌↔◌, ℕ, ◌+◌, ◌*◌, ◌-◌, ◌≤◌, ◌<◌, IsTrue, Option, Some, IfOk, IfErr, OnOk, not, length, slice_index, vec_len};
 ghost use Rattle.std.specs.Option.{ForSome};
-ghost use Rattle.vrp_model.specs.Grid.{entry_at};
 ghost use Rattle.vrp_model.specs.LeastWay.{IsLeastHome, IsLeastIn};
 ghost use Rattle.vrp_model.specs.Problem.{place_count, customers, node_of, demand_of, weight_of, IsProblem, IsSymmetric};
 ghost use Rattle.vrp_model.specs.Route.{load_of};
-ghost use Rattle.vrp_model.specs.Request.{is_listed, node_demand, IsAcceptable, problem_of, NoDepotHasDemand, NoneIsTooHeavy};
+ghost use Rattle.vrp_model.specs.Request.{IsAcceptable, problem_of};
 
 use crate::depots::Depots;
 use crate::least::least_ways;
@@ -119,7 +117,8 @@ impl Instance {
         requires within { depot ≤ weights.now.nodes }
         requires small_capacity { capacity ≤ MAX_CAPACITY }
         requires acceptable { IsAcceptable (record { grid = weights.now; demands = demands.now; capacity = capacity; depots = depots.now; chosen = depot }) }
-        ensures { IfOk result (λ instance. instance ≡ problem_of (record { grid = weights.now; demands = demands.now; capacity = capacity; depots = depots.now; chosen = depot })) }
+        ensures { IfOk result (λ instance. instance ≡ problem_of
+            (record { grid = weights.now; demands = demands.now; capacity = capacity; depots = depots.now; chosen = depot })) }
     {
         let nodes = places(alloc, weights.nodes(), depots, depot)?;
         let weights = weights_between(alloc, weights, &nodes)?;
@@ -137,7 +136,7 @@ impl Instance {
         })
     }
 
-    /// The same instance with so many trucks: no lawful plan of it has more routes.
+    /// The same instance with this many trucks: no lawful plan of it has more routes.
     pub fn with_trucks(self, trucks: u16) -> Instance
         requires some { 1 ≤ trucks }
         requires few { trucks ≤ MAX_NODES }

@@ -3,6 +3,7 @@ ghost use Rattle.std.specs.Prelude.{◌≡◌, ◌≢◌, ◌⊎◌, ◌↔◌, 
 ghost use Rattle.std.specs.List.{All, Contains, sum_by};
 ghost use Rattle.std.specs.List.Sorted.{IsPermutation, IsStrictlyIncreasing};
 ghost use Rattle.vrp_model.specs.Distance.{IsDistance};
+ghost use Rattle.vrp_model.specs.Cheapest.{NoneCheaper};
 ghost use Rattle.vrp_model.specs.Order.{IsBefore, IsEarlier, IsFirst};
 ghost use Rattle.vrp_model.specs.Problem.{IsProblem, IsSymmetric, Problem};
 ghost use Rattle.vrp_model.specs.Route.{AreTurned, IsLawful, PricedPlan, plan_cost};
@@ -44,7 +45,8 @@ pub fn plans_can_turn()
 
 /// So every lawful plan has a lawful word of the same cost, which is no later than its own.
 pub fn plans_have_words()
-    ensures { (p : Problem) (routes : List (List ℕ)) → IsLawful p routes → (word : List ℕ) × IsLawfulWord p word × (word_cost p word ≡ plan_cost p routes) × (IsEarlier (word_of routes) word → ⊥) }
+    ensures { (p : Problem) (routes : List (List ℕ)) → IsLawful p routes
+        → (word : List ℕ) × IsLawfulWord p word × (word_cost p word ≡ plan_cost p routes) × (IsEarlier (word_of routes) word → ⊥) }
 {}
 
 /// No lawful plan costs as much as `NO_COST`.
@@ -66,11 +68,12 @@ pub fn one_child()
 /// The tree of a front is the front itself and the trees of its children, so its size can be counted by hand. Symbols are those
 /// of the children, and each child's tree has its size.
 pub fn trees_of_children()
-    ensures { (p : Problem) (front symbols : List ℕ) (size : ℕ → ℕ) → IsFront p front → IsStrictlyIncreasing symbols → ((k : ℕ) → Contains symbols k ↔ IsFront p (front ++ k ∷ []))
+    ensures { (p : Problem) (front symbols : List ℕ) (size : ℕ → ℕ)
+        → IsFront p front → IsStrictlyIncreasing symbols → ((k : ℕ) → Contains symbols k ↔ IsFront p (front ++ k ∷ []))
         → All (λ k. TreeHas p (front ++ k ∷ []) (size k)) symbols → TreeHas p front (1 + sum_by size symbols) }
 {}
 
-/// A tree has at least so many fronts exactly where they are no more than its size.
+/// A tree has at least this many fronts exactly where they are no more than its size.
 pub fn tree_sizes()
     ensures { (p : Problem) (front : List ℕ) (size n : ℕ) → TreeHas p front size → (TreeHasAtLeast p front n ↔ (n ≤ size)) }
 {}
@@ -87,7 +90,8 @@ pub fn dead_fronts()
 
 /// Of two plans one is before the other, or they have the same cost and the same word.
 pub fn order_is_total()
-    ensures { (plan other : PricedPlan) → IsBefore plan other ⊎ ((plan.cost ≡ other.cost) × (word_of plan.routes ≡ word_of other.routes)) ⊎ IsBefore other plan }
+    ensures { (plan other : PricedPlan) → IsBefore plan other
+        ⊎ ((plan.cost ≡ other.cost) × (word_of plan.routes ≡ word_of other.routes)) ⊎ IsBefore other plan }
 {}
 
 /// No plan is before itself, and what is before one plan is before all that this one is before.
@@ -104,6 +108,11 @@ pub fn equal_words_equal_plans()
 /// A problem has one first plan at most.
 pub fn one_first()
     ensures { (p : Problem) (plan other : PricedPlan) → IsFirst p plan → IsFirst p other → plan ≡ other }
+{}
+
+/// No lawful plan costs less than the first one.
+pub fn first_is_cheapest()
+    ensures { (p : Problem) (plan : PricedPlan) → IsFirst p plan → NoneCheaper p plan.cost }
 {}
 
 /// A problem that has a lawful plan has a first one.

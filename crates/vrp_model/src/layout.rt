@@ -27,7 +27,7 @@ pub enum Layout {
 }
 
 impl Layout {
-    /// How many weights a file in this layout lists for so many nodes.
+    /// How many weights a file in this layout lists for this many nodes.
     pub fn entries(self, nodes: u16) -> usize
         ensures { result ≡ length (cells self nodes) }
     {

@@ -21,9 +21,10 @@ mod weights;
 
 pub use instance::{Instance, InstanceError};
 pub use law::{
-    child_cases, dead_fronts, equal_words_equal_plans, longer_trees, one_child, one_distance,
-    one_first, order_is_strict, order_is_total, plans_are_words, plans_can_rise, plans_can_turn,
-    plans_cost_less, plans_have_words, some_first, tree_sizes, trees_of_children, words_are_plans,
+    child_cases, dead_fronts, equal_words_equal_plans, first_is_cheapest, longer_trees, one_child,
+    one_distance, one_first, order_is_strict, order_is_total, plans_are_words, plans_can_rise,
+    plans_can_turn, plans_cost_less, plans_have_words, some_first, tree_sizes, trees_of_children,
+    words_are_plans,
 };
 pub use layout::Layout;
 pub use limits::{

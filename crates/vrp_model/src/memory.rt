@@ -1,5 +1,4 @@
 //! The one error of calls that can fail only by memory.
-ghost use Rattle.std.specs.Prelude.{◌≡◌};
 
 use std::alloc::{AllocError, AllocFailed};
 use thiserror::Error;

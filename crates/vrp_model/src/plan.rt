@@ -1,10 +1,10 @@
 //! Plans: the routes of the trucks, and what they cost.
-ghost use Rattle.std.specs.Prelude.{◌≡◌, ℕ, ◌+◌, ◌*◌, ◌<◌, ◌≤◌, ◌==◌, false, Some, IfOk, IfSome, IsTrue, is_some, OnOk, ◌↔◌, List, [], ◌∷◌, ◌++◌, ◌^◌, length, map, slice_get};
+ghost use Rattle.std.specs.Prelude.{◌≡◌, ◌+◌, ◌*◌, ◌<◌, ◌≤◌, ◌==◌, false, Some, IfOk, IfSome, IsTrue, is_some, ◌↔◌, [], ◌∷◌, ◌++◌, ◌^◌, length, map, slice_get};
 ghost use Rattle.std.specs.List.{All, position_or_len};
 ghost use Rattle.std.specs.List.Sorted.{IsStrictlyIncreasing};
 ghost use Rattle.vrp_model.specs.Order.{IsBefore};
 ghost use Rattle.vrp_model.specs.Problem.{HasTrucks, IsProblem, IsSymmetric, Problem, customers, place_count};
-ghost use Rattle.vrp_model.specs.Route.{IsPlanOf, plan_cost, route_cost};
+ghost use Rattle.vrp_model.specs.Route.{IsPlanOf, route_cost};
 ghost use Rattle.vrp_model.specs.Inner.Stops.{routes_in, IsWordEnd};
 ghost use Rattle.vrp_model.specs.Word.{IsLawfulWord, RunsForward, first_stops, word_cost, word_of};
 
@@ -36,13 +36,13 @@ pub struct Plan {
 
 impl Model for Plan {
     ghost use Rattle.vrp_model.specs.Route.{PricedPlan};
-    ghost use Rattle.vrp_model.specs.Inner.Stops.{routes_in, IsKept};
+    ghost use Rattle.vrp_model.specs.Inner.Stops.{routes_in, ArePlanStops};
 
     ghost Value = { PricedPlan };
 
     ghost view = { λ p. record { routes = routes_in p.word.items p.routes.items; cost = p.cost } };
 
-    ghost invariant = { λ p. IsKept p.word.items p.routes.items };
+    ghost invariant = { λ p. ArePlanStops p.word.items p.routes.items };
 }
 
 impl Plan {
@@ -61,7 +61,7 @@ impl Plan {
         }
     }
 
-    // The plan that sends one truck to each customer, where there are so many.
+    // The plan that sends one truck to each customer, where there are this many.
     fn one_each(alloc: Global, instance: &Instance) -> Result<Plan, NoMemory>
         requires { HasTrucks instance.now (length (customers instance.now)) }
         ensures routes { IfOk result (λ plan. plan.routes ≡ map (λ customer. customer ∷ []) (customers instance.now)) }
@@ -107,7 +107,7 @@ impl Plan {
         })
     }
 
-    // No routes yet, and room for so many routes of one stop.
+    // No routes yet, and room for this many routes of one stop.
     fn with_room(alloc: Global, most: usize) -> Result<Plan, NoMemory>
         requires { most ≤ 65535 }
         ensures routes { IfOk result (λ plan. plan.routes ≡ []) }
@@ -152,7 +152,8 @@ impl Plan {
         ensures value { result.now ≡ word_of self.now.routes }
         // What is known of every plan.
         ensures rising { IsStrictlyIncreasing (first_stops self.now.routes) }
-        ensures lawful { (p : Problem) → IsPlanOf p self.now → (IsSymmetric p → All RunsForward self.now.routes) → IsLawfulWord p result.now × (word_cost p result.now ≡ self.now.cost) }
+        ensures lawful { (p : Problem) → IsPlanOf p self.now → (IsSymmetric p → All RunsForward self.now.routes)
+            → IsLawfulWord p result.now × (word_cost p result.now ≡ self.now.cost) }
     {
         self.word.as_slice()
     }

@@ -1,5 +1,5 @@
 //! Whether there and back cost the same between any two places.
-ghost use Rattle.std.specs.Prelude.{◌≡◌, ◌↔◌, ◌*◌, ◌≤◌, ◌<◌, ◌+◌, ℕ, IsTrue, length, slice_index};
+ghost use Rattle.std.specs.Prelude.{◌≡◌, ◌↔◌, ◌*◌, ◌≤◌, ◌<◌, ◌+◌, IsTrue, length};
 ghost use Rattle.vrp_model.specs.Inner.Symmetry.{IsSameBack, IsSymmetricSquare};
 
 use crate::limits::MAX_NODES;

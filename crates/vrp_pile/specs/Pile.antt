@@ -31,7 +31,7 @@ AreShared drawn left put = IsPermutation put (drawn ++ left)
 abbrev pub IsNewThief : DrawerState → DrawerState → Type 0
 IsNewThief owner thief = thief ≡ record { pile = owner.pile; parts = 1; put = owner.put; drawn = [] }
 
--- the pieces of a cutting are on a pile, in order, and nobody has drawn: its owner, and so many thieves
+-- the pieces of a cutting are on a pile, in order, and nobody has drawn: its owner, and this many thieves
 pub record IsNewPile (words : List (List ℕ)) (count : ℕ) (owner : DrawerState) (thieves : List DrawerState) : Type 0 where
   pub pieces : map (λ piece. piece.word) owner.put ≡ words
   pub numbers : AreNumbered owner.put
@@ -40,7 +40,7 @@ pub record IsNewPile (words : List (List ℕ)) (count : ℕ) (owner : DrawerStat
   pub many : length thieves ≡ count
   pub each : All (IsNewThief owner) thieves
 
--- for a drawer that stands for so many and drew these: the piece was put on the pile, and those ahead of it are, in some order, all
+-- for a drawer that stands for this many and drew these: the piece was put on the pile, and those ahead of it are, in some order, all
 -- that this drawer drew and others, each once. Where it stands for all drawers there are no others, so the piece is the oldest left
 pub record IsOldest (parts : ℕ) (put drawn : List NumberedWord) (piece : NumberedWord) : Type 0 where
   pub ahead : List NumberedWord

@@ -17,7 +17,7 @@ mod tests;
 pub struct Pile;
 
 impl Pile {
-    /// All pieces of a cutting on one pile, in order: its owner, and so many thieves. Where memory is refused the cutting is
+    /// All pieces of a cutting on one pile, in order: its owner, and this many thieves. Where memory is refused the cutting is
     /// given up.
     pub fn new(
         alloc: Global,

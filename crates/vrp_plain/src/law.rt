@@ -1,5 +1,5 @@
 //! What is true of plain files, whatever reads them.
-ghost use Rattle.std.specs.Prelude.{◌≡◌, ℕ, None, List};
+ghost use Rattle.std.specs.Prelude.{ℕ, None, List};
 ghost use Rattle.vrp_model.specs.Problem.{Problem};
 ghost use Rattle.vrp_plain.specs.PlainMeaning.{MeansPlainly};
 ghost use Rattle.vrp_text.specs.Meaning.{MeansProblem};

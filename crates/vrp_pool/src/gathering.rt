@@ -21,7 +21,7 @@ pub enum GatherError {
     Stranger(u32),
 }
 
-/// The numbers of the pieces that are finished, out of so many. Contracts see for each number whether it was added.
+/// The numbers of the pieces that are finished, out of this many. Contracts see for each number whether it was added.
 #[derive(Debug, Drop)]
 pub struct Gatherer {
     added: Vec<bool>,
@@ -38,7 +38,7 @@ impl Model for Gatherer {
 }
 
 impl Gatherer {
-    /// None of so many is added.
+    /// None of this many is added.
     pub fn new(alloc: Global, pieces: u32) -> Result<Gatherer, NoMemory>
         ensures { IfOk result (λ gatherer. gatherer ≡ replicate pieces false) }
     {

@@ -7,7 +7,7 @@ use vrp_bound::Tables;
 use vrp_model::{Instance, Plan};
 use vrp_search::Prices;
 
-/// What is searched, and what was made before; how many partial plans may be looked at in each of so many pieces, and what is told
+/// What is searched, and what was made before; how many partial plans may be looked at in each of this many pieces, and what is told
 /// before each.
 #[derive(Drop)]
 pub(crate) struct Shared<'a, R, G> {

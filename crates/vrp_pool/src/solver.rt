@@ -35,9 +35,9 @@ pub const MAX_WORKERS: u32 = 64;
 // How many partial plans of the whole tree are looked at before anything else is done: small trees end there.
 const FIRST_LOOK: u64 = 20_000;
 
-/// Searches all pieces of a cutting, each with this budget, by so many workers, each in a thread of its own where one can be made.
+/// Searches all pieces of a cutting, each with this budget, by this many workers, each in a thread of its own where one can be made.
 /// They draw the pieces from one pile and offer their plans to one register, which opens with the plan of one truck for each
-/// customer, where there are so many trucks. The search bounds by tables over all customers. A piece that it leaves unfinished is
+/// customer, where there are this many trucks. The search bounds by tables over all customers. A piece that it leaves unfinished is
 /// bounded once more at the end, where that may count, by tables over the customers that the piece leaves unserved; where each plan
 /// under it then costs more than the best one, it is finished. A gate is told before each piece. The cutting is given up.
 ///
@@ -130,7 +130,7 @@ fn looked_at<'a, R: Threads + Wait + Sync>(
     }
 }
 
-// Searches all pieces of a cutting by so many workers, who draw them from one pile.
+// Searches all pieces of a cutting by this many workers, who draw them from one pile.
 fn solve_pieces<R: Threads + Wait + Sync, G: Gate + Sync>(
     shared: &Shared<'_, R, G>,
     cutting: Cutting,

@@ -1,8 +1,6 @@
 //! All workers: how they are made, work in threads of their own, and are brought together.
 ghost use Rattle.std.specs.Prelude.{◌≡◌, ◌+◌, IfOk, false, vec_len};
 ghost use Rattle.std.specs.List.{All};
-ghost use Rattle.std.specs.Option.{ForSome, option_map};
-ghost use Rattle.vrp_model.specs.Route.{IsPlanOf};
 ghost use Rattle.vrp_pile.specs.Pile.{IsNewPile};
 ghost use Rattle.vrp_pool.specs.Inner.Workers.{AreBack, AreFronts, AreNewCallers, CanWork, HasHelped, HasWorked, HaveHelped, IsTeam, words_of};
 

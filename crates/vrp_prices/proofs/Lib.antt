@@ -1,10 +1,12 @@
 pub mod BoundByRelaxation
 pub mod Crossed
 pub mod CustomerSums
+pub mod CutSums
 pub mod CutsByTest
 pub mod InUnits
 pub mod LawfulPrices
 pub mod MadeRelaxation
+pub mod MarkedCustomers
 pub mod PricedRows
 pub mod PricedWords
 pub mod PricesRelax

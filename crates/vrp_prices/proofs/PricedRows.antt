@@ -4,15 +4,16 @@ use Rattle.std.specs.Prelude.{slice_index}
 use Rattle.std.proofs.lemmas.Bool.{cases_lt}
 use Rattle.std.proofs.lemmas.List.{get_or_append_left, get_or_push, length_push}
 use Rattle.std.proofs.lemmas.Nat.{mul-add-lt, same_from_place}
-use Rattle.vrp_model.specs.Problem.{Problem, place_count, weight_of}
+use Rattle.vrp_model.specs.Problem.{Problem, place_count}
 use Rattle.vrp_model.proofs.BoundedLists.{bounded_push}
+use Rattle.vrp_prices.specs.Cut.{Cut}
 use Rattle.vrp_prices.specs.Inner.Ways.{ArePricedWays, IsPricedWay}
-use Rattle.vrp_prices.specs.Priced.{price_in, rebate_in}
+use Rattle.vrp_prices.specs.Priced.{dear_way, taken_off}
 
 -- one weight more, at the next place
-pub ways_more : (p : Problem) (scale : ℕ) (prices : List ℤ) (weights : List ℕ) (row column weight : ℕ) → length weights ≡ row * place_count p + column → column < place_count p
-    → IsPricedWay p scale prices row column weight → weight ≤ 1000000000 → ArePricedWays p scale prices weights → ArePricedWays p scale prices (weights ++ weight ∷ [])
-ways_more p scale prices weights row column weight next within way small so_far = record {
+pub ways_more : (p : Problem) (scale : ℕ) (prices : List ℤ) (cuts : List Cut) (weights : List ℕ) (row column weight : ℕ) → length weights ≡ row * place_count p + column → column < place_count p
+    → IsPricedWay p scale prices cuts row column weight → weight ≤ 1000000000 → ArePricedWays p scale prices cuts weights → ArePricedWays p scale prices cuts (weights ++ weight ∷ [])
+ways_more p scale prices cuts weights row column weight next within way small so_far = record {
   each = λ from to inside before.
       elim (cases_lt (from * place_count p + to) (length weights)) [
         | inl earlier ↦ rw (get_or_append_left weights (weight ∷ []) 0 (from * place_count p + to) earlier) (so_far.each from to inside earlier)
@@ -25,7 +26,7 @@ ways_more p scale prices weights row column weight next within way small so_far 
 }
 
 -- each way, once all are written
-pub all_ways : (p : Problem) (scale : ℕ) (prices : List ℤ) (weights : List ℕ) (from to : ℕ) → length weights ≡ place_count p * place_count p → ArePricedWays p scale prices weights → from < place_count p → to < place_count p → from ≢ to
-    → slice_index weights (from * place_count p + to) + rebate_in prices from + rebate_in prices to ≡ scale * weight_of p from to + price_in prices from + price_in prices to
-all_ways p scale prices weights from to square are here there differs =
+pub all_ways : (p : Problem) (scale : ℕ) (prices : List ℤ) (cuts : List Cut) (weights : List ℕ) (from to : ℕ) → length weights ≡ place_count p * place_count p → ArePricedWays p scale prices cuts weights → from < place_count p → to < place_count p → from ≢ to
+    → slice_index weights (from * place_count p + to) + taken_off prices cuts from to ≡ dear_way p scale prices from to
+all_ways p scale prices cuts weights from to square are here there differs =
     are.each from to there (omega (arith, square, mul-add-lt from (place_count p) to (place_count p) here there)) differs

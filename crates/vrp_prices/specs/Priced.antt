@@ -1,6 +1,6 @@
 -- A problem with prices on its customers and tolls on cuts, and with its demands in units. The prices are multipliers on the two
 -- ways of each customer (Christofides, Mingozzi and Toth 1981).
-use Rattle.std.specs.Prelude.{◌≡◌, ◌≢◌, ℕ, zero, suc, ◌+◌, ◌*◌, ◌≤◌, ◌<◌, ℤ, pos, negsuc, List, [], slice_index_or}
+use Rattle.std.specs.Prelude.{◌≡◌, ◌≢◌, ℕ, zero, suc, ◌+◌, ◌*◌, ◌≤◌, ◌<◌, ℤ, pos, negsuc, List, slice_index_or}
 use Rattle.std.specs.List.{All, sum_by}
 use Rattle.vrp_model.specs.Problem.{Problem, customers, place_count, weight_of}
 use Rattle.vrp_model.specs.declared.limits.TheConstants.{MAX_WEIGHT}
@@ -8,7 +8,7 @@ use Rattle.vrp_prices.specs.Cut.{Cut, IsCut, tolls_of}
 use Rattle.vrp_prices.specs.Relaxation.{RelaxationOf}
 use Rattle.vrp_prices.specs.Units.{IsRounded}
 
--- Each way between two places costs so many times as much, more by the prices of its two ends, and less by their rebates and by
+-- Each way between two places costs `scale` times as much, more by the prices of its two ends, and less by their rebates and by
 -- the tolls of the cuts that it crosses. The depot has no price and no rebate.
 pub record HasPrices (p q : Problem) (scale : ℕ) (price rebate : ℕ → ℕ) (cuts : List Cut) : Type 0 where
   pub some : 1 ≤ scale
@@ -52,17 +52,25 @@ abbrev pub rebate_in : List ℤ → ℕ → ℕ
 rebate_in prices zero = 0
 rebate_in prices (suc k) = below_nothing (slice_index_or prices (suc k) (pos 0))
 
--- with these prices each way costs something from 0 up to the greatest weight
-pub record AreLawfulPrices (p : Problem) (scale : ℕ) (prices : List ℤ) : Type 0 where
-  pub no_less : (from to : ℕ) → from < place_count p → to < place_count p → from ≢ to
-      → rebate_in prices from + rebate_in prices to ≤ scale * weight_of p from to + price_in prices from + price_in prices to
-  pub no_more : (from to : ℕ) → from < place_count p → to < place_count p → from ≢ to
-      → scale * weight_of p from to + price_in prices from + price_in prices to ≤ MAX_WEIGHT + rebate_in prices from + rebate_in prices to
+-- what a way costs before rebates and tolls are taken off
+abbrev pub dear_way : Problem → ℕ → List ℤ → ℕ → ℕ → ℕ
+dear_way p scale prices from to = scale * weight_of p from to + price_in prices from + price_in prices to
 
--- a relaxation by these prices, and no tolls
-pub record IsByPrices (p : Problem) (unit scale : ℕ) (prices : List ℤ) (r : RelaxationOf) : Type 0 where
+-- what rebates and tolls take off it
+abbrev pub taken_off : List ℤ → List Cut → ℕ → ℕ → ℕ
+taken_off prices cuts from to = rebate_in prices from + rebate_in prices to + tolls_of cuts from to
+
+-- with these prices and tolls each way costs something from 0 up to the greatest weight
+pub record AreLawfulPrices (p : Problem) (scale : ℕ) (prices : List ℤ) (cuts : List Cut) : Type 0 where
+  pub no_less : (from to : ℕ) → from < place_count p → to < place_count p → from ≢ to
+      → taken_off prices cuts from to ≤ dear_way p scale prices from to
+  pub no_more : (from to : ℕ) → from < place_count p → to < place_count p → from ≢ to
+      → dear_way p scale prices from to ≤ MAX_WEIGHT + taken_off prices cuts from to
+
+-- a relaxation by these prices, and by the tolls of these cuts
+pub record IsByPrices (p : Problem) (unit scale : ℕ) (prices : List ℤ) (cuts : List Cut) (r : RelaxationOf) : Type 0 where
   pub same_problem : r.problem ≡ p
   pub same_scale : r.scale ≡ scale
-  pub priced : IsPriced p r.relaxed unit scale (price_in prices) (rebate_in prices) []
+  pub priced : IsPriced p r.relaxed unit scale (price_in prices) (rebate_in prices) cuts
   pub charges : r.charges ≡ charges_of p (price_in prices)
-  pub rewards : r.rewards ≡ rewards_of p (rebate_in prices) []
+  pub rewards : r.rewards ≡ rewards_of p (rebate_in prices) cuts

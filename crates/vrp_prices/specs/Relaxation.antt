@@ -3,7 +3,7 @@ use Rattle.std.specs.Prelude.{◌≡◌, ℕ, ◌+◌, ◌*◌, ◌≤◌, ◌<�
 use Rattle.vrp_model.specs.Problem.{Problem, place_count}
 use Rattle.vrp_model.specs.Word.{IsFront, IsLawfulWord, word_cost}
 
--- The same places and trucks. Each front of p is one of q, and so is each lawful word, which costs there no more than so many
+-- The same places and trucks. Each front of p is one of q, and so is each lawful word, which costs there no more than this many
 -- times as much, the charges and the rewards counted.
 pub record IsRelaxation (p q : Problem) (scale charges rewards : ℕ) : Type 0 where
   pub same_places : place_count q ≡ place_count p

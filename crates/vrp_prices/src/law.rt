@@ -64,7 +64,7 @@ pub fn cuts_by_test()
         → stands_in (filter test (customers p)) place ≡ test place }
 {}
 
-/// What a lawful word costs with prices: so many times its cost, more by twice the price of each customer, and less by twice its
+/// What a lawful word costs with prices: this many times its cost, more by twice the price of each customer, and less by twice its
 /// rebate and by the tolls of the cuts that it crosses.
 pub fn costs_with_prices()
     ensures { (p q : Problem) (scale : ℕ) (price rebate : ℕ → ℕ) (cuts : List Cut) (word : List ℕ) → IsProblem p → HasPrices p q scale price rebate cuts

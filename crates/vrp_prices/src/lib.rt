@@ -3,24 +3,31 @@
 #![tactic(auto)]
 
 mod amounts;
+mod cut;
+mod entered;
+mod flow;
 mod law;
 mod lift;
 mod limits;
 mod prices;
 mod relaxation;
 mod rounds;
+mod separation;
 #[cfg(test)]
 mod slow;
 mod step;
+mod stepped_cuts;
+mod tolls;
 mod tours_used;
 mod unit;
 mod walks;
 mod ways;
 
+pub use cut::Cut;
 pub use law::{
     costs_with_prices, cuts_are_crossed, cuts_by_test, dear_fronts, prices_relax,
     relaxations_bound, relaxed_fronts, rounded_words, same_symmetry, walks_bound,
 };
-pub use limits::MAX_SCALE;
+pub use limits::{MAX_CUTS, MAX_SCALE, MAX_TOLL};
 pub use relaxation::Relaxation;
 pub use rounds::find_prices;

@@ -1,13 +1,14 @@
 //! Prices of places: what they add to a way, or take off, and together to or off a plan.
-ghost use Rattle.std.specs.Prelude.{◌≡◌, ◌↔◌, ◌*◌, ◌≤◌, ◌<◌, IsTrue, length};
+ghost use Rattle.std.specs.Prelude.{◌≡◌, ℕ, ◌*◌, ◌≤◌, ◌<◌, IsTrue, false, length};
 ghost use Rattle.std.specs.List.{sum_by};
 ghost use Rattle.vrp_model.specs.Problem.{IsProblem, customers, place_count};
-ghost use Rattle.vrp_model.specs.declared.limits.TheConstants.{MAX_NODES};
 ghost use Rattle.vrp_prices.specs.Inner.Ways.{AreModerate};
-ghost use Rattle.vrp_prices.specs.Priced.{price_in, rebate_in};
-ghost use Rattle.vrp_prices.specs.declared.limits.TheConstants.{MAX_CHARGES, MAX_REWARDS};
+ghost use Rattle.vrp_prices.specs.Priced.{AreLawfulPrices, price_in, rebate_in};
+ghost use Rattle.vrp_prices.specs.declared.limits.TheConstants.{MAX_CHARGES, MAX_CUTS, MAX_REBATE_REWARDS, MAX_SCALE};
 
+use crate::cut::Cut;
 use crate::limits::MAX_REBATE;
+use crate::tolls::tolls;
 use vrp_model::{Instance, MAX_WEIGHT};
 
 /// What a place's price adds to each of its ways; 0 where it is a rebate.
@@ -36,15 +37,19 @@ pub(crate) fn rebate_at(prices: &[i64], place: u16) -> u64
     }
 }
 
-/// Whether no price is above what a way may cost, and no rebate above what a way costs before. Any others are unlawful.
-pub(crate) fn are_moderate(instance: &Instance, prices: &[i64]) -> bool
+/// Whether no price is above what a way may cost and what tolls take off the way from the depot, and no rebate above what a way
+/// costs before. Any others are unlawful.
+pub(crate) fn are_moderate(instance: &Instance, prices: &[i64], cuts: &[Cut]) -> bool
     requires one_each { length prices.now ≡ place_count instance.now }
-    ensures moderate { IsTrue result ↔ AreModerate prices.now }
+    requires few { length cuts.now ≤ MAX_CUTS }
+    ensures moderate { IsTrue result → AreModerate prices.now }
+    ensures unlawful { result ≡ false → (scale : ℕ) → scale ≤ MAX_SCALE → AreLawfulPrices instance.now scale prices.now cuts.now → ⊥ }
     // What is known of every instance.
     ensures problem { IsProblem instance.now }
 {
     for place in 0..instance.customers() + 1 {
-        if price_at(prices, place) > MAX_WEIGHT || rebate_at(prices, place) > MAX_REBATE {
+        let most = MAX_WEIGHT + tolls(cuts, 0, place);
+        if price_at(prices, place) > most || rebate_at(prices, place) > MAX_REBATE {
             return false;
         }
     }
@@ -66,11 +71,11 @@ pub(crate) fn charges(instance: &Instance, prices: &[i64]) -> u64
 }
 
 /// What rebates take off each plan.
-pub(crate) fn rewards(instance: &Instance, prices: &[i64]) -> u64
+pub(crate) fn rebate_rewards(instance: &Instance, prices: &[i64]) -> u64
     requires one_each { length prices.now ≡ place_count instance.now }
     requires moderate { AreModerate prices.now }
     ensures value { result ≡ 2 * sum_by (rebate_in prices.now) (customers instance.now) }
-    ensures small { result ≤ MAX_REWARDS }
+    ensures small { result ≤ MAX_REBATE_REWARDS }
 {
     let mut whole = 0;
     for index in 0..instance.customers() {

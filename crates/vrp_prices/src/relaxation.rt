@@ -1,14 +1,17 @@
-//! A relaxation of an instance by prices.
-ghost use Rattle.std.specs.Prelude.{◌≡◌, ◌≤◌, IfNone, IfOk, IfSome, length};
+//! A relaxation of an instance by prices and tolls.
+ghost use Rattle.std.specs.Prelude.{◌≡◌, ◌≤◌, All, IfNone, IfOk, IfSome, length};
 ghost use Rattle.vrp_model.specs.Problem.{place_count};
 ghost use Rattle.vrp_model.specs.declared.limits.TheConstants.{MAX_CAPACITY, NO_COST};
+ghost use Rattle.vrp_prices.specs.Cut.{IsCut};
 ghost use Rattle.vrp_prices.specs.Priced.{AreLawfulPrices, IsByPrices};
 ghost use Rattle.vrp_prices.specs.Relaxation.{Bounds, IsLimit};
 ghost use Rattle.vrp_prices.specs.Units.{rounded_capacity};
 
 use crate::amounts::{capacity_in_units, demands_in_units};
-use crate::limits::MAX_SCALE;
-use crate::prices::{are_moderate, charges, rewards};
+use crate::cut::Cut;
+use crate::limits::{MAX_CUTS, MAX_SCALE};
+use crate::prices::{are_moderate, charges, rebate_rewards};
+use crate::tolls::toll_rewards;
 use crate::ways::priced_weights;
 use std::alloc::Global;
 use std::marker::Model;
@@ -26,43 +29,47 @@ pub struct Relaxation<'a> {
 
 impl<'a> Model for Relaxation<'a> {
     ghost use Rattle.vrp_prices.specs.Relaxation.{RelaxationOf};
-    ghost use Rattle.vrp_prices.specs.Inner.Kept.{IsKept};
+    ghost use Rattle.vrp_prices.specs.Inner.Kept.{IsSmallRelaxation};
 
     ghost Value = { RelaxationOf };
 
     ghost view = { λ a. record { problem = a.problem.now; relaxed = a.relaxed; scale = a.scale; charges = a.charges; rewards = a.rewards } };
 
-    ghost invariant = { λ a. IsKept (record { problem = a.problem.now; relaxed = a.relaxed; scale = a.scale; charges = a.charges; rewards = a.rewards }) };
+    ghost invariant = { λ a. IsSmallRelaxation (record { problem = a.problem.now; relaxed = a.relaxed; scale = a.scale; charges = a.charges; rewards = a.rewards }) };
 }
 
 impl<'a> Relaxation<'a> {
-    /// The relaxation by a price for each place, in whole units of the scaled weights; one below 0 is a rebate, and the depot's
-    /// is not looked at. Each way costs `scale` times as much, and more by the prices of its two ends. Demands, and what one
-    /// truck can carry, are counted in units. `None` where a way would cost less than 0 or more than 1,000,000,000, or one truck
-    /// would carry more than that in units.
+    /// The relaxation by a price for each place and by the tolls of some cuts of the instance, in whole units of the scaled
+    /// weights; a price below 0 is a rebate, and the depot's is not looked at. Each way costs `scale` times as much, more by the
+    /// prices of its two ends, and less by the tolls of the cuts that it crosses. Demands, and what one truck can carry, are
+    /// counted in units. `None` where a way would cost less than 0 or more than 1,000,000,000, or one truck would carry more than
+    /// that in units.
     pub fn new(
         alloc: Global,
         instance: &'a Instance,
         scale: u64,
         unit: u64,
         prices: &[i64],
+        cuts: &[Cut],
     ) -> Result<Option<Relaxation<'a>>, NoMemory>
         requires some_scale { 1 ≤ scale }
         requires small_scale { scale ≤ MAX_SCALE }
         requires some_unit { 1 ≤ unit }
         requires one_each { length prices.now ≡ place_count instance.now }
-        ensures priced { IfOk result (λ made. IfSome made (λ relaxation. IsByPrices instance.now unit scale prices.now relaxation)) }
+        requires few_cuts { length cuts.now ≤ MAX_CUTS }
+        requires cuts { All (IsCut instance.now) cuts.now }
+        ensures priced { IfOk result (λ made. IfSome made (λ relaxation. IsByPrices instance.now unit scale prices.now cuts.now relaxation)) }
         ensures none { IfOk result (λ made. IfNone made
-            (AreLawfulPrices instance.now scale prices.now → rounded_capacity instance.now unit ≤ MAX_CAPACITY → ⊥)) }
+            (AreLawfulPrices instance.now scale prices.now cuts.now → rounded_capacity instance.now unit ≤ MAX_CAPACITY → ⊥)) }
     {
-        if !are_moderate(instance, prices) {
+        if !are_moderate(instance, prices, cuts) {
             return Ok(None);
         }
         let capacity = capacity_in_units(instance, unit);
         if capacity > MAX_CAPACITY {
             return Ok(None);
         }
-        let Some(weights) = priced_weights(alloc, instance, scale, prices)? else {
+        let Some(weights) = priced_weights(alloc, instance, scale, prices, cuts)? else {
             return Ok(None);
         };
         let demands = demands_in_units(alloc, instance, unit)?;
@@ -72,7 +79,7 @@ impl<'a> Relaxation<'a> {
             relaxed,
             scale,
             charges: charges(instance, prices),
-            rewards: rewards(instance, prices),
+            rewards: rebate_rewards(instance, prices) + toll_rewards(cuts),
         }))
     }
 

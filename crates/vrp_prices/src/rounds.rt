@@ -1,11 +1,12 @@
 //! How prices are found: rounds of filling tables and stepping towards a higher bound.
-ghost use Rattle.std.specs.Prelude.{◌≡◌, ◌≤◌, IfOk, IfSome, vec_len};
+ghost use Rattle.std.specs.Prelude.{◌≡◌, IfOk, IfSome, vec_len};
 ghost use Rattle.vrp_model.specs.Problem.{place_count};
 ghost use Rattle.vrp_prices.specs.declared.limits.TheConstants.{MAX_SCALE};
 
 use crate::limits::MAX_SCALE;
 use crate::relaxation::Relaxation;
 use crate::step::Ascent;
+use crate::stepped_cuts::SteppedCut;
 use crate::unit::{Size, unit_for};
 use crate::walks::{Walks, at};
 use std::alloc::Global;
@@ -20,8 +21,8 @@ const LEAST_ROUNDS: u64 = 100;
 // What a plan should cost at most by the scale.
 const SCALED_COST: u64 = 1_000_000_000;
 
-/// A relaxation by prices that bound the instance's plans well, where a plan of it costs so much. At most so many steps are taken
-/// to find them: looks from one cell of a table at another. `None` where these are too few for a hundred rounds, or no unit makes
+/// A relaxation by prices and tolls that bound the instance's plans well, where a plan of it costs so much. At most this many steps
+/// are taken to find them: looks from one cell of a table at another, and looks at a way for a cut with a toll. `None` where these are too few for a hundred rounds, or no unit makes
 /// the tables small, or the prices are out of range. Which prices they are is left open: any bound the instance's plans.
 pub fn find_prices<'a>(
     alloc: Global,
@@ -36,27 +37,52 @@ pub fn find_prices<'a>(
     };
     let scale = (SCALED_COST / cost.max(1)).clamp(1, MAX_SCALE);
     let size = Size::in_units(instance, unit);
-    let rounds = (steps / size.steps().max(1)).min(MAX_ROUNDS);
-    if rounds < LEAST_ROUNDS {
+    if steps / size.steps().max(1) < LEAST_ROUNDS {
         return Ok(None);
     }
     let mut walks = Walks::new(alloc, instance, scale, unit, size)?;
-    let places = usize::from(instance.customers()) + 1;
-    let aim = i64::try_from(cost).unwrap_or(i64::MAX);
-    let mut ascent = Ascent::new(alloc, places, scale as i64, aim)?;
-    for _ in 0..rounds {
-        let Some(tours) = walks.fill(ascent.prices()) else {
-            break;
-        };
-        if !ascent.step(&walks, tours) {
-            break;
-        }
-    }
-    let prices = lifted(alloc, instance, &mut walks, ascent.best())?;
-    match Relaxation::new(alloc, instance, scale, unit, &prices)? {
+    let best = ascend(alloc, instance, &mut walks, scale, cost, size, steps)?;
+    let (prices, cuts) = best.into_best();
+    let prices = lifted(alloc, instance, &mut walks, &prices, cuts.as_slice())?;
+    let cuts = cuts.into_cuts(alloc, instance)?;
+    match Relaxation::new(alloc, instance, scale, unit, &prices, &cuts)? {
         Some(relaxation) => Ok(Some(relaxation)),
         None => Ok(None),
     }
+}
+
+// Fills the tables and steps, till the steps are taken or no more are worth it.
+fn ascend(
+    alloc: Global,
+    instance: &Instance,
+    walks: &mut Walks,
+    scale: u64,
+    cost: u64,
+    size: Size,
+    steps: u64,
+) -> Result<Ascent, NoMemory> {
+    let places = usize::from(instance.customers()) + 1;
+    let scale = i64::try_from(scale).unwrap_or(1);
+    let aim = i64::try_from(cost).unwrap_or(i64::MAX);
+    let mut ascent = Ascent::new(alloc, places, scale, aim)?;
+    let mut left = steps;
+    for _ in 0..MAX_ROUNDS {
+        let round = size
+            .steps()
+            .saturating_add(size.tolls(ascent.tolled_cuts()));
+        if left < round {
+            break;
+        }
+        left -= round;
+        ascent.enter(walks);
+        let Some(tours) = walks.fill() else {
+            break;
+        };
+        if !ascent.step(alloc, instance, walks, tours)? {
+            break;
+        }
+    }
+    Ok(ascent)
 }
 
 // The same prices, and so much more for each unit of a customer's demand that no way costs less than nothing. All walks of a load
@@ -66,10 +92,11 @@ fn lifted(
     instance: &Instance,
     walks: &mut Walks,
     prices: &[i64],
+    cuts: &[SteppedCut],
 ) -> Result<Vec<i64>, NoMemory>
     ensures { IfOk result (λ lifted. vec_len lifted ≡ place_count instance.now) }
 {
-    walks.enter_prices(prices);
+    walks.enter(prices, cuts);
     let lift = walks.least_lift();
     let mut lifted = Vec::with_capacity(alloc, usize::from(instance.customers()) + 1)?;
     for place in 0..instance.customers() + 1 {

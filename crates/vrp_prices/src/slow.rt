@@ -1,4 +1,8 @@
 //! Tests: what the words of small instances cost in their relaxations, by hand and by trying every word.
+ghost use Rattle.std.specs.Prelude.{All, IfOk};
+ghost use Rattle.vrp_prices.specs.Cut.{IsCut};
+
+use crate::cut::Cut;
 use crate::relaxation::Relaxation;
 use crate::rounds::find_prices;
 use std::alloc::Global;
@@ -34,6 +38,8 @@ const DEMANDS: [([u64; 4], u64); 6] = [
 
 const UNITS: [u64; 5] = [1, 2, 3, 100, 1_000_000_000];
 
+const TOLLS: [u64; 2] = [1, 30];
+
 const PRICES: [[i64; 4]; 4] = [
     [0, 0, 0, 0],
     [0, 12, -5, 3],
@@ -65,25 +71,62 @@ fn one_way(rt: &impl Abort, alloc: Global) -> Result<Weights, NoMemory> {
     Weights::matrix(alloc, Layout::FullMatrix, &ONE_WAY, 4)
 }
 
-// With each unit and all prices.
+// With each unit and all prices; and with a cut of each set of customers.
 fn words_of_all(rt: &impl Abort, alloc: Global, instance: &Instance) -> Result<u64, NoMemory> {
     let mut words = 0u64;
     for unit in UNITS {
         for prices in PRICES {
-            if let Some(relaxation) = relaxed(rt, alloc, instance, 10, unit, &prices)? {
-                let front = Front {
-                    left: instance.customers(),
-                    ..Front::default()
-                };
-                words = words.saturating_add(words_under(rt, &relaxation, front, 20));
+            if let Some(relaxation) = relaxed(rt, alloc, instance, 10, unit, &prices, &[])? {
+                words = words.saturating_add(words_of(rt, &relaxation));
+            }
+        }
+    }
+    for set in 0..8u8 {
+        for toll in TOLLS {
+            let cuts = [
+                cut(rt, alloc, instance, set, toll)?,
+                cut(rt, alloc, instance, 5, 2)?,
+            ];
+            let made = relaxed(rt, alloc, instance, 10, 1, &[0, 50, 50, 50], &cuts)?;
+            if let Some(relaxation) = made {
+                words = words.saturating_add(words_of(rt, &relaxation));
             }
         }
     }
     Ok(words)
 }
 
-// How many words go on from a front, with so many symbols at most. Each is lawful in the relaxation, and costs there what its
-// limit is.
+// The cut of a set of customers, each of which has its bit.
+fn cut(
+    rt: &impl Abort,
+    alloc: Global,
+    instance: &Instance,
+    set: u8,
+    toll: u64,
+) -> Result<Cut, NoMemory>
+    ensures { IfOk result (IsCut instance.now) }
+{
+    let mut inside = vec![in alloc; false; usize::from(instance.customers()) + 1]?;
+    for customer in 1..4u8 {
+        if let Some(mark) = inside.get_mut(usize::from(customer)) {
+            *mark = set >> (customer - 1) & 1 == 1;
+        }
+    }
+    assert!(rt; inside.len() == usize::from(instance.customers()) + 1 && toll <= 1_000);
+    Ok(Cut::new(instance, inside, toll))
+}
+
+// How many lawful words there are.
+fn words_of(rt: &impl Abort, relaxation: &Relaxation<'_>) -> u64 {
+    let front = Front {
+        left: relaxation.problem().customers(),
+        ..Front::default()
+    };
+    words_under(rt, relaxation, front, 20)
+}
+
+// How many words go on from a front, with this many symbols at most. Each is lawful in the relaxation, and costs there no more than
+// its limit is.
 fn words_under(rt: &impl Abort, relaxation: &Relaxation<'_>, front: Front, steps: u16) -> u64 {
     assert!(rt;
         front.relaxed_load <= relaxation.relaxed().capacity(),
@@ -94,7 +137,11 @@ fn words_under(rt: &impl Abort, relaxation: &Relaxation<'_>, front: Front, steps
     }
     if front.at == 0 && front.left == 0 {
         assert!(rt; front.cost <= NO_COST);
-        assert_eq!(rt; relaxation.limit(front.cost), Some(front.relaxed_cost));
+        let limit = relaxation.limit(front.cost);
+        assert!(rt;
+            limit.is_some_and(|limit| front.relaxed_cost <= limit),
+            "{front:?}"
+        );
         return 1;
     }
     let mut words = 0u64;
@@ -150,10 +197,14 @@ fn relaxed<'a>(
     scale: u64,
     unit: u64,
     prices: &[i64],
-) -> Result<Option<Relaxation<'a>>, NoMemory> {
+    cuts: &[Cut],
+) -> Result<Option<Relaxation<'a>>, NoMemory>
+    requires { All (IsCut instance.now) cuts.now }
+{
     assert!(rt; 1 <= scale && scale <= 1_000 && 1 <= unit);
     assert!(rt; prices.len() == usize::from(instance.customers()) + 1);
-    Relaxation::new(alloc, instance, scale, unit, prices)
+    assert!(rt; cuts.len() <= 100);
+    Relaxation::new(alloc, instance, scale, unit, prices, cuts)
 }
 
 fn three_nodes(
@@ -169,7 +220,7 @@ fn three_nodes(
 #[test]
 fn values_on_three_nodes(rt: HostRuntime) -> Result<(), Fail> {
     let instance = three_nodes(&rt, rt.alloc(), [0, 1, 1], 2)?;
-    let Some(relaxation) = relaxed(&rt, rt.alloc(), &instance, 10, 1, &[0, 7, -3])? else {
+    let Some(relaxation) = relaxed(&rt, rt.alloc(), &instance, 10, 1, &[0, 7, -3], &[])? else {
         panic!(rt; "no relaxation");
     };
     let priced = relaxation.relaxed();
@@ -182,11 +233,63 @@ fn values_on_three_nodes(rt: HostRuntime) -> Result<(), Fail> {
         assert!(rt; cost <= NO_COST);
         assert_eq!(rt; relaxation.limit(cost), Some(limit));
     }
-    let Some(relaxation) = relaxed(&rt, rt.alloc(), &instance, 10, 1, &[0, -7, 3])? else {
+    let Some(relaxation) = relaxed(&rt, rt.alloc(), &instance, 10, 1, &[0, -7, 3], &[])? else {
         panic!(rt; "no relaxation");
     };
     assert_eq!(rt; relaxation.limit(0), None);
     assert_eq!(rt; relaxation.limit(1), Some(2));
+    Ok(())
+}
+
+#[test]
+fn tolls_on_three_nodes(rt: HostRuntime) -> Result<(), Fail> {
+    // A set of customers, what one truck can carry, the ways from the depot to each and between them, and what a plan of no cost
+    // would cost there at most.
+    let table: [(u8, u64, [u64; 3], Option<u64>); 6] = [
+        (0, 2, [50, 100, 50], Some(40)),
+        (1, 2, [47, 100, 47], Some(34)),
+        (2, 2, [50, 97, 47], Some(34)),
+        (3, 2, [47, 97, 50], Some(34)),
+        (3, 1, [47, 97, 50], Some(28)),
+        (2, 1, [50, 97, 47], Some(34)),
+    ];
+    for (set, capacity, ways, limit) in table {
+        let instance = three_nodes(&rt, rt.alloc(), [0, 1, 1], capacity)?;
+        let cuts = [cut(&rt, rt.alloc(), &instance, set, 3)?];
+        let made = relaxed(&rt, rt.alloc(), &instance, 10, 1, &[0, 10, 10], &cuts)?;
+        let Some(relaxation) = made else {
+            panic!(rt; "no relaxation");
+        };
+        let priced = relaxation.relaxed();
+        assert!(rt; priced.customers() == 2);
+        let found = [
+            priced.weight(0, 1),
+            priced.weight(0, 2),
+            priced.weight(2, 1),
+        ];
+        let [first, second, between] = ways;
+        assert_eq!(rt; found, [first + 10, second + 10, between + 20], "{set}");
+        assert_eq!(rt; relaxation.limit(0), limit, "{set}");
+    }
+    Ok(())
+}
+
+#[test]
+fn tolls_at_their_ends(rt: HostRuntime) -> Result<(), Fail> {
+    let instance = three_nodes(&rt, rt.alloc(), [0, 1, 1], 2)?;
+    for (set, toll, is_made) in [
+        (1, 5, true),
+        (1, 6, false),
+        (2, 5, true),
+        (2, 6, false),
+        (3, 5, true),
+        (3, 6, false),
+        (0, 1_000, true),
+    ] {
+        let cuts = [cut(&rt, rt.alloc(), &instance, set, toll)?];
+        let made = relaxed(&rt, rt.alloc(), &instance, 1, 1, &[0, 0, 0], &cuts)?;
+        assert_eq!(rt; made.is_some(), is_made, "{set} {toll}");
+    }
     Ok(())
 }
 
@@ -205,7 +308,7 @@ fn prices_at_their_ends(rt: HostRuntime) -> Result<(), Fail> {
         ([i64::MIN, i64::MIN, 0], false),
     ];
     for (prices, is_made) in table {
-        let made = relaxed(&rt, rt.alloc(), &instance, 1, 1, &prices)?;
+        let made = relaxed(&rt, rt.alloc(), &instance, 1, 1, &prices, &[])?;
         assert_eq!(rt; made.is_some(), is_made, "{prices:?}");
     }
     Ok(())
@@ -222,7 +325,7 @@ fn demands_in_units(rt: HostRuntime) -> Result<(), Fail> {
     ];
     for (demands, capacity, unit, units, room) in table {
         let instance = three_nodes(&rt, rt.alloc(), demands, capacity)?;
-        let Some(relaxation) = relaxed(&rt, rt.alloc(), &instance, 1, unit, &[0, 0, 0])? else {
+        let Some(relaxation) = relaxed(&rt, rt.alloc(), &instance, 1, unit, &[0, 0, 0], &[])? else {
             panic!(rt; "no relaxation");
         };
         let priced = relaxation.relaxed();
@@ -231,7 +334,7 @@ fn demands_in_units(rt: HostRuntime) -> Result<(), Fail> {
         assert_eq!(rt; priced.capacity(), room);
     }
     let instance = three_nodes(&rt, rt.alloc(), [0, 0, 5], 1_000_000_000)?;
-    let made = relaxed(&rt, rt.alloc(), &instance, 1, 1, &[0, 0, 0])?;
+    let made = relaxed(&rt, rt.alloc(), &instance, 1, 1, &[0, 0, 0], &[])?;
     assert!(rt; made.is_none());
     Ok(())
 }
@@ -256,15 +359,47 @@ fn found_prices_bound(rt: HostRuntime) -> Result<(), Fail> {
 
 #[test]
 fn the_most_nodes(rt: HostRuntime) -> Result<(), Fail> {
-    let points = vec![in rt.alloc(); (0, 0); 1_200]?;
-    let weights = Weights::points(rt.alloc(), Metric::Euc2d, &points)?;
-    let demands = vec![in rt.alloc(); 0; 1_200]?;
-    let instance = made(&rt, rt.alloc(), weights, &demands, 7)?;
+    let instance = most_nodes(&rt, rt.alloc())?;
     let prices = vec![in rt.alloc(); 500_000_000; 1_200]?;
-    let Some(relaxation) = relaxed(&rt, rt.alloc(), &instance, 1, 1, &prices)? else {
+    let Some(relaxation) = relaxed(&rt, rt.alloc(), &instance, 1, 1, &prices, &[])? else {
         panic!(rt; "no relaxation");
     };
     assert_eq!(rt; relaxation.limit(0), Some(1_199_000_000_000));
     assert!(rt; find_prices(rt.alloc(), &instance, 0, 1_000_000)?.is_none());
     Ok(())
+}
+
+// 1,200 nodes in one place, whose customers demand nothing.
+fn most_nodes(rt: &impl Abort, alloc: Global) -> Result<Instance, Fail> {
+    let points = vec![in alloc; (0, 0); 1_200]?;
+    let weights = Weights::points(alloc, Metric::Euc2d, &points)?;
+    let demands = vec![in alloc; 0; 1_200]?;
+    Ok(made(rt, alloc, weights, &demands, 7)?)
+}
+
+// The set of all has ways to and from the depot alone, and customers of no demand need no truck.
+#[test]
+fn a_cut_of_the_most_customers(rt: HostRuntime) -> Result<(), Fail> {
+    let instance = most_nodes(&rt, rt.alloc())?;
+    let prices = vec![in rt.alloc(); 500_000_000; 1_200]?;
+    let cuts = [cut_of_all(&rt, rt.alloc(), &instance)?];
+    let Some(relaxation) = relaxed(&rt, rt.alloc(), &instance, 1, 1, &prices, &cuts)? else {
+        panic!(rt; "no relaxation");
+    };
+    let priced = relaxation.relaxed();
+    assert!(rt; priced.customers() == 1_199);
+    assert_eq!(rt; priced.weight(0, 1_199), 499_999_000);
+    assert_eq!(rt; priced.weight(1, 1_199), 1_000_000_000);
+    assert_eq!(rt; relaxation.limit(0), Some(1_199_000_000_000));
+    Ok(())
+}
+
+// The cut of all customers, who demand nothing.
+fn cut_of_all(rt: &impl Abort, alloc: Global, instance: &Instance) -> Result<Cut, NoMemory>
+    ensures { IfOk result (IsCut instance.now) }
+{
+    let inside = vec![in alloc; true; usize::from(instance.customers()) + 1]?;
+    let cut = Cut::new(instance, inside, 1_000);
+    assert_eq!(rt; cut.trucks(), 0);
+    Ok(cut)
 }

@@ -1,30 +1,37 @@
-//! One step of prices towards a higher bound: a deflected subgradient (Camerini, Fratta and Maffioli 1975).
+//! One step of prices and tolls towards a higher bound: a deflected subgradient (Camerini, Fratta and Maffioli 1975).
 ghost use Rattle.std.specs.Prelude.{pos, ◌<ℤ◌};
 
+use crate::stepped_cuts::SteppedCuts;
+use crate::tours_used::{UsedWay, count_visits};
 use crate::walks::Walks;
 use std::alloc::Global;
-use vrp_model::NoMemory;
+use vrp_model::{Instance, NoMemory};
 
-// A visit too many or too few counts so much in a direction.
-const VISIT: i64 = 256;
+// A visit or a crossing too many or too few counts so much in a direction.
+const UNIT: i64 = 256;
 
 // The pace of the first step, in 1024ths, and the one below which no more are made.
 const FIRST_PACE: i64 = 1_024;
 
 const LAST_PACE: i64 = 4;
 
-// After so many rounds without a better bound the pace slackens.
+// The least pace with which new cuts begin.
+const PACE_OF_NEW_CUTS: i64 = 300;
+
+// After this many rounds without a better bound the pace slackens.
 const PATIENCE: u32 = 15;
 
-/// Prices on their way, and the best so far.
+/// Prices and tolls on their way, and the best so far.
 #[derive(Debug, Drop)]
 pub(crate) struct Ascent {
     // What the plan costs that the bound is to come up to, by the scale.
     aim: i64,
     scale: i64,
     prices: Vec<i64>,
+    cuts: SteppedCuts,
     // The direction of the last step.
     direction: Vec<i64>,
+    used: Vec<UsedWay>,
     visits: Vec<i64>,
     best: Vec<i64>,
     // The bound by the best prices.
@@ -45,7 +52,9 @@ impl Ascent {
             aim: scale.saturating_mul(cost),
             scale,
             prices: vec![in alloc; 0; places]?,
+            cuts: SteppedCuts::new(alloc, places)?,
             direction: vec![in alloc; 0; places]?,
+            used: Vec::new(alloc),
             visits: vec![in alloc; 0; places]?,
             best: vec![in alloc; 0; places]?,
             low: None,
@@ -54,28 +63,54 @@ impl Ascent {
         })
     }
 
-    /// The prices that are to be tried next.
-    pub(crate) fn prices(&self) -> &[i64] {
-        &self.prices
+    /// Enters the prices and tolls that are to be tried next.
+    pub(crate) fn enter(&self, walks: &mut Walks) {
+        walks.enter(&self.prices, self.cuts.as_slice());
     }
 
-    /// The best prices so far.
-    pub(crate) fn best(&self) -> &[i64] {
-        &self.best
+    /// How many cuts have a toll.
+    pub(crate) fn tolled_cuts(&self) -> u64 {
+        self.cuts.tolled()
     }
 
-    /// Steps on from the tables that the prices gave, whose least tours cost so much; false where no more steps are worth it.
-    pub(crate) fn step(&mut self, walks: &Walks, tours: i64) -> bool {
+    /// The best prices, and the cuts with their tolls.
+    pub(crate) fn into_best(mut self) -> (Vec<i64>, SteppedCuts) {
+        self.cuts.go_back();
+        (self.best, self.cuts)
+    }
+
+    /// Steps on from the tables that were filled, whose least tours cost so much; false where no more steps are worth it.
+    pub(crate) fn step(
+        &mut self,
+        alloc: Global,
+        instance: &Instance,
+        walks: &Walks,
+        tours: i64,
+    ) -> Result<bool, NoMemory> {
         let charges = sum(&self.prices).wrapping_mul(2);
-        let bound = tours.wrapping_sub(charges);
+        let bound = tours
+            .wrapping_sub(charges)
+            .wrapping_add(self.cuts.rewards());
         self.keep(bound);
         let reached = self.aim.saturating_sub(self.scale);
         if self.low.is_some_and(|low| low > reached) || self.pace < LAST_PACE {
-            return false;
+            return Ok(false);
         }
-        walks.count_visits(self.visits.as_mut_slice());
+        walks.list_used(&mut self.used)?;
+        if self.cuts.look_for_more(alloc, instance, &self.used)? {
+            self.pace = self.pace.max(PACE_OF_NEW_CUTS);
+        }
+        Ok(self.go_on(bound))
+    }
+
+    // Takes the step by the ways that were used; false where all visits and crossings are as they should be.
+    fn go_on(&mut self, bound: i64) -> bool {
+        count_visits(self.visits.as_mut_slice(), &self.used);
         turn(self.direction.as_mut_slice(), &self.visits);
-        let length = square_sum(&self.direction);
+        let length = self
+            .cuts
+            .turn(&self.used)
+            .wrapping_add(square_sum(&self.direction));
         if length <= 0 {
             return false;
         }
@@ -84,12 +119,10 @@ impl Ascent {
             .saturating_add(self.aim / 200)
             .saturating_sub(bound)
             .max(self.scale);
-        go(
-            self.prices.as_mut_slice(),
-            &self.direction,
-            self.pace.saturating_mul(gap) / 8,
-            length,
-        );
+        // Half of a price is paid on the way in, and half on the way out; a toll steps half as far.
+        let pace = self.pace.saturating_mul(gap) / 8;
+        go(self.prices.as_mut_slice(), &self.direction, pace, length);
+        self.cuts.go(pace / 2, length);
         true
     }
 
@@ -103,6 +136,7 @@ impl Ascent {
         if self.low.is_none_or(|low| bound > low) {
             self.low = Some(bound);
             copy(self.best.as_mut_slice(), &self.prices);
+            self.cuts.keep();
         }
         self.stale = if gain {
             0
@@ -116,11 +150,17 @@ impl Ascent {
     }
 }
 
-// Each customer's part of the direction: three tenths of the last one, and seven of the visits beyond one.
+/// A direction: three tenths of the last one, and seven of what is too many, or wanting, now.
+pub(crate) fn deflected(last: i64, now: i64) -> i64 {
+    last.wrapping_mul(3)
+        .wrapping_add(now.wrapping_mul(7 * UNIT))
+        / 10
+}
+
+// Each customer's part of the direction, by the visits beyond one.
 fn turn(direction: &mut [i64], visits: &[i64]) {
     for (way, &count) in direction.iter_mut().zip(visits) {
-        let broken = count.wrapping_sub(1).wrapping_mul(7 * VISIT);
-        *way = way.wrapping_mul(3).wrapping_add(broken) / 10;
+        *way = deflected(*way, count.wrapping_sub(1));
     }
 }
 

@@ -1,22 +1,27 @@
-//! How often the least tours come to each customer, by going back through the tables.
+//! The ways that the least tours use, by going back through the tables.
 use crate::walks::Walks;
+use vrp_model::NoMemory;
+
+/// A use of the way from one place to another.
+#[derive(Clone, Copy, Debug)]
+pub(crate) struct UsedWay {
+    pub(crate) from: usize,
+    pub(crate) to: usize,
+}
 
 impl Walks {
-    /// Counts the visits of each customer by the least tours that carry the whole demand. The depot counts as visited once, so
-    /// that it keeps no price.
-    pub(crate) fn count_visits(&self, visits: &mut [i64]) {
-        visits.fill(0);
-        if let Some(depot) = visits.first_mut() {
-            *depot = 1;
-        }
+    /// Lists the ways of the least tours that carry the whole demand, in place of what stands there.
+    pub(crate) fn list_used(&self, used: &mut Vec<UsedWay>) -> Result<(), NoMemory> {
+        used.clear();
         let mut rest = self.whole();
         for _ in 0..self.whole() {
             let Some(load) = self.last_load(rest) else {
-                return;
+                break;
             };
-            self.count_tour(load, visits);
+            self.list_tour(load, used)?;
             rest = rest.saturating_sub(load);
         }
+        Ok(())
     }
 
     // What the last of the least tours carries, of those that carry the rest; `None` where nothing is left.
@@ -31,19 +36,19 @@ impl Walks {
         self.cell(load, 0).wrapping_add(others) == cost
     }
 
-    // Counts the stops of the least tour of a load.
-    fn count_tour(&self, load: usize, visits: &mut [i64]) {
+    // Lists the ways of the least tour of a load.
+    fn list_tour(&self, load: usize, used: &mut Vec<UsedWay>) -> Result<(), NoMemory> {
         let (mut from, mut left) = (0, load);
         for _ in 0..load {
-            let Some(stop) = self.next_stop(from, left) else {
-                return;
+            let Some(to) = self.next_stop(from, left) else {
+                break;
             };
-            if let Some(count) = visits.get_mut(stop) {
-                *count = count.wrapping_add(1);
-            }
-            from = stop;
-            left = left.saturating_sub(self.demand(stop));
+            used.push(UsedWay { from, to })?;
+            from = to;
+            left = left.saturating_sub(self.demand(to));
         }
+        used.push(UsedWay { from, to: 0 })?;
+        Ok(())
     }
 
     // The next stop of the least walk home from a place that carries this load behind it; `None` where nothing is left to carry.
@@ -64,5 +69,18 @@ impl Walks {
                 .cell(left.saturating_sub(demand), stop)
                 .wrapping_add(self.way(from, stop))
                 == cost
+    }
+}
+
+/// Counts the visits of each customer. The depot counts as visited once, so that it keeps no price.
+pub(crate) fn count_visits(visits: &mut [i64], used: &[UsedWay]) {
+    visits.fill(0);
+    for way in used {
+        if let Some(count) = visits.get_mut(way.to) {
+            *count = count.wrapping_add(1);
+        }
+    }
+    if let Some(depot) = visits.first_mut() {
+        *depot = 1;
     }
 }

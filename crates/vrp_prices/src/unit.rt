@@ -45,6 +45,11 @@ impl Size {
         walks.saturating_add(loads.saturating_mul(self.whole))
     }
 
+    /// How many steps it takes to enter the tolls of this many cuts: a look at each way for each.
+    pub(crate) fn tolls(self, cuts: u64) -> u64 {
+        cuts.saturating_mul(self.places).saturating_mul(self.places)
+    }
+
     // Whether a round is short, and a table by place, room and rest is of a moderate size.
     fn is_small(self) -> bool {
         let homes = self

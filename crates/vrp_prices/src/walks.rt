@@ -21,7 +21,7 @@ pub(crate) struct Walks {
     demands: Vec<usize>,
     // The scaled weight of the way into each place, from each; a mark from a place to itself.
     weights: Vec<i64>,
-    // The same with prices.
+    // The same with prices and tolls.
     ways: Vec<i64>,
     // By load, and of each load by place: the least walk home that carries the load behind the place. At the depot a tour.
     cells: Vec<i64>,
@@ -56,9 +56,8 @@ impl Walks {
         })
     }
 
-    /// What the least tours cost together that carry the whole demand, with these prices; `None` where no tours do.
-    pub(crate) fn fill(&mut self, prices: &[i64]) -> Option<i64> {
-        self.enter_prices(prices);
+    /// What the least tours cost together that carry the whole demand, by the ways as they were entered; `None` where no tours do.
+    pub(crate) fn fill(&mut self) -> Option<i64> {
         self.cells.as_mut_slice().fill(FAR);
         self.begin_at_home();
         for load in 0..self.tour.len() {
@@ -68,21 +67,6 @@ impl Walks {
         self.join_tours();
         let whole = self.tours.last().copied()?;
         if whole < NO_WALK { Some(whole) } else { None }
-    }
-
-    /// Enters the ways with these prices.
-    pub(crate) fn enter_prices(&mut self, prices: &[i64]) {
-        for to in 0..self.places {
-            let start = to.saturating_mul(self.places);
-            let end = start.saturating_add(self.places);
-            let own = at(prices, to);
-            if let (Some(row), Some(weights)) = (
-                self.ways.as_mut_slice().get_mut(start..end),
-                self.weights.as_slice().get(start..end),
-            ) {
-                enter_row(row, weights, prices, own);
-            }
-        }
     }
 
     // Walks that carry nothing go straight home.
@@ -140,6 +124,15 @@ impl Walks {
                 *cell = cost;
             }
         }
+    }
+
+    /// The ways into a place, and their scaled weights.
+    pub(crate) fn ways_into(&mut self, to: usize) -> Option<(&mut [i64], &[i64])> {
+        let start = to.saturating_mul(self.places);
+        let end = start.saturating_add(self.places);
+        let ways = self.ways.as_mut_slice().get_mut(start..end)?;
+        let weights = self.weights.as_slice().get(start..end)?;
+        Some((ways, weights))
     }
 
     /// How many places there are.
@@ -221,13 +214,6 @@ fn push_ways_into(
         weights.push(if from == to { FAR } else { way })?;
     }
     Ok(())
-}
-
-// The ways into a place that has this price.
-fn enter_row(row: &mut [i64], weights: &[i64], prices: &[i64], own: i64) {
-    for (way, (&weight, &price)) in row.iter_mut().zip(weights.iter().zip(prices)) {
-        *way = weight.wrapping_add(price).wrapping_add(own);
-    }
 }
 
 // Lowers each cell to the walk by its way, where that costs less. Here nearly all of the time goes.

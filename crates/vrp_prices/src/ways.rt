@@ -1,33 +1,37 @@
-//! The weights of ways with prices.
-ghost use Rattle.std.specs.Prelude.{◌≡◌, ◌≢◌, ◌+◌, ◌*◌, ◌≤◌, ◌<◌, IfOk, IsTrue, IfSome, MatchOption, length, vec_capacity, vec_len, false};
-ghost use Rattle.vrp_model.specs.Problem.{place_count, weight_of};
+//! The weights of ways with prices and tolls.
+ghost use Rattle.std.specs.Prelude.{◌≡◌, ◌+◌, ◌*◌, ◌≤◌, ◌<◌, IfOk, IsTrue, IfSome, MatchOption, length, vec_capacity, vec_len, false};
+ghost use Rattle.vrp_model.specs.Problem.{place_count};
 ghost use Rattle.vrp_prices.specs.Inner.Ways.{AreModerate, ArePricedWays, IsPricedWay};
 ghost use Rattle.vrp_prices.specs.Priced.{AreLawfulPrices};
+ghost use Rattle.vrp_prices.specs.declared.limits.TheConstants.{MAX_CUTS, MAX_SCALE};
 
-use crate::limits::MAX_SCALE;
+use crate::cut::Cut;
 use crate::prices::{price_at, rebate_at};
+use crate::tolls::tolls;
 use std::alloc::Global;
 use vrp_model::{Instance, MAX_WEIGHT, NoMemory};
 
-/// The weights with prices, row by row. `None` where one would be below 0 or above the greatest weight.
+/// The weights with prices and tolls, row by row. `None` where one would be below 0 or above the greatest weight.
 pub(crate) fn priced_weights(
     alloc: Global,
     instance: &Instance,
     scale: u64,
     prices: &[i64],
+    cuts: &[Cut],
 ) -> Result<Option<Vec<u32>>, NoMemory>
-    requires few { scale ≤ MAX_SCALE }
+    requires small_scale { scale ≤ MAX_SCALE }
+    requires few_cuts { length cuts.now ≤ MAX_CUTS }
     requires one_each { length prices.now ≡ place_count instance.now }
     requires moderate { AreModerate prices.now }
-    ensures square { IfOk result (λ made. MatchOption made (AreLawfulPrices instance.now scale prices.now → ⊥)
+    ensures square { IfOk result (λ made. MatchOption made (AreLawfulPrices instance.now scale prices.now cuts.now → ⊥)
         (λ weights. vec_len weights ≡ place_count instance.now * place_count instance.now)) }
-    ensures ways { IfOk result (λ made. IfSome made (λ weights. ArePricedWays instance.now scale prices.now weights.items)) }
+    ensures ways { IfOk result (λ made. IfSome made (λ weights. ArePricedWays instance.now scale prices.now cuts.now weights.items)) }
 {
     let places = instance.customers() + 1;
     let cells = usize::from(places) * usize::from(places);
     let mut weights = Vec::with_capacity(alloc, cells)?;
     for from in 0..places {
-        if !push_row(&mut weights, instance, scale, prices, from) {
+        if !push_row(&mut weights, instance, scale, prices, cuts, from) {
             return Ok(None);
         }
     }
@@ -40,22 +44,24 @@ fn push_row(
     instance: &Instance,
     scale: u64,
     prices: &[i64],
+    cuts: &[Cut],
     from: u16,
 ) -> bool
-    requires few { scale ≤ MAX_SCALE }
+    requires small_scale { scale ≤ MAX_SCALE }
+    requires few_cuts { length cuts.now ≤ MAX_CUTS }
     requires one_each { length prices.now ≡ place_count instance.now }
     requires moderate { AreModerate prices.now }
     requires row_within { from < place_count instance.now }
     requires next { vec_len weights.old ≡ from * place_count instance.now }
     requires room { vec_len weights.old + place_count instance.now ≤ vec_capacity weights.old }
-    requires so_far { ArePricedWays instance.now scale prices.now weights.old.items }
+    requires so_far { ArePricedWays instance.now scale prices.now cuts.now weights.old.items }
     ensures capacity { vec_capacity weights.new ≡ vec_capacity weights.old }
     ensures len { IsTrue result → vec_len weights.new ≡ vec_len weights.old + place_count instance.now }
-    ensures so_far { IsTrue result → ArePricedWays instance.now scale prices.now weights.new.items }
-    ensures unlawful { result ≡ false → AreLawfulPrices instance.now scale prices.now → ⊥ }
+    ensures so_far { IsTrue result → ArePricedWays instance.now scale prices.now cuts.now weights.new.items }
+    ensures unlawful { result ≡ false → AreLawfulPrices instance.now scale prices.now cuts.now → ⊥ }
 {
     for to in 0..instance.customers() + 1 {
-        let Some(weight) = priced_way(instance, scale, prices, from, to) else {
+        let Some(weight) = priced_way(instance, scale, prices, cuts, from, to) else {
             return false;
         };
         weights.push_reserved(weight);
@@ -63,15 +69,24 @@ fn push_row(
     true
 }
 
-// What the way from one place to another costs with prices; 0 from a place to itself. `None` where that is below 0 or above the
+// What the way from one place to another costs with prices and tolls; 0 from a place to itself. `None` where that is below 0 or above the
 // greatest weight.
-fn priced_way(instance: &Instance, scale: u64, prices: &[i64], from: u16, to: u16) -> Option<u32>
-    requires few { scale ≤ MAX_SCALE }
+fn priced_way(
+    instance: &Instance,
+    scale: u64,
+    prices: &[i64],
+    cuts: &[Cut],
+    from: u16,
+    to: u16,
+) -> Option<u32>
+    requires small_scale { scale ≤ MAX_SCALE }
+    requires few_cuts { length cuts.now ≤ MAX_CUTS }
     requires one_each { length prices.now ≡ place_count instance.now }
     requires moderate { AreModerate prices.now }
     requires from_within { from < place_count instance.now }
     requires to_within { to < place_count instance.now }
-    ensures way { MatchOption result (AreLawfulPrices instance.now scale prices.now → ⊥) (λ weight. IsPricedWay instance.now scale prices.now from to weight) }
+    ensures way { MatchOption result (AreLawfulPrices instance.now scale prices.now cuts.now → ⊥)
+        (λ weight. IsPricedWay instance.now scale prices.now cuts.now from to weight) }
     ensures small { IfSome result (λ weight. weight ≤ MAX_WEIGHT) }
 {
     if from == to {
@@ -79,7 +94,8 @@ fn priced_way(instance: &Instance, scale: u64, prices: &[i64], from: u16, to: u1
     }
     let way = instance.weight(from, to);
     let dear = scale * way + price_at(prices, from) + price_at(prices, to);
-    let cheaper_by = rebate_at(prices, from) + rebate_at(prices, to);
+    let rebates = rebate_at(prices, from) + rebate_at(prices, to);
+    let cheaper_by = rebates + tolls(cuts, from, to);
     if dear < cheaper_by || dear - cheaper_by > MAX_WEIGHT {
         return None;
     }

@@ -10,7 +10,7 @@ use Rattle.atomic_table.specs.Table.{Final, Seen}
 use Rattle.vrp_register.specs.declared.view.Offer.{Offer}
 use Rattle.vrp_register.specs.declared.view.Known.{Known}
 use Rattle.vrp_register.specs.Costs.{IsHistoryOf, IsKnown, least_of, offers_by}
-use Rattle.vrp_register.specs.Inner.Kept.{IsKept}
+use Rattle.vrp_register.specs.Inner.Kept.{IsCostState}
 use Rattle.vrp_register.specs.Inner.Seats.{seat_with}
 
 -- how many of the callers have this number
@@ -128,7 +128,7 @@ mines opening history (k ∷ ks) all =
     let rest = mines opening history ks (All-tail (IsKnown opening history) k ks all) in
     omega (arith, sum_by-cons (λ (x : Known). length (offers_by x.number history)) k ks, sum_by-cons (λ (x : Known). length x.mine) k ks, here, rest)
 
-pub settles : (key : ℕ × ℕ) (id : ℕ) (callers : List Known) (words xs : List ℕ) (least : ℕ) → Final (Seen (IsKept key) id (seat_with callers)) words xs
+pub settles : (key : ℕ × ℕ) (id : ℕ) (callers : List Known) (words xs : List ℕ) (least : ℕ) → Final (Seen (IsCostState key) id (seat_with callers)) words xs
     → get_elem? words 0 ≡ some least → length callers ≡ key.1 → (history : List Offer) × IsHistoryOf key.0 callers history × (length history ≡ sum_by (λ k. length k.mine) callers) × (least ≡ least_of key.0 history)
 settles key id callers words xs least final word all =
     let kept = final.1.0 in

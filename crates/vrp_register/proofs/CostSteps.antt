@@ -12,7 +12,7 @@ use Rattle.vrp_register.specs.declared.view.Offer.{Offer}
 use Rattle.vrp_register.specs.declared.view.Known.{Known}
 use Rattle.vrp_register.specs.declared.view.View.{View}
 use Rattle.vrp_register.specs.Costs.{IsKnown, StartsWith, least_of, newcomer, offers_by}
-use Rattle.vrp_register.specs.Inner.Kept.{Fits, IsKept}
+use Rattle.vrp_register.specs.Inner.Kept.{Fits, IsCostState}
 use Rattle.vrp_register.specs.Inner.Seats.{Looks, Offers, made_left, made_right, maker, seat_of, seat_with, spent, taken_in}
 
 off : false ≡ true → ⊥
@@ -85,7 +85,7 @@ fits_step opening count history after views place id k k' same fits here known o
     })
     (at_set views id at (seat_of k') v is)
 
-pub opens : (c count : ℕ) → IsKept (c, count) (opening (c ∷ []) [] (maker c 0))
+pub opens : (c count : ℕ) → IsCostState (c, count) (opening (c ∷ []) [] (maker c 0))
 opens c count = record { history = []; place = λ n. 0; word = refl; below = All-nil (λ (o : Offer). o.caller < count); fits = fits }
   where
     fits : (at : ℕ) (v : View) → get_elem? (maker c 0 ∷ []) at ≡ some v → Fits c count [] (maker c 0 ∷ []) (λ n. 0) at v
@@ -105,7 +105,7 @@ opens c count = record { history = []; place = λ n. 0; word = refl; below = All
         numbers (suc j) w e = absurd (some-ne-none w (sym e))
     fits (suc at) v e = absurd (some-ne-none v (sym e))
 
-pub offers : (key : ℕ × ℕ) (slots id cost : ℕ) (k : Known) → Allows (IsKept key) slots id (seat_of k, []) 0 (λ n. min n cost) (Offers (step slots 0 cost 0 none) (seat_of k, []))
+pub offers : (key : ℕ × ℕ) (slots id cost : ℕ) (k : Known) → Allows (IsCostState key) slots id (seat_of k, []) 0 (λ n. min n cost) (Offers (step slots 0 cost 0 none) (seat_of k, []))
 offers key slots id cost k s kept len at small =
     let o : Offer = record { caller = k.number; cost = cost } in
     let history = kept.history ++ o ∷ [] in
@@ -138,7 +138,7 @@ offers key slots id cost k s kept len at small =
       ),
     )
 
-pub looks : (key : ℕ × ℕ) (slots id : ℕ) (k : Known) → Allows (IsKept key) slots id (seat_of k, []) 0 (λ n. n) (Looks (step slots 0 0 0 none) (seat_of k, []))
+pub looks : (key : ℕ × ℕ) (slots id : ℕ) (k : Known) → Allows (IsCostState key) slots id (seat_of k, []) 0 (λ n. n) (Looks (step slots 0 0 0 none) (seat_of k, []))
 looks key slots id k s kept len at small =
     let history = kept.history in
     let k' : Known = record { number = k.number; opening = k.opening; seen = history; mine = k.mine } in
@@ -186,7 +186,7 @@ moved_there n m a b e = rw (eq-eqb n m e) refl
 moved_not : (n m : ℕ) (a b : ℕ) → n ≢ m → cond (n == m) a b ≡ b
 moved_not n m a b e = rw (ne_eqb n m e) refl
 
-pub makes : (key : ℕ × ℕ) (id first next : ℕ) → next < key.1 → Splits (IsKept key) id (maker first next) (made_left (maker first next)) (made_right (maker first next))
+pub makes : (key : ℕ × ℕ) (id first next : ℕ) → next < key.1 → Splits (IsCostState key) id (maker first next) (made_left (maker first next)) (made_right (maker first next))
 makes key id first next room s kept at =
     let v = maker first next in
     let left = maker first (next + 1) in
@@ -256,7 +256,7 @@ all_apart k ks other apart (suc i) zero d less within = absurd (omega arith)
 all_apart k ks other apart (suc i) (suc j) d less within = apart i j d (omega arith) (omega arith)
 
 pub takes : (key : ℕ × ℕ) (id other : ℕ) (callers : List Known) (k : Known)
-    → Joins (IsKept key) id (seat_with callers) other (seat_of k) (taken_in (seat_with callers) (seat_of k)) spent
+    → Joins (IsCostState key) id (seat_with callers) other (seat_of k) (taken_in (seat_with callers) (seat_of k)) spent
 takes key id other callers k s kept at apart there =
     let v = seat_with callers in
     let w = seat_of k in

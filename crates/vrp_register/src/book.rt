@@ -2,8 +2,6 @@
 ghost use Rattle.std.specs.Prelude.{◌≡◌, ◌↔◌, ◌<◌, if◌then◌else◌, IfOk, IsTrue, OnErr, None, Some, [], ◌∷◌, ◌++◌, length, slice_get};
 ghost use Rattle.std.specs.Option.{ForSome, option_map};
 ghost use Rattle.vrp_model.specs.Order.{IsBefore};
-ghost use Rattle.vrp_model.specs.Problem.{Problem};
-ghost use Rattle.vrp_model.specs.Route.{IsPlanOf};
 ghost use Rattle.vrp_register.specs.History.{AreAnswers, IsKeptOf, plans_of};
 
 use crate::entry::Entry;

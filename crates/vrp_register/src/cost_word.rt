@@ -1,5 +1,5 @@
 //! The cost word: the least cost that any caller has offered, read and lowered without a lock.
-ghost use Rattle.std.specs.Prelude.{◌≡◌, ◌≢◌, ℕ, ◌+◌, ◌<◌, IfOk, [], ◌∷◌, ◌++◌, length, List};
+ghost use Rattle.std.specs.Prelude.{◌≡◌, ◌+◌, ◌<◌, IfOk, [], ◌∷◌, length, List};
 ghost use Rattle.std.specs.List.{sum_by};
 ghost use Rattle.vrp_register.specs.Costs.{newcomer, IsHistoryOf, IsOffered, IsSeen, least_of};
 
@@ -13,9 +13,9 @@ struct Costs;
 
 impl TableRule<u8, View, (u64, u64)> for Costs {
     ghost use Rattle.vrp_register.specs.Inner.Seats.{maker};
-    ghost use Rattle.vrp_register.specs.Inner.Kept.{IsKept};
+    ghost use Rattle.vrp_register.specs.Inner.Kept.{IsCostState};
 
-    ghost holds = { IsKept };
+    ghost holds = { IsCostState };
 
     ghost first = { λ key. maker key.0 0 };
 }
@@ -195,7 +195,8 @@ impl CostWord {
     pub(crate) fn close(self, gathered: Gathered) -> u64
         requires table { gathered.table ≡ self.table }
         requires all { length gathered.callers ≡ self.count }
-        ensures { (history : List _) × IsHistoryOf self.opening gathered.callers history × (length history ≡ sum_by (λ k. length k.mine) gathered.callers) × (result ≡ least_of self.opening history) }
+        ensures { (history : List _) × IsHistoryOf self.opening gathered.callers history
+            × (length history ≡ sum_by (λ k. length k.mine) gathered.callers) × (result ≡ least_of self.opening history) }
     {
         let closed = self.table.close_with(gathered.seat);
         let least = closed.word(0);

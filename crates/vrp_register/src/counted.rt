@@ -1,5 +1,5 @@
 //! What lies under the register's lock: the book, and how many offers its callers had accepted.
-ghost use Rattle.std.specs.Prelude.{◌≡◌, ◌↔◌, ℕ, ◌+◌, ◌<◌, if◌then◌else◌, IfOk, IsTrue, OnOk, OnErr, Some, [], ◌∷◌, ◌++◌, length};
+ghost use Rattle.std.specs.Prelude.{◌≡◌, ◌↔◌, ◌+◌, ◌<◌, if◌then◌else◌, IfOk, IsTrue, OnOk, OnErr, Some, [], ◌∷◌, ◌++◌, length};
 ghost use Rattle.std.specs.Option.{ForSome};
 ghost use Rattle.vrp_model.specs.Order.{IsBefore};
 

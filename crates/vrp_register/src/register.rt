@@ -1,5 +1,5 @@
 //! The register, which all callers share.
-ghost use Rattle.std.specs.Prelude.{◌≡◌, ℕ, ◌+◌, ◌≤◌, IfOk, OnOk, OnErr, List, length, map, vec_len};
+ghost use Rattle.std.specs.Prelude.{◌≡◌, ◌≤◌, IfOk, OnErr, List, length, map, vec_len};
 ghost use Rattle.std.specs.List.{All, sum_by};
 ghost use Rattle.std.specs.Option.{option_map};
 ghost use Rattle.vrp_model.specs.Cheapest.{cost_of};
@@ -130,7 +130,8 @@ impl<L: Ledger> Register<L> {
     pub fn close(self, callers: Vec<Caller<L>>) -> Closed
         requires { AreCallersOf self callers.items }
         ensures entries { length result.book.entries ≡ sum_by (λ c. length c.known.mine) callers.items }
-        ensures history { (history : List _) × IsHistoryOf self.opening (map (λ c. c.known) callers.items) history × (length history ≡ length result.book.entries) × (result.least ≡ least_of self.opening history) }
+        ensures history { (history : List _) × IsHistoryOf self.opening (map (λ c. c.known) callers.items) history
+            × (length history ≡ length result.book.entries) × (result.least ≡ least_of self.opening history) }
     {
         let Register { book, least } = self;
         let (shares, seats) = merged(&least, callers);

@@ -55,7 +55,7 @@ fn push_joints(
     Ok(())
 }
 
-/// Sorts joints, the best first, where a way between customers counts so many tenths of its weight.
+/// Sorts joints, the best first, where a way between customers counts this many tenths of its weight.
 pub(crate) fn sort_joints(instance: &Instance, tenths: u64, joints: &mut Vec<Joint>)
     requires tenths { tenths ≤ 20 }
     requires between { All (IsBetween (place_count instance.now)) joints.old.items }

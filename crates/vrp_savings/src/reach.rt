@@ -1,5 +1,5 @@
 //! How far each customer's nearest neighbours lie.
-ghost use Rattle.std.specs.Prelude.{◌≡◌, ◌<◌, IfOk, IsTrue, vec_len};
+ghost use Rattle.std.specs.Prelude.{◌≡◌, ◌<◌, IfOk, vec_len};
 ghost use Rattle.vrp_model.specs.Problem.{place_count};
 
 use std::alloc::Global;

@@ -1,5 +1,5 @@
 //! Routes that grow by being joined end to end.
-ghost use Rattle.std.specs.Prelude.{◌≡◌, ◌<◌, ◌≤◌, ◌+◌, IfOk, OnOk, ℕ, length};
+ghost use Rattle.std.specs.Prelude.{◌≡◌, ◌<◌, ◌≤◌, ◌+◌, IfOk, ℕ, length};
 ghost use Rattle.std.specs.List.{All};
 ghost use Rattle.vrp_model.specs.Problem.{place_count};
 ghost use Rattle.vrp_savings.specs.Inner.Joints.{IsBetween};
@@ -158,7 +158,7 @@ impl Routes {
         Ok(word)
     }
 
-    // Adds the route that starts at a customer, which has at most so many stops.
+    // Adds the route that starts at a customer, which has at most this many stops.
     fn push_route(&self, first: u16, most: u16, word: &mut Vec<u16>) -> Result<(), NoMemory>
         requires { first < self.now }
     {

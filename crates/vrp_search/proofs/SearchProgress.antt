@@ -14,11 +14,11 @@ use Rattle.vrp_model.specs.Word.{BeginsWith, IsFront, IsLawfulWord, TreeHasAtLea
 use Rattle.vrp_model.proofs.FrontsBefore.{fronts_before}
 use Rattle.vrp_model.proofs.Ordered.{earlier_irreflexive}
 use Rattle.vrp_search.specs.Child.{IsNextChild, NoChildFrom}
-use Rattle.vrp_search.specs.Inner.Found.{IsFoundAt, IsKept}
+use Rattle.vrp_search.specs.Inner.Found.{IsFoundAt, IsLastOffer}
 use Rattle.vrp_search.specs.Search.{IsFinished, IsFoundUnder, IsNotBefore}
 use Rattle.vrp_search.proofs.WordOrder.{IsFrom, child_of_front, child_or_behind, from_itself, from_next, from_shorter, from_sibling, front_or_behind, none_earlier, not_from_longer, sibling_or_behind}
 
--- so many fronts under the root, all of which come before the candidate
+-- this many fronts under the root, all of which come before the candidate
 pub record Seen (p : Problem) (root candidate : List ℕ) (count : ℕ) : Type 0 where
   pub fronts : List (List ℕ)
   pub distinct : AllPairs (λ a b. a ≢ b) fronts
@@ -140,7 +140,7 @@ cost_is first plan is = ap cost_of is
 abbrev pub AllCostLess : Problem → Type 0
 AllCostLess p = (w : List ℕ) → IsLawfulWord p w → word_cost p w < NO_COST
 
-pub opened : (p : Problem) (root : List ℕ) (floor : ℕ) (first : Option PricedPlan) → IsFront p root → AllCostLess p → IsKept p root floor None first → Progress p root root 0 1 floor first
+pub opened : (p : Problem) (root : List ℕ) (floor : ℕ) (first : Option PricedPlan) → IsFront p root → AllCostLess p → IsLastOffer p root floor None first → Progress p root root 0 1 floor first
 opened p root floor first front less kept = elim kept [
   | inl taken ↦ subst (Progress p root root 0 1 floor) (sym taken.is) (record {
     under = itself root;
@@ -218,7 +218,7 @@ pruned p root word next k spent floor lower first progress child falls none =
 
 -- a child that is gone below
 pub descended : (p : Problem) (root word : List ℕ) (next k spent floor lower : ℕ) (first new : Option PricedPlan) → Progress p root word next spent floor first → IsNextChild p word next k → lower ≤ floor
-    → AllCostLess p → IsKept p (word ++ k ∷ []) lower first new → Progress p root (word ++ k ∷ []) 0 (spent + 1) lower new
+    → AllCostLess p → IsLastOffer p (word ++ k ∷ []) lower first new → Progress p root (word ++ k ∷ []) 0 (spent + 1) lower new
 descended p root word next k spent floor lower first new progress child falls less kept = elim kept [
   | inl taken ↦ subst (Progress p root (word ++ k ∷ []) 0 (spent + 1) lower) (sym taken.is) (record {
     under = under;

@@ -53,7 +53,7 @@ ins_with p word k ins least some front after is is_least =
 
 -- ---- all customers
 
--- the ways into so many customers
+-- the ways into this many customers
 pub record InsSoFar (p : Problem) (count ins : ℕ) : Type 0 where
   pub least_in : ℕ → ℕ
   pub each : (k : ℕ) → 0 < k → k ≤ count → IsLeastIn p k (least_in k)

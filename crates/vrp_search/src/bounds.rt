@@ -44,9 +44,11 @@ impl<'a> Pruning for Bounds<'a> {
 
     #[inline(always)]
     fn promising(&self, partial: &Partial<'_>, symbol: u16, least: u64, own: u64) -> Option<Tally>
-        requires step { let tables = self.now.tables.now in (root : List ℕ) × AreBoundsUnder tables.problem tables.among self.now.trees.instance.now root partial.now }
+        requires step { let tables = self.now.tables.now
+            in (root : List ℕ) × AreBoundsUnder tables.problem tables.among self.now.trees.instance.now root partial.now }
         requires child { IsFront partial.now.problem (partial.now.word ++ symbol ∷ []) }
-        ensures of_use { let child = with_symbol partial.now symbol in MatchOption result (NoneOfUse child.problem child.word least own) (IsTally child.problem child.word) }
+        ensures of_use { let child = with_symbol partial.now symbol
+            in MatchOption result (NoneOfUse child.problem child.word least own) (IsTally child.problem child.word) }
         ensures exact { IsTrue (is_some result) ↔ MayBeOfUse partial.now.problem self.now.tables.now.among (partial.now.word ++ symbol ∷ []) least own }
     {
         partial.promising(self.tables, symbol, least, own)

@@ -1,8 +1,7 @@
 //! Pruning by prices.
-ghost use Rattle.std.specs.Prelude.{◌≡◌, ℕ, List, ◌∷◌, [], ◌++◌, IfOk, IsTrue, MatchOption, vec_capacity};
-ghost use Rattle.vrp_model.specs.Word.{IsFront};
+ghost use Rattle.std.specs.Prelude.{◌≡◌, ℕ, List, IfOk, IsTrue, vec_capacity};
 ghost use Rattle.vrp_search.specs.Inner.Paid.{IsInStep, IsPaid, IsPaidAt};
-ghost use Rattle.vrp_search.specs.Inner.Pruned.{NoneOfUse, with_symbol};
+ghost use Rattle.vrp_search.specs.Inner.Pruned.{NoneOfUse};
 ghost use Rattle.vrp_search.specs.Inner.Tallied.{IsTally};
 
 use crate::paid::Paid;
@@ -62,7 +61,8 @@ impl<'a> ByPrices<'a> {
     #[inline(always)]
     fn are_of_no_use(&self, at: u16, paid: Paid, least: u64, own: u64) -> bool
         requires { (front : List ℕ) × IsPaidAt self.now.prices.now.relaxed front at paid }
-        ensures { IsTrue result → (front : List ℕ) → IsPaidAt self.now.prices.now.relaxed front at paid → NoneOfUse self.now.prices.now.problem front least own }
+        ensures { IsTrue result → (front : List ℕ) → IsPaidAt self.now.prices.now.relaxed front at paid
+            → NoneOfUse self.now.prices.now.problem front least own }
     {
         let Some(most) = own.checked_sub(1) else {
             return true;

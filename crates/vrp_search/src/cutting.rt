@@ -96,7 +96,7 @@ impl Cutting {
         Ok(true)
     }
 
-    /// Refines until there are so many pieces, or none has a child. Each piece lies under one that was there before. A refused
+    /// Refines until there are this many pieces, or none has a child. Each piece lies under one that was there before. A refused
     /// call leaves a cutting.
     pub fn at_least(
         &mut self,

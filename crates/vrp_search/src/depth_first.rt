@@ -20,7 +20,7 @@ use vrp_model::{Instance, NoMemory, Plan, dead_fronts, plans_cost_less, words_ar
 #[derive(Debug, Drop)]
 pub enum Ended {
     /// Each plan under the piece costs more than the board's floor, or is not before `first`: the last plan that the search
-    /// offered, which is before all others that it offered. So none costs less than the floor. So many partial plans were looked
+    /// offered, which is before all others that it offered. So none costs less than the floor. This many partial plans were looked
     /// at.
     Finished { spent: u64, first: Option<Plan> },
     /// The budget was spent before the whole tree was looked at. No plan under the piece costs less than `low`, which is what

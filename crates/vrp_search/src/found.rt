@@ -1,7 +1,7 @@
 //! The plan that a search has found: the last one that it offered to its board.
 ghost use Rattle.std.specs.Prelude.{◌≡◌, ◌≤◌, OnOk, None};
 ghost use Rattle.vrp_model.specs.Cheapest.{cost_of};
-ghost use Rattle.vrp_search.specs.Inner.Found.{IsKept};
+ghost use Rattle.vrp_search.specs.Inner.Found.{IsLastOffer};
 
 use crate::board::Board;
 use crate::partial::Partial;
@@ -56,7 +56,7 @@ impl Found {
         ensures serves { B.serves board.new partial.now.problem }
         ensures keeps { (earlier : B) → B.keeps earlier board.old → B.keeps earlier board.new }
         ensures falls { B.floor board.new ≤ B.floor board.old }
-        ensures kept { OnOk result (IsKept partial.now.problem partial.now.word (B.floor board.new) self.old.plan self.new.plan) }
+        ensures kept { OnOk result (IsLastOffer partial.now.problem partial.now.word (B.floor board.new) self.old.plan self.new.plan) }
     {
         if partial.complete() && partial.cost() < self.cost {
             let plan = partial.plan(alloc)?;

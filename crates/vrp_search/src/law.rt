@@ -21,7 +21,8 @@ pub fn one_low()
 /// What a word under a front costs at least is no lower with tables over the customers alone that the front leaves unserved than
 /// with tables over all customers.
 pub fn own_low_no_lower()
-    ensures { (p : Problem) (front : List ℕ) (low : ℕ) (own : Option ℕ) → IsProblem p → IsFront p front → IsLow p (customers p) front (Some low) → IsLow p (unserved_in p front) front own
+    ensures { (p : Problem) (front : List ℕ) (low : ℕ) (own : Option ℕ) → IsProblem p → IsFront p front → IsLow p (customers p) front (Some low)
+        → IsLow p (unserved_in p front) front own
         → (least : ℕ) × (own ≡ Some least) × (low ≤ least) }
 {
     fewer_customers();

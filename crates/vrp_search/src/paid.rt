@@ -1,5 +1,5 @@
 //! What is counted along a word in the problem with prices.
-ghost use Rattle.std.specs.Prelude.{◌≡◌, ℕ, List, [], ◌∷◌, ◌++◌};
+ghost use Rattle.std.specs.Prelude.{ℕ, List, [], ◌∷◌, ◌++◌};
 ghost use Rattle.vrp_model.specs.Word.{IsFront};
 ghost use Rattle.vrp_search.specs.Inner.Paid.{IsPaid, IsPaidAt};
 
@@ -30,7 +30,8 @@ impl Paid {
     #[inline(always)]
     pub(crate) fn after(self, instance: &Instance, at: u16, symbol: u16) -> Paid
         requires { (front : List ℕ) × IsPaidAt instance.now front at self × IsFront instance.now (front ++ symbol ∷ []) }
-        ensures { (front : List ℕ) → IsPaidAt instance.now front at self → IsFront instance.now (front ++ symbol ∷ []) → IsPaidAt instance.now (front ++ symbol ∷ []) symbol result }
+        ensures { (front : List ℕ) → IsPaidAt instance.now front at self → IsFront instance.now (front ++ symbol ∷ [])
+            → IsPaidAt instance.now (front ++ symbol ∷ []) symbol result }
     {
         let cost = self.cost + instance.weight(at, symbol);
         if symbol == 0 {

@@ -1,14 +1,12 @@
 //! Partial plans: a word that grows and shrinks by one symbol, with what the search asks of it kept in step.
 ghost use Rattle.std.specs.Prelude.{◌≡◌, ◌<◌, ◌≤◌, ◌+◌, ◌*◌, ◌↔◌, [], ◌∷◌, ◌++◌, length, IsTrue, IfOk, vec_capacity};
-ghost use Rattle.vrp_model.specs.Problem.{HasTrucks, IsProblem, place_count};
+ghost use Rattle.vrp_model.specs.Problem.{IsProblem, place_count};
 ghost use Rattle.vrp_model.specs.Route.{IsPlanOf, load_of};
-ghost use Rattle.vrp_model.specs.Word.{IsDead, IsFront, IsLawfulWord, last_symbol, routes_of, served_in, unserved_in, word_cost, word_of};
+ghost use Rattle.vrp_model.specs.Word.{IsFront, IsLawfulWord, last_symbol, routes_of, served_in, unserved_in, word_cost, word_of};
 ghost use Rattle.vrp_model.specs.declared.limits.TheConstants.{MAX_NODES, MAX_WAYS};
 ghost use Rattle.vrp_search.specs.Partial.{PartialPlan};
 ghost use Rattle.vrp_model.specs.Front.{open_load};
-ghost use Rattle.vrp_search.specs.Child.{IsNextChild, NoChildFrom};
-ghost use Rattle.vrp_search.specs.Search.{AreCovered, IsLow};
-ghost use Rattle.vrp_search.specs.Inner.Tallied.{IsGreatestBelow, IsTally};
+ghost use Rattle.vrp_search.specs.Inner.Tallied.{IsTally};
 
 mod children;
 mod pruning;

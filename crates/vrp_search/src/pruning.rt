@@ -30,7 +30,8 @@ pub(crate) trait Pruning {
     ) -> Option<Self::Counted>
         requires step { (root : List ℕ) × in_step self.now root partial.now }
         requires child { IsFront partial.now.problem (partial.now.word ++ symbol ∷ []) }
-        ensures of_use { let child = with_symbol partial.now symbol in MatchOption result (NoneOfUse child.problem child.word least own) (is_counted self.now child) };
+        ensures of_use { let child = with_symbol partial.now symbol
+            in MatchOption result (NoneOfUse child.problem child.word least own) (is_counted self.now child) };
 
     /// Adds a symbol at the partial plan's end, where what is counted along the longer word is known.
     fn push(&mut self, partial: &mut Partial<'_>, symbol: u16, counted: Self::Counted)

@@ -92,7 +92,7 @@ impl Small {
         Ok(fronts)
     }
 
-    // Adds those lists that are fronts: the word, and behind it all that have up to so many symbols more.
+    // Adds those lists that are fronts: the word, and behind it all that have up to this many symbols more.
     fn push_fronts(
         &self,
         alloc: Global,

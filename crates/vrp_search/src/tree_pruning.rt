@@ -1,5 +1,5 @@
 //! Pruning by the tree bound: it takes longer than the other bounds, and is tried where it pays.
-ghost use Rattle.std.specs.Prelude.{◌≡◌, ℕ, ◌+◌, ◌≤◌, IfOk, IsTrue, vec_capacity};
+ghost use Rattle.std.specs.Prelude.{◌≡◌, ◌+◌, ◌≤◌, IfOk, IsTrue, vec_capacity};
 ghost use Rattle.vrp_model.specs.Problem.{place_count};
 ghost use Rattle.vrp_search.specs.Inner.Pruned.{NoneOfUse};
 
@@ -77,7 +77,7 @@ impl<'a> TreePruning<'a> {
         low > least || low >= own
     }
 
-    // Whether the bound is likely to pay at this place, with so many customers unserved.
+    // Whether the bound is likely to pay at this place, with this many customers unserved.
     fn is_tried(&self, at: u16, unserved: u16) -> bool {
         if at == 0 {
             return self.is_for_closed && LEAST_CLOSED <= unserved && unserved <= MOST;

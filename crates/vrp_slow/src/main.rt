@@ -107,7 +107,7 @@ fn compare_cuts<R: Files + AllocGlobal + Threads + Wait + Sync>(
     Ok(format!(in alloc; "{cuts} cuts, {refusals} refused; {same}")?)
 }
 
-// What the evaluator finds in a file, with so many trucks or as many as are wanted, and whether the command answers just that.
+// What the evaluator finds in a file, with this many trucks or as many as are wanted, and whether the command answers just that.
 fn compare<R: Files + AllocGlobal + Threads + Wait + Sync>(
     rt: &R,
     name: &str,
@@ -160,7 +160,7 @@ fn evaluated<R: Threads + Wait + Sync>(
     }
 }
 
-// One truck for each customer, where there are so many.
+// One truck for each customer, where there are this many.
 fn first_plan(alloc: Global, problem: &Problem, verdict: &str) -> Result<First> {
     let routes = plan::singles(alloc, problem)?;
     let count = routes.len();
@@ -232,7 +232,7 @@ fn refused<R: Threads + Wait + Sync>(
     Ok(format!(in alloc; "{wanted}; {same}")?)
 }
 
-// The command's answer to a file, with so many trucks or as many as are wanted.
+// The command's answer to a file, with this many trucks or as many as are wanted.
 fn ask<R: Threads + Wait + Sync>(
     rt: &R,
     alloc: Global,

@@ -32,7 +32,7 @@ impl Problem {
         self.depots.first().copied().unwrap_or(0)
     }
 
-    /// Whether there are trucks for so many routes.
+    /// Whether there are trucks for this many routes.
     pub(crate) fn has_trucks_for(&self, routes: usize) -> bool {
         self.trucks
             .is_none_or(|trucks| routes <= usize::from(trucks))

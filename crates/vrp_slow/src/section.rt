@@ -10,7 +10,7 @@ const MOST_COORDINATE: i64 = 100_000_000;
 
 const MOST: i64 = 1_000_000_000;
 
-// The least and the greatest number that may stand in a section behind so many others.
+// The least and the greatest number that may stand in a section behind this many others.
 fn range(section: &str, behind: usize) -> (i64, i64) {
     match section {
         "NODE_COORD_SECTION" if behind % 3 != 0 => (-MOST_COORDINATE, MOST_COORDINATE),

@@ -1,10 +1,11 @@
 //! From the bytes of a file to the instance that they mean.
-ghost use Rattle.std.specs.Prelude.{◌≡◌, ◌≢◌, ◌≤◌, Ok, Err, Some, None, IfOk, IfErr};
+ghost use Rattle.std.specs.Prelude.{◌≡◌, ◌≤◌, Ok, Err, Some, None, IfOk, IfErr};
 ghost use Rattle.vrp_text.specs.Complete.{complete_of, count_fault, nodes_fault, source_count_fault, source_node_fault};
 ghost use Rattle.vrp_text.specs.Meaning.{HasWeights, MeansProblem, MeansRefusal, checked, or_fault, reading_of};
 ghost use Rattle.vrp_text.specs.Inner.InMemory.{complete_in, source_in};
 ghost use Rattle.vrp_text.specs.Inner.StatedSoFar.{IsInRange, IsSourceInRange};
 ghost use Rattle.vrp_text.specs.Inner.Outcome.{StatesProblem, IsStatedRefusal};
+ghost use Rattle.vrp_text.specs.Refusal.{Refuses};
 
 use crate::complete::{Complete, Source, listed_depots};
 use crate::error::TextError;
@@ -20,7 +21,7 @@ use vrp_model::{Instance, MAX_NODES, Weights};
 /// come in place of any answer.
 pub fn read(alloc: Global, bytes: &[u8], chosen: Option<u16>) -> Result<Instance, TextError>
     ensures meant { IfOk result (MeansProblem bytes.now chosen) }
-    ensures refused { IfErr result (λ error. error ≢ TextError.OutOfMemory → MeansRefusal bytes.now chosen error) }
+    ensures refused { Refuses result (λ error. MeansRefusal bytes.now chosen error) }
 {
     let complete = read_complete(alloc, bytes)?;
     instance_of(alloc, &complete, chosen)
@@ -31,7 +32,7 @@ fn read_complete(alloc: Global, bytes: &[u8]) -> Result<Complete, TextError>
     ensures read { IfOk result (λ complete. reading_of bytes.now ≡ or_fault (nodes_fault (complete_in complete)) (Ok (complete_in complete))) }
     ensures counted { IfOk result (λ complete. count_fault (complete_in complete) ≡ None) }
     ensures in_range { IfOk result (λ complete. IsInRange (complete_in complete)) }
-    ensures refused { IfErr result (λ error. error ≢ TextError.OutOfMemory → reading_of bytes.now ≡ Err error) }
+    ensures refused { Refuses result (λ error. reading_of bytes.now ≡ Err error) }
 {
     counted(read_statements(alloc, bytes)?)
 }
@@ -59,7 +60,7 @@ fn instance_of(
     requires in_range { IsInRange (complete_in complete.now) }
     ensures sound { IfOk result (λ _. nodes_fault (complete_in complete.now) ≡ None) }
     ensures meant { IfOk result (StatesProblem (complete_in complete.now) chosen) }
-    ensures refused { IfErr result (λ error. error ≢ TextError.OutOfMemory → IsStatedRefusal (complete_in complete.now) chosen error) }
+    ensures refused { Refuses result (λ error. IsStatedRefusal (complete_in complete.now) chosen error) }
 {
     let weights = weights_of(alloc, complete.nodes, &complete.source)?;
     let demands = demands_of(alloc, complete.nodes, &complete.demands)?;
@@ -76,7 +77,7 @@ fn weights_of(alloc: Global, nodes: u16, source: &Source) -> Result<Weights, Tex
     ensures sound { IfOk result (λ _. source_node_fault nodes (source_in source.now) ≡ None) }
     ensures nodes { IfOk result (λ grid. grid.nodes ≡ nodes) }
     ensures weights { IfOk result (HasWeights nodes (source_in source.now)) }
-    ensures refused { IfErr result (λ error. error ≢ TextError.OutOfMemory → source_node_fault nodes (source_in source.now) ≡ Some error) }
+    ensures refused { Refuses result (λ error. source_node_fault nodes (source_in source.now) ≡ Some error) }
 {
     match source {
         Source::Points(metric, numbers) => {

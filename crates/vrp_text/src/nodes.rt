@@ -1,11 +1,12 @@
 //! The sections that have a row for each node, and the depots: numbers become nodes.
-ghost use Rattle.std.specs.Prelude.{◌≡◌, ◌≢◌, ◌+◌, ◌*◌, ◌≤◌, ◌<◌, ℕ, pos, true, false, unsigned_abs, map, length, get_or, set, replicate, slice_index, IfOk, IfErr, Some, None, MatchOption, [], not};
+ghost use Rattle.std.specs.Prelude.{◌≡◌, ◌+◌, ◌*◌, ◌≤◌, ◌<◌, ℕ, pos, true, false, unsigned_abs, map, length, get_or, set, replicate, slice_index, IfOk, IfErr, Some, None, MatchOption, []};
 ghost use Rattle.std.specs.List.{All};
 ghost use Rattle.vrp_model.specs.Grid.{IsCoordinate};
 ghost use Rattle.vrp_text.specs.Complete.{bad_node, demands_of, is_node, no_node, node_fault, points_of, row_nodes};
 ghost use Rattle.vrp_text.specs.Inner.PlacedRows.{IsGivenOrNone};
 ghost use Rattle.vrp_text.specs.Section.{AreWithin};
 ghost use Rattle.vrp_text.specs.declared.section.Section.TheVariants.{Coordinates};
+ghost use Rattle.vrp_text.specs.Refusal.{Refuses};
 
 use crate::error::TextError;
 use std::alloc::{AllocError, Global};
@@ -69,7 +70,7 @@ pub(crate) fn points_of(
     ensures sound { IfOk result (λ _. bad_node nodes [] (row_nodes 3 nodes numbers.now) ≡ None) }
     ensures value { IfOk result (λ points. points.items ≡ points_of nodes numbers.now) }
     ensures small { IfOk result (λ points. All (λ point. IsCoordinate point.0 × IsCoordinate point.1) points.items) }
-    ensures refused { IfErr result (λ error. error ≢ TextError.OutOfMemory → node_fault Key.NodeCoord (bad_node nodes [] (row_nodes 3 nodes numbers.now)) ≡ Some error) }
+    ensures refused { Refuses result (λ error. node_fault Key.NodeCoord (bad_node nodes [] (row_nodes 3 nodes numbers.now)) ≡ Some error) }
 {
     let mut given = GivenNodes::none(alloc, nodes)?;
     let mut points = vec![in alloc; (0i64, 0i64); usize::from(nodes)]?;
@@ -110,7 +111,7 @@ pub(crate) fn demands_of(alloc: Global, nodes: u16, numbers: &[i64]) -> Result<V
     requires rows { length numbers.now ≡ 2 * nodes }
     ensures sound { IfOk result (λ _. bad_node nodes [] (row_nodes 2 nodes numbers.now) ≡ None) }
     ensures value { IfOk result (λ demands. demands.items ≡ demands_of nodes numbers.now) }
-    ensures refused { IfErr result (λ error. error ≢ TextError.OutOfMemory → node_fault Key.Demand (bad_node nodes [] (row_nodes 2 nodes numbers.now)) ≡ Some error) }
+    ensures refused { Refuses result (λ error. node_fault Key.Demand (bad_node nodes [] (row_nodes 2 nodes numbers.now)) ≡ Some error) }
 {
     let mut given = GivenNodes::none(alloc, nodes)?;
     let mut demands = vec![in alloc; 0u64; usize::from(nodes)]?;
@@ -149,7 +150,7 @@ pub(crate) fn depots_of(alloc: Global, nodes: u16, numbers: &[i64]) -> Result<Ve
     ensures value { IfOk result (λ depots. depots.items ≡ map unsigned_abs numbers.now) }
     ensures from_one { IfOk result (λ depots. (k : ℕ) → k < length depots.items → 1 ≤ slice_index depots.items k) }
     ensures within { IfOk result (λ depots. (k : ℕ) → k < length depots.items → slice_index depots.items k ≤ nodes) }
-    ensures refused { IfErr result (λ error. error ≢ TextError.OutOfMemory → node_fault Key.Depot (no_node nodes numbers.now) ≡ Some error) }
+    ensures refused { Refuses result (λ error. node_fault Key.Depot (no_node nodes numbers.now) ≡ Some error) }
 {
     let mut depots = Vec::with_capacity(alloc, numbers.len())?;
     for number in numbers {

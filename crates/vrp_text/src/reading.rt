@@ -1,14 +1,15 @@
 //! One pass over the lines of a file, each of which states something or is at fault.
-ghost use Rattle.std.specs.Prelude.{◌≡◌, ◌≢◌, ◌≤◌, ◌||◌, IfOk, IfErr, Err, Some, None, [], length};
+ghost use Rattle.std.specs.Prelude.{◌≡◌, ◌≤◌, ◌||◌, IfOk, IfErr, Err, Some, None, [], length};
 ghost use Rattle.vrp_text.specs.Inner.MarkedKeys.{is_marked};
 ghost use Rattle.vrp_lexer.specs.Line.{lines_of, tokens_of};
 ghost use Rattle.vrp_text.specs.Meaning.{all_stated, line_fault, reading_of};
-ghost use Rattle.vrp_lexer.specs.Part.{before_end, parts_from};
+ghost use Rattle.vrp_lexer.specs.Part.{before_end};
 ghost use Rattle.vrp_text.specs.Section.{content_of, content_numbers, on_line};
 ghost use Rattle.vrp_text.specs.Stated.{is_explicit, is_same_key, keyword_fault, parts_fault, stated_by};
 ghost use Rattle.vrp_text.specs.Inner.StatedSoFar.{fault_of_part, with_part, with_keyword};
 ghost use Rattle.vrp_lexer.specs.Inner.LinesLeft.{parts_left, data_left};
 ghost use Rattle.vrp_lexer.specs.declared.key.Key.{Key};
+ghost use Rattle.vrp_text.specs.Refusal.{Refuses};
 
 use crate::error::TextError;
 use crate::fault::at_line;
@@ -68,7 +69,8 @@ fn read_heading(
     ensures sound { IfOk result (λ _. keyword_fault explicit (is_marked keys.old) heading.now.keyword (tokens_of heading.now.behind.now) ≡ None) }
     ensures marked { IfOk result (λ _. (key : Key) → is_marked keys.new key ≡ (is_marked keys.old key || is_same_key key heading.now.keyword)) }
     ensures read { IfOk result (λ _. statements.new ≡ with_keyword explicit heading.now.keyword (tokens_of heading.now.behind.now) statements.old) }
-    ensures refused { IfErr result (λ error. on_line heading.now.number (keyword_fault explicit (is_marked keys.old) heading.now.keyword (tokens_of heading.now.behind.now)) ≡ Some error) }
+    ensures refused { IfErr result (λ error. on_line heading.now.number
+        (keyword_fault explicit (is_marked keys.old) heading.now.keyword (tokens_of heading.now.behind.now)) ≡ Some error) }
 {
     match read_keyword(explicit, heading.keyword, heading.behind, keys, statements) {
         Ok(()) => Ok(()),
@@ -85,11 +87,13 @@ fn read_part(
     keys: &mut Keys,
     statements: &mut Statements,
 ) -> Result<(), TextError>
-    ensures sound { IfOk result (λ _. fault_of_part explicit (is_marked keys.old) heading.now.number heading.now.keyword (tokens_of heading.now.behind.now) lines.old.number (data_left lines.old) ≡ None) }
+    ensures sound { IfOk result (λ _. fault_of_part explicit (is_marked keys.old) heading.now.number heading.now.keyword
+        (tokens_of heading.now.behind.now) lines.old.number (data_left lines.old) ≡ None) }
     ensures marked { IfOk result (λ _. (key : Key) → is_marked keys.new key ≡ (is_marked keys.old key || is_same_key key heading.now.keyword)) }
-    ensures read { IfOk result (λ _. statements.new ≡ with_part explicit heading.now.keyword (tokens_of heading.now.behind.now) (content_numbers (content_of explicit heading.now.keyword) (data_left lines.old)) statements.old) }
+    ensures read { IfOk result (λ _. statements.new ≡ with_part explicit heading.now.keyword (tokens_of heading.now.behind.now)
+        (content_numbers (content_of explicit heading.now.keyword) (data_left lines.old)) statements.old) }
     ensures passed { IfOk result (λ _. parts_left lines.new ≡ parts_left lines.old) }
-    ensures refused { IfErr result (λ error. error ≢ TextError.OutOfMemory → fault_of_part explicit (is_marked keys.old) heading.now.number heading.now.keyword (tokens_of heading.now.behind.now) lines.old.number (data_left lines.old) ≡ Some error) }
+    ensures refused { Refuses result (λ error. fault_of_part explicit (is_marked keys.old) heading.now.number heading.now.keyword (tokens_of heading.now.behind.now) lines.old.number (data_left lines.old) ≡ Some error) }
 {
     read_heading(explicit, heading, keys, statements)?;
     let numbers = read_content(alloc, lines, content_of(explicit, heading.keyword))?;
@@ -103,7 +107,7 @@ fn read_part(
 fn read_parts(alloc: Global, explicit: bool, lines: &mut Lines<'_>) -> Result<Statements, TextError>
     ensures sound { IfOk result (λ _. parts_fault explicit [] (parts_left lines.old) ≡ None) }
     ensures read { IfOk result (λ statements. statements ≡ stated_by explicit (parts_left lines.old)) }
-    ensures refused { IfErr result (λ error. error ≢ TextError.OutOfMemory → parts_fault explicit [] (parts_left lines.old) ≡ Some error) }
+    ensures refused { Refuses result (λ error. parts_fault explicit [] (parts_left lines.old) ≡ Some error) }
 {
     let mut keys = Keys::new();
     let mut statements = Statements::new();
@@ -129,7 +133,7 @@ pub(crate) fn read_statements(alloc: Global, bytes: &[u8]) -> Result<Statements,
     ensures short { IfOk result (λ _. length bytes.now ≤ MAX_BYTES) }
     ensures sound { IfOk result (λ _. line_fault (before_end (lines_of bytes.now)) ≡ None) }
     ensures read { IfOk result (λ statements. statements ≡ all_stated (before_end (lines_of bytes.now))) }
-    ensures refused { IfErr result (λ error. error ≢ TextError.OutOfMemory → reading_of bytes.now ≡ Err error) }
+    ensures refused { Refuses result (λ error. reading_of bytes.now ≡ Err error) }
 {
     check_length(bytes)?;
     let explicit = is_explicit(&mut Lines::of(bytes));

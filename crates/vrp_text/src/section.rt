@@ -1,8 +1,9 @@
 //! The sections whose numbers are used.
-ghost use Rattle.std.specs.Prelude.{◌≡◌, ◌≢◌, ◌+◌, ◌++◌, IfOk, IfErr, Ok, Some, None, length};
+ghost use Rattle.std.specs.Prelude.{◌≡◌, ◌+◌, ◌++◌, IfOk, IfErr, Ok, Some, None, length};
 ghost use Rattle.vrp_lexer.specs.Line.{tokens_of};
 ghost use Rattle.vrp_text.specs.Section.{lowest, highest, token_number, tokens_fault, fault_of, numbers_from, data_fault, data_numbers, on_line, outside_fault, content_of, content_fault, content_numbers, AreWithin, FitContent};
 ghost use Rattle.vrp_lexer.specs.Inner.LinesLeft.{parts_left, data_left};
+ghost use Rattle.vrp_text.specs.Refusal.{Refuses};
 
 use crate::error::TextError;
 use crate::fault::at_line;
@@ -108,7 +109,7 @@ fn read_line(
 ) -> Result<(), TextError>
     ensures sound { IfOk result (λ _. tokens_fault section (length numbers.old.items) (tokens_of text.now) ≡ None) }
     ensures read { IfOk result (λ _. numbers.new.items ≡ numbers.old.items ++ numbers_from section (length numbers.old.items) (tokens_of text.now)) }
-    ensures refused { IfErr result (λ error. error ≢ TextError.OutOfMemory → on_line number (tokens_fault section (length numbers.old.items) (tokens_of text.now)) ≡ Some error) }
+    ensures refused { Refuses result (λ error. on_line number (tokens_fault section (length numbers.old.items) (tokens_of text.now)) ≡ Some error) }
 {
     let mut tokens = Tokens::of(text);
     while let Some(token) = tokens.next() {
@@ -127,7 +128,7 @@ fn read_numbers(
     ensures read { IfOk result (λ numbers. numbers.items ≡ data_numbers section 0 (data_left lines.old)) }
     ensures within { IfOk result (λ numbers. AreWithin section 0 numbers.items) }
     ensures passed { IfOk result (λ _. parts_left lines.new ≡ parts_left lines.old) }
-    ensures refused { IfErr result (λ error. error ≢ TextError.OutOfMemory → data_fault section lines.old.number 0 (data_left lines.old) ≡ Some error) }
+    ensures refused { Refuses result (λ error. data_fault section lines.old.number 0 (data_left lines.old) ≡ Some error) }
 {
     let mut numbers = Vec::new(alloc);
     while let Some(line) = lines.next_data() {
@@ -160,7 +161,7 @@ pub(crate) fn read_content(
     ensures read { IfOk result (λ numbers. numbers.items ≡ content_numbers content (data_left lines.old)) }
     ensures within { IfOk result (λ numbers. FitContent content numbers.items) }
     ensures passed { IfOk result (λ _. parts_left lines.new ≡ parts_left lines.old) }
-    ensures refused { IfErr result (λ error. error ≢ TextError.OutOfMemory → content_fault content lines.old.number (data_left lines.old) ≡ Some error) }
+    ensures refused { Refuses result (λ error. content_fault content lines.old.number (data_left lines.old) ≡ Some error) }
 {
     match content {
         Content::Nothing => pass_no_data(lines)?,

@@ -56,7 +56,7 @@ pub record AreTours (p : Problem) (among cells : List ℕ) : Type 0 where
 
 -- what stands in a small cell where there is no cost
 abbrev pub small_mark : ℕ
-small_mark = 1000000000
+small_mark = 4000000000
 
 -- the least of some costs, below the small mark, or the mark where there is none
 pub record IsSmallLeastCell (IsCost : ℕ → Type 0) (cell : ℕ) : Type 0 where

@@ -243,7 +243,7 @@ fn scattered(
     Ok(Instance::new(alloc, weights, demands, capacity, &[1], None)?)
 }
 
-// So many nodes on a line, a step apart, the depot first. Each truck carries 240 customers.
+// This many nodes on a line, a step apart, the depot first. Each truck carries 240 customers.
 fn on_a_line(rt: &impl Abort, alloc: Global, nodes: u16) -> Result<Instance, Fail> {
     assert!(rt; 1 <= nodes && nodes <= MAX_NODES);
     let mut ways = Vec::new(alloc);

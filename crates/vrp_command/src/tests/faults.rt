@@ -9,7 +9,7 @@ use std::test::*;
 use std::thread::Threads;
 use vrp_text::TextError;
 
-// Gives its bytes, so many at a time. One of its reads fails, and the next goes on behind it.
+// Gives its bytes, this many at a time. One of its reads fails, and the next goes on behind it.
 #[derive(Drop)]
 struct Flaky<'a> {
     rest: &'a [u8],
@@ -32,7 +32,7 @@ impl Read for Flaky<'_> {
     }
 }
 
-// The small file, so many bytes at a time, of which one read fails, counted from 1.
+// The small file, this many bytes at a time, of which one read fails, counted from 1.
 fn small_in_parts(most: usize, failing: usize, kind: ErrorKind) -> Flaky<'static> {
     Flaky {
         rest: SMALL.as_bytes(),
@@ -59,7 +59,7 @@ impl Read for Endless {
     }
 }
 
-// Takes so many bytes at a time, up to its room; then it takes nothing. One of its writes fails, and the next goes on behind it.
+// Takes this many bytes at a time, up to its room; then it takes nothing. One of its writes fails, and the next goes on behind it.
 #[derive(Drop)]
 struct Narrow {
     taken: Vec<u8>,
@@ -93,7 +93,7 @@ impl Write for Narrow {
     }
 }
 
-// Takes so many bytes at a time, and never fails.
+// Takes this many bytes at a time, and never fails.
 fn takes(alloc: Global, most: usize) -> Narrow {
     Narrow {
         taken: Vec::new(alloc),

@@ -292,7 +292,7 @@ fn by_words(rt: HostRuntime) -> Result<(), Fail> {
 // How often a worker may look whether the others have begun.
 const TURNS: u64 = 1_000_000;
 
-// Holds each piece until so many have begun, or it has looked too often. A worker that is held begins no other piece.
+// Holds each piece until this many have begun, or it has looked too often. A worker that is held begins no other piece.
 #[derive(Drop)]
 struct HoldsAll {
     wanted: u64,

@@ -85,7 +85,7 @@ fn small_budgets(rt: HostRuntime) {
     }
 }
 
-// Asserts how a run over a text ends with so many trucks, pieces and partial plans for each, and all that it writes.
+// Asserts how a run over a text ends with this many trucks, pieces and partial plans for each, and all that it writes.
 fn assert_limited<R: Abort + Threads + Wait + Sync>(
     rt: &R,
     alloc: Global,

@@ -3,15 +3,15 @@ use Rattle.std.specs.Prelude.{◌≡◌, ℕ, ◌*◌, ◌<◌, ◌≤◌}
 use Rattle.vrp_first.specs.declared.near.Way.{Way}
 use Rattle.vrp_model.specs.declared.limits.TheConstants.{MAX_NODES}
 
--- so many cells are a row of so many for each of so many places
+-- this many cells are a row of this many for each of this many places
 pub record IsSquare (places cells : ℕ) : Type 0 where
   pub few : places ≤ MAX_NODES
   pub square : cells ≡ places * places
 
--- a number names one of so many places
+-- a number names one of this many places
 pub record IsPlace (places place : ℕ) : Type 0 where
   pub within : place < places
 
--- a way leads to one of so many places
+-- a way leads to one of this many places
 pub record LeadsTo (places : ℕ) (way : Way) : Type 0 where
   pub within : way.to < places

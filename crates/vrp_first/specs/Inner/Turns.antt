@@ -2,6 +2,6 @@
 use Rattle.std.specs.Prelude.{ℕ, ◌<◌}
 use Rattle.vrp_first.specs.declared.taken.Turn.{Turn}
 
--- a turn is that of one of so many places
+-- a turn is that of one of this many places
 pub record IsTurn (places : ℕ) (turn : Turn) : Type 0 where
   pub within : turn.customer < places

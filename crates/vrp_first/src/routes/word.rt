@@ -58,7 +58,7 @@ impl Routes {
             && customer <= self.far_end(customer, instance.customers())
     }
 
-    // The other end of the route of at most so many stops that has one end here.
+    // The other end of the route of at most this many stops that has one end here.
     fn far_end(&self, end: u16, most: u16) -> u16
         requires { end < self.now }
     {
@@ -75,7 +75,7 @@ impl Routes {
         at
     }
 
-    // Adds the route of at most so many stops that has one end here, from this end on.
+    // Adds the route of at most this many stops that has one end here, from this end on.
     fn push_route(&self, end: u16, most: u16, word: &mut Vec<u16>) -> Result<(), NoMemory>
         requires { end < self.now }
     {

@@ -9,7 +9,7 @@ use Rattle.vrp_model.specs.declared.limits.TheConstants.{MAX_WEIGHT}
 abbrev pub cell_on : Layout → ℕ → ℕ → ℕ × ℕ
 cell_on layout line across = if goes_by_rows layout then (line, across) else (across, line)
 
--- the cells that are listed in so many lines from one on
+-- the cells that are listed in this many lines from one on
 abbrev pub cells_in_lines : Layout → ℕ → ℕ → ℕ → List (ℕ × ℕ)
 cells_in_lines layout n line count = flat_map (λ l. map (cell_on layout l) (range_with_len 1 n)) (range_with_len line count)
 
@@ -36,7 +36,7 @@ pub record IsWritten (layout : Layout) (n row column weight : ℕ) (old new : Li
   pub back : is_full layout ≡ false → weight_in n new column row ≡ weight
   pub others : (place : ℕ) → place ≢ (row - 1) * n + (column - 1) → (is_full layout ≡ false → place ≢ (column - 1) * n + (row - 1)) → slice_index new place ≡ slice_index old place
 
--- the square while it is filled: the cells before a place of a line have their entries, and so many entries are read
+-- the square while it is filled: the cells before a place of a line have their entries, and this many entries are read
 pub record IsFilled (layout : Layout) (n : ℕ) (entries square : List ℕ) (next line across : ℕ) : Type 0 where
   pub left : drop next (cells layout n) ≡ cells_left layout n line across
   pub there : (k row column : ℕ) → k < next → slice_get (cells layout n) k ≡ Some (row, column) → weight_in n square row column ≡ slice_index entries k

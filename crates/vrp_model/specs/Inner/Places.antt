@@ -3,7 +3,7 @@ use Rattle.std.specs.Prelude.{◌≡◌, ℕ, ◌+◌, ◌≤◌, ◌<◌, false
 use Rattle.std.specs.List.{range_with_len}
 use Rattle.vrp_model.specs.Request.{is_listed}
 
--- the depot, and the customers among so many nodes
+-- the depot, and the customers among this many nodes
 pub record ArePlaces (depots : List ℕ) (depot nodes : ℕ) (places : List ℕ) : Type 0 where
   pub value : places ≡ depot ∷ filter (λ node. not (is_listed depots node)) (range_with_len 1 nodes)
   pub some : 1 ≤ length places

@@ -16,7 +16,7 @@ abbrev pub AreWithin : List ℕ → List Span → Type 0
 AreWithin stops spans = All (IsWithin stops) spans
 
 -- the list is the word of the routes that the spans name, which rise by first customer
-pub record IsKept (word : List ℕ) (spans : List Span) : Type 0 where
+pub record ArePlanStops (word : List ℕ) (spans : List Span) : Type 0 where
   pub within : AreWithin word spans
   pub is_word : word ≡ word_of (routes_in word spans)
   pub rising : IsStrictlyIncreasing (first_stops (routes_in word spans))

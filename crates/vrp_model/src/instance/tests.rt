@@ -47,7 +47,7 @@ fn weights_between_places(rt: HostRuntime) -> Result<(), Fail> {
     Ok(())
 }
 
-// With so many trucks, nothing else of an instance changes.
+// With this many trucks, nothing else of an instance changes.
 #[test]
 fn so_many_trucks(rt: HostRuntime) -> Result<(), Fail> {
     for trucks in [1, 2, 1_200] {
@@ -88,7 +88,7 @@ fn least_ways(rt: HostRuntime) -> Result<(), Fail> {
     Ok(())
 }
 
-// The weights of a full matrix of so many nodes, the listed depots, and whether the instance is symmetric.
+// The weights of a full matrix of this many nodes, the listed depots, and whether the instance is symmetric.
 type Square<'a> = (u16, &'a [u64], &'a [u16], bool);
 
 #[test]

@@ -41,7 +41,7 @@ fn many_pieces(alloc: Global) -> Result<Cutting, Fail> {
     Ok(cut(alloc, &instance, 65_536)?)
 }
 
-// A cutting into at least so many pieces, or as many as there can be.
+// A cutting into at least this many pieces, or as many as there can be.
 fn cut(alloc: Global, instance: &Instance, pieces: u32) -> Result<Cutting, NoMemory>
     requires { pieces ≤ MAX_PIECES }
 {
@@ -116,7 +116,7 @@ fn left_at_the_end(rt: HostRuntime) -> Result<(), Fail> {
     Ok(())
 }
 
-// How many thieves are made, and how many of four pieces are left after so many draws of the owner.
+// How many thieves are made, and how many of four pieces are left after this many draws of the owner.
 fn settled_after(alloc: Global, thieves: u32, draws: u32) -> Result<(usize, usize), Fail>
     requires { thieves ≤ MAX_THIEVES }
 {

@@ -19,7 +19,7 @@ const AMPLE: u64 = 1_000_000;
 // The largest budget with which nothing comes before the pieces; it is enough for each piece of a small tree.
 const ENOUGH: u64 = 999;
 
-// A cutting into at least so many pieces, or as many as there can be.
+// A cutting into at least this many pieces, or as many as there can be.
 fn cut(alloc: Global, instance: &Instance, pieces: u32) -> Result<Cutting, NoMemory>
     requires { pieces ≤ MAX_PIECES }
     ensures cutting { IfOk result (IsCutting instance.now) }
@@ -55,7 +55,7 @@ fn no_customers(rt: HostRuntime) -> Result<(), Fail> {
     assert_proven(&rt, rt.alloc(), &instance, (2, 2), 0, &[])
 }
 
-// Asserts that a search by so many workers of so many pieces proves a plan, its cost and its word: by the pieces, and by a look before
+// Asserts that a search by this many workers of this many pieces proves a plan, its cost and its word: by the pieces, and by a look before
 // them.
 fn assert_proven<R: Abort + Threads + Wait + Sync>(
     rt: &R,
@@ -139,7 +139,7 @@ fn first_plan_comes_before_the_search(rt: HostRuntime) -> Result<(), Fail> {
     Ok(())
 }
 
-// What the plan of an answer costs, if there is one, where each of at least so many pieces is searched with this budget.
+// What the plan of an answer costs, if there is one, where each of at least this many pieces is searched with this budget.
 fn cost_of_answer<R: Abort + Threads + Wait + Sync>(
     rt: &R,
     alloc: Global,

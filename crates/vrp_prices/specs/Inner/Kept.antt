@@ -3,7 +3,7 @@ use Rattle.std.specs.Prelude.{◌≤◌}
 use Rattle.vrp_prices.specs.Relaxation.{Bounds, RelaxationOf}
 use Rattle.vrp_prices.specs.declared.limits.TheConstants.{MAX_CHARGES, MAX_REWARDS, MAX_SCALE}
 
-pub record IsKept (r : RelaxationOf) : Type 0 where
+pub record IsSmallRelaxation (r : RelaxationOf) : Type 0 where
   pub bounds : Bounds r
   pub small_scale : r.scale ≤ MAX_SCALE
   pub small_charges : r.charges ≤ MAX_CHARGES

@@ -1,20 +1,21 @@
--- Prices that may be lawful, and weights with prices while they are written, row by row.
+-- Prices that may be lawful, and weights with prices and tolls while they are written, row by row.
 use Rattle.std.specs.Prelude.{◌≡◌, ◌≢◌, ℕ, ◌+◌, ◌*◌, ◌≤◌, ◌<◌, ℤ, List, length, slice_index}
-use Rattle.vrp_model.specs.Problem.{Problem, place_count, weight_of}
+use Rattle.vrp_model.specs.Problem.{Problem, place_count}
 use Rattle.vrp_model.specs.declared.limits.TheConstants.{MAX_WEIGHT}
-use Rattle.vrp_prices.specs.Priced.{price_in, rebate_in}
-use Rattle.vrp_prices.specs.declared.limits.TheConstants.{MAX_REBATE}
+use Rattle.vrp_prices.specs.Cut.{Cut}
+use Rattle.vrp_prices.specs.Priced.{dear_way, price_in, rebate_in, taken_off}
+use Rattle.vrp_prices.specs.declared.limits.TheConstants.{MAX_PRICE, MAX_REBATE}
 
--- no price is above what a way may cost, and no rebate above what one costs before
+-- no price is above what a way may cost and what tolls take off, and no rebate above what one costs before
 abbrev pub AreModerate : List ℤ → Type 0
-AreModerate prices = (place : ℕ) → place < length prices → (price_in prices place ≤ MAX_WEIGHT) × (rebate_in prices place ≤ MAX_REBATE)
+AreModerate prices = (place : ℕ) → place < length prices → (price_in prices place ≤ MAX_PRICE) × (rebate_in prices place ≤ MAX_REBATE)
 
--- what a way costs with prices; from a place to itself any weight will do
-abbrev pub IsPricedWay : Problem → ℕ → List ℤ → ℕ → ℕ → ℕ → Type 0
-IsPricedWay p scale prices from to weight =
-    from ≢ to → weight + rebate_in prices from + rebate_in prices to ≡ scale * weight_of p from to + price_in prices from + price_in prices to
+-- what a way costs with prices and tolls; from a place to itself any weight will do
+abbrev pub IsPricedWay : Problem → ℕ → List ℤ → List Cut → ℕ → ℕ → ℕ → Type 0
+IsPricedWay p scale prices cuts from to weight = from ≢ to → weight + taken_off prices cuts from to ≡ dear_way p scale prices from to
 
 -- each weight so far is that of its row's place and its column's
-pub record ArePricedWays (p : Problem) (scale : ℕ) (prices : List ℤ) (weights : List ℕ) : Type 0 where
-  pub each : (from to : ℕ) → to < place_count p → from * place_count p + to < length weights → IsPricedWay p scale prices from to (slice_index weights (from * place_count p + to))
+pub record ArePricedWays (p : Problem) (scale : ℕ) (prices : List ℤ) (cuts : List Cut) (weights : List ℕ) : Type 0 where
+  pub each : (from to : ℕ) → to < place_count p → from * place_count p + to < length weights
+      → IsPricedWay p scale prices cuts from to (slice_index weights (from * place_count p + to))
   pub small : (k : ℕ) → slice_index weights k ≤ MAX_WEIGHT

@@ -19,8 +19,8 @@ pub record Fits (opening count : ℕ) (history : List Offer) (views : List View)
   pub made : v.makes ≡ true → All (λ o. o.caller < v.next) history
   pub numbers : v.makes ≡ true → (j : ℕ) (w : View) → get_elem? views j ≡ some w → All (λ k. k.number < v.next) w.callers
 
--- there is one history, with offers of so many callers: the word is the least cost in it, and all views are parts of it
-pub record IsKept (key : ℕ × ℕ) (s : State ℕ View) : Type 0 where
+-- there is one history, with offers of this many callers: the word is the least cost in it, and all views are parts of it
+pub record IsCostState (key : ℕ × ℕ) (s : State ℕ View) : Type 0 where
   pub history : List Offer
   pub place : ℕ → ℕ
   pub word : s.words ≡ least_of key.0 history ∷ []

@@ -103,7 +103,7 @@ const ASYM_9: Told<'_> = Told {
     capacity: 20,
 };
 
-// What the plan of an instance costs with so many trucks, 0 standing for as many as are wanted; `None` where there is no plan.
+// What the plan of an instance costs with this many trucks, 0 standing for as many as are wanted; `None` where there is no plan.
 fn assert_cost(
     rt: &impl Abort,
     alloc: Global,
@@ -283,7 +283,7 @@ fn dear_joints_only_for_want_of_trucks(rt: HostRuntime) -> Result<(), Fail> {
     Ok(())
 }
 
-// A word has at most two symbols for each customer, and its list has room for so many.
+// A word has at most two symbols for each customer, and its list has room for this many.
 #[test]
 fn room_for_a_word(rt: HostRuntime) -> Result<(), Fail> {
     for customers in [1, 2, 3] {

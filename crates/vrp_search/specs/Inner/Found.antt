@@ -21,5 +21,5 @@ pub record IsTaken (p : Problem) (word : List ℕ) (floor : ℕ) (old found : Op
   pub below : floor ≤ plan.cost
 
 -- the plan of a complete word that costs less than what was found before is found; at any other word that stays
-abbrev pub IsKept : Problem → List ℕ → ℕ → Option PricedPlan → Option PricedPlan → Type 0
-IsKept p word floor old new = IsTaken p word floor old new ⊎ ((IsLawfulWord p word → cost_of old ≤ word_cost p word) × (new ≡ old))
+abbrev pub IsLastOffer : Problem → List ℕ → ℕ → Option PricedPlan → Option PricedPlan → Type 0
+IsLastOffer p word floor old new = IsTaken p word floor old new ⊎ ((IsLawfulWord p word → cost_of old ≤ word_cost p word) × (new ≡ old))

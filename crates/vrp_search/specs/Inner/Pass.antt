@@ -28,7 +28,7 @@ pub record IsStep (p : Problem) (front : List ℕ) (asked : Bool) (old : List (L
   pub only : asked ≡ false → refined ≡ false
   pub else_none : asked ≡ true → refined ≡ false → HasNoChild p front
 
--- each front that has a child has at least so many symbols
+-- each front that has a child has at least this many symbols
 abbrev pub AreDeep : Problem → ℕ → List (List ℕ) → Type 0
 AreDeep p depth fronts = All (λ front. HasNoChild p front ⊎ (depth ≤ length front)) fronts
 

@@ -58,6 +58,6 @@ pub record AreTallied (p : Problem) (word : List ℕ) (served : List Bool) (befo
   pub kept : AreBefore p word before
   pub now : IsTally p word tally
 
--- a list with so many places has room for the longest front
+-- a list with this many places has room for the longest front
 abbrev pub HasRoom : Problem → ℕ → Type 0
 HasRoom p capacity = 2 * place_count p ≤ capacity + 2

@@ -1,7 +1,6 @@
 //! Searches of small trees by prices, and of a piece at the limits of an instance.
-ghost use Rattle.std.specs.Prelude.{◌≡◌, ◌≤◌, length};
+ghost use Rattle.std.specs.Prelude.{◌≡◌, ◌≤◌};
 ghost use Rattle.std.specs.Option.{ForSome};
-ghost use Rattle.vrp_model.specs.Problem.{place_count};
 ghost use Rattle.vrp_model.specs.Route.{IsPlanOf};
 ghost use Rattle.vrp_model.specs.Word.{IsFront};
 
@@ -78,7 +77,7 @@ fn deep_piece_at_the_limits(rt: HostRuntime) -> Result<(), Fail> {
     let charged = vec![in rt.alloc(); 7i64; usize::from(MAX_NODES)]?;
     assert!(rt; charged.len() == usize::from(instance.customers()) + 1);
     let mut board = Local::open(Plan::singles(rt.alloc(), &instance)?);
-    let Some(relaxation) = Relaxation::new(rt.alloc(), &instance, 1, 1, &charged)? else {
+    let Some(relaxation) = Relaxation::new(rt.alloc(), &instance, 1, 1, &charged, &[])? else {
         panic!(rt; "no prices");
     };
     let ended = search_piece(
@@ -110,7 +109,7 @@ fn assert_search(
 {
     assert!(rt; budget >= 1);
     assert!(rt; prices.len() == usize::from(instance.customers()) + 1);
-    let Some(relaxation) = Relaxation::new(alloc, instance, 1, 1, prices)? else {
+    let Some(relaxation) = Relaxation::new(alloc, instance, 1, 1, prices, &[])? else {
         panic!(rt; "no prices");
     };
     let mut board = Local::open(plan);

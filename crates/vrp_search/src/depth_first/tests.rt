@@ -262,7 +262,7 @@ fn round_trip(rt: &impl Abort, alloc: Global, instance: &Instance) -> Result<Pla
     partial.plan(alloc)
 }
 
-// So many nodes on a line, a step apart, the depot first. Each truck carries two customers.
+// This many nodes on a line, a step apart, the depot first. Each truck carries two customers.
 pub(crate) fn on_a_line(rt: &impl Abort, alloc: Global, nodes: u16) -> Result<Instance, Fail> {
     assert!(rt; 1 <= nodes && nodes <= MAX_NODES);
     let mut ways = Vec::new(alloc);

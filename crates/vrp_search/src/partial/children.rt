@@ -1,7 +1,7 @@
 //! The children of a partial plan: which symbols make one, and what is counted along its word.
 ghost use Rattle.std.specs.Prelude.{◌≡◌, ◌<◌, ◌≤◌, ◌+◌, ◌*◌, ◌↔◌, [], ◌∷◌, ◌++◌, length, IsTrue, IfSome, MatchOption};
-ghost use Rattle.vrp_model.specs.Problem.{HasTrucks, IsSymmetric, place_count};
-ghost use Rattle.vrp_model.specs.Word.{IsFront, RunsForward, last_route, last_symbol, routes_of};
+ghost use Rattle.vrp_model.specs.Problem.{HasTrucks, place_count};
+ghost use Rattle.vrp_model.specs.Word.{IsFront, last_symbol, routes_of};
 ghost use Rattle.vrp_model.specs.declared.limits.TheConstants.{MAX_NODES};
 ghost use Rattle.vrp_search.specs.Child.{IsNextChild, NoChildFrom};
 ghost use Rattle.vrp_search.specs.Inner.Tallied.{IsGreatestBelow, IsTally};

@@ -47,7 +47,8 @@ impl<'a> Partial<'a> {
         requires tables { tables.now.problem ≡ self.now.problem }
         requires covered { AreCovered self.now.problem tables.now.among self.now.word }
         requires child { IsFront self.now.problem (self.now.word ++ symbol ∷ []) }
-        ensures of_use { MatchOption result (NoneOfUse self.now.problem (self.now.word ++ symbol ∷ []) least own) (IsPromising self.now.problem (self.now.word ++ symbol ∷ []) own) }
+        ensures of_use { MatchOption result (NoneOfUse self.now.problem (self.now.word ++ symbol ∷ []) least own)
+            (IsPromising self.now.problem (self.now.word ++ symbol ∷ []) own) }
         ensures exact { IsTrue (is_some result) ↔ MayBeOfUse self.now.problem tables.now.among (self.now.word ++ symbol ∷ []) least own }
     {
         // Below no front is anything cheaper than its cost and bound, and below a dead one there is nothing.

@@ -164,7 +164,7 @@ fn assert_first_by_prices(
 ) -> Result<bool, Fail> {
     assert!(rt; unit >= 1 && instance.customers() <= 3);
     let prices = &prices[..usize::from(instance.customers()) + 1];
-    let Some(relaxation) = Relaxation::new(alloc, instance, SCALE, unit, prices)? else {
+    let Some(relaxation) = Relaxation::new(alloc, instance, SCALE, unit, prices, &[])? else {
         return Ok(false);
     };
     let mut board = Local::open(Plan::singles(alloc, instance)?);

@@ -8,7 +8,7 @@ use Rattle.vrp_text.specs.Complete.{bad_node}
 abbrev pub beside_node : {X : Type 0} → X → List ℤ → List X → ℕ → X
 beside_node absent given beside node = get_or beside (position_or_len (int_eq (pos node)) given) absent
 
--- So many rows are put into their nodes' places: a mark for each node tells whether it is given.
+-- This many rows are put into their nodes' places: a mark for each node tells whether it is given.
 pub record ArePlaced {X : Type 0} (absent : X) (nodes : ℕ) (given : List ℤ) (beside : List X) (rows : ℕ) (marks : List Bool) (placed : List X) : Type 0 where
   pub fault : bad_node nodes [] given ≡ bad_node nodes (take rows given) (drop rows given)
   pub mark_each : length marks ≡ nodes

@@ -4,7 +4,7 @@ use crate::error::TextError::{BadNumber, BadValue, Missing, UnknownKeyword, Wron
 use crate::{Key, TextError};
 use std::test::*;
 
-// Why the small file is refused when it is cut off after so many bytes, where it is.
+// Why the small file is refused when it is cut off after this many bytes, where it is.
 fn refusal_after(length: usize) -> Option<TextError> {
     match length {
         0 => Some(Missing(Key::Problem)),

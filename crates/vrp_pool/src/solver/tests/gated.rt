@@ -21,7 +21,7 @@ enum Held {
     All,
 }
 
-// Holds pieces until so many have begun, or one has looked too often.
+// Holds pieces until this many have begun, or one has looked too often.
 #[derive(Drop)]
 struct Holds {
     held: Held,
@@ -82,7 +82,7 @@ fn refined<R: Abort>(
     Ok(cutting)
 }
 
-// So many workers, with this budget for each piece, are to prove a plan of this cost behind a gate.
+// This many workers, with this budget for each piece, are to prove a plan of this cost behind a gate.
 #[derive(Clone, Copy)]
 struct Wanted<'a> {
     workers: u32,

@@ -7,5 +7,5 @@ use Rattle.vrp_prices.proofs.prices.charges.Given as goal
 abbrev pub invariant-loop-index : goal.invariant-loop-index
 invariant-loop-index l = record {
   summed : l.whole ≡ sum_by (price_in l.prices) (take l.index (customers l.instance));
-  small : l.whole ≤ 1000000000 * l.index;
+  small : l.whole ≤ 100001000000000 * l.index;
 }

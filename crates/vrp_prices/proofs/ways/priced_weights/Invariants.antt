@@ -8,5 +8,5 @@ abbrev pub invariant-loop-from : goal.invariant-loop-from
 invariant-loop-from l = record {
   next : vec_len l.weights ≡ l.from * place_count l.instance;
   capacity : vec_capacity l.weights ≡ place_count l.instance * place_count l.instance;
-  so_far : ArePricedWays l.instance l.scale l.prices l.weights.items;
+  so_far : ArePricedWays l.instance l.scale l.prices l.cuts l.weights.items;
 }

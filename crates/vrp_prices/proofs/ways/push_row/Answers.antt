@@ -13,5 +13,5 @@ loop-to-preserved c =
       capacity = omega (arith, c.push_reserved.ensures.capacity, c.loop-to.invariant.capacity);
       so_far =
           rw c.push_reserved.ensures.items
-          (ways_more c.args.instance.now c.args.scale c.args.prices.now weights c.args.from c.loop-to.to c.in-Some.weight next (omega (arith, c.customers-to-end.ensures.value, c.loop-to-test.true, c.loop-to.auto.to-end)) c.in-Some.ensures.way c.in-Some.ensures.small c.loop-to.invariant.so_far);
+          (ways_more c.args.instance.now c.args.scale c.args.prices.now c.args.cuts.now weights c.args.from c.loop-to.to c.in-Some.weight next (omega (arith, c.customers-to-end.ensures.value, c.loop-to-test.true, c.loop-to.auto.to-end)) c.in-Some.ensures.way c.in-Some.ensures.small c.loop-to.invariant.so_far);
     }

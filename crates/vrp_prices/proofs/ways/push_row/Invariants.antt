@@ -8,5 +8,5 @@ abbrev pub invariant-loop-to : goal.invariant-loop-to
 invariant-loop-to l = record {
   next : vec_len l.weights ≡ l.from * place_count l.instance + l.to;
   capacity : vec_capacity l.weights ≡ vec_capacity l.initial.weights;
-  so_far : ArePricedWays l.instance l.scale l.prices l.weights.items;
+  so_far : ArePricedWays l.instance l.scale l.prices l.cuts l.weights.items;
 }

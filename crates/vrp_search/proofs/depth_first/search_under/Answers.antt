@@ -3,7 +3,7 @@ use Rattle.vrp_model.specs.Problem.{Problem}
 use Rattle.vrp_model.specs.declared.limits.TheConstants.{NO_COST}
 use Rattle.vrp_model.specs.Word.{BeginsWith, TreeHasAtLeast, word_cost}
 use Rattle.vrp_search.specs.Child.{IsNextChild, NoChildFrom}
-use Rattle.vrp_search.specs.Inner.Found.{IsKept}
+use Rattle.vrp_search.specs.Inner.Found.{IsLastOffer}
 use Rattle.vrp_search.specs.Inner.Pruned.{NoneOfUse}
 use Rattle.vrp_search.specs.Partial.{PartialPlan}
 use Rattle.vrp_search.specs.Search.{IsFinished}
@@ -16,7 +16,7 @@ loop-found-init g c =
     let p = c.args.partial.problem in
     let root = c.args.partial.word in
     let floor = g.B.Board.floor c.offer_complete.new.board in
-    let kept = subst (λ f. IsKept p root floor f c.offer_complete.new.self.plan) c.nothing-found.ensures c.in_ok-offer_complete.ensures.kept in
+    let kept = subst (λ f. IsLastOffer p root floor f c.offer_complete.new.self.plan) c.nothing-found.ensures c.in_ok-offer_complete.ensures.kept in
     record {
       problem = refl;
       step = c.requires.step;
@@ -114,7 +114,7 @@ loop-found-preserved-else-prunes g c =
     let problem : c.push.new.partial.problem ≡ p = ap (λ (v : PartialPlan). v.problem) c.push.ensures.partial ∙ c.loop-found.invariant.problem in
     let longer : c.push.new.partial.word ≡ word ++ k ∷ [] = ap (λ (v : PartialPlan). v.word) c.push.ensures.partial in
     let falls : floor ≤ old = omega (arith, c.offer_complete-else-prunes.ensures.falls, c.least-least.ensures.falls) in
-    let kept = subst (λ (w : List ℕ). IsKept p w floor first new) longer (subst (λ (q : Problem). IsKept q c.push.new.partial.word floor first new) problem c.in_ok-offer_complete-in-Some-2.ensures.kept) in
+    let kept = subst (λ (w : List ℕ). IsLastOffer p w floor first new) longer (subst (λ (q : Problem). IsLastOffer q c.push.new.partial.word floor first new) problem c.in_ok-offer_complete-in-Some-2.ensures.kept) in
     record {
       problem = problem;
       step = c.prunes.ensures.step root (c.push.ensures.step root c.loop-found.invariant.step);

@@ -3,7 +3,7 @@ use Rattle.std.specs.List.Sorted.{IsStrictlyIncreasing}
 use Rattle.vrp_model.specs.Route.{PricedPlan}
 use Rattle.vrp_model.specs.Word.{first_stops}
 use Rattle.std.proofs.lemmas.Grind.{common_steps}
-use Rattle.vrp_model.proofs.PlanLemmas.{routes_in_push, IsKept-push}
+use Rattle.vrp_model.proofs.PlanLemmas.{routes_in_push, ArePlanStops-push}
 use Rattle.vrp_model.specs.declared.plan.Span.{Span}
 use Rattle.vrp_model.proofs.plan.Plan.with_route.Goals as goal
 
@@ -16,7 +16,7 @@ invariant_of-result c =
     let appended : c.push.new.self.items ≡ (word ++ route) ++ 0 ∷ [] = c.in_ok-push.ensures.items ∙ ap (λ w. w ++ 0 ∷ []) c.in_ok-extend_from_slice.ensures.items in
     let pushed : c.push-2.new.self.items ≡ spans ++ span ∷ [] = c.in_ok-push-2.ensures.items in
     let rising = subst (λ (plan : PricedPlan). IsStrictlyIncreasing (first_stops (plan.routes ++ route ∷ []))) (sym c.self.view_is) c.requires.rising in
-    rw (pushed, appended) (IsKept-push word route spans span c.self.invariant rising (grind (arith, common_steps)) (grind (arith, common_steps)))
+    rw (pushed, appended) (ArePlanStops-push word route spans span c.self.invariant rising (grind (arith, common_steps)) (grind (arith, common_steps)))
 
 pub returns-clause-routes : goal.returns-clause-routes
 returns-clause-routes c =

@@ -1,7 +1,7 @@
 use Rattle.std.proofs.Common.{ℕ, sym, ap, ◌∙◌, subst, arith, ◌<◌}
 use Rattle.atomic_table.specs.Table.{Me, Splits}
 use Rattle.vrp_register.specs.declared.view.View.{View}
-use Rattle.vrp_register.specs.Inner.Kept.{IsKept}
+use Rattle.vrp_register.specs.Inner.Kept.{IsCostState}
 use Rattle.vrp_register.specs.Inner.Seats.{made_left, made_right}
 use Rattle.vrp_register.proofs.CostSteps.{makes}
 use Rattle.vrp_register.proofs.cost_word.CostWord.make.Goals as goal
@@ -15,5 +15,5 @@ split_seat-requires c =
     let words = c.self.invariant.0 in (
       ap (λ x. x.table) c.maker.view_is ∙ (c.requires.table ∙ sym (ap (λ x. x.table) c.self.view_is)),
       omega arith,
-      subst (λ (m : View). Splits (IsKept shared.key) seat.id m (made_left m) (made_right m)) (sym (ap (λ (m : Me ℕ View). m.0) c.maker.invariant)) (makes shared.key seat.id v.opening v.next room),
+      subst (λ (m : View). Splits (IsCostState shared.key) seat.id m (made_left m) (made_right m)) (sym (ap (λ (m : Me ℕ View). m.0) c.maker.invariant)) (makes shared.key seat.id v.opening v.next room),
     )

@@ -2,7 +2,7 @@ use Rattle.std.proofs.Common.{ℕ, min, sym, ap, ◌∙◌, subst, arith}
 use mathlib.Core.Option.{none}
 use Rattle.atomic_table.specs.Table.{Me, step, Allows}
 use Rattle.vrp_register.specs.declared.view.View.{View}
-use Rattle.vrp_register.specs.Inner.Kept.{IsKept}
+use Rattle.vrp_register.specs.Inner.Kept.{IsCostState}
 use Rattle.vrp_register.specs.Inner.Seats.{Offers, caller_of}
 use Rattle.vrp_register.proofs.CostSteps.{offers}
 use Rattle.vrp_register.proofs.cost_word.CostWord.offer.Goals as goal
@@ -15,5 +15,5 @@ fetch_min-requires c =
     let words = c.self.invariant.0 in (
       ap (λ x. x.table) c.seat.view_is ∙ (c.requires ∙ sym (ap (λ x. x.table) c.self.view_is)),
       omega arith,
-      subst (λ (m : Me ℕ View). Allows (IsKept shared.key) slots seat.id m 0 (λ n. min n c.args.cost) (Offers (step slots 0 c.args.cost 0 none) m)) (sym c.seat.invariant) (offers shared.key slots seat.id c.args.cost (caller_of seat.me.0)),
+      subst (λ (m : Me ℕ View). Allows (IsCostState shared.key) slots seat.id m 0 (λ n. min n c.args.cost) (Offers (step slots 0 c.args.cost 0 none) m)) (sym c.seat.invariant) (offers shared.key slots seat.id c.args.cost (caller_of seat.me.0)),
     )

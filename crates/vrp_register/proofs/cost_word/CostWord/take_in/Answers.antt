@@ -1,7 +1,7 @@
 use Rattle.std.proofs.Common.{ℕ, sym, ap, ◌∙◌, subst, arith}
 use Rattle.atomic_table.specs.Table.{Me, Joins}
 use Rattle.vrp_register.specs.declared.view.View.{View}
-use Rattle.vrp_register.specs.Inner.Kept.{IsKept}
+use Rattle.vrp_register.specs.Inner.Kept.{IsCostState}
 use Rattle.vrp_register.specs.Inner.Seats.{caller_of, spent, taken_in}
 use Rattle.vrp_register.proofs.CostSteps.{takes}
 use Rattle.vrp_register.proofs.cost_word.CostWord.take_in.Goals as goal
@@ -17,7 +17,7 @@ join_seat-requires c =
       ap (λ x. x.table) c.caller.view_is ∙ (c.requires.caller ∙ sym (ap (λ x. x.table) c.self.view_is)),
       ap (λ x. x.1) c.caller.invariant,
       omega arith,
-      subst (λ (m : View × View). Joins (IsKept shared.key) seat.id m.0 other.id m.1 (taken_in m.0 m.1) spent)
+      subst (λ (m : View × View). Joins (IsCostState shared.key) seat.id m.0 other.id m.1 (taken_in m.0 m.1) spent)
           (λ i. (sym (ap (λ (m : Me ℕ View). m.0) c.gathered.invariant) i, sym (ap (λ (m : Me ℕ View). m.0) c.caller.invariant) i))
           (takes shared.key seat.id other.id v.callers (caller_of other.me.0)),
     )

@@ -1,7 +1,7 @@
 use Rattle.std.proofs.Common.{◌<◌, ◌+◌, ◌*◌, length, ap, ◌∙◌, arith}
 use Rattle.vrp_prices.specs.Priced.{rebate_in}
 use Rattle.vrp_prices.proofs.CustomerSums.{sum_all, sum_more}
-use Rattle.vrp_prices.proofs.prices.rewards.Goals as goal
+use Rattle.vrp_prices.proofs.prices.rebate_rewards.Goals as goal
 
 pub loop-index-preserved : goal.loop-index-preserved
 loop-index-preserved c =

@@ -2,7 +2,7 @@ use Rattle.std.proofs.Common.{◌≡◌, ◌≤◌, ◌*◌, take}
 use Rattle.std.specs.List.{sum_by}
 use Rattle.vrp_model.specs.Problem.{customers}
 use Rattle.vrp_prices.specs.Priced.{rebate_in}
-use Rattle.vrp_prices.proofs.prices.rewards.Given as goal
+use Rattle.vrp_prices.proofs.prices.rebate_rewards.Given as goal
 
 abbrev pub invariant-loop-index : goal.invariant-loop-index
 invariant-loop-index l = record {

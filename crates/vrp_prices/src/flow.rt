@@ -1,0 +1,59 @@
+//! How often each way is used by the tours of the rounds so far: a mean that leans to the newest.
+use crate::tours_used::UsedWay;
+use std::alloc::Global;
+use vrp_model::NoMemory;
+
+/// One use of a way counts so much.
+pub(crate) const USE: i64 = 1_024;
+
+// The newest round has one part in this many.
+const NEWEST: i64 = 20;
+
+/// Uses of the ways between any two places, there and back together.
+#[derive(Debug, Drop)]
+pub(crate) struct Flow {
+    places: usize,
+    // By place, and of each by place.
+    mean: Vec<i64>,
+    // Those of the newest round.
+    uses: Vec<i64>,
+}
+
+impl Flow {
+    /// No uses.
+    pub(crate) fn new(alloc: Global, places: usize) -> Result<Flow, NoMemory> {
+        let square = places.saturating_mul(places);
+        Ok(Flow {
+            places,
+            mean: vec![in alloc; 0; square]?,
+            uses: vec![in alloc; 0; square]?,
+        })
+    }
+
+    /// Takes in the ways that a round used.
+    pub(crate) fn add(&mut self, used: &[UsedWay]) {
+        self.uses.as_mut_slice().fill(0);
+        for way in used {
+            self.count(way.from, way.to);
+            self.count(way.to, way.from);
+        }
+        for (mean, &uses) in self.mean.iter_mut().zip(&self.uses) {
+            let change = uses.wrapping_sub(*mean) / NEWEST;
+            *mean = mean.wrapping_add(change);
+        }
+    }
+
+    fn count(&mut self, from: usize, to: usize) {
+        let way = from.saturating_mul(self.places).saturating_add(to);
+        if let Some(uses) = self.uses.get_mut(way) {
+            *uses = uses.wrapping_add(USE);
+        }
+    }
+
+    /// The flow between a place and each.
+    pub(crate) fn of(&self, place: usize) -> &[i64] {
+        let start = place.saturating_mul(self.places);
+        let end = start.saturating_add(self.places);
+        self.mean.as_slice().get(start..end).unwrap_or(&[])
+    }
+}
