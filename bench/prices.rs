@@ -1,0 +1,342 @@
+//! A plain kernel in Rust of prices and of the search by them, by one thread, written for speed and not proved: beside it
+//! `bench_prices` is timed (prices.sh).
+//!
+//!     rustc -O --edition 2021 prices.rs -o prices
+//!     ./prices COST [CUTS] < file.vrp
+//!
+//! COST is that of a plan, which the bound is to come up to; CUTS how many cuts there may be (100). It prints the bound at the
+//! root, the rounds and their seconds, and how many partial plans the search looked at, in seconds and by the second. Symmetric
+//! instances of at most 64 places alone, whose demands divided by their greatest common divisor make small tables.
+#[allow(dead_code)]
+mod problem;
+
+use problem::{read, Problem};
+use std::time::Instant;
+
+const NONE: i64 = 1 << 40;
+
+/// by load and place the least walk home that carries the load behind the place, and the stop it goes to first; and the tours
+struct Tables {
+    walk: Vec<i64>,
+    next: Vec<usize>,
+    tour: Vec<i64>,
+    first: Vec<usize>,
+    tours: Vec<i64>,
+    last: Vec<usize>,
+}
+
+fn tables(p: &Problem, ways: &[i64]) -> Tables {
+    let n = p.n;
+    let whole: usize = p.demand.iter().sum();
+    let room = p.capacity.min(whole);
+    let mut t = Tables {
+        walk: vec![NONE; (room + 1) * n],
+        next: vec![0; (room + 1) * n],
+        tour: vec![NONE; room + 1],
+        first: vec![0; room + 1],
+        tours: vec![NONE; whole + 1],
+        last: vec![0; whole + 1],
+    };
+    for at in 1..n {
+        t.walk[at] = ways[at * n];
+    }
+    for load in 0..=room {
+        for stop in 1..n {
+            let (cost, carried) = (t.walk[load * n + stop], load + p.demand[stop]);
+            if cost >= NONE || carried > room {
+                continue;
+            }
+            if cost + ways[stop] < t.tour[carried] {
+                (t.tour[carried], t.first[carried]) = (cost + ways[stop], stop);
+            }
+            for from in 1..n {
+                let (cell, longer) = (carried * n + from, cost + ways[from * n + stop]);
+                if from != stop && longer < t.walk[cell] {
+                    (t.walk[cell], t.next[cell]) = (longer, stop);
+                }
+            }
+        }
+    }
+    t.tours[0] = 0;
+    for rest in 1..=whole {
+        for load in 1..=room.min(rest) {
+            let cost = t.tour[load] + t.tours[rest - load];
+            if cost < t.tours[rest] {
+                (t.tours[rest], t.last[rest]) = (cost, load);
+            }
+        }
+    }
+    t
+}
+
+#[derive(Clone)]
+struct Cut {
+    inside: u64,
+    trucks: i64,
+    toll: i64,
+    direction: i64,
+}
+
+impl Cut {
+    fn is_crossed(&self, from: usize, to: usize) -> bool {
+        (self.inside >> from ^ self.inside >> to) & 1 == 1
+    }
+}
+
+/// the ways with prices and tolls, and what both add to each plan together
+fn priced(p: &Problem, scale: i64, price: &[i64], cuts: &[Cut]) -> (Vec<i64>, i64) {
+    let n = p.n;
+    let mut ways = vec![0; n * n];
+    for from in 0..n {
+        for to in 0..n {
+            ways[from * n + to] = scale * p.weight[from * n + to] as i64 + price[from] + price[to];
+        }
+    }
+    let mut owed = 2 * price.iter().sum::<i64>();
+    for cut in cuts.iter().filter(|cut| cut.toll > 0) {
+        owed -= 2 * cut.trucks * cut.toll;
+        for way in 0..n * n {
+            if cut.is_crossed(way / n, way % n) {
+                ways[way] -= cut.toll;
+            }
+        }
+    }
+    (ways, owed)
+}
+
+/// the ways of the least tours of the whole demand
+fn used_ways(p: &Problem, t: &Tables) -> Vec<(usize, usize)> {
+    let mut used = vec![];
+    let mut rest = t.tours.len() - 1;
+    while rest > 0 {
+        let mut load = t.last[rest];
+        rest -= load;
+        let (mut from, mut to) = (0, t.first[load]);
+        while load > 0 {
+            used.push((from, to));
+            load -= p.demand[to];
+            (from, to) = (to, t.next[load * p.n + to]);
+        }
+        used.push((from, 0));
+    }
+    used
+}
+
+/// the set of those that grow from a customer whose border the flow crosses most too seldom: by how much, the set, its trucks
+fn grown(p: &Problem, flow: &[i64], start: usize) -> Option<(i64, u64, i64)> {
+    let n = p.n;
+    let (mut inside, mut load, mut crossed) = (0u64, 0u64, 0);
+    let mut joins = vec![0; n];
+    let (mut stop, mut most, mut found) = (start, 1024 / 5, None);
+    for size in 1..n - 1 {
+        crossed += flow[stop * n..][..n].iter().sum::<i64>() - 2 * joins[stop];
+        inside |= 1 << stop;
+        load += p.demand[stop] as u64 * p.unit;
+        for other in 0..n {
+            joins[other] += flow[stop * n + other];
+        }
+        let trucks = load.div_ceil(p.whole) as i64;
+        if size > 1 && 2048 * trucks - crossed > most {
+            most = 2048 * trucks - crossed;
+            found = Some((most, inside, trucks));
+        }
+        stop = (1..n).filter(|&j| inside >> j & 1 == 0).max_by_key(|&j| joins[j]).unwrap();
+    }
+    found
+}
+
+/// prices and cuts by a deflected subgradient; the bound that they give, by the scale, and after how many rounds
+fn ascend(p: &Problem, scale: i64, cost: i64, most_cuts: usize) -> (Vec<i64>, Vec<Cut>, i64, i32) {
+    let n = p.n;
+    let (mut price, mut cuts, mut way) = (vec![0; n], Vec::<Cut>::new(), vec![0; n]);
+    let (mut best, mut low) = ((price.clone(), cuts.clone()), i64::MIN);
+    let mut flow = vec![0; n * n];
+    let (mut pace, mut stale) = (1024, 0);
+    for round in 0..600 {
+        let (ways, owed) = priced(p, scale, &price, &cuts);
+        let t = tables(p, &ways);
+        let bound = t.tours[t.tours.len() - 1] - owed;
+        stale = if bound - low > low.saturating_abs() / 20_000 || low == i64::MIN { 0 } else { stale + 1 };
+        if bound > low {
+            (low, best) = (bound, (price.clone(), cuts.clone()));
+        }
+        if stale >= 15 {
+            (pace, stale) = (pace * 3 / 4, 0);
+        }
+        if low > scale * (cost - 1) || pace < 4 {
+            return (best.0, best.1, low, round);
+        }
+        let used = used_ways(p, &t);
+        let mut uses = vec![0; n * n];
+        for &(from, to) in &used {
+            uses[from * n + to] += 1024;
+            uses[to * n + from] += 1024;
+        }
+        for (mean, now) in flow.iter_mut().zip(&uses) {
+            *mean += (now - *mean) / 20;
+        }
+        if round > 20 && round % 15 == 0 && cuts.len() < most_cuts {
+            let mut found: Vec<_> = (1..n).filter_map(|start| grown(p, &flow, start)).collect();
+            found.sort_by_key(|found| -found.0);
+            let before = cuts.len();
+            for (_, inside, trucks) in found {
+                if cuts.len() < before + 8 && cuts.iter().all(|cut| cut.inside != inside) {
+                    cuts.push(Cut { inside, trucks, toll: 0, direction: 0 });
+                }
+            }
+            if cuts.len() > before {
+                pace = pace.max(300);
+            }
+        }
+        let mut long = 0;
+        for stop in 1..n {
+            let visits = used.iter().filter(|way| way.1 == stop).count() as i64;
+            way[stop] = (3 * way[stop] + 7 * 256 * (visits - 1)) / 10;
+            long += way[stop] * way[stop];
+        }
+        for cut in cuts.iter_mut() {
+            let crossed = used.iter().filter(|way| cut.is_crossed(way.0, way.1)).count() as i64;
+            cut.direction = (3 * cut.direction + 7 * 256 * (2 * cut.trucks - crossed)) / 10;
+            if cut.direction > 0 || cut.toll > 0 {
+                long += cut.direction * cut.direction / 4;
+            }
+        }
+        if long == 0 {
+            return (best.0, best.1, low, round);
+        }
+        let gap = (scale * cost + scale * cost / 200 - bound).max(scale);
+        for stop in 1..n {
+            price[stop] += pace * gap / 8 * way[stop] / long;
+        }
+        for cut in cuts.iter_mut() {
+            cut.toll = (cut.toll + pace * gap / 16 * cut.direction / long).max(0);
+        }
+    }
+    (best.0, best.1, low, 600)
+}
+
+/// the least completion by place, room and rest; NO_WAY where there is none
+fn homes(p: &Problem, t: &Tables) -> Vec<u32> {
+    let (whole, room) = (t.tours.len() - 1, t.tour.len() - 1);
+    let mut homes = vec![u32::MAX; p.n * (room + 1) * (whole + 1)];
+    for at in 1..p.n {
+        for load in 0..=room {
+            for rest in 0..=whole {
+                let cell = (at * (room + 1) + load) * (whole + 1) + rest;
+                let mut least = if load > 0 { homes[cell - whole - 1] } else { u32::MAX };
+                if load <= rest {
+                    let cost = t.walk[load * p.n + at] + t.tours[rest - load];
+                    if cost < NONE {
+                        least = least.min(cost as u32);
+                    }
+                }
+                homes[cell] = least;
+            }
+        }
+    }
+    homes
+}
+
+struct Front {
+    at: usize,
+    load: usize,
+    rest: usize,
+    cost: i64,
+    paid: i64,
+    served: u64,
+    first: usize,
+    next: usize,
+    one: bool,
+}
+
+/// depth first, routes by rising first customer, each in the direction whose first customer is the lesser: the partial plans
+/// that are looked at, and the cost of the best plan that was found, if one costs no more than this
+fn search(p: &Problem, scale: i64, ways: &[i64], owed: i64, cost: i64) -> (u64, Option<i64>) {
+    let (n, t) = (p.n, tables(p, ways));
+    let (whole, room) = (t.tours.len() - 1, t.tour.len() - 1);
+    let homes = homes(p, &t);
+    let all = (1u64 << (n - 1) << 1) - 2;
+    let root = Front { at: 0, load: 0, rest: whole, cost: 0, paid: 0, served: 0, first: 0, next: 0, one: false };
+    let mut stack = vec![root];
+    let (mut looked, mut limit, mut found) = (0, cost, None);
+    while let Some(f) = stack.last_mut() {
+        let mut child = None;
+        while f.next < n && child.is_none() {
+            let s = f.next;
+            f.next += 1;
+            if s == 0 {
+                if f.at == 0 || (!f.one && f.at < f.first) {
+                    continue;
+                }
+            } else if f.served >> s & 1 == 1 || f.load + p.demand[s] > p.capacity || (f.at == 0 && s < f.first) {
+                continue;
+            }
+            looked += 1;
+            let (cost, paid) = (f.cost + p.weight[f.at * n + s] as i64, f.paid + ways[f.at * n + s]);
+            let (load, rest) = if s == 0 { (0, f.rest) } else { (f.load + p.demand[s], f.rest - p.demand[s]) };
+            let more = if s == 0 {
+                t.tours[rest]
+            } else {
+                let left = (p.capacity - load).min(room);
+                match homes[(s * (room + 1) + left) * (whole + 1) + rest] {
+                    u32::MAX => NONE,
+                    more => more as i64,
+                }
+            };
+            if more >= NONE || paid + more - owed > scale * limit {
+                continue;
+            }
+            if s == 0 && f.served == all {
+                if cost <= limit {
+                    (found, limit) = (Some(cost), cost - 1);
+                }
+                continue;
+            }
+            let served = if s == 0 { f.served } else { f.served | 1 << s };
+            let first = if s > 0 && f.at == 0 { s } else { f.first };
+            child = Some(Front { at: s, load, rest, cost, paid, served, first, next: 0, one: s > 0 && f.at == 0 });
+        }
+        match child {
+            Some(front) => stack.push(front),
+            None => {
+                stack.pop();
+            }
+        }
+    }
+    (looked, found)
+}
+
+fn main() {
+    let words: Vec<String> = std::env::args().skip(1).collect();
+    let cost: i64 = words[0].parse().unwrap();
+    let most_cuts = words.get(1).map_or(100, |word| word.parse().unwrap());
+    let p = read();
+    assert!(p.n <= 64 && p.symmetric && !p.demand[1..].contains(&0));
+    let scale = (1_000_000_000 / cost).clamp(1, 1000);
+    let clock = Instant::now();
+    let (mut price, cuts, low, rounds) = ascend(&p, scale, cost, most_cuts);
+    let rounds_took = clock.elapsed().as_secs_f64();
+    // No way below nothing: a price in proportion to the demand changes no comparison.
+    let (ways, _) = priced(&p, scale, &price, &cuts);
+    let mut lift = 0;
+    for way in 0..p.n * p.n {
+        let (from, to) = (way / p.n, way % p.n);
+        if from != to && ways[way] < 0 {
+            let units = (p.demand[from] + p.demand[to]) as i64;
+            lift = lift.max((units - 1 - ways[way]) / units);
+        }
+    }
+    for stop in 1..p.n {
+        price[stop] += lift * p.demand[stop] as i64;
+    }
+    let (ways, owed) = priced(&p, scale, &price, &cuts);
+    let clock = Instant::now();
+    let (looked, found) = search(&p, scale, &ways, owed, cost);
+    let took = clock.elapsed().as_secs_f64();
+    println!(
+        "bound {:.2}, {rounds} rounds in {rounds_took:.3} seconds; cost {}, {looked} partial plans in {took:.3} seconds, million/s {:.1}",
+        low as f64 / scale as f64,
+        found.unwrap_or(cost),
+        looked as f64 / took / 1e6
+    );
+}
