@@ -70,7 +70,7 @@ def words(options):
 
 
 def run(data, options, seconds):
-    """What the program does with a file: exit status, standard output, standard error. It is killed after so many seconds,
+    """What the program does with a file: exit status, standard output, standard error. It is killed after this many seconds,
     and has no status then."""
     try:
         ended = subprocess.run([PROGRAM] + words(options), input=data, capture_output=True, timeout=seconds)

@@ -120,7 +120,7 @@ class Style:
         return spelled(self.dice, value) if self.spells_oddly else str(value)
 
     def blank(self, least):
-        """Some blanks, at least so many."""
+        """Some blanks, at least this many."""
         if self.is_plain:
             return " " * least
         count = self.dice.choice([least, least, least, 1, 2, 3])

@@ -22,7 +22,7 @@ LONG = 60
 
 
 def large_file(seed, customers, capacity):
-    """A file of so many customers and this capacity, of which a truck carries two to five."""
+    """A file of this many customers and this capacity, of which a truck carries two to five."""
     dice = random.Random(f"{seed} {customers} {capacity}")
     demands = [0] + [dice.randint(capacity // 6, capacity // 2) for _ in range(customers)]
     while reduce(gcd, demands) > 1:

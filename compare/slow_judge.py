@@ -15,7 +15,7 @@ REPORT_WITHOUT_PLAN = rb"(?:NoPlan|Open ([0-9]+))\n"
 
 
 def fault(problem, status, printed, error, trucks=None, ample=True):
-    """What is wrong with an exit status, standard output and standard error, or None. There are so many trucks, or as many as
+    """What is wrong with an exit status, standard output and standard error, or None. There are this many trucks, or as many as
     are wanted. With an ample budget a problem of few customers has to be solved."""
     if error != b"":
         return "no report"
@@ -111,7 +111,7 @@ def plan_cost(problem, routes):
 
 
 def least_cost(problem, trucks=None):
-    """The least cost of a plan with so many trucks, or as many as are wanted; None where there is no plan."""
+    """The least cost of a plan with this many trucks, or as many as are wanted; None where there is no plan."""
     routes = route_costs(problem)
     if has_trucks_for_each(problem, trucks):
         return plan_costs(problem, routes)[frozenset(problem.customers)]
@@ -157,7 +157,7 @@ def plan_costs(problem, routes):
 
 
 def with_one_more(problem, routes, plans):
-    """The least costs with one truck more than in these, for each set of customers that so many trucks can serve."""
+    """The least costs with one truck more than in these, for each set of customers that this many trucks can serve."""
     more = {frozenset(): 0}
     for nodes in sets_of_customers(problem):
         first = min(nodes)
