@@ -93,7 +93,8 @@ fn read_part(
     ensures read { IfOk result (λ _. statements.new ≡ with_part explicit heading.now.keyword (tokens_of heading.now.behind.now)
         (content_numbers (content_of explicit heading.now.keyword) (data_left lines.old)) statements.old) }
     ensures passed { IfOk result (λ _. parts_left lines.new ≡ parts_left lines.old) }
-    ensures refused { Refuses result (λ error. fault_of_part explicit (is_marked keys.old) heading.now.number heading.now.keyword (tokens_of heading.now.behind.now) lines.old.number (data_left lines.old) ≡ Some error) }
+    ensures refused { Refuses result (λ error. fault_of_part explicit (is_marked keys.old) heading.now.number heading.now.keyword
+        (tokens_of heading.now.behind.now) lines.old.number (data_left lines.old) ≡ Some error) }
 {
     read_heading(explicit, heading, keys, statements)?;
     let numbers = read_content(alloc, lines, content_of(explicit, heading.keyword))?;
