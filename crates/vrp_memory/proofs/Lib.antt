@@ -1,0 +1,4 @@
+pub mod PlacePairs
+pub mod PushedCells
+pub mod Recalled
+pub mod RememberedStops

@@ -1,0 +1,21 @@
+-- The memories before each stop, in one list.
+use Rattle.std.specs.Prelude.{◌≡◌, ℕ, ◌*◌, ◌^◌, ◌/◌, ◌%◌, ◌<◌, ◌≤◌, List, length, slice_index}
+use Rattle.vrp_memory.specs.Memory.{memory_before}
+use Rattle.vrp_memory.specs.Near.{NearOf, near_in}
+
+-- by place, of each place by stop, and of each stop by the memory there
+abbrev pub AreBefore : (ℕ → List ℕ) → ℕ → ℕ → List ℕ → Type 0
+AreBefore near masks places before = (k : ℕ) → k < length before →
+    let at = k / masks / places in
+    let stop = k / masks % places in
+    slice_index before k ≡ memory_before (near at) (near stop) masks at stop (k % masks)
+
+-- what is kept beside the customers near each place
+pub record IsKept (near : NearOf) (masks : ℕ) (before : List ℕ) : Type 0 where
+  pub few_places : near.places ≤ 1200
+  pub few : near.size ≤ 4
+  pub bits : masks ≡ 2 ^ near.size
+  pub some : 1 ≤ masks
+  pub listed : length near.listed ≡ near.places * near.size
+  pub all : length before ≡ near.places * near.places * masks
+  pub known : AreBefore (near_in near) masks near.places before

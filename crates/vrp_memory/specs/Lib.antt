@@ -1,0 +1,4 @@
+pub mod Inner
+pub mod Memory
+pub mod Near
+pub mod Remembering
