@@ -11,7 +11,7 @@ use Rattle.vrp_bound.specs.Bound.{IsLowerBound}
 use Rattle.vrp_bound.specs.Capacity.{IsInsOf}
 use Rattle.vrp_bound.specs.Tables.{IsBound}
 use Rattle.vrp_bound.specs.Walk.{IsRelaxed, relaxed_cost}
-use Rattle.vrp_bound.proofs.RelaxedBelow.{completion}
+use Rattle.vrp_bound.proofs.WithoutMemory.{completion}
 use Rattle.vrp_bound.proofs.CapacityBelow.{left_carry, none_adds_less}
 
 relaxed_below : (p : Problem) (among : List ℕ) (at load rest : ℕ) (answer : Option ℕ) (home : List ℕ) (tours : List (List ℕ)) → IsBound p among at load rest answer → IsRelaxed p among at load rest home tours

@@ -5,28 +5,28 @@ use Rattle.vrp_model.specs.Problem.{Problem}
 use Rattle.vrp_model.specs.Route.{load_of}
 use Rattle.vrp_bound.specs.Inner.Cells.{HasRelaxed, IsLeastCell, mark}
 use Rattle.vrp_bound.specs.Inner.Units.{IsUnit, in_units}
-use Rattle.vrp_bound.specs.Walk.{IsTour, IsWalk}
+use Rattle.vrp_bound.specs.Remembering.{IsRememberingTour, IsRememberingWalk}
 use Rattle.vrp_bound.proofs.LeastOfCosts.{least_same}
 use Rattle.vrp_bound.proofs.WholeUnits.{load_in, loads_in, units_of_whole, units_rise, units_within, within_of_units}
 
-walk_same : (p q : Problem) (among : List ℕ) (at : ℕ) (stops : List ℕ) → IsWalk p among at stops → IsWalk q among at stops
-walk_same p q among at stops walk = record { within = walk.within; differ = walk.differ }
+walk_same : (p q : Problem) (near : ℕ → List ℕ) (among : List ℕ) (at : ℕ) (stops : List ℕ) → IsRememberingWalk p near among at stops → IsRememberingWalk q near among at stops
+walk_same p q near among at stops walk = record { within = walk.within; fresh = walk.fresh }
 
-tour_to : (unit : ℕ) (p : Problem) (among stops : List ℕ) → IsUnit p among unit → IsTour p among stops → IsTour (in_units unit p) among stops
-tour_to unit p among stops is tour =
+tour_to : (unit : ℕ) (p : Problem) (near : ℕ → List ℕ) (among stops : List ℕ) → IsUnit p among unit → IsRememberingTour p near among stops → IsRememberingTour (in_units unit p) near among stops
+tour_to unit p near among stops is tour =
     let load = load_in unit p among stops is tour.walks.within in
     record {
       leaves = tour.leaves;
-      walks = walk_same p (in_units unit p) among 0 stops tour.walks;
+      walks = walk_same p (in_units unit p) near among 0 stops tour.walks;
       fits = units_within unit (load_of (in_units unit p) stops) p.capacity is.some (omega (arith, load, tour.fits));
     }
 
-tour_from : (unit : ℕ) (p : Problem) (among stops : List ℕ) → IsUnit p among unit → IsTour (in_units unit p) among stops → IsTour p among stops
-tour_from unit p among stops is tour =
+tour_from : (unit : ℕ) (p : Problem) (near : ℕ → List ℕ) (among stops : List ℕ) → IsUnit p among unit → IsRememberingTour (in_units unit p) near among stops → IsRememberingTour p near among stops
+tour_from unit p near among stops is tour =
     let load = load_in unit p among stops is tour.walks.within in
     record {
       leaves = tour.leaves;
-      walks = walk_same (in_units unit p) p among 0 stops tour.walks;
+      walks = walk_same (in_units unit p) p near among 0 stops tour.walks;
       fits = omega (arith, load, within_of_units unit (load_of (in_units unit p) stops) p.capacity tour.fits);
     }
 
@@ -56,12 +56,12 @@ rest_is unit home_load tours_load home_units tours_units rest are whole =
     omega (arith, are.home_is, are.tours_are, whole, parts)
 
 -- what carries a rest, in units
-pub record IsRelaxedIn (unit : ℕ) (p : Problem) (among : List ℕ) (at load_units rest cost : ℕ) : Type 0 where
+pub record IsRelaxedIn (unit : ℕ) (p : Problem) (near : ℕ → List ℕ) (among : List ℕ) (at load_units rest cost : ℕ) : Type 0 where
   pub whole : rest ≡ rest / unit * unit
-  pub has : HasRelaxed (in_units unit p) among at load_units (rest / unit) cost
+  pub has : HasRelaxed (in_units unit p) near among at load_units (rest / unit) cost
 
-pub to_units : (unit : ℕ) (p : Problem) (among : List ℕ) (at load load_units rest cost : ℕ) → IsUnit p among unit → IsLoadIn unit p.capacity load load_units → HasRelaxed p among at load rest cost → IsRelaxedIn unit p among at load_units rest cost
-to_units unit p among at load load_units rest cost is load_in has =
+pub to_units : (unit : ℕ) (p : Problem) (near : ℕ → List ℕ) (among : List ℕ) (at load load_units rest cost : ℕ) → IsUnit p among unit → IsLoadIn unit p.capacity load load_units → HasRelaxed p near among at load rest cost → IsRelaxedIn unit p near among at load_units rest cost
+to_units unit p near among at load load_units rest cost is load_in has =
     let q = in_units unit p in
     let relaxed = has.relaxed in
     let home = load_of q has.home in
@@ -76,18 +76,18 @@ to_units unit p among at load load_units rest cost is load_in has =
         home = has.home;
         tours = has.tours;
         relaxed = record {
-          walks = walk_same p q among at has.home relaxed.walks;
+          walks = walk_same p q near among at has.home relaxed.walks;
           none_out = relaxed.none_out;
           fits = omega (arith, room, load_in.is);
-          each = λ k d lt. tour_to unit p among (get_or has.tours k d) is (relaxed.each k d lt);
+          each = λ k d lt. tour_to unit p near among (get_or has.tours k d) is (relaxed.each k d lt);
           whole = sym units;
         };
         costs = has.costs;
       };
     }
 
-pub from_units : (unit : ℕ) (p : Problem) (among : List ℕ) (at load load_units rest cost : ℕ) → IsUnit p among unit → IsLoadIn unit p.capacity load load_units → IsRelaxedIn unit p among at load_units rest cost → HasRelaxed p among at load rest cost
-from_units unit p among at load load_units rest cost is load_in relaxed_in =
+pub from_units : (unit : ℕ) (p : Problem) (near : ℕ → List ℕ) (among : List ℕ) (at load load_units rest cost : ℕ) → IsUnit p among unit → IsLoadIn unit p.capacity load load_units → IsRelaxedIn unit p near among at load_units rest cost → HasRelaxed p near among at load rest cost
+from_units unit p near among at load load_units rest cost is load_in relaxed_in =
     let q = in_units unit p in
     let has = relaxed_in.has in
     let relaxed = has.relaxed in
@@ -102,28 +102,28 @@ from_units unit p among at load load_units rest cost is load_in relaxed_in =
       home = has.home;
       tours = has.tours;
       relaxed = record {
-        walks = walk_same q p among at has.home relaxed.walks;
+        walks = walk_same q p near among at has.home relaxed.walks;
         none_out = relaxed.none_out;
         fits = omega (arith, are.home_is, fits, load_in.light);
-        each = λ k d lt. tour_from unit p among (get_or has.tours k d) is (relaxed.each k d lt);
+        each = λ k d lt. tour_from unit p near among (get_or has.tours k d) is (relaxed.each k d lt);
         whole = omega (arith, are.home_is, are.tours_are, parts, all, relaxed_in.whole);
       };
       costs = has.costs;
     }
 
 -- the least cost of as many units
-pub least_in_units : (unit : ℕ) (p : Problem) (among : List ℕ) (at load load_units rest cell : ℕ) → IsUnit p among unit → IsLoadIn unit p.capacity load load_units → rest ≡ rest / unit * unit → IsLeastCell (HasRelaxed (in_units unit p) among at load_units (rest / unit)) cell → IsLeastCell (HasRelaxed p among at load rest) cell
-least_in_units unit p among at load load_units rest cell is load_in whole least =
-    least_same (HasRelaxed (in_units unit p) among at load_units (rest / unit)) (HasRelaxed p among at load rest) cell
-    (λ cost has. from_units unit p among at load load_units rest cost is load_in (record { whole = whole; has = has }))
-    (λ cost has. (to_units unit p among at load load_units rest cost is load_in has).has)
+pub least_in_units : (unit : ℕ) (p : Problem) (near : ℕ → List ℕ) (among : List ℕ) (at load load_units rest cell : ℕ) → IsUnit p among unit → IsLoadIn unit p.capacity load load_units → rest ≡ rest / unit * unit → IsLeastCell (HasRelaxed (in_units unit p) near among at load_units (rest / unit)) cell → IsLeastCell (HasRelaxed p near among at load rest) cell
+least_in_units unit p near among at load load_units rest cell is load_in whole least =
+    least_same (HasRelaxed (in_units unit p) near among at load_units (rest / unit)) (HasRelaxed p near among at load rest) cell
+    (λ cost has. from_units unit p near among at load load_units rest cost is load_in (record { whole = whole; has = has }))
+    (λ cost has. (to_units unit p near among at load load_units rest cost is load_in has).has)
     least
 
 -- a rest that is no whole number of units is carried by nothing
-pub none_in_units : (unit : ℕ) (p : Problem) (among : List ℕ) (at load rest : ℕ) → IsUnit p among unit → load ≤ p.capacity → rest ≢ rest / unit * unit → IsLeastCell (HasRelaxed p among at load rest) mark
-none_in_units unit p among at load rest is light broken = record {
+pub none_in_units : (unit : ℕ) (p : Problem) (near : ℕ → List ℕ) (among : List ℕ) (at load rest : ℕ) → IsUnit p among unit → load ≤ p.capacity → rest ≢ rest / unit * unit → IsLeastCell (HasRelaxed p near among at load rest) mark
+none_in_units unit p near among at load rest is light broken = record {
   met = λ small. absurd (omega (arith, small));
   least = λ cost has.
       let load_units = p.capacity / unit - (p.capacity - load) / unit in
-      absurd (broken (to_units unit p among at load load_units rest cost is (load_floored unit p.capacity load is.some light) has).whole);
+      absurd (broken (to_units unit p near among at load load_units rest cost is (load_floored unit p.capacity load is.some light) has).whole);
 }

@@ -3,6 +3,7 @@ pub mod CapacityBelow
 pub mod CellAnswers
 pub mod Exchange
 pub mod FewerCustomers
+pub mod FilledRows
 pub mod FilledTables
 pub mod FirstStep
 pub mod FirstTour
@@ -12,8 +13,11 @@ pub mod InUnits
 pub mod JoinedBehind
 pub mod LeastChosen
 pub mod LeastOfCosts
+pub mod NothingNear
 pub mod OneTreeBound
-pub mod RelaxedBelow
+pub mod PulledRows
+pub mod RememberingCompletions
+pub mod RememberingSteps
 pub mod RisingCustomers
 pub mod RoutesOpened
 pub mod SameCounts
@@ -26,3 +30,4 @@ pub mod Waiting
 pub mod WaysHome
 pub mod WaysLookedAt
 pub mod WholeUnits
+pub mod WithoutMemory

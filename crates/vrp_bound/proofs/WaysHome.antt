@@ -8,7 +8,7 @@ use Rattle.vrp_model.specs.Route.{load_of}
 use Rattle.vrp_bound.specs.Inner.Cells.{AreHomes, AreHomesSoFar, AreTours, HasRelaxed, HasWayHome, IsLeastCell, IsSmallLeastCell, mark, small_mark}
 use Rattle.vrp_bound.specs.Inner.Scope.{IsScope}
 use Rattle.vrp_bound.specs.Tables.{room_of}
-use Rattle.vrp_bound.proofs.FilledTables.{each_push}
+use Rattle.vrp_memory.proofs.PushedCells.{each_push}
 use Rattle.vrp_bound.proofs.FirstTour.{IsWayHome, home_is_relaxed, relaxed_is_home, small_way_home}
 use Rattle.vrp_bound.proofs.LeastOfCosts.{IsCostBelow}
 
@@ -55,8 +55,8 @@ small_same IsCost IsOther cell to from least = record {
   none = λ large cost has. least.none large cost (from cost has);
 }
 
-way_of : (p : Problem) (among : List ℕ) (at room rest cost : ℕ) → IsCostBelow (IsWayHome p among at rest) (room + 1) cost → HasWayHome p among at room rest cost
-way_of p among at room rest cost below =
+way_of : (p : Problem) (near : ℕ → List ℕ) (among : List ℕ) (at room rest cost : ℕ) → IsCostBelow (IsWayHome p near among at rest) (room + 1) cost → HasWayHome p near among at room rest cost
+way_of p near among at room rest cost below =
     let way = below.has in
     record {
       home = below.way;
@@ -69,8 +69,8 @@ way_of p among at room rest cost below =
       whole = way.parts.whole;
     }
 
-of_way : (p : Problem) (among : List ℕ) (at room rest cost : ℕ) → HasWayHome p among at room rest cost → IsCostBelow (IsWayHome p among at rest) (room + 1) cost
-of_way p among at room rest cost way = record {
+of_way : (p : Problem) (near : ℕ → List ℕ) (among : List ℕ) (at room rest cost : ℕ) → HasWayHome p near among at room rest cost → IsCostBelow (IsWayHome p near among at rest) (room + 1) cost
+of_way p near among at room rest cost way = record {
   way = way.home;
   below = omega (arith, way.carried);
   has = record {
@@ -80,15 +80,15 @@ of_way p among at room rest cost way = record {
 }
 
 -- the least with less room, where there is any
-less_room : (p : Problem) (among : List ℕ) (at room rest less : ℕ) → (room ≡ 0 → less ≡ small_mark) → (0 < room → IsSmallLeastCell (HasWayHome p among at (room - 1) rest) less) → IsSmallLeastCell (IsCostBelow (IsWayHome p among at rest) room) less
-less_room p among at room rest less none some =
+less_room : (p : Problem) (near : ℕ → List ℕ) (among : List ℕ) (at room rest less : ℕ) → (room ≡ 0 → less ≡ small_mark) → (0 < room → IsSmallLeastCell (HasWayHome p near among at (room - 1) rest) less) → IsSmallLeastCell (IsCostBelow (IsWayHome p near among at rest) room) less
+less_room p near among at room rest less none some =
     elim (cases_lt 0 room) [
       | inl more ↦
           let e : room - 1 + 1 ≡ room = omega (arith, more) in
-          subst (λ n. IsSmallLeastCell (IsCostBelow (IsWayHome p among at rest) n) less) e
-          (small_same (HasWayHome p among at (room - 1) rest) (IsCostBelow (IsWayHome p among at rest) (room - 1 + 1)) less
-          (λ cost. of_way p among at (room - 1) rest cost)
-          (λ cost. way_of p among at (room - 1) rest cost)
+          subst (λ n. IsSmallLeastCell (IsCostBelow (IsWayHome p near among at rest) n) less) e
+          (small_same (HasWayHome p near among at (room - 1) rest) (IsCostBelow (IsWayHome p near among at rest) (room - 1 + 1)) less
+          (λ cost. of_way p near among at (room - 1) rest cost)
+          (λ cost. way_of p near among at (room - 1) rest cost)
           (some more))
       | inr zero_room ↦
           let is : less ≡ small_mark = none (omega (arith, zero_room)) in
@@ -100,22 +100,22 @@ less_room p among at room rest less none some =
     ]
 
 -- the whole room is more than the rest
-too_much_room : (p : Problem) (among : List ℕ) (at room rest whole : ℕ) → rest < room → whole ≡ mark → IsLeastCell (IsWayHome p among at rest room) whole
-too_much_room p among at room rest whole more is = record {
+too_much_room : (p : Problem) (near : ℕ → List ℕ) (among : List ℕ) (at room rest whole : ℕ) → rest < room → whole ≡ mark → IsLeastCell (IsWayHome p near among at rest room) whole
+too_much_room p near among at room rest whole more is = record {
   met = λ small. absurd (omega (arith, is, small));
   least = λ cost way. absurd (omega (arith, more, way.fits));
 }
 
-pub next_home : (p : Problem) (among : List ℕ) (at room rest less whole cell : ℕ) → IsScope p among → rest ≤ load_of p among → (room ≡ 0 → less ≡ small_mark) → (0 < room → IsSmallLeastCell (HasWayHome p among at (room - 1) rest) less) → (room ≤ rest → IsLeastCell (IsWayHome p among at rest room) whole) → (rest < room → whole ≡ mark) → (mark ≤ whole → cell ≡ less) → (whole < mark → (cell ≡ min less whole) × (whole < small_mark)) → IsSmallLeastCell (HasWayHome p among at room rest) cell
-next_home p among at room rest less whole cell scope within none some fits_whole no_whole costly cheap =
-    let here : IsLeastCell (IsWayHome p among at rest room) whole = elim (cases_lt rest room) [
-      | inl more ↦ too_much_room p among at room rest whole more (no_whole more)
+pub next_home : (p : Problem) (near : ℕ → List ℕ) (among : List ℕ) (at room rest less whole cell : ℕ) → IsScope p among → rest ≤ load_of p among → (room ≡ 0 → less ≡ small_mark) → (0 < room → IsSmallLeastCell (HasWayHome p near among at (room - 1) rest) less) → (room ≤ rest → IsLeastCell (IsWayHome p near among at rest room) whole) → (rest < room → whole ≡ mark) → (mark ≤ whole → cell ≡ less) → (whole < mark → (cell ≡ min less whole) × (whole < small_mark)) → IsSmallLeastCell (HasWayHome p near among at room rest) cell
+next_home p near among at room rest less whole cell scope within none some fits_whole no_whole costly cheap =
+    let here : IsLeastCell (IsWayHome p near among at rest room) whole = elim (cases_lt rest room) [
+      | inl more ↦ too_much_room p near among at room rest whole more (no_whole more)
       | inr enough ↦ fits_whole enough
     ] in
-    small_same (IsCostBelow (IsWayHome p among at rest) (room + 1)) (HasWayHome p among at room rest) cell
-    (λ cost. way_of p among at room rest cost)
-    (λ cost. of_way p among at room rest cost)
-    (small_more (IsWayHome p among at rest) room less whole cell (less_room p among at room rest less none some) here (λ cost. small_way_home p among at rest room cost scope within) costly cheap)
+    small_same (IsCostBelow (IsWayHome p near among at rest) (room + 1)) (HasWayHome p near among at room rest) cell
+    (λ cost. way_of p near among at room rest cost)
+    (λ cost. of_way p near among at room rest cost)
+    (small_more (IsWayHome p near among at rest) room less whole cell (less_room p near among at room rest less none some) here (λ cost. small_way_home p near among at rest room cost scope within) costly cheap)
 
 -- the place, the room and the rest of a cell, by its index
 is_at : (rooms rests k at room rest : ℕ) → room < rooms → rest < rests → k ≡ (at * rooms + room) * rests + rest → (k / rests / rooms ≡ at) × (k / rests % rooms ≡ room) × (k % rests ≡ rest)
@@ -126,30 +126,30 @@ is_at rooms rests k at room rest room_within rest_within is =
       ap (λ n. n % rests) is ∙ mod-mul-add (at * rooms + room) rests rest rest_within,
     )
 
-moved : (p : Problem) (among : List ℕ) (at at' room room' rest rest' cell : ℕ) → at ≡ at' → room ≡ room' → rest ≡ rest' → IsSmallLeastCell (HasWayHome p among at room rest) cell → IsSmallLeastCell (HasWayHome p among at' room' rest') cell
-moved p among at at' room room' rest rest' cell a b c least =
-    subst (λ n. IsSmallLeastCell (HasWayHome p among at' room' n) cell) c
-    (subst (λ n. IsSmallLeastCell (HasWayHome p among at' n rest) cell) b
-    (subst (λ n. IsSmallLeastCell (HasWayHome p among n room rest) cell) a least))
+moved : (p : Problem) (near : ℕ → List ℕ) (among : List ℕ) (at at' room room' rest rest' cell : ℕ) → at ≡ at' → room ≡ room' → rest ≡ rest' → IsSmallLeastCell (HasWayHome p near among at room rest) cell → IsSmallLeastCell (HasWayHome p near among at' room' rest') cell
+moved p near among at at' room room' rest rest' cell a b c least =
+    subst (λ n. IsSmallLeastCell (HasWayHome p near among at' room' n) cell) c
+    (subst (λ n. IsSmallLeastCell (HasWayHome p near among at' n rest) cell) b
+    (subst (λ n. IsSmallLeastCell (HasWayHome p near among n room rest) cell) a least))
 
-pub home_cell : (p : Problem) (among cells : List ℕ) (k at room rest : ℕ) → room < room_of p among + 1 → rest < load_of p among + 1 → k ≡ (at * (room_of p among + 1) + room) * (load_of p among + 1) + rest → k < length cells → AreHomesSoFar p among cells → IsSmallLeastCell (HasWayHome p among at room rest) (get_or cells k 0)
-home_cell p among cells k at room rest room_within rest_within is inside so_far =
+pub home_cell : (p : Problem) (near : ℕ → List ℕ) (among cells : List ℕ) (k at room rest : ℕ) → room < room_of p among + 1 → rest < load_of p among + 1 → k ≡ (at * (room_of p among + 1) + room) * (load_of p among + 1) + rest → k < length cells → AreHomesSoFar p near among cells → IsSmallLeastCell (HasWayHome p near among at room rest) (get_or cells k 0)
+home_cell p near among cells k at room rest room_within rest_within is inside so_far =
     let rests = load_of p among + 1 in
     let rooms = room_of p among + 1 in
     let at_is = is_at rooms rests k at room rest room_within rest_within is in
-    moved p among (k / rests / rooms) at (k / rests % rooms) room (k % rests) rest (get_or cells k 0) at_is.0 at_is.1 at_is.2 (so_far.each k inside)
+    moved p near among (k / rests / rooms) at (k / rests % rooms) room (k % rests) rest (get_or cells k 0) at_is.0 at_is.1 at_is.2 (so_far.each k inside)
 
-pub more_homes : (p : Problem) (among cells : List ℕ) (cell at room rest : ℕ) → room < room_of p among + 1 → rest < load_of p among + 1 → length cells ≡ (at * (room_of p among + 1) + room) * (load_of p among + 1) + rest → IsSmallLeastCell (HasWayHome p among at room rest) cell → AreHomesSoFar p among cells → AreHomesSoFar p among (cells ++ cell ∷ [])
-more_homes p among cells cell at room rest room_within rest_within next least so_far =
+pub more_homes : (p : Problem) (near : ℕ → List ℕ) (among cells : List ℕ) (cell at room rest : ℕ) → room < room_of p among + 1 → rest < load_of p among + 1 → length cells ≡ (at * (room_of p among + 1) + room) * (load_of p among + 1) + rest → IsSmallLeastCell (HasWayHome p near among at room rest) cell → AreHomesSoFar p near among cells → AreHomesSoFar p near among (cells ++ cell ∷ [])
+more_homes p near among cells cell at room rest room_within rest_within next least so_far =
     let rests = load_of p among + 1 in
     let rooms = room_of p among + 1 in
     let k = length cells in
     let at_is = is_at rooms rests k at room rest room_within rest_within next in
-    let here = moved p among at (k / rests / rooms) room (k / rests % rooms) rest (k % rests) cell (sym at_is.0) (sym at_is.1) (sym at_is.2) least in
-    record { each = each_push (λ n cost. IsSmallLeastCell (HasWayHome p among (n / rests / rooms) (n / rests % rooms) (n % rests)) cost) cells cell so_far.each here }
+    let here = moved p near among at (k / rests / rooms) room (k / rests % rooms) rest (k % rests) cell (sym at_is.0) (sym at_is.1) (sym at_is.2) least in
+    record { each = each_push (λ n cost. IsSmallLeastCell (HasWayHome p near among (n / rests / rooms) (n / rests % rooms) (n % rests)) cost) cells cell so_far.each here }
 
-pub no_homes : (p : Problem) (among : List ℕ) → AreHomesSoFar p among []
-no_homes p among = record { each = λ k inside. absurd (omega (arith, inside)) }
+pub no_homes : (p : Problem) (near : ℕ → List ℕ) (among : List ℕ) → AreHomesSoFar p near among []
+no_homes p near among = record { each = λ k inside. absurd (omega (arith, inside)) }
 
 one_row : (x r rests rest : ℕ) → (x + (r + 1)) * rests + rest ≡ (x + r) * rests + rest + rests
 one_row x r rests rest = omega arith
@@ -166,16 +166,16 @@ home_within places rooms rests at room rest place_within room_within rest_within
     let index = mul-add-lt (at * rooms + room) rests rest (rooms * places) row rest_within in
     omega (arith, index)
 
-pub cell_some : (p : Problem) (among : List ℕ) (at load rest room cell : ℕ) → at ≢ 0 → load ≤ p.capacity → rest ≤ load_of p among → room ≡ min (p.capacity - load) (room_of p among) → IsSmallLeastCell (HasWayHome p among at room rest) cell → cell < small_mark → IsLeastCell (HasRelaxed p among at load rest) cell
-cell_some p among at load rest room cell out light within is least small = record {
-  met = λ _. home_is_relaxed p among at load rest room cell out light (omega (arith, is)) (of_way p among at room rest cell (least.met small));
-  least = λ cost has. least.least cost (way_of p among at room rest cost (relaxed_is_home p among at load rest room cost out (omega (arith, is, within)) has));
+pub cell_some : (p : Problem) (near : ℕ → List ℕ) (among : List ℕ) (at load rest room cell : ℕ) → at ≢ 0 → load ≤ p.capacity → rest ≤ load_of p among → room ≡ min (p.capacity - load) (room_of p among) → IsSmallLeastCell (HasWayHome p near among at room rest) cell → cell < small_mark → IsLeastCell (HasRelaxed p near among at load rest) cell
+cell_some p near among at load rest room cell out light within is least small = record {
+  met = λ _. home_is_relaxed p near among at load rest room cell out light (omega (arith, is)) (of_way p near among at room rest cell (least.met small));
+  least = λ cost has. least.least cost (way_of p near among at room rest cost (relaxed_is_home p near among at load rest room cost out (omega (arith, is, within)) has));
 }
 
-pub cell_none : (p : Problem) (among : List ℕ) (at load rest room cell : ℕ) → at ≢ 0 → load ≤ p.capacity → rest ≤ load_of p among → room ≡ min (p.capacity - load) (room_of p among) → IsSmallLeastCell (HasWayHome p among at room rest) cell → small_mark ≤ cell → IsLeastCell (HasRelaxed p among at load rest) mark
-cell_none p among at load rest room cell out light within is least large = record {
+pub cell_none : (p : Problem) (near : ℕ → List ℕ) (among : List ℕ) (at load rest room cell : ℕ) → at ≢ 0 → load ≤ p.capacity → rest ≤ load_of p among → room ≡ min (p.capacity - load) (room_of p among) → IsSmallLeastCell (HasWayHome p near among at room rest) cell → small_mark ≤ cell → IsLeastCell (HasRelaxed p near among at load rest) mark
+cell_none p near among at load rest room cell out light within is least large = record {
   met = λ small. absurd (omega (arith, small));
-  least = λ cost has. absurd (least.none large cost (way_of p among at room rest cost (relaxed_is_home p among at load rest room cost out (omega (arith, is, within)) has)));
+  least = λ cost has. absurd (least.none large cost (way_of p near among at room rest cost (relaxed_is_home p near among at load rest room cost out (omega (arith, is, within)) has)));
 }
 
 -- the index of a look-up
@@ -184,8 +184,8 @@ pub record IsLookUp (p : Problem) (among cells : List ℕ) (at left rest k : ℕ
   pub within : k < length cells
   pub few : k < 64000000
 
-pub look_up : (p : Problem) (among cells tours : List ℕ) (place room left at rest : ℕ) → AreHomes p among cells → AreTours p among tours → room ≡ room_of p among → left ≤ room → at < place_count p → place ≡ at → rest ≤ load_of p among → IsLookUp p among cells at left rest ((place * (room + 1) + left) * length tours + rest)
-look_up p among cells tours place room left at rest are have room_is fits inside place_is within =
+pub look_up : (p : Problem) (near : ℕ → List ℕ) (among cells tours : List ℕ) (place room left at rest : ℕ) → AreHomes p near among cells → AreTours p near among tours → room ≡ room_of p among → left ≤ room → at < place_count p → place ≡ at → rest ≤ load_of p among → IsLookUp p among cells at left rest ((place * (room + 1) + left) * length tours + rest)
+look_up p near among cells tours place room left at rest are have room_is fits inside place_is within =
     let rooms : room + 1 ≡ room_of p among + 1 = omega (arith, room_is) in
     let k = (place * (room + 1) + left) * length tours + rest in
     let row : place * (room + 1) + left ≡ at * (room_of p among + 1) + left = cc (place_is, rooms) in
@@ -195,10 +195,10 @@ look_up p among cells tours place room left at rest are have room_is fits inside
     record { is = is; within = inside_all; few = omega (arith, inside_all, are.few) }
 
 -- the cell of less room, as it is read
-pub less_cell : (p : Problem) (among cells tours : List ℕ) (at room rest k less read : ℕ) → AreHomesSoFar p among cells → AreTours p among tours → length cells ≡ (at * (room_of p among + 1) + room) * (load_of p among + 1) + rest → 0 < room → room < room_of p among + 1 → rest < load_of p among + 1 → k ≡ length cells - length tours → less ≡ read → read ≡ get_or cells k read → IsSmallLeastCell (HasWayHome p among at (room - 1) rest) less
-less_cell p among cells tours at room rest k less read so_far have next some room_within rest_within is less_is read_is =
+pub less_cell : (p : Problem) (near : ℕ → List ℕ) (among cells tours : List ℕ) (at room rest k less read : ℕ) → AreHomesSoFar p near among cells → AreTours p near among tours → length cells ≡ (at * (room_of p among + 1) + room) * (load_of p among + 1) + rest → 0 < room → room < room_of p among + 1 → rest < load_of p among + 1 → k ≡ length cells - length tours → less ≡ read → read ≡ get_or cells k read → IsSmallLeastCell (HasWayHome p near among at (room - 1) rest) less
+less_cell p near among cells tours at room rest k less read so_far have next some room_within rest_within is less_is read_is =
     let row = row_less at (room_of p among + 1) room (load_of p among + 1) rest some in
     let k_is : k ≡ (at * (room_of p among + 1) + (room - 1)) * (load_of p among + 1) + rest = omega (arith, row, next, is, have.all) in
     let inside : k < length cells = omega (arith, row, next, k_is) in
     let here : less ≡ get_or cells k 0 = less_is ∙ read_is ∙ get_or_default cells k read 0 inside in
-    subst (IsSmallLeastCell (HasWayHome p among at (room - 1) rest)) (sym here) (home_cell p among cells k at (room - 1) rest (omega (arith, room_within)) rest_within k_is inside so_far)
+    subst (IsSmallLeastCell (HasWayHome p near among at (room - 1) rest)) (sym here) (home_cell p near among cells k at (room - 1) rest (omega (arith, room_within)) rest_within k_is inside so_far)

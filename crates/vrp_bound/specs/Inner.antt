@@ -1,6 +1,7 @@
 -- What inner contracts alone cite: nobody has to believe it.
 pub mod Cells
 pub mod Filled
+pub mod MemoryCells
 pub mod Scaled
 pub mod Scope
 pub mod Units

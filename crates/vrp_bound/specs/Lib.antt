@@ -1,6 +1,7 @@
 pub mod Bound
 pub mod Capacity
 pub mod Inner
+pub mod Remembering
 pub mod SpanningTree
 pub mod Tables
 pub mod TreeBound

@@ -3,11 +3,17 @@ use Rattle.std.specs.Prelude.{◌≡◌, ℕ, ◌+◌, ◌*◌, ◌≤◌, min, 
 use Rattle.std.specs.List.{All}
 use Rattle.vrp_model.specs.Problem.{Problem, demand_of}
 use Rattle.vrp_model.specs.Route.{load_of}
+use Rattle.vrp_memory.specs.Near.{NearOf}
 use Rattle.vrp_bound.specs.Walk.{IsLeastRelaxed, NoneRelaxed}
 
 pub record TablesOf : Type 0 where
   pub problem : Problem
   pub among : List ℕ
+
+-- of walks that remember, over all customers
+pub record MemoryTablesOf : Type 0 where
+  pub problem : Problem
+  pub near : NearOf
 
 -- how much of what these customers demand one truck can carry
 abbrev pub room_of : Problem → List ℕ → ℕ

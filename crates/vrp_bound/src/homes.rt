@@ -4,7 +4,7 @@ ghost use Rattle.vrp_model.specs.Problem.{place_count};
 ghost use Rattle.vrp_model.specs.Route.{load_of};
 ghost use Rattle.vrp_bound.specs.Inner.Cells.{AreHomes, AreHomesSoFar, AreTours, AreWalks, HasRelaxed, IsLeastCell, mark, small_mark};
 ghost use Rattle.vrp_bound.specs.Tables.{room_of};
-ghost use Rattle.vrp_bound.specs.Inner.Scaled.{scaled};
+ghost use Rattle.vrp_bound.specs.Inner.Scaled.{near_by, scaled};
 
 use crate::units::UnitScope;
 use crate::walks::MARK;
@@ -34,11 +34,11 @@ pub(crate) fn homes_for(
     tours: &[u64],
     room: u64,
 ) -> Result<Option<Vec<u32>>, NoMemory>
-    requires walks { AreWalks (scaled scope) scope.customers.now walks.now }
-    requires tours { AreTours (scaled scope) scope.customers.now tours.now }
+    requires walks { AreWalks (scaled scope) (near_by scope) scope.customers.now walks.now }
+    requires tours { AreTours (scaled scope) (near_by scope) scope.customers.now tours.now }
     requires room { room ≡ room_of (scaled scope) scope.customers.now }
     ensures { IfOk result (λ cells. IfSome cells
-        (λ homes. AreHomes (scaled scope.entry) scope.entry.customers.now homes.items)) }
+        (λ homes. AreHomes (scaled scope.entry) (near_by scope.entry) scope.entry.customers.now homes.items)) }
 {
     match looks {
         Looks::Many => homes(alloc, scope, walks, tours, room),
@@ -55,11 +55,11 @@ fn homes(
     tours: &[u64],
     room: u64,
 ) -> Result<Option<Vec<u32>>, NoMemory>
-    requires walks { AreWalks (scaled scope) scope.customers.now walks.now }
-    requires tours { AreTours (scaled scope) scope.customers.now tours.now }
+    requires walks { AreWalks (scaled scope) (near_by scope) scope.customers.now walks.now }
+    requires tours { AreTours (scaled scope) (near_by scope) scope.customers.now tours.now }
     requires room { room ≡ room_of (scaled scope) scope.customers.now }
     ensures { IfOk result (λ cells. IfSome cells
-        (λ homes. AreHomes (scaled scope.entry) scope.entry.customers.now homes.items)) }
+        (λ homes. AreHomes (scaled scope.entry) (near_by scope.entry) scope.entry.customers.now homes.items)) }
 {
     let rooms = room as usize + 1;
     let rows = scope.places * rooms;
@@ -85,16 +85,16 @@ fn push_row(
     at: u16,
     room: usize,
 ) -> bool
-    requires walks { AreWalks (scaled scope) scope.customers.now walks.now }
-    requires tours { AreTours (scaled scope) scope.customers.now tours.now }
+    requires walks { AreWalks (scaled scope) (near_by scope) scope.customers.now walks.now }
+    requires tours { AreTours (scaled scope) (near_by scope) scope.customers.now tours.now }
     requires place { at < place_count scope.instance.now }
     requires room { room ≤ room_of (scaled scope) scope.customers.now }
-    requires so_far { AreHomesSoFar (scaled scope) scope.customers.now cells.old.items }
+    requires so_far { AreHomesSoFar (scaled scope) (near_by scope) scope.customers.now cells.old.items }
     requires next { vec_len cells.old ≡ (at * (room_of (scaled scope) scope.customers.now + 1) + room) * length tours.now }
     requires fits { vec_len cells.old + length tours.now ≤ vec_capacity cells.old }
     ensures len { IsTrue result → vec_len cells.new ≡ vec_len cells.old + length tours.now }
     ensures capacity { vec_capacity cells.new ≡ vec_capacity cells.old }
-    ensures so_far { IsTrue result → AreHomesSoFar (scaled scope.entry) scope.entry.customers.now cells.new.items }
+    ensures so_far { IsTrue result → AreHomesSoFar (scaled scope.entry) (near_by scope.entry) scope.entry.customers.now cells.new.items }
 {
     let walk = walks[room * scope.places + usize::from(at)];
     for rest in 0..tours.len() {
@@ -142,14 +142,14 @@ pub(crate) fn looked_up(
     free: u64,
     rest: u64,
 ) -> u64
-    requires homes { AreHomes (scaled scope) scope.customers.now cells.now }
-    requires tours { AreTours (scaled scope) scope.customers.now tours.now }
+    requires homes { AreHomes (scaled scope) (near_by scope) scope.customers.now cells.now }
+    requires tours { AreTours (scaled scope) (near_by scope) scope.customers.now tours.now }
     requires room { room ≡ room_of (scaled scope) scope.customers.now }
     requires customer { at ≢ 0 }
     requires place { at < place_count scope.instance.now }
     requires free { free ≤ (scaled scope).capacity }
     requires rest { rest ≤ load_of (scaled scope) scope.customers.now }
-    ensures { let p = scaled scope.entry in IsLeastCell (HasRelaxed p scope.entry.customers.now at (p.capacity - free) rest) result }
+    ensures { let p = scaled scope.entry in IsLeastCell (HasRelaxed p (near_by scope.entry) scope.entry.customers.now at (p.capacity - free) rest) result }
 {
     let left = free.min(room) as usize;
     let row = usize::from(at) * (room as usize + 1) + left;
@@ -171,13 +171,13 @@ pub(crate) fn least_way_home(
     free: u64,
     rest: u64,
 ) -> u64
-    requires walks { AreWalks (scaled scope) scope.customers.now walks.now }
-    requires tours { AreTours (scaled scope) scope.customers.now tours.now }
+    requires walks { AreWalks (scaled scope) (near_by scope) scope.customers.now walks.now }
+    requires tours { AreTours (scaled scope) (near_by scope) scope.customers.now tours.now }
     requires customer { at ≢ 0 }
     requires place { at < place_count scope.instance.now }
     requires free { free ≤ (scaled scope).capacity }
     requires rest { rest ≤ load_of (scaled scope) scope.customers.now }
-    ensures least { let p = scaled scope.entry in IsLeastCell (HasRelaxed p scope.entry.customers.now at (p.capacity - free) rest) result }
+    ensures least { let p = scaled scope.entry in IsLeastCell (HasRelaxed p (near_by scope.entry) scope.entry.customers.now at (p.capacity - free) rest) result }
 {
     let rest = rest as usize;
     let room = free as usize;

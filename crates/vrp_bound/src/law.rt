@@ -9,7 +9,8 @@ ghost use Rattle.vrp_bound.specs.Bound.{IsLowerBound};
 ghost use Rattle.vrp_bound.specs.Capacity.{CanCarry, IsCapacityBound, IsInsOf};
 ghost use Rattle.vrp_bound.specs.Tables.{IsBound};
 ghost use Rattle.vrp_bound.specs.TreeBound.{IsTreeBound};
-ghost use Rattle.vrp_bound.specs.Walk.{IsRelaxed, relaxed_cost};
+ghost use Rattle.vrp_bound.specs.Remembering.{IsRememberingRelaxed, IsRememberingWalk, nothing_near};
+ghost use Rattle.vrp_bound.specs.Walk.{IsRelaxed, IsWalk, relaxed_cost};
 
 /// What a lawful word adds to a front that it begins with is a relaxed completion of the front, of the same cost, over any
 /// customers among whom are all that the front leaves unserved.
@@ -17,6 +18,22 @@ pub fn relaxed_completions()
     ensures { (p : Problem) (front more among : List ℕ) → IsProblem p → IsLawfulWord p (front ++ more) → All (Contains among) (unserved_in p front)
         → (home : List ℕ) × (tours : List (List ℕ)) × IsRelaxed p among (last_symbol front) (open_load p front) (load_of p (unserved_in p front)) home tours
         × (word_cost p front + relaxed_cost p (last_symbol front) home tours ≡ word_cost p (front ++ more)) }
+{}
+
+/// The same of walks that remember, whoever is near which place.
+pub fn remembering_completions()
+    ensures { (p : Problem) (near : ℕ → List ℕ) (front more among : List ℕ) → IsProblem p → IsLawfulWord p (front ++ more) → All (Contains among) (unserved_in p front)
+        → (home : List ℕ) × (tours : List (List ℕ)) × IsRememberingRelaxed p near among (last_symbol front) (open_load p front) (load_of p (unserved_in p front)) home tours
+        × (word_cost p front + relaxed_cost p (last_symbol front) home tours ≡ word_cost p (front ++ more)) }
+{}
+
+/// A walk that remembers is a walk, and what such walks complete is completed by walks: so their bound is no lower. With nobody near
+/// they are the same.
+pub fn remembering_is_tighter()
+    ensures walks { (p : Problem) (near : ℕ → List ℕ) (among : List ℕ) (at : ℕ) (stops : List ℕ) → IsRememberingWalk p near among at stops → IsWalk p among at stops }
+    ensures relaxed { (p : Problem) (near : ℕ → List ℕ) (among : List ℕ) (at load rest : ℕ) (home : List ℕ) (tours : List (List ℕ))
+        → IsRememberingRelaxed p near among at load rest home tours → IsRelaxed p among at load rest home tours }
+    ensures same { (p : Problem) (among : List ℕ) (at : ℕ) (stops : List ℕ) → IsWalk p among at stops → IsRememberingWalk p nothing_near among at stops }
 {}
 
 /// No lawful word that begins with a front adds less to it than the lower bound; and where that is `None`, there is no such word.

@@ -3,6 +3,7 @@
 #![tactic(auto)]
 
 mod capacity;
+mod completions;
 mod divisor;
 #[cfg(test)]
 mod fixture;
@@ -10,6 +11,8 @@ mod greater;
 mod homes;
 mod law;
 mod least_homes;
+mod memory_tables;
+mod memory_walks;
 mod quotients;
 mod scope;
 #[cfg(test)]
@@ -29,8 +32,9 @@ pub use divisor::gcd;
 pub use greater::bound;
 pub use law::{
     bounds_hold, capacity_bounds, fewer_customers, one_tree_bound, relaxed_completions,
-    tree_bounds, trucks_left_carry,
+    remembering_completions, remembering_is_tighter, tree_bounds, trucks_left_carry,
 };
+pub use memory_tables::MemoryTables;
 pub use tables::Tables;
 pub use tree::TreeRoom;
 pub use trucks_left::can_carry;

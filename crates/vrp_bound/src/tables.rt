@@ -3,16 +3,10 @@ ghost use Rattle.std.specs.Prelude.{◌≡◌, ◌≤◌, ◌<◌, All, Contains
 ghost use Rattle.std.specs.List.Sorted.{IsStrictlyIncreasing};
 ghost use Rattle.vrp_model.specs.Problem.{customers, place_count};
 ghost use Rattle.vrp_model.specs.Route.{load_of};
-ghost use Rattle.vrp_bound.specs.Inner.Cells.{HasRelaxed, IsLeastCell};
-ghost use Rattle.vrp_bound.specs.Tables.{AreMade, IsBound, TablesOf};
-ghost use Rattle.vrp_bound.specs.Inner.Scope.{IsScope};
+ghost use Rattle.vrp_bound.specs.Tables.{IsBound, TablesOf};
 
-use crate::homes::{Looks, homes_for, least_way_home, looked_up};
-use crate::quotients::Quotients;
-use crate::scope::{Scope, are_made, demand_of_all};
-use crate::tours::tours;
-use crate::units::{UnitScope, demands_in_units, unit_of};
-use crate::walks::{MARK, walks};
+use crate::completions::Completions;
+use crate::homes::Looks;
 use std::alloc::Global;
 use std::marker::Model;
 use vrp_model::{Instance, NoMemory};
@@ -20,38 +14,19 @@ use vrp_model::{Instance, NoMemory};
 /// Tables over some customers of an instance, from which the cost of what is still to pay is bounded from below.
 #[derive(Debug, Drop)]
 pub struct Tables<'a> {
-    instance: &'a Instance,
-    unserved: Vec<u16>,
-    // None where the tables would be too large, or a customer has no demand.
-    cells: Option<Cells>,
-}
-
-// The cells of the tables: each is a least cost, or a mark where there is none.
-#[derive(Debug, Drop)]
-struct Cells {
-    // Of which each customer demands a whole number. Loads, rests and the room are counted in units.
-    unit: u64,
-    quotients: Quotients,
-    // How much of the whole demand one truck can carry.
-    room: u64,
-    // By load, and of each load by place.
-    walks: Vec<u64>,
-    // By what is carried.
-    tours: Vec<u64>,
-    // By place, room and rest. None where that would be too many, or a cost is too large: then `walks` and `tours` are looked
-    // through.
-    homes: Option<Vec<u32>>,
+    completions: Completions<'a>,
 }
 
 impl<'a> Model for Tables<'a> {
     ghost use Rattle.vrp_bound.specs.Tables.{TablesOf};
-    ghost use Rattle.vrp_bound.specs.Inner.Filled.{AreFilled};
+    ghost use Rattle.vrp_bound.specs.Inner.Filled.{AreHeld};
+    ghost use Rattle.vrp_bound.specs.Remembering.{nothing_near};
 
     ghost Value = { TablesOf };
 
-    ghost view = { λ a. record { problem = a.instance.now; among = a.unserved.items } };
+    ghost view = { λ a. record { problem = a.completions.instance.now; among = a.completions.customers.items } };
 
-    ghost invariant = { λ a. AreFilled a.instance.now a.unserved.items a.cells };
+    ghost invariant = { λ a. AreHeld nothing_near a.completions };
 }
 
 impl<'a> Tables<'a> {
@@ -65,7 +40,8 @@ impl<'a> Tables<'a> {
         requires customers { All (Contains (customers instance.now)) unserved.now }
         ensures { IfOk result (λ tables. tables ≡ record { problem = instance.now; among = unserved.now }) }
     {
-        Tables::for_looks(alloc, instance, unserved, Looks::Many)
+        let completions = Completions::new(alloc, instance, unserved, None, Looks::Many)?;
+        Ok(Tables { completions })
     }
 
     /// The same tables, made in less time and room: each answer takes longer.
@@ -78,31 +54,8 @@ impl<'a> Tables<'a> {
         requires customers { All (Contains (customers instance.now)) unserved.now }
         ensures { IfOk result (λ tables. tables ≡ record { problem = instance.now; among = unserved.now }) }
     {
-        Tables::for_looks(alloc, instance, unserved, Looks::Few)
-    }
-
-    // Tables over these customers, for this many looks.
-    fn for_looks(
-        alloc: Global,
-        instance: &'a Instance,
-        unserved: &[u16],
-        looks: Looks,
-    ) -> Result<Tables<'a>, NoMemory>
-        requires rising { IsStrictlyIncreasing unserved.now }
-        requires customers { All (Contains (customers instance.now)) unserved.now }
-        ensures { IfOk result (λ tables. tables ≡ record { problem = instance.now; among = unserved.now }) }
-    {
-        let scope = Scope::new(instance, unserved);
-        let cells = if are_made(scope) {
-            Some(Cells::fill(alloc, scope, looks)?)
-        } else {
-            None
-        };
-        Ok(Tables {
-            instance,
-            unserved: Vec::from_slice(alloc, unserved)?,
-            cells,
-        })
+        let completions = Completions::new(alloc, instance, unserved, None, Looks::Few)?;
+        Ok(Tables { completions })
     }
 
     /// Tables over all customers.
@@ -126,72 +79,12 @@ impl<'a> Tables<'a> {
         ensures bound { IsBound self.now.problem self.now.among at load rest result }
         ensures small { IfSome result (λ least. least < 4000000000000000000) }
     {
-        let Some(cells) = &self.cells else {
-            return Some(0);
-        };
-        let scope = Scope::new(self.instance, self.unserved.as_slice());
-        let least = cells.least(scope, at, load, rest);
-        if least < MARK { Some(least) } else { None }
+        self.completions.bound(None, at, load, rest)
     }
 }
 
-impl Cells {
-    ghost use Rattle.vrp_bound.specs.Inner.Filled.{AreCells};
-
-    // The cells over customers for whom tables are made.
-    fn fill(alloc: Global, scope: Scope<'_>, looks: Looks) -> Result<Cells, NoMemory>
-        requires made { AreMade scope.instance.now scope.customers.now }
-        requires scope { IsScope scope.instance.now scope.customers.now }
-        ensures { IfOk result (λ cells. AreCells scope.entry.instance.now scope.entry.customers.now cells) }
-    {
-        let units = UnitScope::new(scope, unit_of(scope));
-        let demand = units.whole_units(demand_of_all(scope));
-        let room = units.whole_units(scope.instance.capacity()).min(demand);
-        let demands = demands_in_units(alloc, units)?;
-        let walks = walks(alloc, units, &demands, room)?;
-        let tours = tours(alloc, units, &walks, room, demand)?;
-        let homes = homes_for(looks, alloc, units, &walks, &tours, room)?;
-        let quotients = Quotients::up_to(alloc, units.unit, demand_of_all(scope))?;
-        Ok(Cells {
-            unit: units.unit,
-            quotients,
-            room,
-            walks,
-            tours,
-            homes,
-        })
-    }
-
-    // The least cost of what carries the rest from a place, or the mark or more where nothing does. Every walk takes up a whole
-    // number of units: so nothing carries a rest that is none, and what the open truck can still take is floored.
-    #[inline(always)]
-    fn least(&self, scope: Scope<'_>, at: u16, load: u64, rest: u64) -> u64
-        requires cells { AreCells scope.instance.now scope.customers.now self.now }
-        requires place { at < place_count scope.instance.now }
-        requires load { load ≤ scope.instance.now.capacity }
-        requires depot { at ≡ 0 → load ≡ 0 }
-        requires rest { rest ≤ load_of scope.instance.now scope.customers.now }
-        ensures { IsLeastCell (HasRelaxed scope.entry.instance.now scope.entry.customers.now at load rest) result }
-    {
-        let units = UnitScope::new(scope, self.unit);
-        let carried = self.quotients.whole_units(rest);
-        let whole = carried * self.unit;
-        if whole != rest {
-            return MARK;
-        }
-        if at == 0 {
-            return self.tours[carried as usize];
-        }
-        let free = self.quotients.whole_units(scope.instance.capacity() - load);
-        match &self.homes {
-            Some(homes) => looked_up(units, homes, &self.tours, self.room, at, free, carried),
-            None => least_way_home(units, &self.walks, &self.tours, at, free, carried),
-        }
-    }
-}
-
-// All customers, by rising place.
-fn all_customers(alloc: Global, instance: &Instance) -> Result<Vec<u16>, NoMemory>
+/// All customers, by rising place.
+pub(crate) fn all_customers(alloc: Global, instance: &Instance) -> Result<Vec<u16>, NoMemory>
     ensures { IfOk result (λ all. all.items ≡ customers instance.now) }
 {
     Ok((1..instance.customers() + 1).collect(alloc)?)
@@ -201,6 +94,7 @@ fn all_customers(alloc: Global, instance: &Instance) -> Result<Vec<u16>, NoMemor
 mod tests {
     use super::*;
     use crate::fixture::{are_customers, every_walk};
+    use crate::scope::{Scope, demand_of_all};
     use std::process::Abort;
     use std::test::Fail;
     use vrp_model::{Layout, Metric, Weights};
@@ -319,7 +213,11 @@ mod tests {
             let demands = [0, first, second];
             let instance = Instance::new(rt.alloc(), weights, &demands, 4_618, &[1], None)?;
             let tables = Tables::over_all(rt.alloc(), &instance)?;
-            let homes = tables.cells.as_ref().map(|cells| cells.homes.is_some());
+            let homes = tables
+                .completions
+                .cells
+                .as_ref()
+                .map(|cells| cells.homes.is_some());
             assert_eq!(rt; homes, Some(made), "{first} {second}");
             let asked = [
                 (1, first, second, Some(15)),
@@ -341,7 +239,7 @@ mod tests {
         let customers = [1, 2, 3, 4];
         assert!(rt; are_customers(&instance, &customers));
         let tables = Tables::build(rt.alloc(), &instance, &customers)?;
-        if let Some(cells) = &tables.cells {
+        if let Some(cells) = &tables.completions.cells {
             assert_eq!(rt; cells.unit, 100);
             assert_eq!(rt; cells.quotients.count(), 22_501);
             assert!(rt; cells.homes.is_some());
@@ -407,7 +305,7 @@ mod tests {
         for customers in lists {
             assert!(rt; are_customers(&instance, customers));
             let tables = Tables::build(alloc, &instance, customers)?;
-            if let Some(cells) = &tables.cells {
+            if let Some(cells) = &tables.completions.cells {
                 assert!(rt; customers.len() < 3 || cells.homes.is_some() == near);
             } else {
                 panic!(rt; "no tables");
@@ -419,8 +317,8 @@ mod tests {
 
     // At every place, load and rest.
     fn assert_same(rt: &impl Abort, tables: &Tables<'_>) {
-        let instance = tables.instance;
-        let scope = Scope::new(instance, tables.unserved.as_slice());
+        let instance = tables.completions.instance;
+        let scope = Scope::new(instance, tables.completions.customers.as_slice());
         for at in 0..instance.customers() + 1 {
             for load in 0..instance.capacity() + 1 {
                 for rest in 0..demand_of_all(scope) + 1 {
@@ -434,10 +332,13 @@ mod tests {
     }
 
     fn assert_answers(rt: &impl Abort, tables: &Tables<'_>, asked: &[Asked]) {
-        let scope = Scope::new(tables.instance, tables.unserved.as_slice());
+        let scope = Scope::new(
+            tables.completions.instance,
+            tables.completions.customers.as_slice(),
+        );
         for (at, load, rest, answer) in asked {
-            assert!(rt; *at <= tables.instance.customers());
-            assert!(rt; *load <= tables.instance.capacity());
+            assert!(rt; *at <= tables.completions.instance.customers());
+            assert!(rt; *load <= tables.completions.instance.capacity());
             assert!(rt; *at != 0 || *load == 0);
             assert!(rt; *rest <= demand_of_all(scope));
             assert_eq!(rt;

@@ -1,5 +1,6 @@
 //! Demands counted in a unit: the greater it is, the smaller the tables are.
 ghost use Rattle.std.specs.Prelude.{◌≡◌, ◌≤◌, ◌/◌, IfOk};
+ghost use Rattle.std.specs.Option.{ForSome};
 ghost use Rattle.vrp_model.specs.Problem.{place_count};
 ghost use Rattle.vrp_bound.specs.Inner.Scope.{IsScope};
 ghost use Rattle.vrp_bound.specs.Inner.Units.{IsGreatestUnit, IsUnit, in_units};
@@ -7,33 +8,39 @@ ghost use Rattle.vrp_bound.specs.Inner.Units.{IsGreatestUnit, IsUnit, in_units};
 use crate::divisor::gcd;
 use crate::scope::Scope;
 use std::alloc::Global;
+use vrp_memory::Memory;
 use vrp_model::{Instance, NoMemory};
 
-/// Some customers of an instance, and a unit that divides each of their demands.
+/// Some customers of an instance, what walks through them remember, if anything, and a unit that divides each of their demands.
 #[derive(Clone, Copy)]
 pub(crate) struct UnitScope<'a> {
     pub(crate) instance: &'a Instance,
     pub(crate) customers: &'a [u16],
     pub(crate) places: usize,
+    pub(crate) memory: Option<&'a Memory>,
     pub(crate) unit: u64,
     ghost some: { 1 ≤ unit },
     ghost counted: { places ≡ place_count instance.now },
+    ghost of_places: { ForSome memory (λ memory. memory.now.places ≡ places) },
     ghost scope: { IsScope (in_units unit instance.now) customers.now },
 }
 
 impl<'a> UnitScope<'a> {
     /// These customers, with their demands counted in this unit.
-    pub(crate) fn new(scope: Scope<'a>, unit: u64) -> UnitScope<'a>
+    pub(crate) fn new(scope: Scope<'a>, memory: Option<&'a Memory>, unit: u64) -> UnitScope<'a>
+        requires places { ForSome memory (λ memory. memory.now.places ≡ scope.places) }
         requires scope { IsScope scope.instance.now scope.customers.now }
         requires unit { IsUnit scope.instance.now scope.customers.now unit }
         ensures instance { result.instance.now ≡ scope.entry.instance.now }
         ensures customers { result.customers.now ≡ scope.entry.customers.now }
+        ensures memory { result.memory ≡ memory.entry }
         ensures unit { result.unit ≡ unit }
     {
         UnitScope {
             instance: scope.instance,
             customers: scope.customers,
             places: scope.places,
+            memory,
             unit,
         }
     }

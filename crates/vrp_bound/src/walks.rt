@@ -1,10 +1,12 @@
 //! The table of the walks: the least cost of a walk from each place to the depot, by the load that it takes up.
 ghost use Rattle.std.specs.Prelude.{◌≡◌, ◌+◌, ◌*◌, ◌≤◌, ◌<◌, IfOk, length, vec_len, vec_capacity};
 ghost use Rattle.vrp_model.specs.Problem.{place_count};
+ghost use Rattle.vrp_bound.specs.Remembering.{nothing_near};
 ghost use Rattle.vrp_bound.specs.Inner.Cells.{AreWalks, AreWalksSoFar, HasWalk, IsLeastCell, mark};
 ghost use Rattle.vrp_bound.specs.Tables.{room_of};
-ghost use Rattle.vrp_bound.specs.Inner.Scaled.{scaled};
+ghost use Rattle.vrp_bound.specs.Inner.Scaled.{near_by, scaled};
 
+use crate::memory_walks::{MemoryScope, walks_by_memory};
 use crate::units::UnitScope;
 use std::alloc::Global;
 use vrp_model::NoMemory;
@@ -21,7 +23,27 @@ pub(crate) fn walks(
 ) -> Result<Vec<u64>, NoMemory>
     requires demands { demands.now ≡ (scaled scope).demands }
     requires room { room ≡ room_of (scaled scope) scope.customers.now }
-    ensures { IfOk result (λ cells. AreWalks (scaled scope.entry) scope.entry.customers.now cells.items) }
+    ensures { IfOk result (λ cells. AreWalks (scaled scope.entry) (near_by scope.entry) scope.entry.customers.now cells.items) }
+{
+    match scope.memory {
+        Some(memory) => {
+            let scope = MemoryScope::new(scope, memory, demands);
+            walks_by_memory(alloc, scope, room)
+        }
+        None => plain_walks(alloc, scope, demands, room),
+    }
+}
+
+// The same where a walk remembers its next stop alone.
+fn plain_walks(
+    alloc: Global,
+    scope: UnitScope<'_>,
+    demands: &[u64],
+    room: u64,
+) -> Result<Vec<u64>, NoMemory>
+    requires demands { demands.now ≡ (scaled scope).demands }
+    requires room { room ≡ room_of (scaled scope) scope.customers.now }
+    ensures { IfOk result (λ cells. AreWalks (scaled scope.entry) nothing_near scope.entry.customers.now cells.items) }
 {
     let loads = room as usize + 1;
     let mut cells = Vec::with_capacity(alloc, loads * scope.places)?;
@@ -34,12 +56,12 @@ pub(crate) fn walks(
 // Adds the cells of a load, after those of less.
 fn push_row(cells: &mut Vec<u64>, scope: UnitScope<'_>, demands: &[u64], load: usize)
     requires demands { demands.now ≡ (scaled scope).demands }
-    requires so_far { AreWalksSoFar (scaled scope) scope.customers.now cells.old.items }
+    requires so_far { AreWalksSoFar (scaled scope) nothing_near scope.customers.now cells.old.items }
     requires next { vec_len cells.old ≡ load * place_count scope.instance.now }
     requires fits { vec_len cells.old + place_count scope.instance.now ≤ vec_capacity cells.old }
     ensures len { vec_len cells.new ≡ vec_len cells.old + place_count scope.entry.instance.now }
     ensures capacity { vec_capacity cells.new ≡ vec_capacity cells.old }
-    ensures so_far { AreWalksSoFar (scaled scope.entry) scope.entry.customers.now cells.new.items }
+    ensures so_far { AreWalksSoFar (scaled scope.entry) nothing_near scope.entry.customers.now cells.new.items }
 {
     for at in 0..scope.places as u16 {
         let cell = least_walk(scope, demands, cells, load, at);
@@ -50,10 +72,10 @@ fn push_row(cells: &mut Vec<u64>, scope: UnitScope<'_>, demands: &[u64], load: u
 // The least cost of a walk from a place that takes up this load: by its first stop, and the walk from there.
 fn least_walk(scope: UnitScope<'_>, demands: &[u64], cells: &[u64], load: usize, at: u16) -> u64
     requires demands { demands.now ≡ (scaled scope).demands }
-    requires so_far { AreWalksSoFar (scaled scope) scope.customers.now cells.now }
+    requires so_far { AreWalksSoFar (scaled scope) nothing_near scope.customers.now cells.now }
     requires place { at < place_count scope.instance.now }
     requires next { length cells.now ≡ load * place_count scope.instance.now + at }
-    ensures least { IsLeastCell (HasWalk (scaled scope.entry) scope.entry.customers.now at load) result }
+    ensures least { IsLeastCell (HasWalk (scaled scope.entry) nothing_near scope.entry.customers.now at load) result }
     ensures within { result ≤ mark }
 {
     if load == 0 {

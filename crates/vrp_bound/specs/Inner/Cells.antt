@@ -4,7 +4,8 @@ use Rattle.std.specs.List.{All, sum_by}
 use Rattle.vrp_model.specs.Problem.{Problem, place_count}
 use Rattle.vrp_model.specs.Route.{load_of}
 use Rattle.vrp_bound.specs.Tables.{room_of}
-use Rattle.vrp_bound.specs.Walk.{IsRelaxed, IsTour, IsWalk, relaxed_cost, walk_cost}
+use Rattle.vrp_bound.specs.Walk.{relaxed_cost, walk_cost}
+use Rattle.vrp_bound.specs.Remembering.{IsRememberingRelaxed, IsRememberingTour, IsRememberingWalk}
 
 -- what stands where there is no cost
 abbrev pub mark : ℕ
@@ -16,42 +17,42 @@ pub record IsLeastCell (IsCost : ℕ → Type 0) (cell : ℕ) : Type 0 where
   pub least : (cost : ℕ) → IsCost cost → cell ≤ cost
 
 -- a walk from the place that takes up this load costs this
-pub record HasWalk (p : Problem) (among : List ℕ) (at load cost : ℕ) : Type 0 where
+pub record HasWalk (p : Problem) (near : ℕ → List ℕ) (among : List ℕ) (at load cost : ℕ) : Type 0 where
   pub stops : List ℕ
-  pub walks : IsWalk p among at stops
+  pub walks : IsRememberingWalk p near among at stops
   pub loaded : load_of p stops ≡ load
   pub costs : walk_cost p at stops ≡ cost
 
 -- tours that carry the rest cost this
-pub record HasTours (p : Problem) (among : List ℕ) (rest cost : ℕ) : Type 0 where
+pub record HasTours (p : Problem) (near : ℕ → List ℕ) (among : List ℕ) (rest cost : ℕ) : Type 0 where
   pub tours : List (List ℕ)
-  pub each : All (IsTour p among) tours
+  pub each : All (IsRememberingTour p near among) tours
   pub whole : sum_by (load_of p) tours ≡ rest
   pub costs : sum_by (walk_cost p 0) tours ≡ cost
 
 -- a walk home and tours that carry the rest cost this
-pub record HasRelaxed (p : Problem) (among : List ℕ) (at load rest cost : ℕ) : Type 0 where
+pub record HasRelaxed (p : Problem) (near : ℕ → List ℕ) (among : List ℕ) (at load rest cost : ℕ) : Type 0 where
   pub home : List ℕ
   pub tours : List (List ℕ)
-  pub relaxed : IsRelaxed p among at load rest home tours
+  pub relaxed : IsRememberingRelaxed p near among at load rest home tours
   pub costs : relaxed_cost p at home tours ≡ cost
 
 -- the cells of the walks so far: by load, and of each load by place
-pub record AreWalksSoFar (p : Problem) (among cells : List ℕ) : Type 0 where
-  pub each : (k : ℕ) → k < length cells → IsLeastCell (HasWalk p among (k % place_count p) (k / place_count p)) (slice_index cells k)
+pub record AreWalksSoFar (p : Problem) (near : ℕ → List ℕ) (among cells : List ℕ) : Type 0 where
+  pub each : (k : ℕ) → k < length cells → IsLeastCell (HasWalk p near among (k % place_count p) (k / place_count p)) (slice_index cells k)
   pub within : (k : ℕ) → slice_index cells k ≤ mark
 
-pub record AreWalks (p : Problem) (among cells : List ℕ) : Type 0 where
-  pub so_far : AreWalksSoFar p among cells
+pub record AreWalks (p : Problem) (near : ℕ → List ℕ) (among cells : List ℕ) : Type 0 where
+  pub so_far : AreWalksSoFar p near among cells
   pub all : length cells ≡ (room_of p among + 1) * place_count p
 
 -- the cells of the tours so far, by rest
-pub record AreToursSoFar (p : Problem) (among cells : List ℕ) : Type 0 where
-  pub each : (rest : ℕ) → rest < length cells → IsLeastCell (HasTours p among rest) (slice_index cells rest)
+pub record AreToursSoFar (p : Problem) (near : ℕ → List ℕ) (among cells : List ℕ) : Type 0 where
+  pub each : (rest : ℕ) → rest < length cells → IsLeastCell (HasTours p near among rest) (slice_index cells rest)
   pub within : (k : ℕ) → slice_index cells k ≤ mark
 
-pub record AreTours (p : Problem) (among cells : List ℕ) : Type 0 where
-  pub so_far : AreToursSoFar p among cells
+pub record AreTours (p : Problem) (near : ℕ → List ℕ) (among cells : List ℕ) : Type 0 where
+  pub so_far : AreToursSoFar p near among cells
   pub all : length cells ≡ load_of p among + 1
 
 -- what stands in a small cell where there is no cost
@@ -65,24 +66,24 @@ pub record IsSmallLeastCell (IsCost : ℕ → Type 0) (cell : ℕ) : Type 0 wher
   pub none : small_mark ≤ cell → (cost : ℕ) → IsCost cost → ⊥
 
 -- a walk home that takes up no more than the room, and tours, carry the rest and cost this
-pub record HasWayHome (p : Problem) (among : List ℕ) (at room rest cost : ℕ) : Type 0 where
+pub record HasWayHome (p : Problem) (near : ℕ → List ℕ) (among : List ℕ) (at room rest cost : ℕ) : Type 0 where
   pub home : ℕ
   pub carried : home ≤ room
   pub fits : home ≤ rest
   pub walk : ℕ
   pub tours : ℕ
-  pub has_walk : HasWalk p among at home walk
-  pub has_tours : HasTours p among (rest - home) tours
+  pub has_walk : HasWalk p near among at home walk
+  pub has_tours : HasTours p near among (rest - home) tours
   pub whole : cost ≡ walk + tours
 
 -- the cells of the ways home so far: by place, of each place by room, and of each room by rest
-pub record AreHomesSoFar (p : Problem) (among cells : List ℕ) : Type 0 where
+pub record AreHomesSoFar (p : Problem) (near : ℕ → List ℕ) (among cells : List ℕ) : Type 0 where
   pub each : (k : ℕ) → k < length cells →
       let rests = load_of p among + 1 in
       let rooms = room_of p among + 1 in
-      IsSmallLeastCell (HasWayHome p among (k / rests / rooms) (k / rests % rooms) (k % rests)) (slice_index cells k)
+      IsSmallLeastCell (HasWayHome p near among (k / rests / rooms) (k / rests % rooms) (k % rests)) (slice_index cells k)
 
-pub record AreHomes (p : Problem) (among cells : List ℕ) : Type 0 where
-  pub so_far : AreHomesSoFar p among cells
+pub record AreHomes (p : Problem) (near : ℕ → List ℕ) (among cells : List ℕ) : Type 0 where
+  pub so_far : AreHomesSoFar p near among cells
   pub all : length cells ≡ place_count p * (room_of p among + 1) * (load_of p among + 1)
   pub few : length cells ≤ 64000000

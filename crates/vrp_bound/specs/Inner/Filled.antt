@@ -3,25 +3,30 @@ use Rattle.std.specs.Prelude.{◌≡◌, ℕ, Option, MatchOption, IfSome, List}
 use Rattle.std.specs.List.{All, Contains}
 use Rattle.std.specs.List.Sorted.{IsStrictlyIncreasing}
 use Rattle.vrp_model.specs.Problem.{Problem, customers}
-use Rattle.vrp_bound.specs.declared.tables.Cells.{Cells}
+use Rattle.vrp_bound.specs.declared.completions.Cells.{Cells}
+use Rattle.vrp_bound.specs.declared.completions.Completions.{Completions}
 use Rattle.vrp_bound.specs.Inner.Cells.{AreHomes, AreTours, AreWalks}
 use Rattle.vrp_bound.specs.Inner.Scope.{IsScope}
 use Rattle.vrp_bound.specs.Tables.{AreMade, room_of}
 use Rattle.vrp_bound.specs.Inner.Units.{IsUnit, in_units}
 
-pub record AreCells (p : Problem) (among : List ℕ) (cells : Cells) : Type 0 where
+pub record AreCells (p : Problem) (near : ℕ → List ℕ) (among : List ℕ) (cells : Cells) : Type 0 where
   pub made : AreMade p among
   pub scope : IsScope p among
   pub unit : IsUnit p among cells.unit
   pub counted : cells.quotients.unit ≡ cells.unit
   -- in units
-  pub walks : AreWalks (in_units cells.unit p) among cells.walks.items
-  pub tours : AreTours (in_units cells.unit p) among cells.tours.items
+  pub walks : AreWalks (in_units cells.unit p) near among cells.walks.items
+  pub tours : AreTours (in_units cells.unit p) near among cells.tours.items
   pub room : cells.room ≡ room_of (in_units cells.unit p) among
-  pub homes : IfSome cells.homes (λ homes. AreHomes (in_units cells.unit p) among homes.items)
+  pub homes : IfSome cells.homes (λ homes. AreHomes (in_units cells.unit p) near among homes.items)
 
-pub record AreFilled (p : Problem) (among : List ℕ) (cells : Option Cells) : Type 0 where
+pub record AreFilled (p : Problem) (near : ℕ → List ℕ) (among : List ℕ) (cells : Option Cells) : Type 0 where
   pub rising : IsStrictlyIncreasing among
   pub known : All (Contains (customers p)) among
   -- there are cells exactly where tables are made
-  pub filled : MatchOption cells (AreMade p among → ⊥) (AreCells p among)
+  pub filled : MatchOption cells (AreMade p among → ⊥) (AreCells p near among)
+
+-- what completions hold, where the walks remember those who are near
+abbrev pub AreHeld : (ℕ → List ℕ) → Completions → Type 0
+AreHeld near held = AreFilled held.instance.now near held.customers.items held.cells

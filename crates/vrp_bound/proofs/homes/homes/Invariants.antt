@@ -1,6 +1,7 @@
 use Rattle.std.proofs.Common.{◌≡◌, ◌≤◌, ◌*◌, length}
 use Rattle.std.specs.Vec.{vec_capacity}
 use Rattle.vrp_bound.specs.Inner.Cells.{AreHomesSoFar}
+use Rattle.vrp_bound.specs.Inner.Scaled.{near_by}
 use Rattle.vrp_bound.specs.Inner.Units.{in_units}
 use Rattle.vrp_bound.proofs.homes.homes.Given as goal
 
@@ -8,5 +9,5 @@ abbrev pub invariant-loop-row : goal.invariant-loop-row
 invariant-loop-row l = record {
   len : length l.cells.items ≡ l.row * length l.tours;
   capacity : l.rows * length l.tours ≤ vec_capacity l.cells;
-  so_far : AreHomesSoFar (in_units l.scope.unit l.scope.instance.now) l.scope.customers.now l.cells.items;
+  so_far : AreHomesSoFar (in_units l.scope.unit l.scope.instance.now) (near_by l.scope) l.scope.customers.now l.cells.items;
 }

@@ -3,6 +3,7 @@ use Rattle.vrp_model.specs.Problem.{place_count}
 use Rattle.vrp_model.specs.Route.{load_of}
 use Rattle.vrp_bound.specs.Inner.Cells.{AreHomesSoFar, HasWayHome, IsLeastCell, IsSmallLeastCell, mark, small_mark}
 use Rattle.vrp_bound.specs.Tables.{room_of}
+use Rattle.vrp_bound.specs.Inner.Scaled.{near_by}
 use Rattle.vrp_bound.specs.Inner.Units.{in_units}
 use Rattle.vrp_bound.proofs.FirstTour.{IsWayHome}
 use Rattle.vrp_bound.proofs.WaysLookedAt.{least_home_cells, row_before}
@@ -35,27 +36,27 @@ loop-rest-preserved c =
       | then-room-eq0 w ↦ w.less-is
       | else-room-eq0 w ↦ absurd (omega (arith, is, w.if-room-eq0.false))
     ] in
-    let some : 0 < room → IsSmallLeastCell (HasWayHome p among at (room - 1) rest) less = λ more. elim c.if-room-eq0.branch [
+    let some : 0 < room → IsSmallLeastCell (HasWayHome p (near_by c.args.scope) among at (room - 1) rest) less = λ more. elim c.if-room-eq0.branch [
       | then-room-eq0 w ↦ absurd (omega (arith, more, w.if-room-eq0.true))
       | else-room-eq0 w ↦
-          less_cell p among cells c.args.tours.now at room rest (w.len.result - length c.args.tours.now) less w.index.result.now c.loop-rest.invariant.so_far c.requires.tours next more room_within rest_within
+          less_cell p (near_by c.args.scope) among cells c.args.tours.now at room rest (w.len.result - length c.args.tours.now) less w.index.result.now c.loop-rest.invariant.so_far c.requires.tours next more room_within rest_within
           (omega (arith, w.len.ensures)) w.less-is w.index.ensures
     ] in
     let index = room * c.args.scope.places + c.from.result in
     let index_is : index ≡ room * place_count p + at = cc (c.args.scope.counted, c.from.ensures) in
-    let fits_whole : room ≤ rest → IsLeastCell (IsWayHome p among at rest room) whole = λ fits. elim c.if-room-rest.branch [
+    let fits_whole : room ≤ rest → IsLeastCell (IsWayHome p (near_by c.args.scope) among at rest room) whole = λ fits. elim c.if-room-rest.branch [
       | then-room-rest w ↦
-          subst (IsLeastCell (IsWayHome p among at rest room)) (sym w.whole-is)
-          (least_home_cells p among c.args.walks.now c.args.tours.now at rest room index c.requires.walks c.requires.tours c.requires.place c.requires.room fits (omega (arith, rest_within)) index_is)
+          subst (IsLeastCell (IsWayHome p (near_by c.args.scope) among at rest room)) (sym w.whole-is)
+          (least_home_cells p (near_by c.args.scope) among c.args.walks.now c.args.tours.now at rest room index c.requires.walks c.requires.tours c.requires.place c.requires.room fits (omega (arith, rest_within)) index_is)
       | else-room-rest w ↦ absurd (omega (arith, fits, w.if-room-rest.false))
     ] in
     let no_whole : rest < room → whole ≡ mark = λ more. elim c.if-room-rest.branch [
       | then-room-rest w ↦ absurd (omega (arith, more, w.if-room-rest.true))
       | else-room-rest w ↦ w.whole-is
     ] in
-    let cell = next_home p among at room rest less whole c.in-Some.cell c.args.scope.scope (omega (arith, rest_within)) none some fits_whole no_whole c.in-Some.ensures.none c.in-Some.ensures.some in
+    let cell = next_home p (near_by c.args.scope) among at room rest less whole c.in-Some.cell c.args.scope.scope (omega (arith, rest_within)) none some fits_whole no_whole c.in-Some.ensures.none c.in-Some.ensures.some in
     record {
       len = omega (arith, c.push_reserved.ensures.len, c.loop-rest.invariant.len);
       capacity = omega (arith, c.push_reserved.ensures.capacity, c.loop-rest.invariant.capacity);
-      so_far = subst (AreHomesSoFar p among) (sym c.push_reserved.ensures.items) (more_homes p among cells c.in-Some.cell at room rest room_within rest_within next cell c.loop-rest.invariant.so_far);
+      so_far = subst (AreHomesSoFar p (near_by c.args.scope) among) (sym c.push_reserved.ensures.items) (more_homes p (near_by c.args.scope) among cells c.in-Some.cell at room rest room_within rest_within next cell c.loop-rest.invariant.so_far);
     }

@@ -1,5 +1,6 @@
 use Rattle.std.proofs.Common.{◌≤◌}
 use Rattle.vrp_bound.specs.Inner.Cells.{IsLeastCell, mark}
+use Rattle.vrp_bound.specs.Inner.Scaled.{near_by}
 use Rattle.vrp_bound.specs.Inner.Units.{in_units}
 use Rattle.vrp_bound.proofs.FirstTour.{IsFirstTour}
 use Rattle.vrp_bound.proofs.LeastOfCosts.{IsCostBelow}
@@ -7,6 +8,6 @@ use Rattle.vrp_bound.proofs.tours.least_tours.Given as goal
 
 abbrev pub invariant-loop-load : goal.invariant-loop-load
 invariant-loop-load l = record {
-  least : IsLeastCell (IsCostBelow (IsFirstTour (in_units l.scope.unit l.scope.instance.now) l.scope.customers.now l.rest) l.load) l.least;
+  least : IsLeastCell (IsCostBelow (IsFirstTour (in_units l.scope.unit l.scope.instance.now) (near_by l.scope) l.scope.customers.now l.rest) l.load) l.least;
   within : l.least ≤ mark;
 }

@@ -2,6 +2,7 @@ use Rattle.std.proofs.Common.{◌≡◌, ◌+◌, ◌*◌, length, subst, sym, a
 use Rattle.vrp_model.specs.Problem.{place_count}
 use Rattle.vrp_bound.specs.Inner.Cells.{AreWalksSoFar}
 use Rattle.vrp_bound.specs.Inner.Units.{in_units}
+use Rattle.vrp_bound.specs.Remembering.{nothing_near}
 use Rattle.vrp_bound.proofs.FilledTables.{more_walks}
 use Rattle.vrp_bound.proofs.walks.push_row.Goals as goal
 
@@ -15,6 +16,6 @@ loop-at-preserved c =
     record {
       len = omega (arith, c.push_reserved.ensures.len, c.loop-at.invariant.len);
       capacity = omega (arith, c.push_reserved.ensures.capacity, c.loop-at.invariant.capacity);
-      so_far = subst (AreWalksSoFar p among) (sym c.push_reserved.ensures.items)
-          (more_walks p among cells c.least_walk-cell.result c.args.load at next (omega (arith, c.loop-at-test.true, c.args.scope.counted)) c.loop-at.invariant.so_far c.least_walk-cell.ensures.least c.least_walk-cell.ensures.within);
+      so_far = subst (AreWalksSoFar p nothing_near among) (sym c.push_reserved.ensures.items)
+          (more_walks p nothing_near among cells c.least_walk-cell.result c.args.load at next (omega (arith, c.loop-at-test.true, c.args.scope.counted)) c.loop-at.invariant.so_far c.least_walk-cell.ensures.least c.least_walk-cell.ensures.within);
     }

@@ -5,5 +5,6 @@ pub invariant_of-result : goal.invariant_of-result
 invariant_of-result c = record {
   some = c.requires.unit.some;
   counted = c.args.scope.counted;
+  of_places = c.requires.places;
   scope = scope_in c.args.unit c.args.scope.instance.now c.args.scope.customers.now c.requires.unit c.requires.scope;
 }

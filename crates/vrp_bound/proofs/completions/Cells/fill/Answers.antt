@@ -1,9 +1,10 @@
 use Rattle.std.proofs.Common.{◌≡◌, ◌/◌, IfSome, ap, sym, subst, arith}
+use Rattle.vrp_bound.specs.Inner.Scaled.{near_by, near_with}
 use Rattle.vrp_bound.specs.Inner.Cells.{AreHomes, AreTours, AreWalks}
 use Rattle.vrp_bound.specs.Tables.{room_of}
 use Rattle.vrp_bound.specs.Inner.Units.{IsUnit, in_units}
 use Rattle.vrp_bound.proofs.WholeUnits.{demand_units, room_units, same_scope}
-use Rattle.vrp_bound.proofs.tables.Cells.fill.Goals as goal
+use Rattle.vrp_bound.proofs.completions.Cells.fill.Goals as goal
 
 pub walks-requires-clause-room : goal.walks-requires-clause-room
 walks-requires-clause-room c =
@@ -37,13 +38,15 @@ returns c =
     let room =
     room_units c.args.scope.instance.now c.new-units.result.instance.now c.args.scope.customers.now c.new-units.result.customers.now c.unit_of.result c.new-units.result.unit c.whole_units-demand.result c.min-room.result
     c.new-units.ensures.instance c.new-units.ensures.customers c.new-units.ensures.unit c.unit_of.ensures.is_unit (omega (arith, c.whole_units-demand.ensures, ap (λ n. n / c.new-units.result.unit) c.demand_of_all.ensures.value)) (omega (arith, c.min-room.ensures, c.whole_units.ensures, ap (λ n. n / c.new-units.result.unit) c.capacity.ensures.value)) in
+    let near = near_by c.new-units.result in
+    let memory : near ≡ near_with c.args.memory = ap near_with c.new-units.ensures.memory in
     record {
       made = c.requires.made;
       scope = c.requires.scope;
       unit = subst (IsUnit p among) (sym c.new-units.ensures.unit) c.unit_of.ensures.is_unit;
       counted = c.in_ok-quotients.ensures;
-      walks = same_scope (λ b a. AreWalks (in_units unit b) a c.in_ok-walks.walks.items) p q among others instance customers c.in_ok-walks.ensures;
-      tours = same_scope (λ b a. AreTours (in_units unit b) a c.in_ok-tours.tours.items) p q among others instance customers c.in_ok-tours.ensures;
+      walks = subst (λ n. AreWalks (in_units unit p) n among c.in_ok-walks.walks.items) memory (same_scope (λ b a. AreWalks (in_units unit b) near a c.in_ok-walks.walks.items) p q among others instance customers c.in_ok-walks.ensures);
+      tours = subst (λ n. AreTours (in_units unit p) n among c.in_ok-tours.tours.items) memory (same_scope (λ b a. AreTours (in_units unit b) near a c.in_ok-tours.tours.items) p q among others instance customers c.in_ok-tours.ensures);
       room = same_scope (λ b a. c.min-room.result ≡ room_of (in_units unit b) a) p q among others instance customers room;
-      homes = same_scope (λ b a. IfSome c.in_ok-homes.homes (λ homes. AreHomes (in_units unit b) a homes.items)) p q among others instance customers c.in_ok-homes.ensures;
+      homes = subst (λ n. IfSome c.in_ok-homes.homes (λ homes. AreHomes (in_units unit p) n among homes.items)) memory (same_scope (λ b a. IfSome c.in_ok-homes.homes (λ homes. AreHomes (in_units unit b) near a homes.items)) p q among others instance customers c.in_ok-homes.ensures);
     }

@@ -1,0 +1,34 @@
+-- What stands in the cells of the walks that remember.
+use Rattle.std.specs.Prelude.{◌≡◌, ◌⊎◌, ℕ, ◌+◌, ◌*◌, ◌/◌, ◌%◌, ◌≤◌, ◌<◌, List, length, slice_index}
+use Rattle.vrp_model.specs.Problem.{Problem, place_count}
+use Rattle.vrp_model.specs.Route.{load_of}
+use Rattle.vrp_bound.specs.Inner.Cells.{IsLeastCell, mark}
+use Rattle.vrp_bound.specs.Tables.{room_of}
+use Rattle.vrp_memory.specs.Memory.{memory_of}
+use Rattle.vrp_bound.specs.Remembering.{IsRememberingWalk}
+use Rattle.vrp_bound.specs.Walk.{walk_cost}
+
+-- a walk from the place that takes up this load, and has this memory there, costs this
+pub record HasMemoryWalk (p : Problem) (near : ℕ → List ℕ) (among : List ℕ) (at load memory cost : ℕ) : Type 0 where
+  pub stops : List ℕ
+  pub walks : IsRememberingWalk p near among at stops
+  pub loaded : load_of p stops ≡ load
+  pub remembers : memory_of near at stops ≡ memory
+  pub costs : walk_cost p at stops ≡ cost
+
+-- the cells so far: by load, of each load by place, and of each place by memory
+pub record AreMemoryWalksSoFar (p : Problem) (near : ℕ → List ℕ) (among : List ℕ) (masks : ℕ) (cells : List ℕ) : Type 0 where
+  pub each : (k : ℕ) → k < length cells → IsLeastCell (HasMemoryWalk p near among (k / masks % place_count p) (k / masks / place_count p) (k % masks)) (slice_index cells k)
+  pub within : (k : ℕ) → slice_index cells k ≤ mark
+
+pub record AreMemoryWalks (p : Problem) (near : ℕ → List ℕ) (among : List ℕ) (masks : ℕ) (cells : List ℕ) : Type 0 where
+  pub so_far : AreMemoryWalksSoFar p near among masks cells
+  pub all : length cells ≡ (room_of p among + 1) * place_count p * masks
+
+-- Of a row by memory: each cell is the least of what it was before, and of what the first of the cells behind cost with this weight,
+-- where this cell's memory is the one before them
+pub record ArePulled (weight count : ℕ) (behind before old new : List ℕ) : Type 0 where
+  pub len : length new ≡ length old
+  pub kept : (m : ℕ) → slice_index new m ≤ slice_index old m
+  pub low : (k : ℕ) → k < count → slice_index before k < length old → slice_index new (slice_index before k) ≤ weight + slice_index behind k
+  pub met : (m : ℕ) → (slice_index new m ≡ slice_index old m) ⊎ ((k : ℕ) × (k < count) × (slice_index before k ≡ m) × (slice_index new m ≡ weight + slice_index behind k))
