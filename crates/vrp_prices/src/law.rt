@@ -7,7 +7,7 @@ ghost use Rattle.vrp_model.specs.Route.{load_of};
 ghost use Rattle.vrp_model.specs.Word.{IsFront, IsLawfulWord, last_symbol, stands_in, unserved_in, word_cost};
 ghost use Rattle.vrp_bound.specs.Bound.{IsLowerBound};
 ghost use Rattle.vrp_bound.specs.Capacity.{IsInsOf, IsTrucks};
-ghost use Rattle.vrp_bound.specs.Tables.{IsBound};
+ghost use Rattle.vrp_bound.specs.Remembering.{IsRememberingBound};
 ghost use Rattle.vrp_prices.specs.Cut.{Cut, IsCut, crossings, tolls_along};
 ghost use Rattle.vrp_prices.specs.Priced.{HasPrices, IsPriced, charges_of, rewards_of};
 ghost use Rattle.vrp_prices.specs.Relaxation.{Bounds, IsAbove, IsLimit, IsRelaxation, RelaxationOf};
@@ -23,24 +23,24 @@ pub fn relaxations_bound()
         → MatchOption answer ⊥ (λ least. word_cost q front + least + rewards ≤ scale * word_cost p (front ++ more) + charges) }
 {}
 
-/// The same of the least relaxed completion alone.
+/// The same of the least completion by walks that remember, whoever is near which place.
 pub fn walks_bound()
-    ensures { (p q : Problem) (scale charges rewards : ℕ) (front more among : List ℕ) (answer : Option ℕ) → IsRelaxation p q scale charges rewards → IsProblem q
+    ensures { (p q : Problem) (scale charges rewards : ℕ) (near : ℕ → List ℕ) (front more among : List ℕ) (answer : Option ℕ)
+        → IsRelaxation p q scale charges rewards → IsProblem q
         → IsLawfulWord p (front ++ more) → All (Contains among) (unserved_in q front)
-        → IsBound q among (last_symbol front) (open_load q front) (load_of q (unserved_in q front)) answer
+        → IsRememberingBound q near among (last_symbol front) (open_load q front) (load_of q (unserved_in q front)) answer
         → MatchOption answer ⊥ (λ least. word_cost q front + least + rewards ≤ scale * word_cost p (front ++ more) + charges) }
 {}
 
-/// So where a front and its least relaxed completion cost more in the relaxation than what is the limit for a cost, each lawful
-/// word of the problem that begins with the front costs more than that; and where there is no relaxed completion, there is no
-/// such word.
+/// So where a front and its least completion by such walks cost more in the relaxation than what is the limit for a cost, each lawful
+/// word of the problem that begins with the front costs more than that; and where there is no completion, there is no such word.
 pub fn dear_fronts()
-    ensures dear { (r : RelaxationOf) (cost : ℕ) (limit : Option ℕ) (front more : List ℕ) (least : ℕ) → Bounds r → IsProblem r.relaxed
+    ensures dear { (r : RelaxationOf) (cost : ℕ) (limit : Option ℕ) (near : ℕ → List ℕ) (front more : List ℕ) (least : ℕ) → Bounds r → IsProblem r.relaxed
         → IsLawfulWord r.problem (front ++ more) → IsLimit r cost limit
-        → IsBound r.relaxed (customers r.relaxed) (last_symbol front) (open_load r.relaxed front) (load_of r.relaxed (unserved_in r.relaxed front)) (Some least)
+        → IsRememberingBound r.relaxed near (customers r.relaxed) (last_symbol front) (open_load r.relaxed front) (load_of r.relaxed (unserved_in r.relaxed front)) (Some least)
         → IsAbove limit (word_cost r.relaxed front + least) → cost < word_cost r.problem (front ++ more) }
-    ensures none { (r : RelaxationOf) (front more : List ℕ) → Bounds r → IsProblem r.relaxed → IsLawfulWord r.problem (front ++ more)
-        → IsBound r.relaxed (customers r.relaxed) (last_symbol front) (open_load r.relaxed front) (load_of r.relaxed (unserved_in r.relaxed front)) None → ⊥ }
+    ensures none { (r : RelaxationOf) (near : ℕ → List ℕ) (front more : List ℕ) → Bounds r → IsProblem r.relaxed → IsLawfulWord r.problem (front ++ more)
+        → IsRememberingBound r.relaxed near (customers r.relaxed) (last_symbol front) (open_load r.relaxed front) (load_of r.relaxed (unserved_in r.relaxed front)) None → ⊥ }
 {}
 
 /// What a front leaves is the same in the relaxation: the unserved customers, and the routes that may still be opened.

@@ -3,18 +3,24 @@
 #![tactic(auto)]
 
 mod amounts;
+mod cells;
 mod cut;
 mod entered;
 mod flow;
+mod growth;
 mod law;
 mod lift;
 mod limits;
+mod near_looks;
 mod prices;
 mod relaxation;
+mod remembered;
 mod rounds;
 mod separation;
 #[cfg(test)]
 mod slow;
+#[cfg(test)]
+mod slow_walks;
 mod step;
 mod stepped_cuts;
 mod tolls;
@@ -30,4 +36,4 @@ pub use law::{
 };
 pub use limits::{MAX_CUTS, MAX_SCALE, MAX_TOLL};
 pub use relaxation::Relaxation;
-pub use rounds::find_prices;
+pub use rounds::{FoundPrices, find_prices};

@@ -16,10 +16,15 @@ impl Walks {
         let mut lift = 0;
         for from in 0..self.places() {
             let units = self.demand(from).saturating_add(self.demand(to));
-            let units = i64::try_from(units).unwrap_or(i64::MAX).max(1);
-            let short = self.way(from, to).saturating_neg().max(0);
-            lift = lift.max(short.saturating_add(units.saturating_sub(1)) / units);
+            lift = lift.max(lift_of(self.way(from, to), units));
         }
         lift
     }
+}
+
+// That for a way between places that demand so much together.
+fn lift_of(way: i64, units: usize) -> i64 {
+    let units = i64::try_from(units).unwrap_or(i64::MAX).max(1);
+    let short = way.saturating_neg().max(0);
+    short.saturating_add(units.saturating_sub(1)) / units
 }

@@ -1,15 +1,18 @@
 //! How prices are found: rounds of filling tables and stepping towards a higher bound.
-ghost use Rattle.std.specs.Prelude.{◌≡◌, IfOk, IfSome, vec_len};
+ghost use Rattle.std.specs.Prelude.{◌≡◌, ◌≤◌, IfOk, IfSome, vec_len};
+ghost use Rattle.vrp_memory.specs.declared.memory.TheConstants.{MOST_NEAR};
 ghost use Rattle.vrp_model.specs.Problem.{place_count};
 ghost use Rattle.vrp_prices.specs.declared.limits.TheConstants.{MAX_SCALE};
 
 use crate::limits::MAX_SCALE;
 use crate::relaxation::Relaxation;
+use crate::remembered::Remembered;
 use crate::step::Ascent;
 use crate::stepped_cuts::SteppedCut;
 use crate::unit::{Size, unit_for};
 use crate::walks::{Walks, at};
 use std::alloc::Global;
+use vrp_memory::{MOST_NEAR, Memory};
 use vrp_model::{Instance, NoMemory};
 
 // The most rounds; few instances take as many.
@@ -21,16 +24,31 @@ const LEAST_ROUNDS: u64 = 100;
 // What a plan should cost at most by the scale.
 const SCALED_COST: u64 = 1_000_000_000;
 
-/// A relaxation by prices and tolls that bound the instance's plans well, where a plan of it costs so much. At most this many steps
-/// are taken to find them: looks from one cell of a table at another, and looks at a way for a cut with a toll. `None` where these are too few for a hundred rounds, or no unit makes
-/// the tables small, or the prices are out of range. Which prices they are is left open: any bound the instance's plans.
+/// Prices that were found, and what walks remember by which they bound well.
+#[derive(Debug, Drop)]
+pub struct FoundPrices<'a> {
+    /// The relaxation by the prices and tolls.
+    pub relaxation: Relaxation<'a>,
+    /// The memory of the walks by whose least tours the prices were found.
+    pub memory: Memory,
+}
+
+/// Prices and tolls that bound the instance's plans well, where a plan of it costs so much, and the memory of the walks in their
+/// rounds: the ng-routes of Baldacci, Mingozzi and Roberti (2011). At most this many steps are taken to find them: looks from one
+/// cell of a table at another, and looks at a way for a cut with a toll. Walks remember up to this many customers near each place, and
+/// fewer where rounds would be long or few. `None` where the steps are too few for a hundred rounds of walks that remember nothing,
+/// or no unit makes the tables small, or the prices are out of range. Which prices they are, and which memory, is left open: any
+/// bound the instance's plans.
 pub fn find_prices<'a>(
     alloc: Global,
     instance: &'a Instance,
     cost: u64,
+    near: usize,
     steps: u64,
-) -> Result<Option<Relaxation<'a>>, NoMemory>
-    ensures { IfOk result (λ found. IfSome found (λ relaxation. relaxation.problem ≡ instance.now)) }
+) -> Result<Option<FoundPrices<'a>>, NoMemory>
+    requires near { near ≤ MOST_NEAR }
+    ensures relaxation { IfOk result (λ found. IfSome found (λ prices. prices.relaxation.problem ≡ instance.now)) }
+    ensures memory { IfOk result (λ found. IfSome found (λ prices. prices.memory.places ≡ place_count instance.now)) }
 {
     let Some(unit) = unit_for(instance) else {
         return Ok(None);
@@ -40,13 +58,15 @@ pub fn find_prices<'a>(
     if steps / size.steps().max(1) < LEAST_ROUNDS {
         return Ok(None);
     }
-    let mut walks = Walks::new(alloc, instance, scale, unit, size)?;
+    let remembered = Remembered::largest(alloc, instance, size, near, steps)?;
+    let (memory, size) = (remembered.memory, remembered.size);
+    let mut walks = Walks::new(alloc, instance, scale, unit, size, remembered.looks)?;
     let best = ascend(alloc, instance, &mut walks, scale, cost, size, steps)?;
     let (prices, cuts) = best.into_best();
     let prices = lifted(alloc, instance, &mut walks, &prices, cuts.as_slice())?;
     let cuts = cuts.into_cuts(alloc, instance)?;
     match Relaxation::new(alloc, instance, scale, unit, &prices, &cuts)? {
-        Some(relaxation) => Ok(Some(relaxation)),
+        Some(relaxation) => Ok(Some(FoundPrices { relaxation, memory })),
         None => Ok(None),
     }
 }

@@ -23,7 +23,7 @@ struct Front {
     relaxed_cost: u64,
 }
 
-const POINTS: [(i64, i64); 4] = [(0, 0), (3, 4), (6, 8), (5, -12)];
+pub(crate) const POINTS: [(i64, i64); 4] = [(0, 0), (3, 4), (6, 8), (5, -12)];
 
 const ONE_WAY: [u64; 16] = [0, 3, 9, 4, 8, 0, 2, 7, 5, 6, 0, 1, 9, 3, 8, 0];
 
@@ -179,7 +179,7 @@ fn after(relaxation: &Relaxation<'_>, front: Front, symbol: u16) -> Front {
     }
 }
 
-fn made(
+pub(crate) fn made(
     rt: &impl Abort,
     alloc: Global,
     weights: Weights,
@@ -343,9 +343,10 @@ fn demands_in_units(rt: HostRuntime) -> Result<(), Fail> {
 fn found_prices_bound(rt: HostRuntime) -> Result<(), Fail> {
     let weights = Weights::points(rt.alloc(), Metric::Euc2d, &POINTS)?;
     let instance = made(&rt, rt.alloc(), weights, &[0, 1, 2, 1], 3)?;
-    let Some(relaxation) = find_prices(rt.alloc(), &instance, 46, 1_000_000)? else {
+    let Some(found) = find_prices(rt.alloc(), &instance, 46, 3, 1_000_000)? else {
         panic!(rt; "no prices");
     };
+    let relaxation = found.relaxation;
     let tables = Tables::over_all(rt.alloc(), relaxation.relaxed())?;
     let rest = relaxation.relaxed().whole_demand();
     assert_eq!(rt; relaxation.scale(), 1_000);
@@ -365,7 +366,7 @@ fn the_most_nodes(rt: HostRuntime) -> Result<(), Fail> {
         panic!(rt; "no relaxation");
     };
     assert_eq!(rt; relaxation.limit(0), Some(1_199_000_000_000));
-    assert!(rt; find_prices(rt.alloc(), &instance, 0, 1_000_000)?.is_none());
+    assert!(rt; find_prices(rt.alloc(), &instance, 0, 3, 1_000_000)?.is_none());
     Ok(())
 }
 

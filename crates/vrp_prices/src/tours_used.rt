@@ -1,4 +1,5 @@
 //! The ways that the least tours use, by going back through the tables.
+use crate::near_looks::NearLook;
 use crate::walks::Walks;
 use vrp_model::NoMemory;
 
@@ -7,6 +8,16 @@ use vrp_model::NoMemory;
 pub(crate) struct UsedWay {
     pub(crate) from: usize,
     pub(crate) to: usize,
+}
+
+// Where a walk home has come to.
+#[derive(Clone, Copy, Debug)]
+struct Standing {
+    place: usize,
+    // What may be remembered there, at most, of what is still to come.
+    memory: usize,
+    // What is still to be carried.
+    left: usize,
 }
 
 impl Walks {
@@ -33,43 +44,78 @@ impl Walks {
     // Whether one tour of this load and those of what it leaves cost so much together.
     fn is_split(&self, cost: i64, load: usize, rest: usize) -> bool {
         let others = self.tours_cost(rest.saturating_sub(load));
-        self.cell(load, 0).wrapping_add(others) == cost
+        self.cell(load, 0, 0).wrapping_add(others) == cost
     }
 
     // Lists the ways of the least tour of a load.
     fn list_tour(&self, load: usize, used: &mut Vec<UsedWay>) -> Result<(), NoMemory> {
-        let (mut from, mut left) = (0, load);
+        let mut here = Standing {
+            place: 0,
+            memory: 0,
+            left: load,
+        };
         for _ in 0..load {
-            let Some(to) = self.next_stop(from, left) else {
+            let Some(next) = self.next_stop(here) else {
                 break;
             };
-            used.push(UsedWay { from, to })?;
-            from = to;
-            left = left.saturating_sub(self.demand(to));
+            used.push(UsedWay {
+                from: here.place,
+                to: next.place,
+            })?;
+            here = next;
         }
-        used.push(UsedWay { from, to: 0 })?;
+        used.push(UsedWay {
+            from: here.place,
+            to: 0,
+        })?;
         Ok(())
     }
 
-    // The next stop of the least walk home from a place that carries this load behind it; `None` where nothing is left to carry.
-    fn next_stop(&self, from: usize, left: usize) -> Option<usize> {
-        if left == 0 {
+    // Where the least walk home goes on to; `None` where nothing is left to carry.
+    fn next_stop(&self, here: Standing) -> Option<Standing> {
+        if here.left == 0 {
             return None;
         }
-        let cost = self.cell(left, from);
-        (1..self.places()).find(|&stop| self.explains(cost, from, stop, left))
+        let cost = self.cost(here);
+        (1..self.places()).find_map(|stop| self.going_on(here, cost, stop))
     }
 
-    // Whether the walk from a place goes on to this stop, where it costs so much.
-    fn explains(&self, cost: i64, from: usize, stop: usize, left: usize) -> bool {
-        let demand = self.demand(stop);
-        stop != from
-            && demand <= left
-            && self
-                .cell(left.saturating_sub(demand), stop)
-                .wrapping_add(self.way(from, stop))
-                == cost
+    // Where the walk is then that goes on to this stop, if that explains what it costs.
+    fn going_on(&self, here: Standing, cost: i64, stop: usize) -> Option<Standing> {
+        let left = here.left.checked_sub(self.demand(stop))?;
+        let rest = cost.wrapping_sub(self.way(here.place, stop));
+        let next = Standing {
+            place: stop,
+            memory: self.most(),
+            left,
+        };
+        if self.is_far(here.place, stop) {
+            return if self.cost(next) == rest {
+                Some(next)
+            } else {
+                None
+            };
+        }
+        for look in self.near_looks(stop) {
+            let memory = usize::from(look.most);
+            let next = Standing { memory, ..next };
+            if leads(*look, here) && self.cost(next) == rest {
+                return Some(next);
+            }
+        }
+        None
     }
+
+    // What the least walk home costs from there.
+    fn cost(&self, here: Standing) -> i64 {
+        self.cell(here.left, here.place, here.memory)
+    }
+}
+
+// Whether a look is from this place, and remembers no more there.
+fn leads(look: NearLook, here: Standing) -> bool {
+    let more = usize::from(look.memory) & !here.memory;
+    usize::from(look.at) == here.place && more == 0
 }
 
 /// Counts the visits of each customer. The depot counts as visited once, so that it keeps no price.

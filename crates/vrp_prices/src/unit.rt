@@ -6,7 +6,7 @@ use vrp_bound::gcd;
 use vrp_model::Instance;
 
 /// The most cells that one round of filling tables looks at.
-const MAX_ROUND: u64 = 20_000_000;
+pub(crate) const MAX_ROUND: u64 = 20_000_000;
 
 /// The most cells of a table by place, room and rest.
 const MAX_HOMES: u64 = 16_000_000;
@@ -21,10 +21,12 @@ pub(crate) struct Size {
     /// How much of the whole demand one truck can carry.
     pub(crate) room: u64,
     pub(crate) whole: u64,
+    /// How many looks memory takes, of each load.
+    pub(crate) looks: u64,
 }
 
 impl Size {
-    /// That by this unit.
+    /// That by this unit, where walks remember nothing.
     pub(crate) fn in_units(instance: &Instance, unit: u64) -> Size
         requires some { 1 ≤ unit }
     {
@@ -33,16 +35,24 @@ impl Size {
             places: u64::from(instance.customers()) + 1,
             room: capacity_in_units(instance, unit).min(whole),
             whole,
+            looks: 0,
         }
+    }
+
+    /// The same where memory takes this many looks of each load.
+    pub(crate) fn with_looks(self, looks: u64) -> Size {
+        Size { looks, ..self }
     }
 
     /// How many steps one round takes: looks from one cell of the tables at another.
     pub(crate) fn steps(self) -> u64 {
         let loads = self.room.saturating_add(1);
-        let walks = loads
+        let of_one = self
+            .places
             .saturating_mul(self.places)
-            .saturating_mul(self.places);
-        walks.saturating_add(loads.saturating_mul(self.whole))
+            .saturating_add(self.looks)
+            .saturating_add(self.whole);
+        loads.saturating_mul(of_one)
     }
 
     /// How many steps it takes to enter the tolls of this many cuts: a look at each way for each.
