@@ -1,6 +1,7 @@
 //! The prices that a search prunes by.
 ghost use Rattle.std.specs.Prelude.{◌≡◌, ℕ, ◌≤◌, List, IfOk, IsTrue};
 ghost use Rattle.vrp_model.specs.declared.limits.TheConstants.{NO_COST};
+ghost use Rattle.vrp_model.specs.Problem.{place_count};
 ghost use Rattle.vrp_prices.specs.Relaxation.{Bounds};
 ghost use Rattle.vrp_search.specs.Inner.Paid.{IsPaidAt};
 ghost use Rattle.vrp_search.specs.Inner.Under.{AllCostMore};
@@ -8,35 +9,41 @@ ghost use Rattle.vrp_search.specs.Inner.Under.{AllCostMore};
 use crate::paid::Paid;
 use std::alloc::Global;
 use std::marker::Model;
-use vrp_bound::Tables;
+use vrp_bound::MemoryTables;
+use vrp_memory::Memory;
 use vrp_model::{Instance, NoMemory};
 use vrp_prices::{Relaxation, dear_fronts};
 
-/// A relaxation of an instance by prices, and tables over all customers in it.
+/// A relaxation of an instance by prices, and tables of walks that remember over all customers in it.
 #[derive(Drop)]
 pub struct Prices<'a> {
     relaxation: &'a Relaxation<'a>,
-    tables: Tables<'a>,
+    tables: MemoryTables<'a>,
 }
 
 impl<'a> Model for Prices<'a> {
     ghost use Rattle.std.specs.Prelude.{◌≡◌};
-    ghost use Rattle.vrp_model.specs.Problem.{customers};
+    ghost use Rattle.vrp_model.specs.Problem.{place_count};
     ghost use Rattle.vrp_prices.specs.Relaxation.{RelaxationOf};
 
     ghost Value = { RelaxationOf };
 
     ghost view = { λ a. a.relaxation.now };
 
-    ghost invariant = { λ a. a.tables ≡ record { problem = a.relaxation.now.relaxed; among = customers a.relaxation.now.relaxed } };
+    ghost invariant = { λ a. a.tables.problem ≡ a.relaxation.now.relaxed };
 }
 
 impl<'a> Prices<'a> {
-    /// The prices of a relaxation.
-    pub fn new(alloc: Global, relaxation: &'a Relaxation<'a>) -> Result<Prices<'a>, NoMemory>
+    /// The prices of a relaxation, whose walks have this memory.
+    pub fn new(
+        alloc: Global,
+        relaxation: &'a Relaxation<'a>,
+        memory: Memory,
+    ) -> Result<Prices<'a>, NoMemory>
+        requires places { memory.places ≡ place_count relaxation.now.problem }
         ensures { IfOk result (λ prices. prices ≡ relaxation.now) }
     {
-        let tables = Tables::over_all(alloc, relaxation.relaxed())?;
+        let tables = MemoryTables::new(alloc, relaxation.relaxed(), memory)?;
         Ok(Prices { relaxation, tables })
     }
 
@@ -62,7 +69,7 @@ impl<'a> Prices<'a> {
         let Some(limit) = self.relaxation.limit(cost) else {
             return true;
         };
-        match self.tables.q_bound(at, paid.load, paid.rest) {
+        match self.tables.bound(at, paid.load, paid.rest) {
             Some(more) => limit < paid.cost + more,
             None => true,
         }

@@ -18,6 +18,7 @@ use std::alloc::Global;
 use std::process::Abort;
 use std::test::Fail;
 use vrp_bound::Tables;
+use vrp_memory::Memory;
 use vrp_model::{Instance, MAX_NODES, NO_COST, NoMemory, Plan};
 use vrp_prices::Relaxation;
 
@@ -156,6 +157,7 @@ fn search_piece(
     requires budget { 1 ≤ budget }
 {
     let tables = Tables::over_all(alloc, instance)?;
-    let prices = Prices::new(alloc, relaxation)?;
+    let memory = Memory::nearest(alloc, instance, 2)?;
+    let prices = Prices::new(alloc, relaxation, memory)?;
     search_by_prices(alloc, instance, &tables, &prices, piece, budget, board)
 }
