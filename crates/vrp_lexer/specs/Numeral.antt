@@ -7,8 +7,8 @@ use Rattle.std.specs.Char.{is_ascii_digit}
 use Rattle.std.specs.Str.Parse.{digits_value}
 use Rattle.std.specs.Int.Signed.{le_z}
 use Rattle.vrp_lexer.specs.Bytes.{skip_while}
-use Rattle.vrp_lexer.specs.declared.fault.LineFault.{LineFault}
-use Rattle.vrp_lexer.specs.declared.fault.LineFault.TheVariants.{BadNumber, NotWhole}
+use Rattle.vrp_lexer.specs.declared.fault.FaultyLine.{FaultyLine}
+use Rattle.vrp_lexer.specs.declared.fault.FaultyLine.TheVariants.{BadNumber, NotWhole}
 use Rattle.vrp_lexer.specs.declared.limits.TheConstants.{MAX_DIGITS, MAX_POWER, MAX_POWER_DIGITS}
 
 abbrev pub is_minus : List ℕ → Bool
@@ -74,14 +74,14 @@ whole_value numeral =
     let unit = 10 ^ (numeral.places + numeral.power.down) in
     if size % unit == 0 then Some (signed numeral.negative (size / unit)) else None
 
-abbrev pub in_range : ℤ → ℤ → Option ℤ → Result ℤ LineFault
+abbrev pub in_range : ℤ → ℤ → Option ℤ → Result ℤ FaultyLine
 in_range low high None = Err NotWhole
 in_range low high (Some value) = if le_z low value && le_z value high then Ok value else Err BadNumber
 
-abbrev pub value_in_range : ℤ → ℤ → Option Numeral → Result ℤ LineFault
+abbrev pub value_in_range : ℤ → ℤ → Option Numeral → Result ℤ FaultyLine
 value_in_range low high None = Err BadNumber
 value_in_range low high (Some numeral) = in_range low high (whole_value numeral)
 
 -- the whole number of a range that a token writes
-abbrev pub number_of : ℤ → ℤ → List ℕ → Result ℤ LineFault
+abbrev pub number_of : ℤ → ℤ → List ℕ → Result ℤ FaultyLine
 number_of low high token = value_in_range low high (numeral_of token)

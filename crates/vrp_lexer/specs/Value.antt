@@ -5,8 +5,8 @@ use Rattle.std.specs.Map.{lookup}
 use Rattle.std.specs.Str.{bytes_eq}
 use Rattle.vrp_model.specs.declared.metric.Metric.TheVariants as metric
 use Rattle.vrp_model.specs.declared.layout.Layout.TheVariants as layout
-use Rattle.vrp_lexer.specs.declared.fault.LineFault.{LineFault}
-use Rattle.vrp_lexer.specs.declared.fault.LineFault.TheVariants.{BadValue, Unsupported}
+use Rattle.vrp_lexer.specs.declared.fault.FaultyLine.{FaultyLine}
+use Rattle.vrp_lexer.specs.declared.fault.FaultyLine.TheVariants.{BadValue, Unsupported}
 use Rattle.vrp_lexer.specs.declared.value.WeightKind.{WeightKind}
 use Rattle.vrp_lexer.specs.declared.value.WeightKind.TheVariants as kind
 use Rattle.vrp_lexer.specs.declared.value.WeightFormat.{WeightFormat}
@@ -19,10 +19,10 @@ abbrev pub value_of : List (List ℕ) → List ℕ
 value_of tokens = slice_index_or tokens 0 []
 
 -- A word that the standard has and this project leaves out is not supported; any other is a bad value.
-abbrev pub refused_word : List (List ℕ) → List ℕ → LineFault
+abbrev pub refused_word : List (List ℕ) → List ℕ → FaultyLine
 refused_word left_out word = if list_any (bytes_eq word) left_out then Unsupported else BadValue
 
-abbrev pub word_or_fault : {X : Type 0} → LineFault → Option X → Result X LineFault
+abbrev pub word_or_fault : {X : Type 0} → FaultyLine → Option X → Result X FaultyLine
 word_or_fault fault None = Err fault
 word_or_fault fault (Some x) = Ok x
 
@@ -33,7 +33,7 @@ problem_types = (codes "CVRP", tt) ∷ []
 abbrev pub other_problem_types : List (List ℕ)
 other_problem_types = codes "TSP" ∷ codes "ATSP" ∷ codes "SOP" ∷ codes "HCP" ∷ codes "TOUR" ∷ []
 
-abbrev pub problem_type : List ℕ → Result (Unit {0}) LineFault
+abbrev pub problem_type : List ℕ → Result (Unit {0}) FaultyLine
 problem_type word = word_or_fault (refused_word other_problem_types word) (lookup (bytes_eq word) problem_types)
 
 -- what EDGE_WEIGHT_TYPE states
@@ -51,7 +51,7 @@ abbrev pub other_weight_kinds : List (List ℕ)
 other_weight_kinds =
     codes "EUC_3D" ∷ codes "MAX_3D" ∷ codes "MAN_3D" ∷ codes "GEO" ∷ codes "XRAY1" ∷ codes "XRAY2" ∷ codes "SPECIAL" ∷ []
 
-abbrev pub weight_kind : List ℕ → Result WeightKind LineFault
+abbrev pub weight_kind : List ℕ → Result WeightKind FaultyLine
 weight_kind word = word_or_fault (refused_word other_weight_kinds word) (lookup (bytes_eq word) weight_kinds)
 
 -- what EDGE_WEIGHT_FORMAT states
@@ -70,28 +70,28 @@ weight_formats =
     ∷ []
 
 -- An explicit file has a matrix, and no function gives its weights.
-abbrev pub fitting_format : Bool → WeightFormat → Result WeightFormat LineFault
+abbrev pub fitting_format : Bool → WeightFormat → Result WeightFormat FaultyLine
 fitting_format explicit format.Function = if explicit then Err BadValue else Ok format.Function
 fitting_format explicit (format.Matrix layout) = Ok (format.Matrix layout)
 
-abbrev pub format_or_fault : Bool → Option WeightFormat → Result WeightFormat LineFault
+abbrev pub format_or_fault : Bool → Option WeightFormat → Result WeightFormat FaultyLine
 format_or_fault explicit None = Err BadValue
 format_or_fault explicit (Some format) = fitting_format explicit format
 
-abbrev pub weight_format : Bool → List ℕ → Result WeightFormat LineFault
+abbrev pub weight_format : Bool → List ℕ → Result WeightFormat FaultyLine
 weight_format explicit word = format_or_fault explicit (lookup (bytes_eq word) weight_formats)
 
 -- a number that a keyword states, which is never below 0; whatever is wrong with it, it is a bad value
-abbrev pub stated_number : Result ℤ LineFault → Result ℕ LineFault
+abbrev pub stated_number : Result ℤ FaultyLine → Result ℕ FaultyLine
 stated_number (Ok value) = Ok (unsigned_abs value)
 stated_number (Err fault) = Err BadValue
 
-abbrev pub dimension : List ℕ → Result ℕ LineFault
+abbrev pub dimension : List ℕ → Result ℕ FaultyLine
 dimension word = stated_number (number_of (pos 1) (pos MAX_NODES) word)
 
-abbrev pub capacity : List ℕ → Result ℕ LineFault
+abbrev pub capacity : List ℕ → Result ℕ FaultyLine
 capacity word = stated_number (number_of (pos 1) (pos MAX_CAPACITY) word)
 
 -- behind a section's keyword nothing stands
-abbrev pub no_value : List (List ℕ) → Result (Unit {0}) LineFault
+abbrev pub no_value : List (List ℕ) → Result (Unit {0}) FaultyLine
 no_value tokens = if nat_lt 0 (length tokens) then Err BadValue else Ok tt

@@ -2,7 +2,7 @@
 
 /// What is wrong with a line.
 #[derive(Clone, Copy, Debug, PartialEq, Eq)]
-pub enum LineFault {
+pub enum FaultyLine {
     /// It has data, and stands where no section is.
     DataOutside,
     /// The standard doesn't have its keyword.

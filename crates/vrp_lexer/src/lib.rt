@@ -10,7 +10,7 @@ mod numeral;
 mod tokens;
 mod value;
 
-pub use fault::LineFault;
+pub use fault::FaultyLine;
 pub use key::Key;
 pub use keyword::Keyword;
 pub use limits::{MAX_BYTES, MAX_DEMAND, MAX_DIGITS, MAX_NODE, MAX_POWER, MAX_POWER_DIGITS};

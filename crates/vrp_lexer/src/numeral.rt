@@ -7,7 +7,7 @@ ghost use Rattle.vrp_lexer.specs.Bytes.{skip_while};
 ghost use Rattle.vrp_lexer.specs.Numeral.{number_of, in_range, is_minus, without_sign, numeral_of, numeral_with, power_of, power_of_digits};
 ghost use Rattle.vrp_lexer.specs.Inner.KeptNumeral.{IsSmallPower, IsSmallNumeral, written_power, read_numeral, read_value};
 
-use crate::fault::LineFault;
+use crate::fault::FaultyLine;
 use crate::limits::{MAX_DIGITS, MAX_POWER, MAX_POWER_DIGITS};
 
 // The most bytes that a numeral has: a sign, digits, a point, a letter, a sign and the digits of a power.
@@ -183,27 +183,27 @@ fn whole_value(numeral: Numeral) -> Option<i128>
 }
 
 // The value, where it is from `low` to `high`.
-fn in_range(low: i64, high: i64, value: i128) -> Result<i64, LineFault>
+fn in_range(low: i64, high: i64, value: i128) -> Result<i64, FaultyLine>
     ensures value { result ≡ in_range low high (Some value) }
     ensures in_range { IfOk result (λ number. (low ≤ℤ number) × (number ≤ℤ high)) }
 {
     if i128::from(low) <= value && value <= i128::from(high) {
         Ok(value as i64)
     } else {
-        Err(LineFault::BadNumber)
+        Err(FaultyLine::BadNumber)
     }
 }
 
 /// The whole number from `low` to `high` that a token writes.
-pub fn number(token: &[u8], low: i64, high: i64) -> Result<i64, LineFault>
+pub fn number(token: &[u8], low: i64, high: i64) -> Result<i64, FaultyLine>
     ensures value { result ≡ number_of low high token.now }
     ensures in_range { IfOk result (λ number. (low ≤ℤ number) × (number ≤ℤ high)) }
 {
     let Some(numeral) = numeral_of(token) else {
-        return Err(LineFault::BadNumber);
+        return Err(FaultyLine::BadNumber);
     };
     let Some(value) = whole_value(numeral) else {
-        return Err(LineFault::NotWhole);
+        return Err(FaultyLine::NotWhole);
     };
     in_range(low, high, value)
 }
@@ -213,7 +213,7 @@ mod tests {
     use super::*;
     use std::test::*;
 
-    const NUMERALS: [(&str, Result<i64, LineFault>); 28] = [
+    const NUMERALS: [(&str, Result<i64, FaultyLine>); 28] = [
         ("67", Ok(67)),
         ("+67", Ok(67)),
         ("-67", Ok(-67)),
@@ -233,15 +233,15 @@ mod tests {
         ("9.2e18", Ok(9_200_000_000_000_000_000)),
         ("100000000000000000e-17", Ok(1)),
         ("-1.23456789012345678E+0017", Ok(-123_456_789_012_345_678)),
-        (".5", Err(LineFault::NotWhole)),
-        ("3.5", Err(LineFault::NotWhole)),
-        ("-3.5", Err(LineFault::NotWhole)),
-        ("1e-1", Err(LineFault::NotWhole)),
-        (".000000000000000001e-18", Err(LineFault::NotWhole)),
-        ("100000000000000000e-18", Err(LineFault::NotWhole)),
-        ("9.3e18", Err(LineFault::BadNumber)),
-        ("-9.3e18", Err(LineFault::BadNumber)),
-        ("999999999999999999e18", Err(LineFault::BadNumber)),
+        (".5", Err(FaultyLine::NotWhole)),
+        ("3.5", Err(FaultyLine::NotWhole)),
+        ("-3.5", Err(FaultyLine::NotWhole)),
+        ("1e-1", Err(FaultyLine::NotWhole)),
+        (".000000000000000001e-18", Err(FaultyLine::NotWhole)),
+        ("100000000000000000e-18", Err(FaultyLine::NotWhole)),
+        ("9.3e18", Err(FaultyLine::BadNumber)),
+        ("-9.3e18", Err(FaultyLine::BadNumber)),
+        ("999999999999999999e18", Err(FaultyLine::BadNumber)),
     ];
 
     #[test]
@@ -289,21 +289,21 @@ mod tests {
     fn no_numerals(rt: HostRuntime) {
         for token in NO_NUMERALS {
             let answer = number(token.as_bytes(), i64::MIN, i64::MAX);
-            assert_eq!(rt; answer, Err(LineFault::BadNumber), "at {token}");
+            assert_eq!(rt; answer, Err(FaultyLine::BadNumber), "at {token}");
         }
     }
 
-    const RANGES: [(i64, i64, &str, Result<i64, LineFault>); 10] = [
+    const RANGES: [(i64, i64, &str, Result<i64, FaultyLine>); 10] = [
         (0, 10, "0", Ok(0)),
         (0, 10, "1e1", Ok(10)),
-        (0, 10, "11", Err(LineFault::BadNumber)),
-        (0, 10, "-1", Err(LineFault::BadNumber)),
-        (0, 10, "10.5", Err(LineFault::NotWhole)),
+        (0, 10, "11", Err(FaultyLine::BadNumber)),
+        (0, 10, "-1", Err(FaultyLine::BadNumber)),
+        (0, 10, "10.5", Err(FaultyLine::NotWhole)),
         (-3, -2, "-3", Ok(-3)),
         (-3, -2, "-2.0", Ok(-2)),
-        (-3, -2, "-1", Err(LineFault::BadNumber)),
-        (-3, -2, "2", Err(LineFault::BadNumber)),
-        (5, 4, "5", Err(LineFault::BadNumber)),
+        (-3, -2, "-1", Err(FaultyLine::BadNumber)),
+        (-3, -2, "2", Err(FaultyLine::BadNumber)),
+        (5, 4, "5", Err(FaultyLine::BadNumber)),
     ];
 
     #[test]

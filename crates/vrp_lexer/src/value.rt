@@ -5,7 +5,7 @@ ghost use Rattle.std.specs.Map.{lookup};
 ghost use Rattle.std.specs.Str.{bytes_eq};
 ghost use Rattle.vrp_lexer.specs.Value.{problem_type, dimension, capacity, weight_kind, other_weight_kinds, weight_format, weight_formats};
 
-use crate::fault::LineFault;
+use crate::fault::FaultyLine;
 use crate::numeral::number;
 use vrp_model::{Layout, MAX_CAPACITY, MAX_NODES, Metric};
 
@@ -28,35 +28,35 @@ pub enum WeightFormat {
 }
 
 /// Whether a file of the type `word` is read: of CVRP alone.
-pub fn problem_type(word: &[u8]) -> Result<(), LineFault>
+pub fn problem_type(word: &[u8]) -> Result<(), FaultyLine>
     ensures { result ≡ problem_type word.now }
 {
     match word {
         b"CVRP" => Ok(()),
-        b"TSP" | b"ATSP" | b"SOP" | b"HCP" | b"TOUR" => Err(LineFault::Unsupported),
-        _ => Err(LineFault::BadValue),
+        b"TSP" | b"ATSP" | b"SOP" | b"HCP" | b"TOUR" => Err(FaultyLine::Unsupported),
+        _ => Err(FaultyLine::BadValue),
     }
 }
 
 /// The number of nodes that `word` states.
-pub fn dimension(word: &[u8]) -> Result<u16, LineFault>
+pub fn dimension(word: &[u8]) -> Result<u16, FaultyLine>
     ensures value { result ≡ dimension word.now }
     ensures in_range { IfOk result (λ nodes. (1 ≤ nodes) × (nodes ≤ MAX_NODES)) }
 {
     match number(word, 1, i64::from(MAX_NODES)) {
         Ok(nodes) => Ok(nodes as u16),
-        Err(_) => Err(LineFault::BadValue),
+        Err(_) => Err(FaultyLine::BadValue),
     }
 }
 
 /// The capacity that `word` states.
-pub fn capacity(word: &[u8]) -> Result<u64, LineFault>
+pub fn capacity(word: &[u8]) -> Result<u64, FaultyLine>
     ensures value { result ≡ capacity word.now }
     ensures in_range { IfOk result (λ load. (1 ≤ load) × (load ≤ MAX_CAPACITY)) }
 {
     match number(word, 1, MAX_CAPACITY as i64) {
         Ok(load) => Ok(load as u64),
-        Err(_) => Err(LineFault::BadValue),
+        Err(_) => Err(FaultyLine::BadValue),
     }
 }
 
@@ -74,7 +74,7 @@ fn is_other_weight_kind(word: &[u8]) -> bool
 }
 
 /// Where a file says by `word` that its weights come from.
-pub fn weight_kind(word: &[u8]) -> Result<WeightKind, LineFault>
+pub fn weight_kind(word: &[u8]) -> Result<WeightKind, FaultyLine>
     ensures { result ≡ weight_kind word.now }
 {
     if word == b"EXPLICIT".as_slice() {
@@ -90,9 +90,9 @@ pub fn weight_kind(word: &[u8]) -> Result<WeightKind, LineFault>
     } else if word == b"ATT".as_slice() {
         Ok(WeightKind::Points(Metric::Att))
     } else if is_other_weight_kind(word) {
-        Err(LineFault::Unsupported)
+        Err(FaultyLine::Unsupported)
     } else {
-        Err(LineFault::BadValue)
+        Err(FaultyLine::BadValue)
     }
 }
 
@@ -126,13 +126,13 @@ fn named_format(word: &[u8]) -> Option<WeightFormat>
 }
 
 /// How a file says by `word` that its weights are given; in an explicit file no function gives them.
-pub fn weight_format(explicit: bool, word: &[u8]) -> Result<WeightFormat, LineFault>
+pub fn weight_format(explicit: bool, word: &[u8]) -> Result<WeightFormat, FaultyLine>
     ensures { result ≡ weight_format explicit word.now }
 {
     match named_format(word) {
-        Some(WeightFormat::Function) if explicit => Err(LineFault::BadValue),
+        Some(WeightFormat::Function) if explicit => Err(FaultyLine::BadValue),
         Some(format) => Ok(format),
-        None => Err(LineFault::BadValue),
+        None => Err(FaultyLine::BadValue),
     }
 }
 
@@ -141,17 +141,17 @@ mod tests {
     use super::*;
     use std::test::*;
 
-    const PROBLEM_TYPES: [(&str, Result<(), LineFault>); 10] = [
+    const PROBLEM_TYPES: [(&str, Result<(), FaultyLine>); 10] = [
         ("CVRP", Ok(())),
-        ("TSP", Err(LineFault::Unsupported)),
-        ("ATSP", Err(LineFault::Unsupported)),
-        ("SOP", Err(LineFault::Unsupported)),
-        ("HCP", Err(LineFault::Unsupported)),
-        ("TOUR", Err(LineFault::Unsupported)),
-        ("", Err(LineFault::BadValue)),
-        ("cvrp", Err(LineFault::BadValue)),
-        ("CVRPTW", Err(LineFault::BadValue)),
-        ("VRP", Err(LineFault::BadValue)),
+        ("TSP", Err(FaultyLine::Unsupported)),
+        ("ATSP", Err(FaultyLine::Unsupported)),
+        ("SOP", Err(FaultyLine::Unsupported)),
+        ("HCP", Err(FaultyLine::Unsupported)),
+        ("TOUR", Err(FaultyLine::Unsupported)),
+        ("", Err(FaultyLine::BadValue)),
+        ("cvrp", Err(FaultyLine::BadValue)),
+        ("CVRPTW", Err(FaultyLine::BadValue)),
+        ("VRP", Err(FaultyLine::BadValue)),
     ];
 
     #[test]
@@ -169,7 +169,7 @@ mod tests {
         for word in ["", "0", "-1", "2.5", "1201", "65537", "two"] {
             assert_eq!(rt;
                 dimension(word.as_bytes()),
-                Err(LineFault::BadValue),
+                Err(FaultyLine::BadValue),
                 "at {word}"
             );
         }
@@ -183,7 +183,7 @@ mod tests {
         for word in ["", "0", "-1", "2.5", "1000000001", "two"] {
             assert_eq!(rt;
                 capacity(word.as_bytes()),
-                Err(LineFault::BadValue),
+                Err(FaultyLine::BadValue),
                 "at {word}"
             );
         }
@@ -208,14 +208,14 @@ mod tests {
         ] {
             assert_eq!(rt;
                 weight_kind(word.as_bytes()),
-                Err(LineFault::Unsupported),
+                Err(FaultyLine::Unsupported),
                 "at {word}"
             );
         }
         for word in ["", "euc_2d", "EUC", "EUC_2D_", "EUC_4D", "XRAY3"] {
             assert_eq!(rt;
                 weight_kind(word.as_bytes()),
-                Err(LineFault::BadValue),
+                Err(FaultyLine::BadValue),
                 "at {word}"
             );
         }
@@ -241,7 +241,7 @@ mod tests {
                 assert_eq!(rt; weight_format(explicit, word.as_bytes()), want, "at {word}");
             }
         }
-        let bad = Err(LineFault::BadValue);
+        let bad = Err(FaultyLine::BadValue);
         assert_eq!(rt;
             weight_format(false, b"FUNCTION"),
             Ok(WeightFormat::Function)

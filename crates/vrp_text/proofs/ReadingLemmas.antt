@@ -15,8 +15,8 @@ use Rattle.vrp_text.proofs.SectionLemmas.{both_none, on_line_none}
 use Rattle.vrp_lexer.specs.declared.key.Key.{Key}
 use Rattle.vrp_lexer.specs.declared.key.Key.TheVariants as key
 use Rattle.vrp_text.specs.declared.error.TextError.{TextError}
-use Rattle.vrp_lexer.specs.declared.fault.LineFault.{LineFault}
-use Rattle.vrp_lexer.specs.declared.fault.LineFault.TheVariants.{Repeated}
+use Rattle.vrp_lexer.specs.declared.fault.FaultyLine.{FaultyLine}
+use Rattle.vrp_lexer.specs.declared.fault.FaultyLine.TheVariants.{Repeated}
 use Rattle.vrp_lexer.specs.declared.keyword.Keyword.{Keyword}
 use Rattle.vrp_lexer.specs.declared.keyword.Keyword.TheVariants as keyword
 
@@ -51,7 +51,7 @@ or_false : (a : Bool) → (a || false) ≡ a
 or_false true = refl
 or_false false = refl
 
-untrue : (borne : Bool) (fault : Option LineFault) → cond borne (Some Repeated) fault ≡ None → borne ≡ false
+untrue : (borne : Bool) (fault : Option FaultyLine) → cond borne (Some Repeated) fault ≡ None → borne ≡ false
 untrue true fault e = absurd cc
 untrue false fault e = refl
 

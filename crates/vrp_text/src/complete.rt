@@ -1,6 +1,7 @@
 //! A file in which nothing is missing, and whether its sections have the numbers that they need.
-ghost use Rattle.std.specs.Prelude.{◌≡◌, ◌≤◌, IfOk, IfErr, Some, None};
+ghost use Rattle.std.specs.Prelude.{◌≡◌, ◌≤◌, OnOk, None};
 ghost use Rattle.vrp_text.specs.Complete.{count_fault, listed_depots};
+ghost use Rattle.vrp_text.specs.Inner.Answered.{FailsWith};
 ghost use Rattle.vrp_text.specs.Inner.InMemory.{complete_in};
 
 use crate::error::TextError;
@@ -35,8 +36,8 @@ impl Complete {
     /// Whether each section has as many numbers as it needs: the first in the order of `Key` that has not is refused.
     pub(crate) fn check_counts(&self) -> Result<(), TextError>
         requires { self.now.nodes ≤ MAX_NODES }
-        ensures sound { IfOk result (λ _. count_fault (complete_in self.now) ≡ None) }
-        ensures refused { IfErr result (λ error. count_fault (complete_in self.now) ≡ Some error) }
+        ensures sound { OnOk result (count_fault (complete_in self.now) ≡ None) }
+        ensures refused { FailsWith result (count_fault (complete_in self.now)) }
     {
         let nodes = usize::from(self.nodes);
         match &self.source {

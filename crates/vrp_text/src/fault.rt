@@ -3,19 +3,19 @@ ghost use Rattle.std.specs.Prelude.{◌≡◌};
 ghost use Rattle.vrp_text.specs.Section.{at_line};
 
 use crate::error::TextError;
-use vrp_lexer::LineFault;
+use vrp_lexer::FaultyLine;
 
 /// The fault on the line of this number.
-pub(crate) fn at_line(line: u32, fault: LineFault) -> TextError
+pub(crate) fn at_line(line: u32, fault: FaultyLine) -> TextError
     ensures { result ≡ at_line line fault }
 {
     match fault {
-        LineFault::DataOutside => TextError::DataOutside(line),
-        LineFault::UnknownKeyword => TextError::UnknownKeyword(line),
-        LineFault::Repeated => TextError::Repeated(line),
-        LineFault::BadValue => TextError::BadValue(line),
-        LineFault::Unsupported => TextError::Unsupported(line),
-        LineFault::BadNumber => TextError::BadNumber(line),
-        LineFault::NotWhole => TextError::NotWhole(line),
+        FaultyLine::DataOutside => TextError::DataOutside(line),
+        FaultyLine::UnknownKeyword => TextError::UnknownKeyword(line),
+        FaultyLine::Repeated => TextError::Repeated(line),
+        FaultyLine::BadValue => TextError::BadValue(line),
+        FaultyLine::Unsupported => TextError::Unsupported(line),
+        FaultyLine::BadNumber => TextError::BadNumber(line),
+        FaultyLine::NotWhole => TextError::NotWhole(line),
     }
 }

@@ -1,8 +1,9 @@
 //! From the bytes of a file to the instance that they mean.
-ghost use Rattle.std.specs.Prelude.{◌≡◌, ◌≤◌, Ok, Err, Some, None, IfOk, IfErr};
+ghost use Rattle.std.specs.Prelude.{◌≡◌, ◌≤◌, Err, None, IfOk, IfErr, OnOk};
 ghost use Rattle.vrp_text.specs.Complete.{complete_of, count_fault, nodes_fault, source_count_fault, source_node_fault};
-ghost use Rattle.vrp_text.specs.Meaning.{HasWeights, MeansProblem, MeansRefusal, checked, or_fault, reading_of};
-ghost use Rattle.vrp_text.specs.Inner.InMemory.{complete_in, source_in};
+ghost use Rattle.vrp_text.specs.Meaning.{HasWeights, MeansProblem, MeansRefusal, checked, reading_of};
+ghost use Rattle.vrp_text.specs.Inner.InMemory.{complete_in, nodes_checked, source_in};
+ghost use Rattle.vrp_text.specs.Inner.Answered.{RefusesFor};
 ghost use Rattle.vrp_text.specs.Inner.StatedSoFar.{IsInRange, IsSourceInRange};
 ghost use Rattle.vrp_text.specs.Inner.Outcome.{StatesProblem, IsStatedRefusal};
 ghost use Rattle.vrp_text.specs.Refusal.{Refuses};
@@ -29,9 +30,9 @@ pub fn read(alloc: Global, bytes: &[u8], chosen: Option<u16>) -> Result<Instance
 
 // What a file states, where no line is at fault, nothing is missing and the counts are right.
 fn read_complete(alloc: Global, bytes: &[u8]) -> Result<Complete, TextError>
-    ensures read { IfOk result (λ complete. reading_of bytes.now ≡ or_fault (nodes_fault (complete_in complete)) (Ok (complete_in complete))) }
-    ensures counted { IfOk result (λ complete. count_fault (complete_in complete) ≡ None) }
-    ensures in_range { IfOk result (λ complete. IsInRange (complete_in complete)) }
+    ensures read { IfOk result (λ file. reading_of bytes.now ≡ nodes_checked file) }
+    ensures counted { IfOk result (λ file. count_fault (complete_in file) ≡ None) }
+    ensures in_range { IfOk result (λ file. IsInRange (complete_in file)) }
     ensures refused { Refuses result (λ error. reading_of bytes.now ≡ Err error) }
 {
     counted(read_statements(alloc, bytes)?)
@@ -40,9 +41,9 @@ fn read_complete(alloc: Global, bytes: &[u8]) -> Result<Complete, TextError>
 // What is stated, where nothing is missing and the counts are right. With no allocator, so that no refusal is answered as
 // want of memory.
 fn counted(statements: Statements) -> Result<Complete, TextError>
-    ensures read { IfOk result (λ complete. checked (complete_of statements) ≡ or_fault (nodes_fault (complete_in complete)) (Ok (complete_in complete))) }
-    ensures counted { IfOk result (λ complete. count_fault (complete_in complete) ≡ None) }
-    ensures in_range { IfOk result (λ complete. IsInRange (complete_in complete)) }
+    ensures read { IfOk result (λ file. checked (complete_of statements) ≡ nodes_checked file) }
+    ensures counted { IfOk result (λ file. count_fault (complete_in file) ≡ None) }
+    ensures in_range { IfOk result (λ file. IsInRange (complete_in file)) }
     ensures refused { IfErr result (λ error. checked (complete_of statements) ≡ Err error) }
 {
     let complete = statements.complete()?;
@@ -58,9 +59,9 @@ fn instance_of(
 ) -> Result<Instance, TextError>
     requires counted { count_fault (complete_in complete.now) ≡ None }
     requires in_range { IsInRange (complete_in complete.now) }
-    ensures sound { IfOk result (λ _. nodes_fault (complete_in complete.now) ≡ None) }
+    ensures sound { OnOk result (nodes_fault (complete_in complete.now) ≡ None) }
     ensures meant { IfOk result (StatesProblem (complete_in complete.now) chosen) }
-    ensures refused { Refuses result (λ error. IsStatedRefusal (complete_in complete.now) chosen error) }
+    ensures refused { Refuses result (IsStatedRefusal (complete_in complete.now) chosen) }
 {
     let weights = weights_of(alloc, complete.nodes, &complete.source)?;
     let demands = demands_of(alloc, complete.nodes, &complete.demands)?;
@@ -74,10 +75,10 @@ fn weights_of(alloc: Global, nodes: u16, source: &Source) -> Result<Weights, Tex
     requires few { nodes ≤ MAX_NODES }
     requires count { source_count_fault nodes (source_in source.now) ≡ None }
     requires within { IsSourceInRange (source_in source.now) }
-    ensures sound { IfOk result (λ _. source_node_fault nodes (source_in source.now) ≡ None) }
+    ensures sound { OnOk result (source_node_fault nodes (source_in source.now) ≡ None) }
     ensures nodes { IfOk result (λ grid. grid.nodes ≡ nodes) }
     ensures weights { IfOk result (HasWeights nodes (source_in source.now)) }
-    ensures refused { Refuses result (λ error. source_node_fault nodes (source_in source.now) ≡ Some error) }
+    ensures refused { RefusesFor result (source_node_fault nodes (source_in source.now)) }
 {
     match source {
         Source::Points(metric, numbers) => {

@@ -24,9 +24,9 @@ impl Model for Keys {
 }
 
 impl Keys {
-    ghost use Rattle.std.specs.Prelude.{◌≡◌, ◌||◌, ◌==◌, false, not};
+    ghost use Rattle.std.specs.Prelude.{◌≡◌, false, not};
     ghost use Rattle.vrp_lexer.specs.Keyword.{rank};
-    ghost use Rattle.vrp_text.specs.Inner.MarkedKeys.{is_marked};
+    ghost use Rattle.vrp_text.specs.Inner.MarkedKeys.{AddsKey, is_marked};
     ghost use Rattle.vrp_lexer.specs.declared.key.Key.{Key};
 
     /// No key.
@@ -41,7 +41,7 @@ impl Keys {
     /// Takes a key in, and tells whether it was not in yet.
     pub(crate) fn insert(&mut self, key: Key) -> bool
         ensures fresh { result ≡ not (is_marked self.old key) }
-        ensures marked { (other : Key) → is_marked self.new other ≡ (is_marked self.old other || rank other == rank key) }
+        ensures marked { AddsKey self.old key self.new }
     {
         let place = rank(key);
         let was_in = self.marks[place];

@@ -1,12 +1,12 @@
 //! The sections that have a row for each node, and the depots: numbers become nodes.
-ghost use Rattle.std.specs.Prelude.{◌≡◌, ◌+◌, ◌*◌, ◌≤◌, ◌<◌, ℕ, pos, true, false, unsigned_abs, map, length, get_or, set, replicate, slice_index, IfOk, IfErr, Some, None, MatchOption, []};
+ghost use Rattle.std.specs.Prelude.{◌≡◌, ◌+◌, ◌*◌, ◌≤◌, ◌<◌, pos, true, false, unsigned_abs, map, length, replicate, IfOk, IfErr, OnOk, OnErr, None, MatchOption, []};
 ghost use Rattle.std.specs.List.{All};
-ghost use Rattle.vrp_model.specs.Grid.{IsCoordinate};
-ghost use Rattle.vrp_text.specs.Complete.{bad_node, demands_of, is_node, no_node, node_fault, points_of, row_nodes};
-ghost use Rattle.vrp_text.specs.Inner.PlacedRows.{IsGivenOrNone};
+ghost use Rattle.vrp_text.specs.Complete.{bad_node, demands_of, is_node, no_node, points_of, row_nodes};
+ghost use Rattle.vrp_text.specs.Inner.PlacedRows.{IsGivenFirst, IsGivenOrNone};
+ghost use Rattle.vrp_text.specs.Inner.Answered.{FailsWith, RefusesFor};
+ghost use Rattle.vrp_text.specs.Inner.NodeFaults.{AreAtLeast, AreAtMost, IsPoint, coordinates_fault, demands_fault, depots_fault};
 ghost use Rattle.vrp_text.specs.Section.{AreWithin};
 ghost use Rattle.vrp_text.specs.declared.section.Section.TheVariants.{Coordinates};
-ghost use Rattle.vrp_text.specs.Refusal.{Refuses};
 
 use crate::error::TextError;
 use std::alloc::{AllocError, Global};
@@ -44,7 +44,7 @@ impl GivenNodes {
         requires few { length self.old ≤ MAX_NODES }
         ensures { MatchOption result
             ((self.new ≡ self.old) × (IsGivenOrNone self.old number))
-            (λ place. (place < length self.old) × (number ≡ pos (place + 1)) × (get_or self.old place false ≡ false) × (self.new ≡ set self.old place true)) }
+            (λ place. IsGivenFirst self.old number place self.new) }
     {
         if number < 1 || number > self.marks.len() as i64 {
             return None;
@@ -67,10 +67,10 @@ pub(crate) fn points_of(
     requires few { nodes ≤ MAX_NODES }
     requires rows { length numbers.now ≡ 3 * nodes }
     requires within { AreWithin Coordinates 0 numbers.now }
-    ensures sound { IfOk result (λ _. bad_node nodes [] (row_nodes 3 nodes numbers.now) ≡ None) }
+    ensures sound { OnOk result (bad_node nodes [] (row_nodes 3 nodes numbers.now) ≡ None) }
     ensures value { IfOk result (λ points. points.items ≡ points_of nodes numbers.now) }
-    ensures small { IfOk result (λ points. All (λ point. IsCoordinate point.0 × IsCoordinate point.1) points.items) }
-    ensures refused { Refuses result (λ error. node_fault Key.NodeCoord (bad_node nodes [] (row_nodes 3 nodes numbers.now)) ≡ Some error) }
+    ensures small { IfOk result (λ points. All IsPoint points.items) }
+    ensures refused { RefusesFor result (coordinates_fault nodes numbers.now) }
 {
     let mut given = GivenNodes::none(alloc, nodes)?;
     let mut points = vec![in alloc; (0i64, 0i64); usize::from(nodes)]?;
@@ -90,10 +90,10 @@ fn place_points(
     requires within { AreWithin Coordinates 0 numbers.now }
     requires none_given { given.old ≡ replicate nodes false }
     requires none_placed { points.old ≡ replicate nodes (pos 0, pos 0) }
-    ensures sound { IfOk result (λ _. bad_node nodes [] (row_nodes 3 nodes numbers.now) ≡ None) }
-    ensures value { IfOk result (λ _. points.new ≡ points_of nodes numbers.now) }
-    ensures small { IfOk result (λ _. All (λ point. IsCoordinate point.0 × IsCoordinate point.1) points.new) }
-    ensures refused { IfErr result (λ error. node_fault Key.NodeCoord (bad_node nodes [] (row_nodes 3 nodes numbers.now)) ≡ Some error) }
+    ensures sound { OnOk result (bad_node nodes [] (row_nodes 3 nodes numbers.now) ≡ None) }
+    ensures value { OnOk result (points.new ≡ points_of nodes numbers.now) }
+    ensures small { OnOk result (All IsPoint points.new) }
+    ensures refused { FailsWith result (coordinates_fault nodes numbers.now) }
 {
     for row in 0..usize::from(nodes) {
         let number = numbers[3 * row];
@@ -109,9 +109,9 @@ fn place_points(
 pub(crate) fn demands_of(alloc: Global, nodes: u16, numbers: &[i64]) -> Result<Vec<u64>, TextError>
     requires few { nodes ≤ MAX_NODES }
     requires rows { length numbers.now ≡ 2 * nodes }
-    ensures sound { IfOk result (λ _. bad_node nodes [] (row_nodes 2 nodes numbers.now) ≡ None) }
+    ensures sound { OnOk result (bad_node nodes [] (row_nodes 2 nodes numbers.now) ≡ None) }
     ensures value { IfOk result (λ demands. demands.items ≡ demands_of nodes numbers.now) }
-    ensures refused { Refuses result (λ error. node_fault Key.Demand (bad_node nodes [] (row_nodes 2 nodes numbers.now)) ≡ Some error) }
+    ensures refused { RefusesFor result (demands_fault nodes numbers.now) }
 {
     let mut given = GivenNodes::none(alloc, nodes)?;
     let mut demands = vec![in alloc; 0u64; usize::from(nodes)]?;
@@ -130,9 +130,9 @@ fn place_demands(
     requires rows { length numbers.now ≡ 2 * nodes }
     requires none_given { given.old ≡ replicate nodes false }
     requires none_placed { demands.old ≡ replicate nodes 0 }
-    ensures sound { IfOk result (λ _. bad_node nodes [] (row_nodes 2 nodes numbers.now) ≡ None) }
-    ensures value { IfOk result (λ _. demands.new ≡ demands_of nodes numbers.now) }
-    ensures refused { IfErr result (λ error. node_fault Key.Demand (bad_node nodes [] (row_nodes 2 nodes numbers.now)) ≡ Some error) }
+    ensures sound { OnOk result (bad_node nodes [] (row_nodes 2 nodes numbers.now) ≡ None) }
+    ensures value { OnOk result (demands.new ≡ demands_of nodes numbers.now) }
+    ensures refused { FailsWith result (demands_fault nodes numbers.now) }
 {
     for row in 0..usize::from(nodes) {
         let number = numbers[2 * row];
@@ -146,11 +146,11 @@ fn place_demands(
 
 /// The nodes of the depots.
 pub(crate) fn depots_of(alloc: Global, nodes: u16, numbers: &[i64]) -> Result<Vec<u16>, TextError>
-    ensures sound { IfOk result (λ _. no_node nodes numbers.now ≡ None) }
+    ensures sound { OnOk result (no_node nodes numbers.now ≡ None) }
     ensures value { IfOk result (λ depots. depots.items ≡ map unsigned_abs numbers.now) }
-    ensures from_one { IfOk result (λ depots. (k : ℕ) → k < length depots.items → 1 ≤ slice_index depots.items k) }
-    ensures within { IfOk result (λ depots. (k : ℕ) → k < length depots.items → slice_index depots.items k ≤ nodes) }
-    ensures refused { Refuses result (λ error. node_fault Key.Depot (no_node nodes numbers.now) ≡ Some error) }
+    ensures from_one { IfOk result (λ depots. AreAtLeast 1 depots.items) }
+    ensures within { IfOk result (λ depots. AreAtMost nodes depots.items) }
+    ensures refused { RefusesFor result (depots_fault nodes numbers.now) }
 {
     let mut depots = Vec::with_capacity(alloc, numbers.len())?;
     for number in numbers {
@@ -161,9 +161,11 @@ pub(crate) fn depots_of(alloc: Global, nodes: u16, numbers: &[i64]) -> Result<Ve
 
 // The node of one depot.
 fn depot_of(nodes: u16, number: i64) -> Result<u16, TextError>
-    ensures node { IfOk result (λ depot. (is_node nodes number ≡ true) × (depot ≡ unsigned_abs number)) }
+    ensures node { OnOk result (is_node nodes number ≡ true) }
+    ensures value { IfOk result (λ depot. depot ≡ unsigned_abs number) }
     ensures within { IfOk result (λ depot. (1 ≤ depot) × (depot ≤ nodes)) }
-    ensures refused { IfErr result (λ error. (is_node nodes number ≡ false) × (error ≡ TextError.BadNode Key.Depot number)) }
+    ensures no_node { OnErr result (is_node nodes number ≡ false) }
+    ensures refused { IfErr result (λ error. error ≡ TextError.BadNode Key.Depot number) }
 {
     if number < 1 || number > i64::from(nodes) {
         return Err(TextError::BadNode(Key::Depot, number));

@@ -1,14 +1,14 @@
 //! One pass over the lines of a file, each of which states something or is at fault.
-ghost use Rattle.std.specs.Prelude.{◌≡◌, ◌≤◌, ◌||◌, IfOk, IfErr, Err, Some, None, [], length};
-ghost use Rattle.vrp_text.specs.Inner.MarkedKeys.{is_marked};
+ghost use Rattle.std.specs.Prelude.{◌≡◌, ◌≤◌, IfOk, IfErr, OnOk, Err, None, [], length};
+ghost use Rattle.vrp_text.specs.Inner.Answered.{FailsWith, RefusesFor};
+ghost use Rattle.vrp_text.specs.Inner.MarkedKeys.{AddsKeyOf};
+ghost use Rattle.vrp_text.specs.Inner.OpenPart.{heading_error, heading_fault, keyword_line_fault, open_part_fault, with_heading, with_open_part};
 ghost use Rattle.vrp_lexer.specs.Line.{lines_of, tokens_of};
 ghost use Rattle.vrp_text.specs.Meaning.{all_stated, line_fault, reading_of};
 ghost use Rattle.vrp_lexer.specs.Part.{before_end};
-ghost use Rattle.vrp_text.specs.Section.{content_of, content_numbers, on_line};
-ghost use Rattle.vrp_text.specs.Stated.{is_explicit, is_same_key, keyword_fault, parts_fault, stated_by};
-ghost use Rattle.vrp_text.specs.Inner.StatedSoFar.{fault_of_part, with_part, with_keyword};
-ghost use Rattle.vrp_lexer.specs.Inner.LinesLeft.{parts_left, data_left};
-ghost use Rattle.vrp_lexer.specs.declared.key.Key.{Key};
+ghost use Rattle.vrp_text.specs.Stated.{is_explicit, parts_fault, stated_by};
+ghost use Rattle.vrp_text.specs.Inner.StatedSoFar.{with_keyword};
+ghost use Rattle.vrp_lexer.specs.Inner.LinesLeft.{parts_left};
 ghost use Rattle.vrp_text.specs.Refusal.{Refuses};
 
 use crate::error::TextError;
@@ -17,7 +17,7 @@ use crate::keys::Keys;
 use crate::section::{content_of, pass_no_data, read_content};
 use crate::statements::{Statements, no_value, value};
 use std::alloc::Global;
-use vrp_lexer::{Heading, Key, Keyword, LineFault, Lines, MAX_BYTES};
+use vrp_lexer::{FaultyLine, Heading, Key, Keyword, Lines, MAX_BYTES};
 
 // Whether the first EDGE_WEIGHT_TYPE of the lines is EXPLICIT.
 fn is_explicit(lines: &mut Lines<'_>) -> bool
@@ -38,21 +38,21 @@ fn read_keyword(
     behind: &[u8],
     keys: &mut Keys,
     statements: &mut Statements,
-) -> Result<(), LineFault>
-    ensures sound { IfOk result (λ _. keyword_fault explicit (is_marked keys.old) keyword (tokens_of behind.now) ≡ None) }
-    ensures marked { IfOk result (λ _. (key : Key) → is_marked keys.new key ≡ (is_marked keys.old key || is_same_key key keyword)) }
-    ensures read { IfOk result (λ _. statements.new ≡ with_keyword explicit keyword (tokens_of behind.now) statements.old) }
-    ensures refused { IfErr result (λ fault. keyword_fault explicit (is_marked keys.old) keyword (tokens_of behind.now) ≡ Some fault) }
+) -> Result<(), FaultyLine>
+    ensures sound { OnOk result (keyword_line_fault explicit keys.old keyword behind.now ≡ None) }
+    ensures marked { OnOk result (AddsKeyOf keys.old keyword keys.new) }
+    ensures read { OnOk result (statements.new ≡ with_keyword explicit keyword (tokens_of behind.now) statements.old) }
+    ensures refused { FailsWith result (keyword_line_fault explicit keys.old keyword behind.now) }
 {
     match keyword {
-        None => Err(LineFault::UnknownKeyword),
-        Some(Keyword::Unsupported) => Err(LineFault::Unsupported),
+        None => Err(FaultyLine::UnknownKeyword),
+        Some(Keyword::Unsupported) => Err(FaultyLine::Unsupported),
         Some(Keyword::Remark) => Ok(()),
         Some(Keyword::End) => Ok(()),
         Some(Keyword::Display) => no_value(behind),
         Some(Keyword::Key(key)) => {
             if !keys.insert(key) {
-                return Err(LineFault::Repeated);
+                return Err(FaultyLine::Repeated);
             }
             statements.read_value(explicit, key, behind)
         }
@@ -66,11 +66,10 @@ fn read_heading(
     keys: &mut Keys,
     statements: &mut Statements,
 ) -> Result<(), TextError>
-    ensures sound { IfOk result (λ _. keyword_fault explicit (is_marked keys.old) heading.now.keyword (tokens_of heading.now.behind.now) ≡ None) }
-    ensures marked { IfOk result (λ _. (key : Key) → is_marked keys.new key ≡ (is_marked keys.old key || is_same_key key heading.now.keyword)) }
-    ensures read { IfOk result (λ _. statements.new ≡ with_keyword explicit heading.now.keyword (tokens_of heading.now.behind.now) statements.old) }
-    ensures refused { IfErr result (λ error. on_line heading.now.number
-        (keyword_fault explicit (is_marked keys.old) heading.now.keyword (tokens_of heading.now.behind.now)) ≡ Some error) }
+    ensures sound { OnOk result (heading_fault explicit keys.old heading.now ≡ None) }
+    ensures marked { OnOk result (AddsKeyOf keys.old heading.now.keyword keys.new) }
+    ensures read { OnOk result (statements.new ≡ with_heading explicit heading.now statements.old) }
+    ensures refused { FailsWith result (heading_error explicit keys.old heading.now) }
 {
     match read_keyword(explicit, heading.keyword, heading.behind, keys, statements) {
         Ok(()) => Ok(()),
@@ -87,14 +86,11 @@ fn read_part(
     keys: &mut Keys,
     statements: &mut Statements,
 ) -> Result<(), TextError>
-    ensures sound { IfOk result (λ _. fault_of_part explicit (is_marked keys.old) heading.now.number heading.now.keyword
-        (tokens_of heading.now.behind.now) lines.old.number (data_left lines.old) ≡ None) }
-    ensures marked { IfOk result (λ _. (key : Key) → is_marked keys.new key ≡ (is_marked keys.old key || is_same_key key heading.now.keyword)) }
-    ensures read { IfOk result (λ _. statements.new ≡ with_part explicit heading.now.keyword (tokens_of heading.now.behind.now)
-        (content_numbers (content_of explicit heading.now.keyword) (data_left lines.old)) statements.old) }
-    ensures passed { IfOk result (λ _. parts_left lines.new ≡ parts_left lines.old) }
-    ensures refused { Refuses result (λ error. fault_of_part explicit (is_marked keys.old) heading.now.number heading.now.keyword
-        (tokens_of heading.now.behind.now) lines.old.number (data_left lines.old) ≡ Some error) }
+    ensures sound { OnOk result (open_part_fault explicit keys.old heading.now lines.old ≡ None) }
+    ensures marked { OnOk result (AddsKeyOf keys.old heading.now.keyword keys.new) }
+    ensures read { OnOk result (statements.new ≡ with_open_part explicit heading.now lines.old statements.old) }
+    ensures passed { OnOk result (parts_left lines.new ≡ parts_left lines.old) }
+    ensures refused { RefusesFor result (open_part_fault explicit keys.old heading.now lines.old) }
 {
     read_heading(explicit, heading, keys, statements)?;
     let numbers = read_content(alloc, lines, content_of(explicit, heading.keyword))?;
@@ -106,9 +102,9 @@ fn read_part(
 
 // Reads all parts that are left.
 fn read_parts(alloc: Global, explicit: bool, lines: &mut Lines<'_>) -> Result<Statements, TextError>
-    ensures sound { IfOk result (λ _. parts_fault explicit [] (parts_left lines.old) ≡ None) }
-    ensures read { IfOk result (λ statements. statements ≡ stated_by explicit (parts_left lines.old)) }
-    ensures refused { Refuses result (λ error. parts_fault explicit [] (parts_left lines.old) ≡ Some error) }
+    ensures sound { OnOk result (parts_fault explicit [] (parts_left lines.old) ≡ None) }
+    ensures read { IfOk result (λ stated. stated ≡ stated_by explicit (parts_left lines.old)) }
+    ensures refused { RefusesFor result (parts_fault explicit [] (parts_left lines.old)) }
 {
     let mut keys = Keys::new();
     let mut statements = Statements::new();
@@ -120,7 +116,7 @@ fn read_parts(alloc: Global, explicit: bool, lines: &mut Lines<'_>) -> Result<St
 
 // Whether a file is short enough to be read.
 fn check_length(bytes: &[u8]) -> Result<(), TextError>
-    ensures short { IfOk result (λ _. length bytes.now ≤ MAX_BYTES) }
+    ensures short { OnOk result (length bytes.now ≤ MAX_BYTES) }
     ensures refused { IfErr result (λ error. reading_of bytes.now ≡ Err error) }
 {
     if bytes.len() > MAX_BYTES {
@@ -131,9 +127,9 @@ fn check_length(bytes: &[u8]) -> Result<(), TextError>
 
 /// Reads what the lines of a file state.
 pub(crate) fn read_statements(alloc: Global, bytes: &[u8]) -> Result<Statements, TextError>
-    ensures short { IfOk result (λ _. length bytes.now ≤ MAX_BYTES) }
-    ensures sound { IfOk result (λ _. line_fault (before_end (lines_of bytes.now)) ≡ None) }
-    ensures read { IfOk result (λ statements. statements ≡ all_stated (before_end (lines_of bytes.now))) }
+    ensures short { OnOk result (length bytes.now ≤ MAX_BYTES) }
+    ensures sound { OnOk result (line_fault (before_end (lines_of bytes.now)) ≡ None) }
+    ensures read { IfOk result (λ stated. stated ≡ all_stated (before_end (lines_of bytes.now))) }
     ensures refused { Refuses result (λ error. reading_of bytes.now ≡ Err error) }
 {
     check_length(bytes)?;

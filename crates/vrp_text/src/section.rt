@@ -1,14 +1,14 @@
 //! The sections whose numbers are used.
-ghost use Rattle.std.specs.Prelude.{◌≡◌, ◌+◌, ◌++◌, IfOk, IfErr, Ok, Some, None, length};
-ghost use Rattle.vrp_lexer.specs.Line.{tokens_of};
-ghost use Rattle.vrp_text.specs.Section.{lowest, highest, token_number, tokens_fault, fault_of, numbers_from, data_fault, data_numbers, on_line, outside_fault, content_of, content_fault, content_numbers, AreWithin, FitContent};
-ghost use Rattle.vrp_lexer.specs.Inner.LinesLeft.{parts_left, data_left};
-ghost use Rattle.vrp_text.specs.Refusal.{Refuses};
+ghost use Rattle.std.specs.Prelude.{◌≡◌, IfOk, OnOk, Ok, None};
+ghost use Rattle.vrp_text.specs.Section.{lowest, highest, token_number, content_of, AreWithin, FitContent};
+ghost use Rattle.vrp_lexer.specs.Inner.LinesLeft.{parts_left};
+ghost use Rattle.vrp_text.specs.Inner.Answered.{FailsWith, RefusesFor};
+ghost use Rattle.vrp_text.specs.Inner.NextLines.{next_content_fault, next_data_fault, next_numbers, next_outside_fault, next_used_numbers, text_error, text_fault, token_error, with_text};
 
 use crate::error::TextError;
 use crate::fault::at_line;
 use std::alloc::Global;
-use vrp_lexer::{Key, Keyword, LineFault, Lines, MAX_DEMAND, MAX_NODE, Tokens, number};
+use vrp_lexer::{FaultyLine, Key, Keyword, Lines, MAX_DEMAND, MAX_NODE, Tokens, number};
 use vrp_model::{MAX_COORDINATE, MAX_WEIGHT};
 
 /// A section whose tokens are numbers that are used.
@@ -81,7 +81,7 @@ impl Section {
     }
 
     // The number that a token writes at this place, from 0.
-    fn number(self, place: usize, token: &[u8]) -> Result<i64, LineFault>
+    fn number(self, place: usize, token: &[u8]) -> Result<i64, FaultyLine>
         ensures { result ≡ token_number self place token.now }
     {
         number(token, self.lowest(place), self.highest(place))
@@ -91,7 +91,7 @@ impl Section {
     // of memory.
     fn number_on(self, line: u32, place: usize, token: &[u8]) -> Result<i64, TextError>
         ensures value { IfOk result (λ value. token_number self place token.now ≡ Ok value) }
-        ensures refused { IfErr result (λ error. on_line line (fault_of (token_number self place token.now)) ≡ Some error) }
+        ensures refused { FailsWith result (token_error self line place token.now) }
     {
         match self.number(place, token) {
             Ok(value) => Ok(value),
@@ -107,9 +107,9 @@ fn read_line(
     section: Section,
     numbers: &mut Vec<i64>,
 ) -> Result<(), TextError>
-    ensures sound { IfOk result (λ _. tokens_fault section (length numbers.old.items) (tokens_of text.now) ≡ None) }
-    ensures read { IfOk result (λ _. numbers.new.items ≡ numbers.old.items ++ numbers_from section (length numbers.old.items) (tokens_of text.now)) }
-    ensures refused { Refuses result (λ error. on_line number (tokens_fault section (length numbers.old.items) (tokens_of text.now)) ≡ Some error) }
+    ensures sound { OnOk result (text_fault section numbers.old.items text.now ≡ None) }
+    ensures read { OnOk result (numbers.new.items ≡ with_text section numbers.old.items text.now) }
+    ensures refused { RefusesFor result (text_error section number numbers.old.items text.now) }
 {
     let mut tokens = Tokens::of(text);
     while let Some(token) = tokens.next() {
@@ -124,11 +124,11 @@ fn read_numbers(
     lines: &mut Lines<'_>,
     section: Section,
 ) -> Result<Vec<i64>, TextError>
-    ensures sound { IfOk result (λ _. data_fault section lines.old.number 0 (data_left lines.old) ≡ None) }
-    ensures read { IfOk result (λ numbers. numbers.items ≡ data_numbers section 0 (data_left lines.old)) }
+    ensures sound { OnOk result (next_data_fault section lines.old ≡ None) }
+    ensures read { IfOk result (λ numbers. numbers.items ≡ next_numbers section lines.old) }
     ensures within { IfOk result (λ numbers. AreWithin section 0 numbers.items) }
-    ensures passed { IfOk result (λ _. parts_left lines.new ≡ parts_left lines.old) }
-    ensures refused { Refuses result (λ error. data_fault section lines.old.number 0 (data_left lines.old) ≡ Some error) }
+    ensures passed { OnOk result (parts_left lines.new ≡ parts_left lines.old) }
+    ensures refused { RefusesFor result (next_data_fault section lines.old) }
 {
     let mut numbers = Vec::new(alloc);
     while let Some(line) = lines.next_data() {
@@ -139,9 +139,9 @@ fn read_numbers(
 
 /// Passes over the lines up to the next keyword, where no section is: none has a token.
 pub(crate) fn pass_no_data(lines: &mut Lines<'_>) -> Result<(), TextError>
-    ensures none { IfOk result (λ _. outside_fault lines.old.number (data_left lines.old) ≡ None) }
-    ensures passed { IfOk result (λ _. parts_left lines.new ≡ parts_left lines.old) }
-    ensures refused { IfErr result (λ error. outside_fault lines.old.number (data_left lines.old) ≡ Some error) }
+    ensures none { OnOk result (next_outside_fault lines.old ≡ None) }
+    ensures passed { OnOk result (parts_left lines.new ≡ parts_left lines.old) }
+    ensures refused { FailsWith result (next_outside_fault lines.old) }
 {
     while let Some(line) = lines.next_data() {
         if !Tokens::of(line.text).is_empty() {
@@ -157,11 +157,11 @@ pub(crate) fn read_content(
     lines: &mut Lines<'_>,
     content: Content,
 ) -> Result<Vec<i64>, TextError>
-    ensures sound { IfOk result (λ _. content_fault content lines.old.number (data_left lines.old) ≡ None) }
-    ensures read { IfOk result (λ numbers. numbers.items ≡ content_numbers content (data_left lines.old)) }
+    ensures sound { OnOk result (next_content_fault content lines.old ≡ None) }
+    ensures read { IfOk result (λ numbers. numbers.items ≡ next_used_numbers content lines.old) }
     ensures within { IfOk result (λ numbers. FitContent content numbers.items) }
-    ensures passed { IfOk result (λ _. parts_left lines.new ≡ parts_left lines.old) }
-    ensures refused { Refuses result (λ error. content_fault content lines.old.number (data_left lines.old) ≡ Some error) }
+    ensures passed { OnOk result (parts_left lines.new ≡ parts_left lines.old) }
+    ensures refused { RefusesFor result (next_content_fault content lines.old) }
 {
     match content {
         Content::Nothing => pass_no_data(lines)?,

@@ -1,17 +1,18 @@
 //! What the keywords and sections of a file have stated so far.
-ghost use Rattle.std.specs.Prelude.{◌≡◌, Ok, Err, IfOk, IfErr, Some, None, option_map};
+ghost use Rattle.std.specs.Prelude.{◌≡◌, Ok, Err, IfOk, IfErr, OnOk, OnErr, Some, None, option_map};
 ghost use Rattle.vrp_lexer.specs.Line.{tokens_of};
 ghost use Rattle.vrp_text.specs.Stated.{value_fault};
 ghost use Rattle.vrp_lexer.specs.Value.{value_of, no_value};
-ghost use Rattle.vrp_text.specs.Complete.{complete_of, matrix_of};
-ghost use Rattle.vrp_text.specs.Inner.InMemory.{complete_in, source_in};
+ghost use Rattle.vrp_text.specs.Complete.{complete_of};
+ghost use Rattle.vrp_text.specs.Inner.InMemory.{complete_in, matrix_in, source_in};
+ghost use Rattle.vrp_text.specs.Inner.Answered.{FailsWith};
 ghost use Rattle.vrp_text.specs.Inner.StatedSoFar.{IsInRange, nothing_stated, with_value, with_numbers, FitKey};
 
 use crate::complete::{Complete, Source};
 use crate::error::TextError;
 use std::marker::Model;
 use vrp_lexer::{
-    Key, LineFault, Tokens, WeightFormat, WeightKind, capacity, dimension, problem_type,
+    FaultyLine, Key, Tokens, WeightFormat, WeightKind, capacity, dimension, problem_type,
     weight_format, weight_kind,
 };
 
@@ -88,10 +89,10 @@ impl Statements {
         explicit: bool,
         key: Key,
         behind: &[u8],
-    ) -> Result<(), LineFault>
-        ensures sound { IfOk result (λ _. value_fault explicit key (tokens_of behind.now) ≡ None) }
-        ensures read { IfOk result (λ _. self.new ≡ with_value explicit key (tokens_of behind.now) self.old) }
-        ensures refused { IfErr result (λ fault. value_fault explicit key (tokens_of behind.now) ≡ Some fault) }
+    ) -> Result<(), FaultyLine>
+        ensures sound { OnOk result (value_fault explicit key (tokens_of behind.now) ≡ None) }
+        ensures read { OnOk result (self.new ≡ with_value explicit key (tokens_of behind.now) self.old) }
+        ensures refused { FailsWith result (value_fault explicit key (tokens_of behind.now)) }
     {
         match key {
             Key::Problem => self.problem = Some(problem_type(value(behind))?),
@@ -163,8 +164,8 @@ impl Statements {
 
 // The matrix of an explicit file.
 fn matrix(format: Option<WeightFormat>, weights: Option<Vec<i64>>) -> Result<Source, TextError>
-    ensures value { IfOk result (λ source. matrix_of format (option_map (λ numbers. numbers.items) weights) ≡ Ok (source_in source)) }
-    ensures refused { IfErr result (λ error. matrix_of format (option_map (λ numbers. numbers.items) weights) ≡ Err error) }
+    ensures value { IfOk result (λ source. matrix_in format weights ≡ Ok (source_in source)) }
+    ensures refused { IfErr result (λ error. matrix_in format weights ≡ Err error) }
 {
     let format = needed(Key::WeightFormat, format)?;
     let weights = needed(Key::EdgeWeight, weights)?;
@@ -178,7 +179,8 @@ fn matrix(format: Option<WeightFormat>, weights: Option<Vec<i64>>) -> Result<Sou
 // What a key states, which must be there.
 fn needed<T: Drop>(key: Key, value: Option<T>) -> Result<T, TextError>
     ensures value { IfOk result (λ given. value ≡ Some given) }
-    ensures missing { IfErr result (λ error. (value ≡ None) × (error ≡ TextError.Missing key)) }
+    ensures none { OnErr result (value ≡ None) }
+    ensures missing { IfErr result (λ error. error ≡ TextError.Missing key) }
 {
     match value {
         Some(given) => Ok(given),
@@ -194,11 +196,11 @@ pub(crate) fn value<'a>(behind: &'a [u8]) -> &'a [u8]
 }
 
 /// Behind the keyword of a section nothing stands.
-pub(crate) fn no_value(behind: &[u8]) -> Result<(), LineFault>
+pub(crate) fn no_value(behind: &[u8]) -> Result<(), FaultyLine>
     ensures { result ≡ no_value (tokens_of behind.now) }
 {
     if !Tokens::of(behind).is_empty() {
-        return Err(LineFault::BadValue);
+        return Err(FaultyLine::BadValue);
     }
     Ok(())
 }

@@ -1,5 +1,5 @@
 -- The rows of nodes while they are put in the order of the nodes.
-use Rattle.std.specs.Prelude.{◌≡◌, ℕ, ◌+◌, ◌<◌, ℤ, pos, Bool, true, false, List, [], length, take, drop, get_or}
+use Rattle.std.specs.Prelude.{◌≡◌, ℕ, ◌+◌, ◌<◌, ℤ, pos, Bool, true, false, List, [], length, take, drop, get_or, set}
 use Rattle.std.specs.List.{list_any, position_or_len}
 use Rattle.std.specs.Ordering.{int_eq}
 use Rattle.vrp_text.specs.Complete.{bad_node}
@@ -19,3 +19,8 @@ pub record ArePlaced {X : Type 0} (absent : X) (nodes : ℕ) (given : List ℤ) 
 -- the number is no node, or its node is marked
 abbrev pub IsGivenOrNone : List Bool → ℤ → Type 0
 IsGivenOrNone marks number = (k : ℕ) → k < length marks → number ≡ pos (k + 1) → get_or marks k false ≡ true
+
+-- the number is the node of this place, which was not marked and now is
+abbrev pub IsGivenFirst : List Bool → ℤ → ℕ → List Bool → Type 0
+IsGivenFirst old number place new =
+    (place < length old) × (number ≡ pos (place + 1)) × (get_or old place false ≡ false) × (new ≡ set old place true)
