@@ -1,6 +1,6 @@
 -- What contracts see of a register and of its callers.
 use Rattle.std.specs.Prelude.{◌≡◌, ℕ, List, length, map}
-use Rattle.std.specs.List.{All, range_with_len}
+use Rattle.std.specs.List.{All, range_with_len, sum_by}
 use Rattle.atomic_table.specs.Seated.{TableId}
 use Rattle.vrp_register.specs.Costs.{newcomer}
 use Rattle.vrp_register.specs.declared.view.Known.{Known}
@@ -30,3 +30,11 @@ AreCallersOf register callers = (length callers ≡ register.callers) × All (Is
 -- callers that have seen nothing and made no offer, numbered from 0
 abbrev pub newcomers : TableId → ℕ → ℕ → List CallerState
 newcomers table opening count = map (λ number. record { table = table; known = newcomer number opening }) (range_with_len 0 count)
+
+-- what each of these callers knows
+abbrev pub known_of : List CallerState → List Known
+known_of callers = map (λ c. c.known) callers
+
+-- how many offers of these callers were accepted
+abbrev pub accepted_of : List CallerState → ℕ
+accepted_of callers = sum_by (λ c. length c.known.mine) callers

@@ -1,7 +1,7 @@
 -- The machine of costs: an opening cost, and a history of offers. An offer is answered by the least cost before it, and a look by
 -- the least cost so far.
-use Rattle.std.specs.Prelude.{◌≡◌, ℕ, ◌==◌, min, List, [], ◌∷◌, ◌++◌, map}
-use Rattle.std.specs.List.{All, Contains, filter}
+use Rattle.std.specs.Prelude.{◌≡◌, ℕ, ◌≤◌, ◌==◌, min, List, [], ◌∷◌, ◌++◌, length, map}
+use Rattle.std.specs.List.{All, Contains, filter, sum_by}
 use Rattle.vrp_register.specs.declared.view.Known.{Known}
 use Rattle.vrp_register.specs.declared.view.Offer.{Offer}
 
@@ -48,3 +48,28 @@ pub record IsKnown (opening : ℕ) (history : List Offer) (known : Known) : Type
 pub record IsHistoryOf (opening : ℕ) (callers : List Known) (history : List Offer) : Type 0 where
   pub known : All (IsKnown opening history) callers
   pub no_other : All (λ offer. Contains (map (λ known. known.number) callers) offer.caller) history
+
+-- how many offers these callers know of as their own
+abbrev pub offer_count : List Known → ℕ
+offer_count callers = sum_by (λ known. length known.mine) callers
+
+-- there is a history of these callers with this many offers, and this is the least cost in it
+abbrev pub HaveHistory : ℕ → List Known → ℕ → ℕ → Type 0
+HaveHistory opening callers count least =
+    (history : List Offer) × IsHistoryOf opening callers history × (length history ≡ count) × (least ≡ least_of opening history)
+
+-- the opening cost, and then the costs that were offered
+abbrev pub costs_of : ℕ → List Offer → List ℕ
+costs_of opening history = opening ∷ map (λ offer. offer.cost) history
+
+-- the least cost is the opening cost, or one that was offered
+abbrev pub LeastIsThere : ℕ → List Offer → Type 0
+LeastIsThere opening history = Contains (costs_of opening history) (least_of opening history)
+
+-- neither the opening cost nor one that was offered is less than the least cost
+abbrev pub NoneIsLess : ℕ → List Offer → Type 0
+NoneIsLess opening history = All (λ cost. least_of opening history ≤ cost) (costs_of opening history)
+
+-- the least cost does not rise while the history goes on
+abbrev pub LeastNeverRises : ℕ → Type 0
+LeastNeverRises opening = (history seen : List Offer) → StartsWith history seen → least_of opening history ≤ least_of opening seen

@@ -1,8 +1,7 @@
 //! The book: the first plan by cost and then by word, and the history of all offers.
-ghost use Rattle.std.specs.Prelude.{◌≡◌, ◌↔◌, ◌<◌, if◌then◌else◌, IfOk, IsTrue, OnErr, None, Some, [], ◌∷◌, ◌++◌, length, slice_get};
-ghost use Rattle.std.specs.Option.{ForSome, option_map};
-ghost use Rattle.vrp_model.specs.Order.{IsBefore};
-ghost use Rattle.vrp_register.specs.History.{AreAnswers, IsKeptOf, plans_of};
+ghost use Rattle.std.specs.Prelude.{◌≡◌, ◌<◌, IfOk, OnErr, Some, length, slice_get};
+ghost use Rattle.std.specs.Option.{option_map};
+ghost use Rattle.vrp_register.specs.History.{AddsEntry, AreAnswers, IsKeptOf, KeepsIfTrue, TellsIfBefore, opened_with, plans_of};
 
 use crate::entry::Entry;
 use std::alloc::Global;
@@ -33,7 +32,7 @@ impl Model for Book {
 impl Book {
     /// A book that opens with a plan, or without one, and has no entries yet.
     pub fn open(alloc: Global, plan: Option<Plan>) -> Result<Book, NoMemory>
-        ensures { IfOk result (λ book. book ≡ record { opening = plan; plan = plan; entries = [] }) }
+        ensures { IfOk result (λ book. book ≡ opened_with plan) }
     {
         let opening = copied(alloc, plan.as_ref())?;
         Ok(Book {
@@ -80,9 +79,9 @@ impl Book {
 
     /// Takes note of an offer, and tells whether its plan is now the one that is kept. A refused offer changes nothing.
     pub fn offer(&mut self, alloc: Global, caller: u32, plan: &Plan) -> Result<bool, NoMemory>
-        ensures kept { IfOk result (λ kept. IsTrue kept ↔ ForSome self.old.plan (IsBefore plan.now)) }
-        ensures plan { IfOk result (λ kept. self.new.plan ≡ (if kept then Some plan.now else self.old.plan)) }
-        ensures entry { IfOk result (λ kept. self.new.entries ≡ self.old.entries ++ record { caller = caller; plan = plan.now; kept = kept } ∷ []) }
+        ensures kept { IfOk result (TellsIfBefore plan.now self.old.plan) }
+        ensures plan { IfOk result (KeepsIfTrue plan.now self.old.plan self.new.plan) }
+        ensures entry { IfOk result (AddsEntry self.old caller plan.now self.new) }
         ensures opening { self.new.opening ≡ self.old.opening }
         ensures err { OnErr result (self.new ≡ self.old) }
     {
@@ -100,8 +99,8 @@ impl Book {
 
 // Keeps the offered plan if it is before the other, and tells whether it is.
 fn keep_first(alloc: Global, plan: &mut Option<Plan>, offered: &Plan) -> Result<bool, NoMemory>
-    ensures kept { IfOk result (λ kept. IsTrue kept ↔ ForSome plan.old (IsBefore offered.now)) }
-    ensures plan { IfOk result (λ kept. plan.new ≡ (if kept then Some offered.now else plan.old)) }
+    ensures kept { IfOk result (TellsIfBefore offered.now plan.old) }
+    ensures plan { IfOk result (KeepsIfTrue offered.now plan.old plan.new) }
     ensures err { OnErr result (plan.new ≡ plan.old) }
 {
     if is_before(offered, plan.as_ref()) {
@@ -113,7 +112,7 @@ fn keep_first(alloc: Global, plan: &mut Option<Plan>, offered: &Plan) -> Result<
 
 // Whether a plan is before the one that is kept, or none is.
 fn is_before(offered: &Plan, kept: Option<&Plan>) -> bool
-    ensures { IsTrue result ↔ ForSome (option_map (λ plan. plan.now) kept.entry) (IsBefore offered.now) }
+    ensures { TellsIfBefore offered.now (option_map (λ plan. plan.now) kept.entry) result }
 {
     match kept {
         Some(kept) => offered.is_before(kept),

@@ -1,7 +1,7 @@
 //! The cost word: the least cost that any caller has offered, read and lowered without a lock.
-ghost use Rattle.std.specs.Prelude.{◌≡◌, ◌+◌, ◌<◌, IfOk, [], ◌∷◌, length, List};
-ghost use Rattle.std.specs.List.{sum_by};
-ghost use Rattle.vrp_register.specs.Costs.{newcomer, IsHistoryOf, IsOffered, IsSeen, least_of};
+ghost use Rattle.std.specs.Prelude.{◌≡◌, ◌<◌, IfOk, [], ◌∷◌, length};
+ghost use Rattle.vrp_register.specs.Costs.{HaveHistory, IsOffered, IsSeen, offer_count};
+ghost use Rattle.vrp_register.specs.Inner.Seats.{maker_after, new_maker, seat_made, with_caller};
 
 use crate::view::View;
 use atomic_table::{Join, Play, Seat, Split, Table, TableRule};
@@ -141,8 +141,9 @@ impl CostWord {
         opening: u64,
         count: u64,
     ) -> Result<(CostWord, Maker), AllocError>
-        ensures word { IfOk result (λ made. (made.0.opening ≡ opening) × (made.0.count ≡ count)) }
-        ensures seat { IfOk result (λ made. made.1 ≡ record { table = made.0.table; opening = opening; next = 0 }) }
+        ensures opening { IfOk result (λ made. made.0.opening ≡ opening) }
+        ensures count { IfOk result (λ made. made.0.count ≡ count) }
+        ensures seat { IfOk result (λ made. made.1 ≡ new_maker made.0.table opening) }
     {
         let (table, seat) = Table::of_words(alloc, &[opening], &(opening, count))?;
         Ok((CostWord { table }, Maker { seat }))
@@ -172,8 +173,8 @@ impl CostWord {
     pub(crate) fn make(&self, maker: &mut Maker) -> CostSeat
         requires table { maker.old.table ≡ self.now.table }
         requires room { maker.old.next < self.now.count }
-        ensures seat { result ≡ record { table = self.now.table; known = newcomer maker.old.next maker.old.opening } }
-        ensures maker { maker.new ≡ record { table = maker.old.table; opening = maker.old.opening; next = maker.old.next + 1 } }
+        ensures seat { result ≡ seat_made self.now.table maker.old }
+        ensures maker { maker.new ≡ maker_after maker.old }
     {
         CostSeat {
             seat: self.table.shared.split_seat::<Numbering>(&mut maker.seat),
@@ -184,7 +185,7 @@ impl CostWord {
     pub(crate) fn take_in(&self, gathered: &mut Gathered, caller: CostSeat)
         requires gathered { gathered.old.table ≡ self.now.table }
         requires caller { caller.table ≡ self.now.table }
-        ensures { gathered.new ≡ record { table = gathered.old.table; callers = caller.known ∷ gathered.old.callers } }
+        ensures { gathered.new ≡ with_caller caller.known gathered.old }
     {
         self.table
             .shared
@@ -195,8 +196,7 @@ impl CostWord {
     pub(crate) fn close(self, gathered: Gathered) -> u64
         requires table { gathered.table ≡ self.table }
         requires all { length gathered.callers ≡ self.count }
-        ensures { (history : List _) × IsHistoryOf self.opening gathered.callers history
-            × (length history ≡ sum_by (λ k. length k.mine) gathered.callers) × (result ≡ least_of self.opening history) }
+        ensures { HaveHistory self.opening gathered.callers (offer_count gathered.callers) result }
     {
         let closed = self.table.close_with(gathered.seat);
         let least = closed.word(0);

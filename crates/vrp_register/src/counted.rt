@@ -1,7 +1,6 @@
 //! What lies under the register's lock: the book, and how many offers its callers had accepted.
-ghost use Rattle.std.specs.Prelude.{◌≡◌, ◌↔◌, ◌+◌, ◌<◌, if◌then◌else◌, IfOk, IsTrue, OnOk, OnErr, Some, [], ◌∷◌, ◌++◌, length};
-ghost use Rattle.std.specs.Option.{ForSome};
-ghost use Rattle.vrp_model.specs.Order.{IsBefore};
+ghost use Rattle.std.specs.Prelude.{◌≡◌, ◌+◌, ◌<◌, IfOk, OnOk, OnErr, length};
+ghost use Rattle.vrp_register.specs.History.{AddsEntry, KeepsIfTrue, TellsIfBefore, opened_with};
 
 use crate::book::Book;
 use std::alloc::Global;
@@ -25,7 +24,7 @@ impl<L: Ledger> CountedBook<L> {
         accepted: ledger::Book<L>,
     ) -> Result<CountedBook<L>, NoMemory>
         requires { accepted.total ≡ 0 }
-        ensures { IfOk result (λ counted. counted.book ≡ record { opening = plan; plan = plan; entries = [] }) }
+        ensures { IfOk result (λ counted. counted.book ≡ opened_with plan) }
     {
         Ok(CountedBook {
             book: Book::open(alloc, plan)?,
@@ -44,11 +43,12 @@ impl<L: Ledger> CountedBook<L> {
         requires { 0 < share.old.parts }
         ensures parts { share.new.parts ≡ share.old.parts }
         ensures accepted { OnOk result (share.new.amount ≡ share.old.amount + 1) }
-        ensures kept { IfOk result (λ kept. IsTrue kept ↔ ForSome self.old.book.plan (IsBefore plan.now)) }
-        ensures plan { IfOk result (λ kept. self.new.book.plan ≡ (if kept then Some plan.now else self.old.book.plan)) }
-        ensures entry { IfOk result (λ kept. self.new.book.entries ≡ self.old.book.entries ++ record { caller = caller; plan = plan.now; kept = kept } ∷ []) }
+        ensures kept { IfOk result (TellsIfBefore plan.now self.old.book.plan) }
+        ensures plan { IfOk result (KeepsIfTrue plan.now self.old.book.plan self.new.book.plan) }
+        ensures entry { IfOk result (AddsEntry self.old.book caller plan.now self.new.book) }
         ensures opening { self.new.book.opening ≡ self.old.book.opening }
-        ensures err { OnErr result ((self.new.book ≡ self.old.book) × (share.new ≡ share.old)) }
+        ensures err_book { OnErr result (self.new.book ≡ self.old.book) }
+        ensures err_share { OnErr result (share.new ≡ share.old) }
     {
         let kept = self.book.offer(alloc, caller, plan)?;
         self.accepted.add(share, 1);

@@ -1,10 +1,10 @@
 //! The register, which all callers share.
-ghost use Rattle.std.specs.Prelude.{◌≡◌, ◌≤◌, IfOk, OnErr, List, length, map, vec_len};
-ghost use Rattle.std.specs.List.{All, sum_by};
+ghost use Rattle.std.specs.Prelude.{◌≡◌, ◌≤◌, IfOk, OnErr, length, vec_len};
+ghost use Rattle.std.specs.List.{All};
 ghost use Rattle.std.specs.Option.{option_map};
 ghost use Rattle.vrp_model.specs.Cheapest.{cost_of};
-ghost use Rattle.vrp_register.specs.Caller.{newcomers, IsCallerOf, AreCallersOf};
-ghost use Rattle.vrp_register.specs.Costs.{IsHistoryOf, IsOffered, IsSeen, least_of};
+ghost use Rattle.vrp_register.specs.Caller.{newcomers, IsCallerOf, AreCallersOf, accepted_of, known_of};
+ghost use Rattle.vrp_register.specs.Costs.{HaveHistory, IsOffered, IsSeen};
 
 use crate::book::{Book, copied};
 use crate::caller::Caller;
@@ -129,9 +129,9 @@ impl<L: Ledger> Register<L> {
     /// of costs, which is that of these callers, as long as the book, and whose least cost is the one that is answered.
     pub fn close(self, callers: Vec<Caller<L>>) -> Closed
         requires { AreCallersOf self callers.items }
-        ensures entries { length result.book.entries ≡ sum_by (λ c. length c.known.mine) callers.items }
-        ensures history { (history : List _) × IsHistoryOf self.opening (map (λ c. c.known) callers.items) history
-            × (length history ≡ length result.book.entries) × (result.least ≡ least_of self.opening history) }
+        ensures entries { length result.book.entries ≡ accepted_of callers.items }
+        ensures history { HaveHistory self.opening (known_of callers.items)
+            (length result.book.entries) result.least }
     {
         let Register { book, least } = self;
         let (shares, seats) = merged(&least, callers);
@@ -158,8 +158,8 @@ fn merged<L: Ledger>(least: &CostWord, mut callers: Vec<Caller<L>>) -> (Share<L>
     requires some { 1 ≤ vec_len callers }
     requires table { All (λ c. c.table ≡ least.now.table) callers.items }
     ensures parts { result.0.parts ≡ vec_len callers }
-    ensures amount { result.0.amount ≡ sum_by (λ c. length c.known.mine) callers.items }
-    ensures seats { result.1 ≡ record { table = least.now.table; callers = map (λ c. c.known) callers.items } }
+    ensures amount { result.0.amount ≡ accepted_of callers.items }
+    ensures seats { result.1 ≡ record { table = least.now.table; callers = known_of callers.items } }
 {
     let Some(last) = callers.pop() else {
         unreachable!()

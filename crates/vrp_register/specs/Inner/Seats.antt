@@ -26,6 +26,22 @@ pub record GatheredState : Type 0 where
   pub table : TableId
   pub callers : List Known
 
+-- the first seat of a word, which has made no caller yet
+abbrev pub new_maker : TableId → ℕ → MakerState
+new_maker table opening = record { table = table; opening = opening; next = 0 }
+
+-- the first seat once it has made one caller more
+abbrev pub maker_after : MakerState → MakerState
+maker_after maker = record { table = maker.table; opening = maker.opening; next = maker.next + 1 }
+
+-- the seat of the caller that it makes next
+abbrev pub seat_made : TableId → MakerState → SeatState
+seat_made table maker = record { table = table; known = newcomer maker.next maker.opening }
+
+-- with one caller more, before the others
+abbrev pub with_caller : Known → GatheredState → GatheredState
+with_caller known gathered = record { table = gathered.table; callers = known ∷ gathered.callers }
+
 -- the view of a seat that has taken in these callers
 abbrev pub seat_with : List Known → View
 seat_with callers = record { makes = false; next = 0; opening = 0; callers = callers }
