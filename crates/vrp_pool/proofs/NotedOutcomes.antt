@@ -13,11 +13,11 @@ use Rattle.vrp_model.specs.Route.{IsPlanOf, PricedPlan}
 use Rattle.vrp_model.proofs.DistinctLists.{AreDistinct, AreDistinct-permutation}
 use Rattle.vrp_search.specs.Cutting.{NumberedWord}
 use Rattle.vrp_search.specs.Search.{NoneBeforeUnder}
-use Rattle.vrp_pool.specs.Gathered.{IsAdded, IsGathered}
+use Rattle.vrp_pool.specs.Gatherer.{IsAdded, AnswersAdd}
 use Rattle.vrp_pool.specs.Inner.Conclusion.{AreApart, AreNoted, IsLeftOf, IsOfferedTo, numbers_of, piece_numbers}
 use Rattle.vrp_pool.specs.Inner.Workers.{AreOutcomes, IsFinishedPiece, IsOutcome, IsLeftPiece, Search}
-use Rattle.vrp_pool.specs.declared.gathering.GatherError.{GatherError}
-use Rattle.vrp_pool.specs.declared.gathering.GatherError.TheVariants.{Double, Stranger}
+use Rattle.vrp_pool.specs.declared.gatherer.GatherError.{GatherError}
+use Rattle.vrp_pool.specs.declared.gatherer.GatherError.TheVariants.{Double, Stranger}
 use Rattle.vrp_pool.specs.declared.outcome.Finished.{Finished}
 use Rattle.vrp_pool.specs.declared.outcome.Left.{Left}
 use Rattle.vrp_pool.specs.declared.outcome.Outcome.{Outcome}
@@ -78,7 +78,7 @@ in_either (first ∷ numbers) last number (suc k, lt, is) = elim (in_either numb
 -- ---- what a gatherer answers
 
 -- a number that was not added before, and is one of the numbers, is added
-pub added_now : (old new : List Bool) (number : ℕ) (answer : Result (Unit {0}) GatherError) → (IsAdded old number → ⊥) → number < length old → IsGathered old number answer new → new ≡ set old number true
+pub added_now : (old new : List Bool) (number : ℕ) (answer : Result (Unit {0}) GatherError) → (IsAdded old number → ⊥) → number < length old → AnswersAdd old number answer new → new ≡ set old number true
 added_now old new number (Ok _) fresh within (missing, is) = is
 added_now old new number (Err (Double other)) fresh within (same, added, is) = absurd (fresh added)
 added_now old new number (Err (Stranger other)) fresh within (same, above, is) = absurd (omega (arith, within, above))
@@ -103,12 +103,12 @@ none_gathered s floor best plan_of = record {
 
 -- the piece is finished, and what its search found was offered
 pub one_finished : (s : Search) (floor : ℕ) (best new : Option PricedPlan) (pieces : List NumberedWord) (added now : List Bool) (left : List Left) (piece : NumberedWord) (done : Finished) (answer : Result (Unit {0}) GatherError)
-    → AreNoted s floor best pieces added left → (Contains (piece_numbers pieces) piece.number → ⊥) → piece.number < s.pieces → IsFinishedPiece s floor piece done → IsOfferedTo best done.first new → IsGathered added done.number answer now
+    → AreNoted s floor best pieces added left → (Contains (piece_numbers pieces) piece.number → ⊥) → piece.number < s.pieces → IsFinishedPiece s floor piece done → IsOfferedTo best done.first new → AnswersAdd added done.number answer now
     → AreNoted s floor new (pieces ++ piece ∷ []) now left
 one_finished s floor best new pieces added now left piece done answer so_far fresh below finished offered gathered =
     let number = piece.number in
     let not_added : IsAdded added number → ⊥ = λ is. fresh (so_far.only number is) in
-    let is_set : now ≡ set added number true = added_now added now number answer not_added (omega (arith, below, so_far.count)) (subst (λ n. IsGathered added n answer now) finished.number gathered) in
+    let is_set : now ≡ set added number true = added_now added now number answer not_added (omega (arith, below, so_far.count)) (subst (λ n. AnswersAdd added n answer now) finished.number gathered) in
     let there : IsAdded now number = rw is_set (get_or-set_same added number true false (omega (arith, below, so_far.count))) in
     let elsewhere : (other : ℕ) → (other ≡ number → ⊥) → get_or now other false ≡ get_or added other false = λ other differs. rw is_set (get_or-set_other added number other true false differs) in
     record {

@@ -13,7 +13,7 @@ use Rattle.vrp_model.specs.Word.{IsFront, NoneCheaperUnder, unserved_in}
 use Rattle.vrp_model.proofs.DistinctLists.{AreDistinct-permutation, head_differs, tail_distinct}
 use Rattle.vrp_search.specs.Search.{IsLow, NoneBeforeUnder}
 use Rattle.vrp_pool.specs.Answer.{IsOwnLow, piece_of}
-use Rattle.vrp_pool.specs.Gathered.{IsAdded, IsGathered, IsMissing}
+use Rattle.vrp_pool.specs.Gatherer.{IsAdded, AnswersAdd, IsMissing}
 use Rattle.vrp_pool.specs.Inner.Conclusion.{AreSettling, IsLeftAt, IsLeftWith, IsLowFor, IsSettled, numbers_of}
 use Rattle.vrp_pool.specs.Inner.Workers.{IsLeftPiece, Search}
 use Rattle.vrp_pool.specs.declared.left_pieces.Settling.{Settling}
@@ -165,7 +165,7 @@ counted one rises s cutting best old new left rest low problem known cost is_low
 
 -- each word under it costs more than the best plan
 finished_here : (s : Search) (cutting : List (List ℕ)) (best : Option PricedPlan) (old new : Settling) (left : Left) (rest : List Left) (low : ℕ) (answer : _) → OneLow → OwnNoLower → IsProblem s.problem → AreSettling s cutting best old (left ∷ rest) → new.cost ≡ old.cost
-    → IsLowFor s old.low left low → old.cost < low → IsGathered old.gatherer left.piece.number answer new.gatherer → new.low ≡ old.low → AreSettling s cutting best new rest
+    → IsLowFor s old.low left low → old.cost < low → AnswersAdd old.gatherer left.piece.number answer new.gatherer → new.low ≡ old.low → AreSettling s cutting best new rest
 finished_here s cutting best old new left rest low answer one rises problem known cost is_low more gathered stays =
     let place = known.places 0 left (omega arith) in
     let number = left.piece.number in

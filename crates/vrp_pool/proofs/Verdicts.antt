@@ -17,7 +17,7 @@ use Rattle.vrp_pile.specs.Pile.{AreShared}
 use Rattle.vrp_search.specs.Cutting.{AreNumbered, IsCutting, NumberedWord}
 use Rattle.vrp_search.specs.Search.{IsNotBefore, NoneBeforeUnder}
 use Rattle.vrp_pool.specs.Answer.{IsAnswer, IsLeastLow, IsLeftOpen, piece_of}
-use Rattle.vrp_pool.specs.Gathered.{IsAdded, IsFirstMissing, IsMissing}
+use Rattle.vrp_pool.specs.Gatherer.{IsAdded, IsFirstMissing, IsMissing}
 use Rattle.vrp_pool.specs.Inner.Conclusion.{AreNoted, AreSettling, IsLeftWith, IsNoLater, IsVerdict, numbers_of}
 use Rattle.vrp_pool.specs.Inner.Workers.{Search, words_of}
 use Rattle.vrp_pool.specs.declared.answers.Answer.{Answer}

@@ -1,4 +1,4 @@
 pub mod Answer
-pub mod Gathered
+pub mod Gatherer
 pub mod SeatBoard
 pub mod Inner

@@ -10,7 +10,7 @@ ghost use Rattle.vrp_pool.specs.Inner.Conclusion.{IsOfferedTo, IsVerdict};
 ghost use Rattle.vrp_pool.specs.Inner.Workers.{IsSearched, words_of};
 
 use crate::answers::Answer;
-use crate::gathering::Gatherer;
+use crate::gatherer::Gatherer;
 use crate::left_pieces::{Settling, settled};
 use crate::outcome::{Outcome, Searched};
 use crate::shared::Shared;

@@ -6,7 +6,7 @@ ghost use Rattle.vrp_pool.specs.Answer.{IsOwnLow};
 ghost use Rattle.vrp_pool.specs.Inner.Conclusion.{IsSettled, SettlesAll};
 ghost use Rattle.vrp_pool.specs.Inner.Workers.{IsLeftPiece};
 
-use crate::gathering::Gatherer;
+use crate::gatherer::Gatherer;
 use crate::outcome::{Finished, Left};
 use crate::shared::Shared;
 use vrp_bound::Tables;

@@ -7,7 +7,7 @@ mod draws;
 #[cfg(test)]
 mod fixture;
 mod gates;
-mod gathering;
+mod gatherer;
 mod left_pieces;
 mod outcome;
 mod preparation;
@@ -19,7 +19,7 @@ mod worker;
 
 pub use answers::{Answer, SolveError};
 pub use gates::{Gate, NoGate};
-pub use gathering::{GatherError, Gatherer};
+pub use gatherer::{GatherError, Gatherer};
 pub use outcome::Finished;
 pub use seat_board::SeatBoard;
 pub use solver::{MAX_WORKERS, solve};

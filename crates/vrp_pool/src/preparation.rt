@@ -1,18 +1,22 @@
 //! What is made before the pieces are searched: a plan to begin with, and prices to prune by.
 ghost use Rattle.std.specs.Prelude.{◌≡◌, ◌<◌, None, IfOk, IfSome};
+ghost use Rattle.vrp_model.specs.Problem.{place_count};
 ghost use Rattle.vrp_model.specs.Route.{IsPlanOf};
 ghost use Rattle.vrp_pool.specs.declared.preparation.TheConstants.{LEAST_PREPARED_BUDGET};
 
 use std::alloc::Global;
 use vrp_first::ENOUGH_MOVES;
 use vrp_model::{Instance, NoMemory, Plan};
-use vrp_prices::{Relaxation, find_prices};
+use vrp_prices::{FoundPrices, find_prices};
 
 /// The least budget of a piece with which anything is made before. With a lesser one a run is a look at the tree.
 pub(crate) const LEAST_PREPARED_BUDGET: u64 = 1_000;
 
 // With fewer partial plans in all, ruin and recreate would take longer than the search: savings alone make the first plan.
 const LEAST_FOR_MOVES: u64 = 100_000;
+
+// The most customers near each place that walks remember: with more, a round takes longer than it gains.
+const MOST_REMEMBERED: usize = 3;
 
 /// A plan near the best, if one is found: by savings, and where many partial plans may be looked at in all, by ruin and recreate
 /// too.
@@ -36,18 +40,19 @@ pub(crate) fn first_plan(
     vrp_first::first_plan(alloc, instance, moves)
 }
 
-/// A relaxation by prices, with the first plan's cost to aim at, if there is such a plan and prices are found.
+/// Prices, with the first plan's cost to aim at, if there is such a plan and prices are found.
 // A step towards prices takes a tenth of the time that a partial plan does: so there are as many.
-pub(crate) fn relaxation<'a>(
+pub(crate) fn prices_found<'a>(
     alloc: Global,
     instance: &'a Instance,
     first: Option<&Plan>,
     in_all: u64,
-) -> Result<Option<Relaxation<'a>>, NoMemory>
-    ensures { IfOk result (λ found. IfSome found (λ relaxation. relaxation.problem ≡ instance.now)) }
+) -> Result<Option<FoundPrices<'a>>, NoMemory>
+    ensures relaxation { IfOk result (λ found. IfSome found (λ prices. prices.relaxation.problem ≡ instance.now)) }
+    ensures memory { IfOk result (λ found. IfSome found (λ prices. prices.memory.places ≡ place_count instance.now)) }
 {
     match first {
-        Some(plan) => find_prices(alloc, instance, plan.cost(), in_all),
+        Some(plan) => find_prices(alloc, instance, plan.cost(), MOST_REMEMBERED, in_all),
         None => Ok(None),
     }
 }

@@ -12,7 +12,7 @@ ghost use Rattle.vrp_pool.specs.Inner.Workers.{words_of};
 use crate::answers::{Answer, SolveError};
 use crate::conclusion::conclude;
 use crate::gates::{Gate, NoGate};
-use crate::preparation::{LEAST_PREPARED_BUDGET, first_plan, relaxation};
+use crate::preparation::{LEAST_PREPARED_BUDGET, first_plan, prices_found};
 use crate::shared::Shared;
 use crate::team::searched_by_all;
 use std::alloc::Global;
@@ -23,6 +23,7 @@ use std::thread::Threads;
 use vrp_bound::Tables;
 use vrp_model::{Instance, NoMemory, Plan};
 use vrp_pile::{Owner, Pile, Thief};
+use vrp_prices::FoundPrices;
 use vrp_register::{Book, Caller, Closed, Register};
 use vrp_search::{Cutting, Prices};
 
@@ -68,7 +69,7 @@ pub fn solve<'a, R: Threads + Wait + Sync, G: Gate + Sync>(
     let pieces = cutting.pieces().len() as u32;
     let in_all = budget.saturating_mul(u64::from(pieces));
     let first = first_plan(alloc, instance, budget, in_all)?;
-    let Some(relaxation) = relaxation(alloc, instance, first.as_ref(), in_all)? else {
+    let Some(found) = prices_found(alloc, instance, first.as_ref(), in_all)? else {
         let shared = Shared {
             rt,
             alloc,
@@ -82,7 +83,8 @@ pub fn solve<'a, R: Threads + Wait + Sync, G: Gate + Sync>(
         };
         return Ok(solve_pieces(&shared, cutting, workers)?);
     };
-    let prices = Prices::new(alloc, &relaxation)?;
+    let FoundPrices { relaxation, memory } = found;
+    let prices = Prices::new(alloc, &relaxation, memory)?;
     let shared = Shared {
         rt,
         alloc,

@@ -9,11 +9,11 @@ use Rattle.vrp_model.specs.Word.{NoneCheaperUnder}
 use Rattle.vrp_search.specs.Cutting.{NumberedWord}
 use Rattle.vrp_search.specs.Search.{NoneBeforeUnder}
 use Rattle.vrp_pool.specs.Answer.{IsLeft, IsOwnLow, piece_of}
-use Rattle.vrp_pool.specs.Gathered.{IsAdded, IsFirstMissing, IsGathered, IsMissing}
+use Rattle.vrp_pool.specs.Gatherer.{IsAdded, IsFirstMissing, AnswersAdd, IsMissing}
 use Rattle.vrp_pool.specs.Inner.Workers.{IsLeftPiece, Search}
 use Rattle.vrp_pool.specs.declared.answers.Answer.{Answer}
 use Rattle.vrp_pool.specs.declared.answers.Answer.TheVariants.{Proven, Open, NoPlan}
-use Rattle.vrp_pool.specs.declared.gathering.GatherError.{GatherError}
+use Rattle.vrp_pool.specs.declared.gatherer.GatherError.{GatherError}
 use Rattle.vrp_pool.specs.declared.left_pieces.Settling.{Settling}
 use Rattle.vrp_pool.specs.declared.outcome.Left.{Left}
 
@@ -44,7 +44,7 @@ pub record IsOfferedTo (old offered new : Option PricedPlan) : Type 0 where
 
 -- a number was added, or refused
 abbrev pub IsAddedOrNot : List Bool → ℕ → List Bool → Type 0
-IsAddedOrNot old number new = (answer : Result (Unit {0}) GatherError) × IsGathered old number answer new
+IsAddedOrNot old number new = (answer : Result (Unit {0}) GatherError) × AnswersAdd old number answer new
 
 -- Of these pieces some are left. The others were added: each word under them costs more than the floor, or is not before the best
 -- plan. No other number was added

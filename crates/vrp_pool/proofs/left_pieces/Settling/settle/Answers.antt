@@ -1,7 +1,7 @@
 use Rattle.std.proofs.Common.{inl, inr, refl, sym, subst, arith}
 use Rattle.vrp_model.specs.Word.{NoneCheaperUnder}
 use Rattle.vrp_pool.specs.Answer.{IsOwnLow}
-use Rattle.vrp_pool.specs.Gathered.{IsGathered}
+use Rattle.vrp_pool.specs.Gatherer.{AnswersAdd}
 use Rattle.std.specs.Prelude.{Some}
 use Rattle.vrp_pool.specs.Inner.Conclusion.{IsLowFor, IsSettled}
 use Rattle.vrp_pool.proofs.left_pieces.Settling.settle.Goals as goal
@@ -24,7 +24,7 @@ returns g c =
         cost = refl;
         low = low;
         is_low = is_low;
-        step = inl (w.if-self-low.true, (w.add.result, subst (λ n. IsGathered old.gatherer n w.add.result w.add.new.self) w.number.ensures w.add.ensures), refl);
+        step = inl (w.if-self-low.true, (w.add.result, subst (λ n. AnswersAdd old.gatherer n w.add.result w.add.new.self) w.number.ensures w.add.ensures), refl);
       })
       | else-self-low w ↦ subst (IsSettled s old left) (sym w.self-is) (record {
         cost = refl;

@@ -1,6 +1,6 @@
 //! Which pieces are finished.
 ghost use Rattle.std.specs.Prelude.{◌≡◌, IfOk, false, replicate};
-ghost use Rattle.vrp_pool.specs.Gathered.{IsFirstMissing, IsGathered};
+ghost use Rattle.vrp_pool.specs.Gatherer.{IsFirstMissing, AnswersAdd};
 
 use crate::outcome::Finished;
 use std::alloc::Global;
@@ -49,7 +49,7 @@ impl Gatherer {
     /// Adds a finished piece. One whose number was added before, or is not below the number of pieces, is refused, and changes
     /// nothing.
     pub fn add(&mut self, finished: Finished) -> Result<(), GatherError>
-        ensures { IsGathered self.old finished.number result self.new }
+        ensures { AnswersAdd self.old finished.number result self.new }
     {
         let number = finished.number;
         let Some(added) = self.added.get_mut(number as usize) else {

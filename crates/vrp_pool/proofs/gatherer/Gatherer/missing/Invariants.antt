@@ -1,6 +1,6 @@
 use Rattle.std.proofs.Common.{ℕ, ◌<◌}
-use Rattle.vrp_pool.specs.Gathered.{IsAdded}
-use Rattle.vrp_pool.proofs.gathering.Gatherer.missing.Given as goal
+use Rattle.vrp_pool.specs.Gatherer.{IsAdded}
+use Rattle.vrp_pool.proofs.gatherer.Gatherer.missing.Given as goal
 
 abbrev pub invariant-loop-number : goal.invariant-loop-number
 invariant-loop-number l = (k : ℕ) → k < l.number → IsAdded l.self k
