@@ -29,7 +29,7 @@ const TRUCKS: &str =
     "How many trucks there are: a plan has at most so many routes.\nFrom 1 to 1200; default is as many as are wanted.";
 
 const VERDICTS_AND_STATUSES: &str =
-    "The last line of the report is the verdict:\n  Proven  no plan costs less than the printed one\n  Open L  a piece was left open: no plan costs less than L, but one may\n          cost less than the printed one\n  NoPlan  so few trucks can't serve all customers\n\nExit statuses:\n  0  Proven, NoPlan, or this help\n  1  Open\n  2  the command line is refused\n  3  the file is refused\n  4  no memory\n  5  a read or a write failed\n\nExample, with four threads, and five trucks at most:\n  cvrp --workers 4 --trucks 5 < examples/E-n51-k5.vrp";
+    "The last line of the report is the verdict:\n  Proven  no plan costs less than the printed one\n  Open L  a piece was left open: no plan costs less than L, but one may\n          cost less than the printed one\n  NoPlan  so few trucks can't serve all customers\n\nExit statuses:\n  0  Proven, NoPlan, or this help\n  1  Open\n  2  the command line is refused\n  3  the file is refused\n  4  no memory\n  5  a read or a write failed\n\nExample, with four threads, and as many partial plans as it takes:\n  cvrp --workers 4 --budget 1000000000000 < examples/E-n51-k5.vrp";
 
 /// The command line of the program.
 pub(crate) fn grammar<'a>(alloc: Global) -> Result<Command<'a>, Error> {
