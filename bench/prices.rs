@@ -2,9 +2,10 @@
 //! `bench_prices` is timed (prices.sh).
 //!
 //!     rustc -O --edition 2021 prices.rs -o prices
-//!     ./prices COST [CUTS] < file.vrp
+//!     ./prices COST [NEAR [CUTS]] < file.vrp
 //!
-//! COST is that of a plan, which the bound is to come up to; CUTS how many cuts there may be (100). It prints the bound at the
+//! COST is that of a plan, which the bound is to come up to; NEAR how many customers near each place walks remember (3); CUTS how
+//! many cuts there may be (100). It prints the bound at the
 //! root, the rounds and their seconds, and how many partial plans the search looked at, in seconds and by the second. Symmetric
 //! instances of at most 64 places alone, whose demands divided by their greatest common divisor make small tables.
 #[allow(dead_code)]
@@ -15,7 +16,42 @@ use std::time::Instant;
 
 const NONE: i64 = 1 << 40;
 
-/// by load and place the least walk home that carries the load behind the place, and the stop it goes to first; and the tours
+/// what walks remember: by place the bit of each customer near it, and by way and memory the memory one stop earlier
+struct Memory {
+    masks: usize,
+    bit: Vec<usize>,
+    before: Vec<usize>,
+}
+
+impl Memory {
+    fn new(p: &Problem, size: usize) -> Memory {
+        let (n, size) = (p.n, size.min(p.n.saturating_sub(2)));
+        let (mut near, mut bit) = (vec![vec![]; n], vec![0; n * n]);
+        for at in 1..n {
+            let mut others: Vec<usize> = (1..n).filter(|&other| other != at).collect();
+            others.sort_by_key(|&other| p.weight[at * n + other]);
+            others.truncate(size);
+            for (k, &other) in others.iter().enumerate() {
+                bit[at * n + other] = 1 << k;
+            }
+            near[at] = others;
+        }
+        let masks = 1 << size;
+        let mut before = vec![0; n * n * masks];
+        for from in 1..n {
+            for stop in 1..n {
+                for memory in 0..masks {
+                    let kept = near[stop].iter().enumerate().filter(|x| memory >> x.0 & 1 == 1);
+                    before[(from * n + stop) * masks + memory] = kept.fold(bit[from * n + stop], |all, x| all | bit[from * n + x.1]);
+                }
+            }
+        }
+        Memory { masks, bit, before }
+    }
+}
+
+/// by load, place and memory the least walk home that carries the load behind the place, and the state it goes to first; and the
+/// tours
 struct Tables {
     walk: Vec<i64>,
     next: Vec<usize>,
@@ -25,34 +61,45 @@ struct Tables {
     last: Vec<usize>,
 }
 
-fn tables(p: &Problem, ways: &[i64]) -> Tables {
-    let n = p.n;
+fn tables(p: &Problem, memory: &Memory, ways: &[i64]) -> Tables {
+    let (n, masks) = (p.n, memory.masks);
     let whole: usize = p.demand.iter().sum();
     let room = p.capacity.min(whole);
     let mut t = Tables {
-        walk: vec![NONE; (room + 1) * n],
-        next: vec![0; (room + 1) * n],
+        walk: vec![NONE; (room + 1) * n * masks],
+        next: vec![0; (room + 1) * n * masks],
         tour: vec![NONE; room + 1],
         first: vec![0; room + 1],
         tours: vec![NONE; whole + 1],
         last: vec![0; whole + 1],
     };
     for at in 1..n {
-        t.walk[at] = ways[at * n];
+        t.walk[at * masks] = ways[at * n];
     }
     for load in 0..=room {
         for stop in 1..n {
-            let (cost, carried) = (t.walk[load * n + stop], load + p.demand[stop]);
-            if cost >= NONE || carried > room {
+            let carried = load + p.demand[stop];
+            if carried > room {
                 continue;
             }
-            if cost + ways[stop] < t.tour[carried] {
-                (t.tour[carried], t.first[carried]) = (cost + ways[stop], stop);
-            }
-            for from in 1..n {
-                let (cell, longer) = (carried * n + from, cost + ways[from * n + stop]);
-                if from != stop && longer < t.walk[cell] {
-                    (t.walk[cell], t.next[cell]) = (longer, stop);
+            for kept in 0..masks {
+                let cost = t.walk[(load * n + stop) * masks + kept];
+                if cost >= NONE {
+                    continue;
+                }
+                let state = stop * masks + kept;
+                if cost + ways[stop] < t.tour[carried] {
+                    (t.tour[carried], t.first[carried]) = (cost + ways[stop], state);
+                }
+                for from in 1..n {
+                    if from == stop || kept & memory.bit[stop * n + from] != 0 || carried + p.demand[from] > room {
+                        continue;
+                    }
+                    let cell = (carried * n + from) * masks + memory.before[(from * n + stop) * masks + kept];
+                    let longer = cost + ways[from * n + stop];
+                    if longer < t.walk[cell] {
+                        (t.walk[cell], t.next[cell]) = (longer, state);
+                    }
                 }
             }
         }
@@ -105,17 +152,18 @@ fn priced(p: &Problem, scale: i64, price: &[i64], cuts: &[Cut]) -> (Vec<i64>, i6
 }
 
 /// the ways of the least tours of the whole demand
-fn used_ways(p: &Problem, t: &Tables) -> Vec<(usize, usize)> {
+fn used_ways(p: &Problem, masks: usize, t: &Tables) -> Vec<(usize, usize)> {
     let mut used = vec![];
     let mut rest = t.tours.len() - 1;
     while rest > 0 {
         let mut load = t.last[rest];
         rest -= load;
-        let (mut from, mut to) = (0, t.first[load]);
+        let (mut from, mut state) = (0, t.first[load]);
         while load > 0 {
+            let to = state / masks;
             used.push((from, to));
             load -= p.demand[to];
-            (from, to) = (to, t.next[load * p.n + to]);
+            (from, state) = (to, t.next[load * p.n * masks + state]);
         }
         used.push((from, 0));
     }
@@ -146,7 +194,7 @@ fn grown(p: &Problem, flow: &[i64], start: usize) -> Option<(i64, u64, i64)> {
 }
 
 /// prices and cuts by a deflected subgradient; the bound that they give, by the scale, and after how many rounds
-fn ascend(p: &Problem, scale: i64, cost: i64, most_cuts: usize) -> (Vec<i64>, Vec<Cut>, i64, i32) {
+fn ascend(p: &Problem, memory: &Memory, scale: i64, cost: i64, most_cuts: usize) -> (Vec<i64>, Vec<Cut>, i64, i32) {
     let n = p.n;
     let (mut price, mut cuts, mut way) = (vec![0; n], Vec::<Cut>::new(), vec![0; n]);
     let (mut best, mut low) = ((price.clone(), cuts.clone()), i64::MIN);
@@ -154,7 +202,7 @@ fn ascend(p: &Problem, scale: i64, cost: i64, most_cuts: usize) -> (Vec<i64>, Ve
     let (mut pace, mut stale) = (1024, 0);
     for round in 0..600 {
         let (ways, owed) = priced(p, scale, &price, &cuts);
-        let t = tables(p, &ways);
+        let t = tables(p, memory, &ways);
         let bound = t.tours[t.tours.len() - 1] - owed;
         stale = if bound - low > low.saturating_abs() / 20_000 || low == i64::MIN { 0 } else { stale + 1 };
         if bound > low {
@@ -166,7 +214,7 @@ fn ascend(p: &Problem, scale: i64, cost: i64, most_cuts: usize) -> (Vec<i64>, Ve
         if low > scale * (cost - 1) || pace < 4 {
             return (best.0, best.1, low, round);
         }
-        let used = used_ways(p, &t);
+        let used = used_ways(p, memory.masks, &t);
         let mut uses = vec![0; n * n];
         for &(from, to) in &used {
             uses[from * n + to] += 1024;
@@ -216,16 +264,17 @@ fn ascend(p: &Problem, scale: i64, cost: i64, most_cuts: usize) -> (Vec<i64>, Ve
 }
 
 /// the least completion by place, room and rest; NO_WAY where there is none
-fn homes(p: &Problem, t: &Tables) -> Vec<u32> {
+fn homes(p: &Problem, masks: usize, t: &Tables) -> Vec<u32> {
     let (whole, room) = (t.tours.len() - 1, t.tour.len() - 1);
     let mut homes = vec![u32::MAX; p.n * (room + 1) * (whole + 1)];
     for at in 1..p.n {
         for load in 0..=room {
+            let walk = (0..masks).map(|kept| t.walk[(load * p.n + at) * masks + kept]).min().unwrap();
             for rest in 0..=whole {
                 let cell = (at * (room + 1) + load) * (whole + 1) + rest;
                 let mut least = if load > 0 { homes[cell - whole - 1] } else { u32::MAX };
                 if load <= rest {
-                    let cost = t.walk[load * p.n + at] + t.tours[rest - load];
+                    let cost = walk + t.tours[rest - load];
                     if cost < NONE {
                         least = least.min(cost as u32);
                     }
@@ -251,10 +300,9 @@ struct Front {
 
 /// depth first, routes by rising first customer, each in the direction whose first customer is the lesser: the partial plans
 /// that are looked at, and the cost of the best plan that was found, if one costs no more than this
-fn search(p: &Problem, scale: i64, ways: &[i64], owed: i64, cost: i64) -> (u64, Option<i64>) {
-    let (n, t) = (p.n, tables(p, ways));
+fn search(p: &Problem, t: &Tables, homes: &[u32], scale: i64, ways: &[i64], owed: i64, cost: i64) -> (u64, Option<i64>) {
+    let n = p.n;
     let (whole, room) = (t.tours.len() - 1, t.tour.len() - 1);
-    let homes = homes(p, &t);
     let all = (1u64 << (n - 1) << 1) - 2;
     let root = Front { at: 0, load: 0, rest: whole, cost: 0, paid: 0, served: 0, first: 0, next: 0, one: false };
     let mut stack = vec![root];
@@ -309,12 +357,13 @@ fn search(p: &Problem, scale: i64, ways: &[i64], owed: i64, cost: i64) -> (u64, 
 fn main() {
     let words: Vec<String> = std::env::args().skip(1).collect();
     let cost: i64 = words[0].parse().unwrap();
-    let most_cuts = words.get(1).map_or(100, |word| word.parse().unwrap());
     let p = read();
+    let memory = Memory::new(&p, words.get(1).map_or(3, |word| word.parse().unwrap()));
+    let most_cuts = words.get(2).map_or(100, |word| word.parse().unwrap());
     assert!(p.n <= 64 && p.symmetric && !p.demand[1..].contains(&0));
     let scale = (1_000_000_000 / cost).clamp(1, 1000);
     let clock = Instant::now();
-    let (mut price, cuts, low, rounds) = ascend(&p, scale, cost, most_cuts);
+    let (mut price, cuts, low, rounds) = ascend(&p, &memory, scale, cost, most_cuts);
     let rounds_took = clock.elapsed().as_secs_f64();
     // No way below nothing: a price in proportion to the demand changes no comparison.
     let (ways, _) = priced(&p, scale, &price, &cuts);
@@ -330,8 +379,10 @@ fn main() {
         price[stop] += lift * p.demand[stop] as i64;
     }
     let (ways, owed) = priced(&p, scale, &price, &cuts);
+    let t = tables(&p, &memory, &ways);
+    let homes = homes(&p, memory.masks, &t);
     let clock = Instant::now();
-    let (looked, found) = search(&p, scale, &ways, owed, cost);
+    let (looked, found) = search(&p, &t, &homes, scale, &ways, owed, cost);
     let took = clock.elapsed().as_secs_f64();
     println!(
         "bound {:.2}, {rounds} rounds in {rounds_took:.3} seconds; cost {}, {looked} partial plans in {took:.3} seconds, million/s {:.1}",

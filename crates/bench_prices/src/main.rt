@@ -1,10 +1,12 @@
 //! How good prices are, and how fast the search by them looks: it finds prices for the instance in a CVRP file, with a first plan's cost
-//! to aim at, and searches its whole tree till the budget is spent. The command line names the file, the budget in partial plans, and
-//! the steps that may be taken to find prices. What was found goes to standard output, and how long it took to standard error.
+//! to aim at, and searches its whole tree till the budget is spent. The command line names the file, the budget in partial plans, the
+//! steps that may be taken to find prices, and how many customers near each place walks may remember. What was found goes to standard output, and how long it took to standard error.
 #![tactic(auto)]
 
 ghost use Rattle.std.specs.Prelude.{◌≡◌, ◌≤◌, IfOk};
 ghost use Rattle.std.specs.Option.{ForSome};
+ghost use Rattle.vrp_memory.specs.declared.memory.TheConstants.{MOST_NEAR};
+ghost use Rattle.vrp_model.specs.Problem.{customers, place_count};
 ghost use Rattle.vrp_model.specs.Route.{IsPlanOf};
 
 use anyhow::{Context, Result, ensure};
@@ -12,10 +14,11 @@ use std::alloc::Global;
 use std::rt::{Clock, Files};
 use std::time::{Duration, Instant};
 use std::{env, fs};
-use vrp_bound::Tables;
+use vrp_bound::{MemoryTables, Tables};
 use vrp_first::{ENOUGH_MOVES, first_plan};
+use vrp_memory::{MOST_NEAR, Memory};
 use vrp_model::{Instance, NO_COST, Plan};
-use vrp_prices::{Relaxation, find_prices};
+use vrp_prices::{FoundPrices, find_prices};
 use vrp_search::{Cutting, Ended, Local, Prices, search_by_prices};
 
 fn main(rt: HostRuntime) -> Result<()> {
@@ -24,8 +27,14 @@ fn main(rt: HostRuntime) -> Result<()> {
     let budget = words.next().context("no budget is named")?.parse::<u64>()?;
     ensure!(budget >= 1, "the budget is 0");
     let steps = words.next().context("no steps are named")?.parse::<u64>()?;
+    let near = words.next().context("no number of customers is named")?;
+    let near = near.parse::<usize>()?;
+    ensure!(
+        near <= MOST_NEAR,
+        "more than {MOST_NEAR} customers near a place"
+    );
     let instance = read(&rt, name.as_str())?;
-    measure(&rt, name.as_str(), &instance, budget, steps)
+    measure(&rt, name.as_str(), &instance, budget, near, steps)
 }
 
 // The instance in a file.
@@ -40,16 +49,18 @@ fn measure<R: Clock + Print + Eprint + AllocGlobal>(
     name: &str,
     instance: &Instance,
     budget: u64,
+    near: usize,
     steps: u64,
 ) -> Result<()>
-    requires { 1 ≤ budget }
+    requires budget { 1 ≤ budget }
+    requires near { near ≤ MOST_NEAR }
 {
     let plan = timed_plan(rt, instance)?;
     let first = plan.cost();
-    let relaxation = timed_prices(rt, instance, first, steps)?;
-    print_bound(rt, &relaxation, first.min(NO_COST))?;
+    let found = timed_prices(rt, instance, first, near, steps)?;
+    print_bound(rt, instance, &found, first.min(NO_COST))?;
     let mut board = Local::open(Some(plan));
-    let ended = timed_search(rt, instance, &relaxation, budget, &mut board)?;
+    let ended = timed_search(rt, instance, found, budget, &mut board)?;
     let cost = board.plan().context("no plan")?.cost();
     let (verdict, looked) = match ended {
         Ended::Finished { spent, .. } => ("finished", spent),
@@ -76,12 +87,15 @@ fn timed_prices<'a, R: Clock + Eprint + AllocGlobal>(
     rt: &R,
     instance: &'a Instance,
     cost: u64,
+    near: usize,
     steps: u64,
-) -> Result<Relaxation<'a>>
-    ensures { IfOk result (λ relaxation. relaxation.problem ≡ instance.now) }
+) -> Result<FoundPrices<'a>>
+    requires { near ≤ MOST_NEAR }
+    ensures relaxation { IfOk result (λ found. found.relaxation.problem ≡ instance.now) }
+    ensures memory { IfOk result (λ found. found.memory.places ≡ place_count instance.now) }
 {
     let start = Instant::now(rt)?;
-    let found = find_prices(rt.alloc(), instance, cost, steps)?;
+    let found = find_prices(rt.alloc(), instance, cost, near, steps)?;
     print_time(rt, "prices", start.elapsed(rt)?)?;
     found.context("no prices")
 }
@@ -89,14 +103,19 @@ fn timed_prices<'a, R: Clock + Eprint + AllocGlobal>(
 // Prints what each plan costs at least by the prices, to its second place behind the point.
 fn print_bound<R: Eprint + AllocGlobal>(
     rt: &R,
-    relaxation: &Relaxation<'_>,
+    instance: &Instance,
+    found: &FoundPrices<'_>,
     cost: u64,
 ) -> Result<()>
-    requires { cost ≤ NO_COST }
+    requires relaxation { found.now.relaxation.problem ≡ instance.now }
+    requires cost { cost ≤ NO_COST }
 {
-    let tables = Tables::over_all(rt.alloc(), relaxation.relaxed())?;
+    let relaxation = &found.relaxation;
+    let size = found.memory.size().min(MOST_NEAR);
+    let memory = Memory::nearest(rt.alloc(), instance, size)?;
+    let tables = MemoryTables::new(rt.alloc(), relaxation.relaxed(), memory)?;
     let whole = relaxation.relaxed().whole_demand();
-    let tours = tables.q_bound(0, 0, whole).context("no tours")?;
+    let tours = tables.bound(0, 0, whole).context("no tours")?;
     let limit = relaxation.limit(cost).context("no limit")?;
     // Each plan costs at least as much less than this one as the least tours cost less than its limit.
     let scale = relaxation.scale().max(1);
@@ -107,20 +126,26 @@ fn print_bound<R: Eprint + AllocGlobal>(
     Ok(())
 }
 
-// How the search of the whole tree ends, and prints how fast it looked.
+// How the search of the whole tree ends. Prints how long its tables took, and how fast it looked.
 fn timed_search<R: Clock + Eprint + AllocGlobal>(
     rt: &R,
     instance: &Instance,
-    relaxation: &Relaxation<'_>,
+    found: FoundPrices<'_>,
     budget: u64,
     board: &mut Local,
 ) -> Result<Ended>
-    requires relaxation { relaxation.now.problem ≡ instance.now }
+    requires relaxation { found.relaxation.problem ≡ instance.now }
+    requires memory { found.memory.places ≡ place_count instance.now }
     requires board { ForSome board.old (IsPlanOf instance.now) }
     requires budget { 1 ≤ budget }
 {
     let start = Instant::now(rt)?;
-    let ended = search_whole(rt.alloc(), instance, relaxation, budget, board)?;
+    let tables = Tables::over_all(rt.alloc(), instance)?;
+    let FoundPrices { relaxation, memory } = found;
+    let prices = Prices::new(rt.alloc(), &relaxation, memory)?;
+    print_time(rt, "tables", start.elapsed(rt)?)?;
+    let start = Instant::now(rt)?;
+    let ended = search_whole(rt.alloc(), instance, &tables, &prices, budget, board)?;
     let time = start.elapsed(rt)?;
     let (Ended::Finished { spent, .. } | Ended::Unfinished { spent, .. }) = &ended;
     print_rate(rt, *spent, time)?;
@@ -131,19 +156,19 @@ fn timed_search<R: Clock + Eprint + AllocGlobal>(
 fn search_whole(
     alloc: Global,
     instance: &Instance,
-    relaxation: &Relaxation<'_>,
+    tables: &Tables<'_>,
+    prices: &Prices<'_>,
     budget: u64,
     board: &mut Local,
 ) -> Result<Ended>
-    requires relaxation { relaxation.now.problem ≡ instance.now }
+    requires tables { tables.now ≡ record { problem = instance.now; among = customers instance.now } }
+    requires prices { prices.now.problem ≡ instance.now }
     requires board { ForSome board.old (IsPlanOf instance.now) }
     requires budget { 1 ≤ budget }
 {
-    let tables = Tables::over_all(alloc, instance)?;
-    let prices = Prices::new(alloc, relaxation)?;
     let cutting = Cutting::whole(alloc, instance)?;
     let piece = cutting.pieces().first().context("no piece")?;
-    Ok(search_by_prices(alloc, instance, &tables, &prices, piece, budget, board)?)
+    Ok(search_by_prices(alloc, instance, tables, prices, piece, budget, board)?)
 }
 
 // Prints how long something took.

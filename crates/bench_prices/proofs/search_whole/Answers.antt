@@ -9,4 +9,4 @@ pub search_by_prices-requires-clause-covered : goal.search_by_prices-requires-cl
 search_by_prices-requires-clause-covered c =
     let p = c.args.instance.now in
     let front = c.in_ok-piece.piece.now.word in
-    subst (λ (tables : TablesOf). AreCovered p tables.among front) (sym c.in_ok-tables.ensures) (unserved_are_customers p front)
+    subst (λ (tables : TablesOf). AreCovered p tables.among front) (sym c.requires.tables) (unserved_are_customers p front)
