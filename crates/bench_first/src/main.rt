@@ -50,7 +50,10 @@ fn print_costs<R: Clock + Print + Eprint + AllocGlobal>(
     let savings = cost(rt.alloc(), savings_plan(rt.alloc(), instance)?)?;
     let by_savings = start.elapsed(rt)?;
     let start = Instant::now(rt)?;
-    let first = cost(rt.alloc(), first_plan(rt.alloc(), instance, ENOUGH_MOVES)?)?;
+    let first = cost(
+        rt.alloc(),
+        first_plan(rt.alloc(), instance, ENOUGH_MOVES, &|| true)?,
+    )?;
     let by_moves = start.elapsed(rt)?;
     println!(rt; "{word}: {first}")?;
     let (by_savings, by_moves) = (by_savings.as_millis(), by_moves.as_millis());

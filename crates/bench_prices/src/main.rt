@@ -77,7 +77,7 @@ fn timed_plan<R: Clock + Eprint + AllocGlobal>(rt: &R, instance: &Instance) -> R
     ensures { IfOk result (IsPlanOf instance.now) }
 {
     let start = Instant::now(rt)?;
-    let found = first_plan(rt.alloc(), instance, ENOUGH_MOVES)?;
+    let found = first_plan(rt.alloc(), instance, ENOUGH_MOVES, &|| true)?;
     print_time(rt, "first plan", start.elapsed(rt)?)?;
     found.context("no first plan")
 }
@@ -95,7 +95,7 @@ fn timed_prices<'a, R: Clock + Eprint + AllocGlobal>(
     ensures memory { IfOk result (λ found. found.memory.places ≡ place_count instance.now) }
 {
     let start = Instant::now(rt)?;
-    let found = find_prices(rt.alloc(), instance, cost, near, steps)?;
+    let found = find_prices(rt.alloc(), instance, cost, near, steps, &|| true)?;
     print_time(rt, "prices", start.elapsed(rt)?)?;
     found.context("no prices")
 }

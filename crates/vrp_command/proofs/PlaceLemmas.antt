@@ -1,5 +1,5 @@
 -- The stops of a lawful plan are places of the problem.
-use Rattle.std.proofs.Common.{◌≡◌, ℕ, suc, ◌<◌, None, Some, List, [], ◌∷◌, ◌++◌, get_or, subst, arith}
+use Rattle.std.proofs.Common.{◌≡◌, ℕ, suc, ◌<◌, Bool, None, Some, List, [], ◌∷◌, ◌++◌, get_or, subst, arith}
 use Rattle.std.specs.List.{All, concat}
 use Rattle.std.proofs.lemmas.List.Elements.{All-cons, All-nil, Contains-get_or}
 use Rattle.std.proofs.lemmas.List.Sorted.{Contains-permutation}
@@ -29,7 +29,7 @@ stops_within p routes lawful =
     customer_below p (get_or (concat routes) k d) (Contains-permutation (concat routes) (customers p) (get_or (concat routes) k d) lawful.served (Contains-get_or (concat routes) k d lt)))
 
 -- the plan of an answer is lawful
-pub answer_lawful : (p : Problem) (pieces budget : ℕ) (found : Answer) → IsAnswerTo p pieces budget found → ForSome (known_plan found) (IsPlanOf p)
-answer_lawful p pieces budget (Proven plan) first = λ other same. (let one : plan ≡ other = cc in subst (IsPlanOf p) one first.plan_of)
-answer_lawful p pieces budget (Open plan low lowest) left = left.left_open.plan_of
-answer_lawful p pieces budget NoPlan nothing = λ other same. absurd (let never : None ≡ Some other = same in cc)
+pub answer_lawful : (p : Problem) (pieces budget : ℕ) (may_stop : Bool) (found : Answer) → IsAnswerTo p pieces budget may_stop found → ForSome (known_plan found) (IsPlanOf p)
+answer_lawful p pieces budget may_stop (Proven plan) first = λ other same. (let one : plan ≡ other = cc in subst (IsPlanOf p) one first.plan_of)
+answer_lawful p pieces budget may_stop (Open plan low lowest) left = left.left_open.plan_of
+answer_lawful p pieces budget may_stop NoPlan nothing = λ other same. absurd (let never : None ≡ Some other = same in cc)

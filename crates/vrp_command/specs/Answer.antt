@@ -1,5 +1,5 @@
 -- What is known of the answer to a problem.
-use Rattle.std.specs.Prelude.{◌⊎◌, ℕ, ◌+◌, ◌-◌, ◌≤◌, Option, List, length}
+use Rattle.std.specs.Prelude.{◌⊎◌, ℕ, ◌+◌, ◌-◌, ◌≤◌, Bool, Option, List, length}
 use Rattle.std.specs.List.{All}
 use Rattle.vrp_model.specs.Cheapest.{HasNoPlan}
 use Rattle.vrp_model.specs.Order.{IsFirst}
@@ -13,16 +13,16 @@ use Rattle.vrp_pool.specs.declared.answers.Answer.TheVariants.{Proven, Open, NoP
 
 -- The words are cut into pieces, as many as were asked for or until none has a child, and fewer than `MAX_NODES` more; and some of
 -- these are left unfinished
-pub record IsCutOpen (p : Problem) (pieces budget : ℕ) (plan : Option PricedPlan) (low first : ℕ) : Type 0 where
+pub record IsCutOpen (p : Problem) (pieces budget : ℕ) (may_stop : Bool) (plan : Option PricedPlan) (low first : ℕ) : Type 0 where
   pub cutting : List (List ℕ)
   pub is_cutting : IsCutting p cutting
   pub enough : (pieces ≤ length cutting) ⊎ All (HasNoChild p) cutting
   pub few : length cutting ≤ pieces + (MAX_NODES - 1)
-  pub left_open : IsLeftOpen p cutting budget plan low first
+  pub left_open : IsLeftOpen p cutting budget may_stop plan low first
 
 -- Proven: a cheapest plan, and of these the one with the earliest word. NoPlan: no plan is lawful. Only Open speaks of pieces and a
--- budget
-abbrev pub IsAnswerTo : Problem → ℕ → ℕ → Answer → Type 0
-IsAnswerTo p pieces budget (Proven plan) = IsFirst p plan
-IsAnswerTo p pieces budget (Open plan low first) = IsCutOpen p pieces budget plan low first
-IsAnswerTo p pieces budget NoPlan = HasNoPlan p
+-- budget, and of whether the search may be stopped before the budget is spent
+abbrev pub IsAnswerTo : Problem → ℕ → ℕ → Bool → Answer → Type 0
+IsAnswerTo p pieces budget may_stop (Proven plan) = IsFirst p plan
+IsAnswerTo p pieces budget may_stop (Open plan low first) = IsCutOpen p pieces budget may_stop plan low first
+IsAnswerTo p pieces budget may_stop NoPlan = HasNoPlan p

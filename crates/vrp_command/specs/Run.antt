@@ -1,5 +1,5 @@
 -- What a run reads, and what it writes.
-use Rattle.std.specs.Prelude.{◌≡◌, ◌≢◌, ℕ, Option, None, Some, List, ⊤}
+use Rattle.std.specs.Prelude.{◌≡◌, ◌≢◌, ℕ, Bool, Option, None, Some, List, ⊤}
 use Rattle.std.specs.Io.KnownBytes.{Appends}
 use Rattle.vrp_model.specs.Problem.{Problem}
 use Rattle.vrp_text.specs.Meaning.{MeansProblem, MeansRefusal}
@@ -28,26 +28,26 @@ abbrev pub limited : Option ℕ → Problem → Problem
 limited None problem = problem
 limited (Some trucks) problem = record problem { trucks = Some trucks }
 
--- the report of an answer to the problem
-pub record ReportsAnswer (options : Options) (problem : Problem) (report : List ℕ) (ended : Status) : Type 0 where
+-- the report of an answer to the problem, by a search that may be stopped or not
+pub record ReportsAnswer (options : Options) (may_stop : Bool) (problem : Problem) (report : List ℕ) (ended : Status) : Type 0 where
   pub found : Answer
-  pub answer_is : IsAnswerTo problem options.pieces options.budget found
+  pub answer_is : IsAnswerTo problem options.pieces options.budget may_stop found
   pub text : report ≡ report_of problem found
   pub status : ended ≡ status_of found
 
 -- the bytes mean a problem, and this is the report of such an answer to it, with the trucks that were asked for
-pub record AnswersBytes (options : Options) (bytes report : List ℕ) (ended : Status) : Type 0 where
+pub record AnswersBytes (options : Options) (may_stop : Bool) (bytes report : List ℕ) (ended : Status) : Type 0 where
   pub problem : Problem
   pub meant : MeansProblem bytes options.depot problem
-  pub reported : ReportsAnswer options (limited options.trucks problem) report ended
+  pub reported : ReportsAnswer options may_stop (limited options.trucks problem) report ended
 
 -- What was written is the report of an answer to what was read, and nothing else. What is known of a reader's bytes, and of a
 -- writer's, comes before the call and after it.
-pub record PrintsAnswer (options : Options) (unread_old unread_new written_old written_new : Option (List ℕ)) (ended : Status) : Type 0 where
+pub record PrintsAnswer (options : Options) (may_stop : Bool) (unread_old unread_new written_old written_new : Option (List ℕ)) (ended : Status) : Type 0 where
   pub bytes : List ℕ
   pub input : IsInput unread_old unread_new bytes
   pub report : List ℕ
-  pub answers : AnswersBytes options bytes report ended
+  pub answers : AnswersBytes options may_stop bytes report ended
   pub output : Appends written_old written_new report
 
 -- what was read is refused for this
@@ -57,12 +57,12 @@ pub record RefusesInput (chosen : Option ℕ) (unread_old unread_new : Option (L
   pub refused : MeansRefusal bytes chosen refusal
 
 -- What was read means a problem, and what was written is a part of the report of an answer to it, from its first byte on
-pub record PrintsPart (options : Options) (unread_old unread_new written_old written_new : Option (List ℕ)) : Type 0 where
+pub record PrintsPart (options : Options) (may_stop : Bool) (unread_old unread_new written_old written_new : Option (List ℕ)) : Type 0 where
   pub bytes : List ℕ
   pub input : IsInput unread_old unread_new bytes
   pub report : List ℕ
   pub ended : Status
-  pub answers : AnswersBytes options bytes report ended
+  pub answers : AnswersBytes options may_stop bytes report ended
   pub output : AppendsPart written_old written_new report
 
 -- A fact on the refusal where the fault is that the file is refused. Want of memory is no such refusal.

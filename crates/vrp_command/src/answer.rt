@@ -25,7 +25,7 @@ pub(crate) fn cut_and_solve<T: Threads + Wait + Sync, G: Gate + Sync>(
     requires few_workers { workers ≤ MAX_WORKERS }
     requires pieces { pieces ≤ MAX_PIECES }
     requires budget { 1 ≤ budget }
-    ensures { IfOk result (IsAnswerTo instance.now pieces budget) }
+    ensures { IfOk result (IsAnswerTo instance.now pieces budget (G.may_stop gate.now)) }
 {
     let mut cutting = Cutting::whole(alloc, instance)?;
     cutting.at_least(alloc, instance, pieces)?;

@@ -1,5 +1,5 @@
 //! A run: from the bytes of a file to the bytes of a report.
-ghost use Rattle.std.specs.Prelude.{◌≡◌, ◌≢◌, ◌+◌, ◌≤◌, IfOk, IfErr, string_bytes};
+ghost use Rattle.std.specs.Prelude.{◌≡◌, ◌≢◌, ◌+◌, ◌≤◌, false, IfOk, IfErr, string_bytes};
 ghost use Rattle.std.specs.Io.KnownBytes.{Keeps};
 ghost use Rattle.vrp_command.specs.Options.{AreInRange};
 ghost use Rattle.vrp_command.specs.Run.{ReportsAnswer, PrintsAnswer, PrintsPart, RefusesInput, OnRefusedFile, limited, status_of};
@@ -33,9 +33,9 @@ pub fn run<T: Threads + Wait + Sync, R: Read, W: Write>(
     output: &mut W,
 ) -> Result<Status, RunError>
     requires { AreInRange options }
-    ensures printed { IfOk result (PrintsAnswer options (R.remaining input.old) (R.remaining input.new) (W.contents output.old) (W.contents output.new)) }
+    ensures printed { IfOk result (PrintsAnswer options false (R.remaining input.old) (R.remaining input.new) (W.contents output.old) (W.contents output.new)) }
     ensures refused { IfErr result (λ fault. OnRefusedFile fault (RefusesInput options.depot (R.remaining input.old) (R.remaining input.new))) }
-    ensures begun { IfErr result (λ fault. fault ≡ RunError.Write → PrintsPart options
+    ensures begun { IfErr result (λ fault. fault ≡ RunError.Write → PrintsPart options false
         (R.remaining input.old) (R.remaining input.new) (W.contents output.old) (W.contents output.new)) }
     ensures failed { IfErr result (λ fault. fault ≡ RunError.Read → TakesAtMost MAX_BYTES (R.remaining input.old) (R.remaining input.new)) }
     ensures taken { TakesAtMost (MAX_BYTES + 1) (R.remaining input.old) (R.remaining input.new) }
@@ -44,7 +44,7 @@ pub fn run<T: Threads + Wait + Sync, R: Read, W: Write>(
     run_gated(rt, alloc, options, input, output, &NoGate)
 }
 
-/// The same. A gate is told before each piece is searched.
+/// The same. A gate is told before each piece is searched, and may stop the search.
 pub(crate) fn run_gated<T: Threads + Wait + Sync, R: Read, W: Write, G: Gate + Sync>(
     rt: &T,
     alloc: Global,
@@ -54,9 +54,9 @@ pub(crate) fn run_gated<T: Threads + Wait + Sync, R: Read, W: Write, G: Gate + S
     gate: &G,
 ) -> Result<Status, RunError>
     requires { AreInRange options }
-    ensures printed { IfOk result (PrintsAnswer options (R.remaining input.old) (R.remaining input.new) (W.contents output.old) (W.contents output.new)) }
+    ensures printed { IfOk result (PrintsAnswer options (G.may_stop gate.now) (R.remaining input.old) (R.remaining input.new) (W.contents output.old) (W.contents output.new)) }
     ensures refused { IfErr result (λ fault. OnRefusedFile fault (RefusesInput options.depot (R.remaining input.old) (R.remaining input.new))) }
-    ensures begun { IfErr result (λ fault. fault ≡ RunError.Write → PrintsPart options
+    ensures begun { IfErr result (λ fault. fault ≡ RunError.Write → PrintsPart options (G.may_stop gate.now)
         (R.remaining input.old) (R.remaining input.new) (W.contents output.old) (W.contents output.new)) }
     ensures failed { IfErr result (λ fault. fault ≡ RunError.Read → TakesAtMost MAX_BYTES (R.remaining input.old) (R.remaining input.new)) }
     ensures taken { TakesAtMost (MAX_BYTES + 1) (R.remaining input.old) (R.remaining input.new) }
@@ -98,7 +98,7 @@ fn answer_to<T: Threads + Wait + Sync, G: Gate + Sync>(
     gate: &G,
 ) -> Result<Outcome, RunError>
     requires { AreInRange options }
-    ensures answer { IfOk result (λ outcome. ReportsAnswer options instance.now (string_bytes outcome.report) outcome.status) }
+    ensures answer { IfOk result (λ outcome. ReportsAnswer options (G.may_stop gate.now) instance.now (string_bytes outcome.report) outcome.status) }
     ensures fault { IfErr result (λ fault. fault ≡ RunError.OutOfMemory) }
 {
     let answer = cut_and_solve(

@@ -16,8 +16,8 @@ use std::thread::Threads;
 use vrp_pool::Gate;
 
 /// Does what the words behind the program's name ask for, and answers the exit status. The report goes to `output`, and so do the
-/// help and the version; why there is no report goes to `errors`. A gate is told before each piece is searched. What the words ask
-/// for no clause says.
+/// help and the version; why there is no report goes to `errors`. A gate is told before each piece is searched, and may stop the
+/// search. What the words ask for no clause says.
 pub fn run_words<T: Threads + Wait + Sync, R: Read, W: Write, E: Write, G: Gate + Sync>(
     rt: &T,
     alloc: Global,
@@ -29,8 +29,8 @@ pub fn run_words<T: Threads + Wait + Sync, R: Read, W: Write, E: Write, G: Gate 
 ) -> u8
     ensures known { result ≤ 5 }
     ensures done { result ≡ 0 → Keeps (R.remaining input.old) (R.remaining input.new)
-        ⊎ PrintsReport (R.remaining input.old) (R.remaining input.new) (W.contents output.old) (W.contents output.new) result }
-    ensures open { result ≡ 1 → PrintsReport (R.remaining input.old) (R.remaining input.new) (W.contents output.old) (W.contents output.new) result }
+        ⊎ PrintsReport (G.may_stop gate.now) (R.remaining input.old) (R.remaining input.new) (W.contents output.old) (W.contents output.new) result }
+    ensures open { result ≡ 1 → PrintsReport (G.may_stop gate.now) (R.remaining input.old) (R.remaining input.new) (W.contents output.old) (W.contents output.new) result }
     ensures refused { result ≡ 2 → Keeps (R.remaining input.old) (R.remaining input.new) }
     ensures silent { 2 ≤ result → result ≤ 4 → Keeps (W.contents output.old) (W.contents output.new) }
 {

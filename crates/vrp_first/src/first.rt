@@ -22,14 +22,20 @@ const POSITIONS_A_MOVE: u64 = 2_000;
 /// isn't dearer than the last by a threshold or more, which falls to nothing. There are four runs of this many moves each; with many
 /// customers there are fewer moves, since for each move at most 2,000 positions are looked at on average. The first run starts
 /// from the plan by savings, and each other from the best plan so far. What is answered is the best of all these plans, the first by
-/// cost and then by word, and the same at each call.
+/// cost and then by word, and the same at each call, unless it is told to stop: before each move it is asked whether to go on.
 ///
 /// With a limit on trucks no route is opened beyond it. Where savings find no plan within the limit, the first run starts with
 /// nobody served; customers who find no place are tried again in each move, and a move that leaves more of them unserved is
 /// undone.
 ///
 /// `None`: no lawful plan was found. Which lawful plan is answered is left open, and so is when there is none.
-pub fn first_plan(alloc: Global, instance: &Instance, moves: u32) -> Result<Option<Plan>, NoMemory>
+pub fn first_plan<F: Fn() -> bool>(
+    alloc: Global,
+    instance: &Instance,
+    moves: u32,
+    goes_on: &F,
+) -> Result<Option<Plan>, NoMemory>
+    requires { F.IsAlwaysCallable goes_on.now }
     ensures { IfOk result (λ plan. IfSome plan (IsPlanOf instance.now)) }
 {
     let mut best = savings_plan(alloc, instance)?;
@@ -40,8 +46,8 @@ pub fn first_plan(alloc: Global, instance: &Instance, moves: u32) -> Result<Opti
     let threshold = threshold(instance, moves);
     for number in 1..RUNS + 1 {
         let word = match &best {
-            Some(plan) => run(alloc, &setting, plan.word(), threshold, number)?,
-            None => run(alloc, &setting, &[], threshold, number)?,
+            Some(plan) => run(alloc, &setting, plan.word(), threshold, number, goes_on)?,
+            None => run(alloc, &setting, &[], threshold, number, goes_on)?,
         };
         best = better(alloc, instance, &word, best)?;
     }

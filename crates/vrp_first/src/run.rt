@@ -33,20 +33,24 @@ impl Model for States {
     ghost invariant = { λ a. (a.last ≡ a.next) × (a.best ≡ a.next) };
 }
 
-/// What a run of this many moves, whose chances go by a number, makes of a word: the word of the cheapest routes that it had.
-pub(crate) fn run(
+/// What a run of this many moves, whose chances go by a number, makes of a word: the word of the cheapest routes that it had. Before
+/// each move it is asked whether to go on.
+pub(crate) fn run<F: Fn() -> bool>(
     alloc: Global,
     setting: &Setting<'_>,
     word: &[u16],
     threshold: Threshold,
     number: u64,
-) -> Result<Vec<u16>, NoMemory> {
+    goes_on: &F,
+) -> Result<Vec<u16>, NoMemory>
+    requires { F.IsAlwaysCallable goes_on.now }
+{
     let mut random = Random::new(number);
     let mut taken = Taken::new(alloc, setting.instance())?;
     let mut states = States::new(alloc, setting, word)?;
     let mut looked: u64 = 0;
     for index in 0..threshold.moves {
-        if looked >= threshold.positions {
+        if looked >= threshold.positions || !goes_on() {
             break;
         }
         let more = states.change(setting, &mut taken, &mut random, index);

@@ -28,7 +28,7 @@ pub still_no_less : (old new : ℕ) (offers : List Offer) → new ≤ old → Al
 still_no_less old new offers falls all = λ k d lt. omega (arith, falls, all k d lt)
 
 pub later_itself : (board : SeatBoardState) → IsLater board board
-later_itself board = record { register = refl; falls = omega arith }
+later_itself board = record { register = refl; may_stop = refl; falls = omega arith }
 
 pub later_still : (first second third : SeatBoardState) → IsLater first second → IsLater second third → IsLater first third
-later_still first second third early late = record { register = late.register ∙ early.register; falls = omega (arith, early.falls, late.falls) }
+later_still first second third early late = record { register = late.register ∙ early.register; may_stop = late.may_stop ∙ early.may_stop; falls = omega (arith, early.falls, late.falls) }

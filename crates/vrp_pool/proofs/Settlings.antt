@@ -122,7 +122,7 @@ counted one rises s cutting best old new left rest low problem known cost is_low
     let front : left.piece.word ≡ piece_of cutting number = sym place.front in
     let falls : new.low ≤ old.low = omega (arith, lower) in
     let here : IsLeftWith s left.piece.word new.low = record {
-      is_left = record { large = place.is_left.large; some = has_own rises s left problem place.is_left };
+      is_left = record { looked = place.is_left.looked; within = place.is_left.within; all_spent = place.is_left.all_spent; large = place.is_left.large; some = has_own rises s left problem place.is_left };
       none_cheaper = less_cheaper s.problem left.piece.word low new.low (omega (arith, lower)) (none_cheaper_than s old.low left low place.is_left is_low);
       than_low = λ other own. omega (arith, lower, own_no_less one rises s old.low left low other problem place.is_left is_low own);
     } in

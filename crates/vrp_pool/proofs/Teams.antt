@@ -17,14 +17,14 @@ use Rattle.vrp_pool.proofs.Works.{can_still, still_has}
 -- ---- new workers
 
 -- a worker who has done nothing yet
-is_new : (s : Search) (register : RegisterState) (caller : CallerState) (drawer : DrawerState) → AreFronts s drawer.put → IsWorker s register drawer.pile (new_worker register caller drawer)
+is_new : (s : Search) (register : RegisterState) (caller : CallerState) (drawer : DrawerState) → AreFronts s drawer.put → IsWorker s register drawer.pile (new_worker s register caller drawer)
 is_new s register caller drawer fronts = record {
-  can = record { fronts = fronts; serves = λ plan is. absurd (cc) };
+  can = record { fronts = fronts; serves = λ plan is. absurd (cc); may_stop = refl };
   of_pile = refl;
   of_register = refl;
 }
 
-new_has : (s : Search) (register : RegisterState) (caller : CallerState) (drawer : DrawerState) → drawer.drawn ≡ [] → HasOutcomes s (new_worker register caller drawer)
+new_has : (s : Search) (register : RegisterState) (caller : CallerState) (drawer : DrawerState) → drawer.drawn ≡ [] → HasOutcomes s (new_worker s register caller drawer)
 new_has s register caller drawer nothing = subst (λ (pieces : List NumberedWord). AreOutcomes s (least_seen caller) pieces []) (sym nothing) (none_kept s (least_seen caller))
 
 pub record AreNewHelpers (s : Search) (register : RegisterState) (owner : DrawerState) (helpers : List WorkerState) : Type 0 where
@@ -34,12 +34,12 @@ pub record AreNewHelpers (s : Search) (register : RegisterState) (owner : Drawer
 
 -- one more helper
 pub one_more_helper : (s : Search) (register : RegisterState) (owner thief : DrawerState) (caller : CallerState) (helper : WorkerState) (helpers more : List WorkerState) → AreFronts s owner.put → IsNewThief owner thief
-    → helper ≡ new_worker register caller thief → AreNewHelpers s register owner helpers → more ≡ helpers ++ helper ∷ [] → AreNewHelpers s register owner more
+    → helper ≡ new_worker s register caller thief → AreNewHelpers s register owner helpers → more ≡ helpers ++ helper ∷ [] → AreNewHelpers s register owner more
 one_more_helper s register owner thief caller helper helpers more fronts new made so_far is =
     let same : thief.pile ≡ owner.pile = ap (λ (t : DrawerState). t.pile) new in
     let on_pile : AreFronts s thief.put = subst (λ (t : DrawerState). AreFronts s t.put) (sym new) fronts in
     let nothing : thief.drawn ≡ [] = ap (λ (t : DrawerState). t.drawn) new in
-    let one : IsWorker s register owner.pile helper = rw made (subst (λ (pile : PileId). IsWorker s register pile (new_worker register caller thief)) same (is_new s register caller thief on_pile)) in
+    let one : IsWorker s register owner.pile helper = rw made (subst (λ (pile : PileId). IsWorker s register pile (new_worker s register caller thief)) same (is_new s register caller thief on_pile)) in
     let has : HasOutcomes s helper = rw made (new_has s register caller thief nothing) in
     rw is (record {
       are = All-append (IsWorker s register owner.pile) helpers (helper ∷ []) so_far.are (All-cons (IsWorker s register owner.pile) helper [] one (All-nil (IsWorker s register owner.pile)));
@@ -49,7 +49,7 @@ one_more_helper s register owner thief caller helper helpers more fronts new mad
     })
 
 pub new_team : (s : Search) (register : RegisterState) (owner : DrawerState) (caller : CallerState) (lead : WorkerState) (helpers : List WorkerState) → AreFronts s owner.put → owner.drawn ≡ [] → owner.parts + length helpers ≡ MAX_DRAWERS
-    → length helpers + 1 ≡ register.callers → lead ≡ new_worker register caller owner → AreNewHelpers s register owner helpers → IsTeam s register lead helpers
+    → length helpers + 1 ≡ register.callers → lead ≡ new_worker s register caller owner → AreNewHelpers s register owner helpers → IsTeam s register lead helpers
 new_team s register owner caller lead helpers fronts nothing parts callers made new = rw made (record {
   lead_is = is_new s register caller owner fronts;
   lead_has = new_has s register caller owner nothing;
@@ -136,7 +136,7 @@ one_taken_over s register put callers caller helper rest lead later so_far over 
     let mine : IsCallerOf register caller = subst (λ (r : RegisterState). IsCallerOf r caller) is.of_register over.one_of in
     record {
       lead_is = record {
-        can = record { fronts = subst (AreFronts s) (sym over.drawer.put) so_far.lead_is.can.fronts; serves = over.serves };
+        can = record { fronts = subst (AreFronts s) (sym over.drawer.put) so_far.lead_is.can.fronts; serves = over.serves; may_stop = over.later.may_stop ∙ so_far.lead_is.can.may_stop };
         of_pile = refl;
         of_register = over.later.register ∙ so_far.lead_is.of_register;
       };

@@ -172,7 +172,7 @@ still_missing p None best told later none trucks = let never : false ≡ true = 
 still_missing p (Some opening) best told later none trucks = let (kept, is, not_before) = later opening refl in absurd (let never : None ≡ Some kept = sym none ∙ is in cc)
 
 left_open : OnePiece → PlansHaveWords → (s : Search) (cutting : List (List ℕ)) (best : Option PricedPlan) (settling : Settling) (first : ℕ) → IsCutting s.problem cutting → ForSome best (IsPlanOf s.problem)
-    → (best ≡ None → HasTrucks s.problem (length (customers s.problem)) → ⊥) → AreSettling s cutting best settling [] → IsFirstMissing settling.gatherer (Some first) → IsLeftOpen s.problem cutting s.budget best settling.low first
+    → (best ≡ None → HasTrucks s.problem (length (customers s.problem)) → ⊥) → AreSettling s cutting best settling [] → IsFirstMissing settling.gatherer (Some first) → IsLeftOpen s.problem cutting s.budget s.may_stop best settling.low first
 left_open one have s cutting best settling first is_cutting plan_of missing known is =
     let within : first < length settling.gatherer = missing_within settling.gatherer first is.0 in
     record {
@@ -192,14 +192,14 @@ left_open one have s cutting best settling first is_cutting plan_of missing know
 
 pub answer_is : OnePiece → PlansHaveWords → PlansCostLess → (s : Search) (cutting : List (List ℕ)) (opening best : Option PricedPlan) (settling : Settling) (answer : Answer) → IsProblem s.problem → IsCutting s.problem cutting
     → ForSome best (IsPlanOf s.problem) → (IsTrue (is_some opening) ↔ HasTrucks s.problem (length (customers s.problem))) → IsNoLater best opening → AreSettling s cutting best settling []
-    → IsVerdict best settling answer → IsAnswer s.problem cutting s.budget answer
+    → IsVerdict best settling answer → IsAnswer s.problem cutting s.budget s.may_stop answer
 answer_is one have less s cutting opening best settling (Proven plan) problem is_cutting plan_of told later known (missing, is) =
     let all = all_finished s cutting best settling known missing in
     proven one have s cutting settling.cost plan is_cutting (plan_of plan is) (omega (arith, known.priced, ap cost_of is))
     (subst (λ (b : Option PricedPlan). (number : ℕ) → number < length cutting → NoneBeforeUnder s.problem (piece_of cutting number) settling.cost b) is all)
 answer_is one have less s cutting opening best settling (Open plan low first) problem is_cutting plan_of told later known (missing, is, lower) =
     let open_is = left_open one have s cutting best settling first is_cutting plan_of (still_missing s.problem opening best told later) known missing in
-    subst (λ n. IsLeftOpen s.problem cutting s.budget plan n first) (sym lower) (subst (λ (b : Option PricedPlan). IsLeftOpen s.problem cutting s.budget b settling.low first) is open_is)
+    subst (λ n. IsLeftOpen s.problem cutting s.budget s.may_stop plan n first) (sym lower) (subst (λ (b : Option PricedPlan). IsLeftOpen s.problem cutting s.budget s.may_stop b settling.low first) is open_is)
 answer_is one have less s cutting opening best settling NoPlan problem is_cutting plan_of told later known (missing, is) =
     let all = all_finished s cutting best settling known missing in
     no_plan one have less s cutting settling.cost problem is_cutting (omega (arith, known.priced, ap cost_of is))

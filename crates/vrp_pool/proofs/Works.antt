@@ -28,7 +28,7 @@ none_searched s old new drawn outcomes = record {
 -- ---- a worker that works on
 
 pub can_still : (s : Search) (old new : WorkerState) → CanWork s old → IsWorked s old new → CanWork s new
-can_still s old new can worked = record { fronts = subst (AreFronts s) (sym worked.put) can.fronts; serves = worked.serves }
+can_still s old new can worked = record { fronts = subst (AreFronts s) (sym worked.put) can.fronts; serves = worked.serves; may_stop = worked.later.may_stop ∙ can.may_stop }
 
 pub works_on : (s : Search) (first old new : WorkerState) → IsWorked s first old → IsWorked s old new → IsWorked s first new
 works_on s first old new before now = record {

@@ -1,5 +1,5 @@
 -- What contracts see of the board of a register's caller.
-use Rattle.std.specs.Prelude.{◌≡◌, ℕ, ◌≤◌, Option}
+use Rattle.std.specs.Prelude.{◌≡◌, ℕ, ◌≤◌, Bool, Option}
 use Rattle.vrp_model.specs.Cheapest.{cost_of}
 use Rattle.vrp_model.specs.Route.{PricedPlan}
 use Rattle.vrp_register.specs.Caller.{CallerState, RegisterState}
@@ -10,6 +10,8 @@ pub record SeatBoardState : Type 0 where
   pub caller : CallerState
   -- the first plan that it was offered, by cost and then by word
   pub best : Option PricedPlan
+  -- whether the gate may stop a search
+  pub may_stop : Bool
 
 -- the least of the opening cost and the costs that a caller has seen
 abbrev pub least_seen : CallerState → ℕ
@@ -19,7 +21,8 @@ least_seen caller = least_of caller.known.opening caller.known.seen
 abbrev pub floor_of : SeatBoardState → ℕ
 floor_of board = least_seen board.caller
 
--- the same board, later: it belongs to the same register, and its plan does not cost more
+-- the same board, later: it belongs to the same register and the same gate, and its plan does not cost more
 pub record IsLater (earlier later : SeatBoardState) : Type 0 where
   pub register : later.register ≡ earlier.register
+  pub may_stop : later.may_stop ≡ earlier.may_stop
   pub falls : cost_of later.best ≤ cost_of earlier.best

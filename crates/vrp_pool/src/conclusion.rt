@@ -10,6 +10,7 @@ ghost use Rattle.vrp_pool.specs.Inner.Conclusion.{IsOfferedTo, IsVerdict};
 ghost use Rattle.vrp_pool.specs.Inner.Workers.{IsSearched, words_of};
 
 use crate::answers::Answer;
+use crate::gates::Gate;
 use crate::gatherer::Gatherer;
 use crate::left_pieces::{Settling, settled};
 use crate::outcome::{Outcome, Searched};
@@ -21,7 +22,7 @@ use vrp_search::one_piece;
 
 /// The plan and the verdict. The last book opens with the plan of one truck for each customer, if there is one. It is offered the
 /// plan that the register kept, the best of the workers' own, and the first plan of each finished piece.
-pub(crate) fn conclude<R, G>(
+pub(crate) fn conclude<R, G: Gate>(
     shared: &Shared<'_, R, G>,
     singles: Option<Plan>,
     kept: Option<&Plan>,
@@ -33,7 +34,7 @@ pub(crate) fn conclude<R, G>(
     requires cutting { IsCutting shared.now.problem (words_of searched.pile.put) }
     requires numbers { AreNumbered searched.pile.put }
     requires pieces { shared.now.pieces ≡ length searched.pile.put }
-    ensures { IfOk result (IsAnswer shared.now.problem (words_of searched.pile.put) shared.now.budget) }
+    ensures { IfOk result (IsAnswer shared.now.problem (words_of searched.pile.put) shared.now.budget shared.now.may_stop) }
 {
     let Searched { outcomes, best, .. } = searched;
     let mut book = Book::open(shared.alloc, singles)?;
@@ -63,7 +64,7 @@ pub(crate) fn conclude<R, G>(
 }
 
 // A plan of which nothing is known, where it is a lawful plan of the instance and of its cost there.
-fn fitting<'b, R, G>(shared: &Shared<'_, R, G>, plan: Option<&'b Plan>) -> Option<&'b Plan>
+fn fitting<'b, R, G: Gate>(shared: &Shared<'_, R, G>, plan: Option<&'b Plan>) -> Option<&'b Plan>
     ensures { ForSome (option_map (λ plan. plan.now) result) (IsPlanOf shared.now.problem) }
 {
     match plan {

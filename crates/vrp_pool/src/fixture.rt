@@ -110,3 +110,36 @@ pub(crate) fn ten_nodes(alloc: Global) -> Result<Instance, Fail> {
     let demands = [0, 1, 1, 1, 1, 1, 1, 1, 1, 1];
     Ok(Instance::new(alloc, weights, &demands, 9, &[1], None)?)
 }
+
+/// E-n22-k4 of Christofides and Eilon (1969), in hundreds: 21 customers, whose cheapest plan costs 375.
+pub(crate) fn four_trucks(alloc: Global) -> Result<Instance, Fail> {
+    let points = [
+        (145, 215),
+        (151, 264),
+        (159, 261),
+        (130, 254),
+        (128, 252),
+        (163, 247),
+        (146, 246),
+        (161, 242),
+        (142, 239),
+        (163, 236),
+        (148, 232),
+        (128, 231),
+        (156, 217),
+        (129, 214),
+        (146, 208),
+        (164, 208),
+        (141, 206),
+        (147, 193),
+        (164, 193),
+        (129, 189),
+        (155, 185),
+        (139, 182),
+    ];
+    let weights = Weights::points(alloc, Metric::Euc2d, &points)?;
+    let demands = [
+        0, 11, 7, 8, 14, 21, 4, 8, 1, 5, 6, 12, 13, 13, 3, 9, 21, 10, 9, 25, 18, 7,
+    ];
+    Ok(Instance::new(alloc, weights, &demands, 60, &[1], None)?)
+}

@@ -1,12 +1,46 @@
-//! What is told before each search.
+//! What workers tell outside of a search, and who may stop it.
+ghost use Rattle.std.specs.Prelude.{◌≡◌, Bool, false, IsTrue};
 
-/// Is told by each worker before it searches a piece. Nothing is asked of what it does.
-pub trait Gate {
-    /// This worker is about to search the piece of this number. Workers are numbered from 0.
-    fn begins(&self, worker: u32, piece: u32);
+/// What is new in a search.
+#[derive(Clone, Copy, Debug, PartialEq, Eq)]
+pub enum News {
+    /// A first plan is looked for.
+    FirstPlan,
+    /// Prices are looked for.
+    Prices,
+    /// By prices no plan costs less than this.
+    Bound(u64),
+    /// This many pieces are searched.
+    Pieces(u32),
+    /// This many more partial plans were looked at.
+    Looked(u64),
+    /// A plan that costs so much is known.
+    Plan(u64),
+    /// One more piece is done with.
+    Done,
 }
 
-/// Does nothing.
+/// Is told by each worker before it searches a piece, hears what is new, and is asked now and then whether to go on. Of a gate is
+/// known whether it may stop a search.
+pub trait Gate {
+    ghost may_stop: { Self → Bool } = { λ _. false };
+
+    /// This worker is about to search the piece of this number. Workers are numbered from 0.
+    fn begins(&self, worker: u32, piece: u32);
+
+    /// Something is new. Nothing is asked of what the gate does.
+    fn hears(&self, _news: News) {}
+
+    /// Whether to go on. Where a gate says no it is asked again before each further piece, of which a single partial plan is looked
+    /// at then.
+    fn goes_on(&self) -> bool
+        ensures { result ≡ false → IsTrue (may_stop self.now) }
+    {
+        true
+    }
+}
+
+/// Does nothing, and stops nothing.
 #[derive(Clone, Copy, Debug)]
 pub struct NoGate;
 

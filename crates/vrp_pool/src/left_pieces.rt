@@ -6,6 +6,7 @@ ghost use Rattle.vrp_pool.specs.Answer.{IsOwnLow};
 ghost use Rattle.vrp_pool.specs.Inner.Conclusion.{IsSettled, SettlesAll};
 ghost use Rattle.vrp_pool.specs.Inner.Workers.{IsLeftPiece};
 
+use crate::gates::Gate;
 use crate::gatherer::Gatherer;
 use crate::outcome::{Finished, Left};
 use crate::shared::Shared;
@@ -23,7 +24,7 @@ pub(crate) struct Settling {
 }
 
 /// Settles all unfinished pieces, those first that have the lowest lows: so few need tables of their own.
-pub(crate) fn settled<R, G>(
+pub(crate) fn settled<R, G: Gate>(
     shared: &Shared<'_, R, G>,
     gatherer: Gatherer,
     mut left: Vec<Left>,
@@ -60,7 +61,7 @@ impl Settling {
 
     // Settles an unfinished piece: where each plan under it costs more than the best one it is finished, and else its low counts.
     // Tells whether it counts.
-    fn settle<R, G>(
+    fn settle<R, G: Gate>(
         &mut self,
         shared: &Shared<'_, R, G>,
         left: &Left,
@@ -89,7 +90,7 @@ impl Settling {
 }
 
 // What a plan under an unfinished piece costs at least, by tables over the customers that it leaves unserved.
-fn own_low<R, G>(shared: &Shared<'_, R, G>, left: &Left) -> Result<u64, NoMemory>
+fn own_low<R, G: Gate>(shared: &Shared<'_, R, G>, left: &Left) -> Result<u64, NoMemory>
     requires { IsLeftPiece shared.now left.now.piece left.now }
     ensures low { IfOk result (λ low. IsOwnLow shared.now.problem left.now.piece.word (Some low)) }
     ensures none_cheaper { IfOk result (NoneCheaperUnder shared.now.problem left.now.piece.word) }

@@ -18,7 +18,7 @@ mod team;
 mod worker;
 
 pub use answers::{Answer, SolveError};
-pub use gates::{Gate, NoGate};
+pub use gates::{Gate, News, NoGate};
 pub use gatherer::{GatherError, Gatherer};
 pub use outcome::Finished;
 pub use seat_board::SeatBoard;

@@ -4,6 +4,7 @@ ghost use Rattle.vrp_model.specs.Problem.{place_count};
 ghost use Rattle.vrp_model.specs.Route.{IsPlanOf};
 ghost use Rattle.vrp_pool.specs.declared.preparation.TheConstants.{LEAST_PREPARED_BUDGET};
 
+use crate::gates::{Gate, News};
 use std::alloc::Global;
 use vrp_first::ENOUGH_MOVES;
 use vrp_model::{Instance, NoMemory, Plan};
@@ -20,11 +21,12 @@ const MOST_REMEMBERED: usize = 3;
 
 /// A plan near the best, if one is found: by savings, and where many partial plans may be looked at in all, by ruin and recreate
 /// too.
-pub(crate) fn first_plan(
+pub(crate) fn first_plan<G: Gate>(
     alloc: Global,
     instance: &Instance,
     budget: u64,
     in_all: u64,
+    gate: &G,
 ) -> Result<Option<Plan>, NoMemory>
     ensures lawful { IfOk result (λ plan. IfSome plan (IsPlanOf instance.now)) }
     ensures look { budget < LEAST_PREPARED_BUDGET → IfOk result (λ plan. plan ≡ None) }
@@ -37,22 +39,36 @@ pub(crate) fn first_plan(
     } else {
         ENOUGH_MOVES
     };
-    vrp_first::first_plan(alloc, instance, moves)
+    gate.hears(News::FirstPlan);
+    let plan = vrp_first::first_plan(alloc, instance, moves, &|| gate.goes_on())?;
+    if let Some(plan) = &plan {
+        gate.hears(News::Plan(plan.cost()));
+    }
+    Ok(plan)
 }
 
 /// Prices, with the first plan's cost to aim at, if there is such a plan and prices are found.
 // A step towards prices takes a tenth of the time that a partial plan does: so there are as many.
-pub(crate) fn prices_found<'a>(
+pub(crate) fn prices_found<'a, G: Gate>(
     alloc: Global,
     instance: &'a Instance,
     first: Option<&Plan>,
     in_all: u64,
+    gate: &G,
 ) -> Result<Option<FoundPrices<'a>>, NoMemory>
     ensures relaxation { IfOk result (λ found. IfSome found (λ prices. prices.relaxation.problem ≡ instance.now)) }
     ensures memory { IfOk result (λ found. IfSome found (λ prices. prices.memory.places ≡ place_count instance.now)) }
 {
-    match first {
-        Some(plan) => find_prices(alloc, instance, plan.cost(), MOST_REMEMBERED, in_all),
-        None => Ok(None),
-    }
+    let Some(plan) = first else {
+        return Ok(None);
+    };
+    gate.hears(News::Prices);
+    find_prices(
+        alloc,
+        instance,
+        plan.cost(),
+        MOST_REMEMBERED,
+        in_all,
+        &|| gate.goes_on(),
+    )
 }

@@ -8,28 +8,31 @@ ghost use Rattle.vrp_model.specs.Route.{IsPlanOf};
 ghost use Rattle.vrp_register.specs.Caller.{IsCallerOf};
 ghost use Rattle.vrp_pool.specs.SeatBoard.{IsLater, SeatBoardState, floor_of};
 
+use crate::gates::{Gate, News};
 use std::alloc::Global;
 use std::marker::Model;
 use std::sync::Wait;
 use std::sync::ledger::Ledger;
 use vrp_model::{NoMemory, Plan};
 use vrp_register::{Caller, Register};
-use vrp_search::{Board, Local};
+use vrp_search::{Board, LOOKS_BEFORE_ASKING, Local};
 
 #[cfg(test)]
 mod tests;
 
 /// A board that offers plans to a register, as one of its callers, and keeps the first of them: the cheapest, and of those the one
-/// with the earliest word. Its floor is the least of the opening cost and the costs that the caller has seen.
+/// with the earliest word. Its floor is the least of the opening cost and the costs that the caller has seen. A gate hears of the
+/// plans, and stops searches.
 #[derive(Drop)]
-pub struct SeatBoard<'a, R: Wait, L: Ledger> {
+pub struct SeatBoard<'a, R: Wait, L: Ledger, G: Gate> {
     rt: &'a R,
     register: &'a Register<L>,
     caller: Caller<L>,
     best: Local,
+    gate: &'a G,
 }
 
-impl<'a, R: Wait, L: Ledger> Model for SeatBoard<'a, R, L> {
+impl<'a, R: Wait, L: Ledger, G: Gate> Model for SeatBoard<'a, R, L, G> {
     ghost use Rattle.std.specs.Prelude.{◌≤◌};
     ghost use Rattle.std.specs.List.{All};
     ghost use Rattle.vrp_model.specs.Cheapest.{cost_of};
@@ -38,23 +41,29 @@ impl<'a, R: Wait, L: Ledger> Model for SeatBoard<'a, R, L> {
 
     ghost Value = { SeatBoardState };
 
-    ghost view = { λ b. record { register = b.register.now; caller = b.caller; best = b.best } };
+    ghost view = { λ b. record { register = b.register.now; caller = b.caller; best = b.best; may_stop = G.may_stop b.gate.now } };
 
     ghost invariant = { λ b. IsCallerOf b.register.now b.caller × All (λ offer. cost_of b.best ≤ offer.cost) b.caller.known.mine };
 }
 
-impl<'a, R: Wait, L: Ledger> SeatBoard<'a, R, L> {
+impl<'a, R: Wait, L: Ledger, G: Gate> SeatBoard<'a, R, L, G> {
     /// The board of a caller that has offered nothing yet.
-    pub fn new(rt: &'a R, register: &'a Register<L>, caller: Caller<L>) -> SeatBoard<'a, R, L>
+    pub fn new(
+        rt: &'a R,
+        register: &'a Register<L>,
+        caller: Caller<L>,
+        gate: &'a G,
+    ) -> SeatBoard<'a, R, L, G>
         requires caller { IsCallerOf register.now caller }
         requires new { caller.known.mine ≡ [] }
-        ensures { result ≡ record { register = register.entry.now; caller = caller; best = None } }
+        ensures { result ≡ record { register = register.entry.now; caller = caller; best = None; may_stop = G.may_stop gate.entry.now } }
     {
         SeatBoard {
             rt,
             register,
             caller,
             best: Local::open(None),
+            gate,
         }
     }
 
@@ -84,21 +93,25 @@ impl<'a, R: Wait, L: Ledger> SeatBoard<'a, R, L> {
     fn tell(&mut self, alloc: Global, plan: &Plan) -> Result<(), NoMemory>
         requires { cost_of self.old.best ≤ plan.now.cost }
         ensures register { self.new.register ≡ self.old.register }
+        ensures may_stop { self.new.may_stop ≡ self.old.may_stop }
         ensures best { self.new.best ≡ self.old.best }
         ensures falls { floor_of self.new ≤ floor_of self.old }
         ensures taken { OnOk result (floor_of self.new ≤ plan.now.cost) }
     {
         self.register.offer(self.rt, alloc, &mut self.caller, plan)?;
+        self.gate.hears(News::Plan(plan.cost()));
         Ok(())
     }
 }
 
-impl<'a, R: Wait, L: Ledger> Board for SeatBoard<'a, R, L> {
+impl<'a, R: Wait, L: Ledger, G: Gate> Board for SeatBoard<'a, R, L, G> {
     ghost serves = { λ b p. ForSome b.best (IsPlanOf p) };
 
     ghost floor = { λ b. floor_of b };
 
     ghost keeps = { IsLater };
+
+    ghost may_stop = { λ b. b.may_stop };
 
     /// Asks the register each time. Its contract would allow what it answered before.
     fn least(&mut self) -> u64
@@ -115,5 +128,13 @@ impl<'a, R: Wait, L: Ledger> Board for SeatBoard<'a, R, L> {
     fn offer(&mut self, alloc: Global, plan: &Plan) -> Result<(), NoMemory> {
         self.keep(alloc, plan)?;
         self.tell(alloc, plan)
+    }
+
+    fn goes_on(&self) -> bool {
+        let goes_on = self.gate.goes_on();
+        if goes_on {
+            self.gate.hears(News::Looked(LOOKS_BEFORE_ASKING));
+        }
+        goes_on
     }
 }

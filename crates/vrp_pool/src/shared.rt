@@ -1,6 +1,7 @@
 //! What all workers read.
-ghost use Rattle.std.specs.Prelude.{◌≡◌};
+ghost use Rattle.std.specs.Prelude.{◌≡◌, ◌⊎◌, ◌≤◌, IsTrue};
 
+use crate::gates::Gate;
 use std::alloc::Global;
 use std::marker::Model;
 use vrp_bound::Tables;
@@ -10,7 +11,7 @@ use vrp_search::Prices;
 /// What is searched, and what was made before; how many partial plans may be looked at in each of this many pieces, and what is told
 /// before each.
 #[derive(Drop)]
-pub(crate) struct Shared<'a, R, G> {
+pub(crate) struct Shared<'a, R, G: Gate> {
     pub(crate) rt: &'a R,
     pub(crate) alloc: Global,
     pub(crate) instance: &'a Instance,
@@ -25,7 +26,7 @@ pub(crate) struct Shared<'a, R, G> {
     pub(crate) gate: &'a G,
 }
 
-impl<'a, R, G> Model for Shared<'a, R, G> {
+impl<'a, R, G: Gate> Model for Shared<'a, R, G> {
     ghost use Rattle.std.specs.Prelude.{◌≡◌, ◌≤◌};
     ghost use Rattle.std.specs.Option.{ForSome, option_map};
     ghost use Rattle.vrp_model.specs.Problem.{customers};
@@ -34,8 +35,19 @@ impl<'a, R, G> Model for Shared<'a, R, G> {
 
     ghost Value = { Search };
 
-    ghost view = { λ s. record { problem = s.instance.now; pieces = s.pieces; budget = s.budget } };
+    ghost view = { λ s. record { problem = s.instance.now; pieces = s.pieces; budget = s.budget; may_stop = G.may_stop s.gate.now } };
 
     ghost invariant = { λ s. (s.tables.now ≡ record { problem = s.instance.now; among = customers s.instance.now }) × (1 ≤ s.budget)
         × ForSome (option_map (λ plan. plan.now) s.first) (IsPlanOf s.instance.now) × ForSome (option_map (λ prices. prices.now) s.prices) (λ prices. prices.problem ≡ s.instance.now) };
+}
+
+impl<'a, R, G: Gate> Shared<'a, R, G> {
+    /// How many partial plans of the next piece may be looked at: where the gate doesn't go on its root alone.
+    pub(crate) fn piece_budget(&self) -> u64
+        ensures some { 1 ≤ result }
+        ensures within { result ≤ self.now.budget }
+        ensures all { (result ≡ self.now.budget) ⊎ IsTrue self.now.may_stop }
+    {
+        if self.gate.goes_on() { self.budget } else { 1 }
+    }
 }

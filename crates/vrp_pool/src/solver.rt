@@ -11,7 +11,7 @@ ghost use Rattle.vrp_pool.specs.Inner.Workers.{words_of};
 
 use crate::answers::{Answer, SolveError};
 use crate::conclusion::conclude;
-use crate::gates::{Gate, NoGate};
+use crate::gates::{Gate, News, NoGate};
 use crate::preparation::{LEAST_PREPARED_BUDGET, first_plan, prices_found};
 use crate::shared::Shared;
 use crate::team::searched_by_all;
@@ -60,7 +60,7 @@ pub fn solve<'a, R: Threads + Wait + Sync, G: Gate + Sync>(
     requires some_worker { 1 ≤ workers }
     requires few_workers { workers ≤ MAX_WORKERS }
     requires budget { 1 ≤ budget }
-    ensures { IfOk result (IsAnswer instance.now cutting budget) }
+    ensures { IfOk result (IsAnswer instance.now cutting budget (G.may_stop gate.now)) }
 {
     let tables = Tables::over_all(alloc, instance)?;
     if let Some(answer) = looked_at(rt, alloc, instance, &tables, budget)? {
@@ -68,8 +68,8 @@ pub fn solve<'a, R: Threads + Wait + Sync, G: Gate + Sync>(
     }
     let pieces = cutting.pieces().len() as u32;
     let in_all = budget.saturating_mul(u64::from(pieces));
-    let first = first_plan(alloc, instance, budget, in_all)?;
-    let Some(found) = prices_found(alloc, instance, first.as_ref(), in_all)? else {
+    let first = first_plan(alloc, instance, budget, in_all, gate)?;
+    let Some(found) = prices_found(alloc, instance, first.as_ref(), in_all, gate)? else {
         let shared = Shared {
             rt,
             alloc,
@@ -85,6 +85,7 @@ pub fn solve<'a, R: Threads + Wait + Sync, G: Gate + Sync>(
     };
     let FoundPrices { relaxation, memory } = found;
     let prices = Prices::new(alloc, &relaxation, memory)?;
+    gate.hears(News::Bound(prices.lower_bound()));
     let shared = Shared {
         rt,
         alloc,
@@ -143,8 +144,9 @@ fn solve_pieces<R: Threads + Wait + Sync, G: Gate + Sync>(
     requires pieces { shared.now.pieces ≡ length cutting }
     requires some_worker { 1 ≤ workers }
     requires few_workers { workers ≤ MAX_WORKERS }
-    ensures { IfOk result (IsAnswer shared.now.problem cutting shared.now.budget) }
+    ensures { IfOk result (IsAnswer shared.now.problem cutting shared.now.budget shared.now.may_stop) }
 {
+    shared.gate.hears(News::Pieces(shared.pieces));
     let (owner, thieves) = Pile::new(shared.alloc, cutting, workers - 1)?;
     let blank = Blank::new(u64::from(workers));
     solve_pile::<Brand, R, G>(shared, owner, thieves, blank)
@@ -163,7 +165,7 @@ fn solve_pile<L: Ledger + Send + Sync, R: Threads + Wait + Sync, G: Gate + Sync>
     requires name { blank.name ≡ L.name }
     requires parts { blank.parts ≡ L.parts }
     requires as_many { blank.parts ≡ vec_len thieves + 1 }
-    ensures { IfOk result (IsAnswer shared.now.problem (words_of owner.put) shared.now.budget) }
+    ensures { IfOk result (IsAnswer shared.now.problem (words_of owner.put) shared.now.budget shared.now.may_stop) }
 {
     let singles = Plan::singles(shared.alloc, shared.instance)?;
     let opening = copied(shared.alloc, singles.as_ref())?;

@@ -42,13 +42,13 @@ pub(crate) fn searched_by_all<
 }
 
 // Worker 0, who draws as the owner of the pile, and a helper for each thief. Each is one of the callers.
-fn new_team<'a, R: Wait, L: Ledger, G>(
+fn new_team<'a, R: Wait, L: Ledger, G: Gate>(
     shared: &Shared<'a, R, G>,
     register: &'a Register<L>,
     owner: Owner,
     mut thieves: Vec<Thief>,
     mut callers: Vec<Caller<L>>,
-) -> Result<(Worker<'a, Owner, R, L>, Vec<Worker<'a, Thief, R, L>>), NoMemory>
+) -> Result<(Worker<'a, Owner, R, L, G>, Vec<Worker<'a, Thief, R, L, G>>), NoMemory>
     requires pile { IsNewPile (words_of owner.put) (vec_len thieves) owner thieves.items }
     requires fronts { AreFronts shared.now owner.put }
     requires callers { AreNewCallers register.now callers.items }
@@ -74,9 +74,9 @@ fn new_team<'a, R: Wait, L: Ledger, G>(
 // The lead and the helpers, after each worked in a thread of its own, where one can be made.
 fn worked<'a, 'b, R: Threads + Wait + Sync, L: Ledger + Send + Sync, G: Gate + Sync>(
     shared: &Shared<'_, R, G>,
-    lead: Worker<'a, Owner, R, L>,
-    helpers: Vec<Worker<'b, Thief, R, L>>,
-) -> Result<(Worker<'a, Owner, R, L>, Vec<Worker<'b, Thief, R, L>>), NoMemory>
+    lead: Worker<'a, Owner, R, L, G>,
+    helpers: Vec<Worker<'b, Thief, R, L, G>>,
+) -> Result<(Worker<'a, Owner, R, L, G>, Vec<Worker<'b, Thief, R, L, G>>), NoMemory>
     requires team { IsTeam shared.now lead.board.register lead helpers.items }
     requires fine { All (λ helper. helper.refused ≡ false) helpers.items }
     ensures team { IfOk result (λ team. IsTeam shared.now lead.entry.board.register team.0 team.1.items) }
@@ -87,11 +87,11 @@ fn worked<'a, 'b, R: Threads + Wait + Sync, L: Ledger + Send + Sync, G: Gate + S
     }
     let (lead, helpers) = join(
         shared.rt,
-        || -> Result<Worker<'_, Owner, R, L>, NoMemory>
+        || -> Result<Worker<'_, Owner, R, L, G>, NoMemory>
             requires { CanWork shared.now lead }
             ensures { IfOk result (HasWorked shared.entry.now lead.entry) }
         { lead.led(shared) },
-        || -> Vec<Worker<'_, Thief, R, L>>
+        || -> Vec<Worker<'_, Thief, R, L, G>>
             requires { All (CanWork shared.now) helpers.items }
             ensures { HaveHelped shared.entry.now helpers.entry.items result.items }
         { helped(shared, helpers) },
@@ -102,8 +102,8 @@ fn worked<'a, 'b, R: Threads + Wait + Sync, L: Ledger + Send + Sync, G: Gate + S
 // The same, of the helpers alone.
 fn helped<'a, R: Threads + Wait + Sync, L: Ledger + Send + Sync, G: Gate + Sync>(
     shared: &Shared<'_, R, G>,
-    mut helpers: Vec<Worker<'a, Thief, R, L>>,
-) -> Vec<Worker<'a, Thief, R, L>>
+    mut helpers: Vec<Worker<'a, Thief, R, L, G>>,
+) -> Vec<Worker<'a, Thief, R, L, G>>
     requires { All (CanWork shared.now) helpers.items }
     ensures { HaveHelped shared.now helpers.entry.items result.items }
 {
@@ -112,7 +112,7 @@ fn helped<'a, R: Threads + Wait + Sync, L: Ledger + Send + Sync, G: Gate + Sync>
         shared.rt,
         helpers.as_mut_slice(),
         threads,
-        &|_, helper: &mut Worker<'_, Thief, R, L>|
+        &|_, helper: &mut Worker<'_, Thief, R, L, G>|
             requires { CanWork shared.now helper.now }
             ensures { HasHelped shared.entry.now helper.entry.now helper.exit.now }
         { helper.help(shared) },
@@ -124,8 +124,8 @@ fn helped<'a, R: Threads + Wait + Sync, L: Ledger + Send + Sync, G: Gate + Sync>
 // pieces.
 fn all_searched<R: Threads + Wait + Sync, L: Ledger + Send + Sync, G: Gate + Sync>(
     shared: &Shared<'_, R, G>,
-    lead: Worker<'_, Owner, R, L>,
-    helpers: Vec<Worker<'_, Thief, R, L>>,
+    lead: Worker<'_, Owner, R, L, G>,
+    helpers: Vec<Worker<'_, Thief, R, L, G>>,
 ) -> Result<(Vec<Caller<L>>, Searched), NoMemory>
     requires team { IsTeam shared.now lead.board.register lead helpers.items }
     requires fine { All (λ helper. helper.refused ≡ false) helpers.items }

@@ -7,7 +7,7 @@ ghost use Rattle.vrp_pool.specs.SeatBoard.{IsLater, floor_of};
 ghost use Rattle.vrp_pool.specs.Inner.Workers.{CanWork, EndsPiece, HasHelped, HasSearched, IsNewCaller, IsOutcome, IsTakenOver, IsWorked, IsWorker, new_worker};
 
 use crate::draws::Draws;
-use crate::gates::Gate;
+use crate::gates::{Gate, News};
 use crate::outcome::{Finished, Left, Outcome};
 use crate::seat_board::SeatBoard;
 use crate::shared::Shared;
@@ -17,23 +17,23 @@ use std::sync::ledger::Ledger;
 use vrp_model::{NoMemory, Plan, plans_cost_less};
 use vrp_pile::{Drawn, Owner, Thief};
 use vrp_register::{Caller, Register};
-use vrp_search::{Board, Ended, Piece, search, search_by_prices};
+use vrp_search::{Board, Ended, LOOKS_BEFORE_ASKING, Piece, search, search_by_prices};
 
 // How often in a row a worker may be told that others were drawing, before it draws no more.
 const MAX_BUSY: u32 = 1_000;
 
 /// Draws from a pile, offers plans to its board, and has an outcome for each piece that it drew.
 #[derive(Drop)]
-pub(crate) struct Worker<'a, D: Draws, R: Wait, L: Ledger> {
+pub(crate) struct Worker<'a, D: Draws, R: Wait, L: Ledger, G: Gate> {
     number: u32,
     pub(crate) drawer: D,
-    pub(crate) board: SeatBoard<'a, R, L>,
+    pub(crate) board: SeatBoard<'a, R, L, G>,
     pub(crate) outcomes: Vec<Outcome>,
     // The refusal of memory that it met as a helper, if any.
     refused: Option<NoMemory>,
 }
 
-impl<'a, D: Draws, R: Wait, L: Ledger> Model for Worker<'a, D, R, L> {
+impl<'a, D: Draws, R: Wait, L: Ledger, G: Gate> Model for Worker<'a, D, R, L, G> {
     ghost use Rattle.std.specs.Prelude.{is_some};
     ghost use Rattle.vrp_pool.specs.Inner.Workers.{WorkerState};
 
@@ -42,32 +42,32 @@ impl<'a, D: Draws, R: Wait, L: Ledger> Model for Worker<'a, D, R, L> {
     ghost view = { λ w. record { drawer = D.drawer w.drawer; board = w.board; outcomes = w.outcomes.items; refused = is_some w.refused } };
 }
 
-impl<'a, D: Draws, R: Wait, L: Ledger> Worker<'a, D, R, L> {
+impl<'a, D: Draws, R: Wait, L: Ledger, G: Gate> Worker<'a, D, R, L, G> {
     /// The worker who is this caller, and has done nothing yet.
-    pub(crate) fn new<G>(
+    pub(crate) fn new(
         shared: &Shared<'a, R, G>,
         register: &'a Register<L>,
         caller: Caller<L>,
         drawer: D,
-    ) -> Worker<'a, D, R, L>
+    ) -> Worker<'a, D, R, L, G>
         requires { IsNewCaller register.now caller }
-        ensures { result ≡ new_worker register.entry.now caller (D.drawer drawer) }
+        ensures { result ≡ new_worker shared.entry.now register.entry.now caller (D.drawer drawer) }
     {
         Worker {
             number: caller.number(),
             drawer,
-            board: SeatBoard::new(shared.rt, register, caller),
+            board: SeatBoard::new(shared.rt, register, caller, shared.gate),
             outcomes: Vec::new(shared.alloc),
             refused: None,
         }
     }
 
     /// The worker, once it has offered a lawful plan to its board, if there is one.
-    pub(crate) fn offered<G>(
+    pub(crate) fn offered(
         mut self,
         shared: &Shared<'_, R, G>,
         plan: Option<&Plan>,
-    ) -> Result<Worker<'a, D, R, L>, NoMemory>
+    ) -> Result<Worker<'a, D, R, L, G>, NoMemory>
         requires can { CanWork shared.now self }
         requires plan { ForSome (option_map (λ plan. plan.now) plan) (IsPlanOf shared.now.problem) }
         ensures worked { IfOk result (IsWorked shared.now self.entry) }
@@ -81,10 +81,10 @@ impl<'a, D: Draws, R: Wait, L: Ledger> Worker<'a, D, R, L> {
     }
 
     /// The worker, after its work as the lead: it makes room for the outcomes of all pieces, and draws.
-    pub(crate) fn led<G: Gate>(
+    pub(crate) fn led(
         mut self,
         shared: &Shared<'_, R, G>,
-    ) -> Result<Worker<'a, D, R, L>, NoMemory>
+    ) -> Result<Worker<'a, D, R, L, G>, NoMemory>
         requires { CanWork shared.now self }
         ensures worked { IfOk result (IsWorked shared.now self.entry) }
         ensures searched { IfOk result (HasSearched shared.now self.entry) }
@@ -96,7 +96,7 @@ impl<'a, D: Draws, R: Wait, L: Ledger> Worker<'a, D, R, L> {
 
     /// Works as a helper, and takes note where memory is refused. Where there is no room for the outcomes of all pieces it draws
     /// none.
-    pub(crate) fn help<G: Gate>(&mut self, shared: &Shared<'_, R, G>)
+    pub(crate) fn help(&mut self, shared: &Shared<'_, R, G>)
         requires { CanWork shared.now self.old }
         ensures { HasHelped shared.now self.old self.new }
     {
@@ -106,7 +106,7 @@ impl<'a, D: Draws, R: Wait, L: Ledger> Worker<'a, D, R, L> {
     }
 
     /// Draws pieces and searches them until none is left, or it was told too often that others were drawing.
-    pub(crate) fn draw_all<G: Gate>(&mut self, shared: &Shared<'_, R, G>) -> Result<(), NoMemory>
+    pub(crate) fn draw_all(&mut self, shared: &Shared<'_, R, G>) -> Result<(), NoMemory>
         requires { CanWork shared.now self.old }
         ensures worked { IsWorked shared.now self.old self.new }
         ensures searched { OnOk result (HasSearched shared.now self.old self.new) }
@@ -129,13 +129,13 @@ impl<'a, D: Draws, R: Wait, L: Ledger> Worker<'a, D, R, L> {
     }
 }
 
-impl<'a, R: Wait, L: Ledger> Worker<'a, Owner, R, L> {
+impl<'a, R: Wait, L: Ledger, G: Gate> Worker<'a, Owner, R, L, G> {
     /// Takes over what a helper drew, its outcomes and its plan, and answers its caller. Where memory is or was refused not all of it
     /// is taken over.
-    pub(crate) fn take_over<G>(
+    pub(crate) fn take_over(
         &mut self,
         shared: &Shared<'_, R, G>,
-        helper: Worker<'_, Thief, R, L>,
+        helper: Worker<'_, Thief, R, L, G>,
     ) -> Result<Caller<L>, NoMemory>
         requires lead { IsWorker shared.now self.old.board.register self.old.drawer.pile self.old }
         requires helper { IsWorker shared.now self.old.board.register self.old.drawer.pile helper }
@@ -168,16 +168,18 @@ impl<'a, R: Wait, L: Ledger> Worker<'a, Owner, R, L> {
 fn searched<R: Wait, L: Ledger, G: Gate>(
     shared: &Shared<'_, R, G>,
     piece: Piece,
-    board: &mut SeatBoard<'_, R, L>,
+    board: &mut SeatBoard<'_, R, L, G>,
 ) -> Result<Outcome, NoMemory>
     requires front { IsFront shared.now.problem piece.word }
     requires serves { ForSome board.old.best (IsPlanOf shared.now.problem) }
+    requires gate { board.old.may_stop ≡ shared.now.may_stop }
     ensures serves { ForSome board.new.best (IsPlanOf shared.now.problem) }
     ensures falls { floor_of board.new ≤ floor_of board.old }
     ensures later { IsLater board.old board.new }
     ensures kept { IfOk result (IsOutcome shared.now (floor_of board.new) piece) }
 {
     let ended = end_of_search(shared, &piece, board)?;
+    tell_done(shared.gate, &ended);
     match ended {
         Ended::Finished { first, .. } => Ok(Outcome::Finished(Finished {
             number: piece.number(),
@@ -192,26 +194,33 @@ fn searched<R: Wait, L: Ledger, G: Gate>(
 fn end_of_search<R: Wait, L: Ledger, G: Gate>(
     shared: &Shared<'_, R, G>,
     piece: &Piece,
-    board: &mut SeatBoard<'_, R, L>,
+    board: &mut SeatBoard<'_, R, L, G>,
 ) -> Result<Ended, NoMemory>
     requires front { IsFront shared.now.problem piece.now.word }
     requires serves { ForSome board.old.best (IsPlanOf shared.now.problem) }
+    requires gate { board.old.may_stop ≡ shared.now.may_stop }
     ensures serves { ForSome board.new.best (IsPlanOf shared.now.problem) }
     ensures falls { floor_of board.new ≤ floor_of board.old }
     ensures later { IsLater board.old board.new }
     ensures ended { IfOk result (EndsPiece shared.now piece.now.word (floor_of board.new)) }
 {
     let (alloc, instance, tables) = (shared.alloc, shared.instance, shared.tables);
+    let budget = shared.piece_budget();
     match shared.prices {
-        Some(prices) => search_by_prices(
-            alloc,
-            instance,
-            tables,
-            prices,
-            piece,
-            shared.budget,
-            board,
-        ),
-        None => search(alloc, instance, tables, piece, shared.budget, board),
+        Some(prices) => search_by_prices(alloc, instance, tables, prices, piece, budget, board),
+        None => search(alloc, instance, tables, piece, budget, board),
     }
+}
+
+// Tells the gate that a piece is done with, and of the partial plans of it that the board has not told.
+fn tell_done<G: Gate>(gate: &G, ended: &Ended) {
+    let spent = match ended {
+        Ended::Finished { spent, .. } | Ended::Unfinished { spent, .. } => *spent,
+    };
+    let untold = match spent % LOOKS_BEFORE_ASKING {
+        0 => spent.min(LOOKS_BEFORE_ASKING),
+        rest => rest,
+    };
+    gate.hears(News::Looked(untold));
+    gate.hears(News::Done);
 }

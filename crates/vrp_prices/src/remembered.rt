@@ -164,7 +164,7 @@ mod tests {
             (3, 5_699, None),
         ] {
             let instance = crowd(&rt, rt.alloc(), customers)?;
-            let found = find_prices(rt.alloc(), &instance, 50, 3, steps)?;
+            let found = find_prices(rt.alloc(), &instance, 50, 3, steps, &|| true)?;
             let found = found.map(|prices| prices.memory.masks());
             assert_eq!(rt; found, masks, "{customers} {steps}");
         }

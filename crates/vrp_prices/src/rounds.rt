@@ -36,17 +36,19 @@ pub struct FoundPrices<'a> {
 /// Prices and tolls that bound the instance's plans well, where a plan of it costs so much, and the memory of the walks in their
 /// rounds: the ng-routes of Baldacci, Mingozzi and Roberti (2011). At most this many steps are taken to find them: looks from one
 /// cell of a table at another, and looks at a way for a cut with a toll. Walks remember up to this many customers near each place, and
-/// fewer where rounds would be long or few. `None` where the steps are too few for a hundred rounds of walks that remember nothing,
+/// fewer where rounds would be long or few. Before each round it is asked whether to go on. `None` where the steps are too few for a hundred rounds of walks that remember nothing,
 /// or no unit makes the tables small, or the prices are out of range. Which prices they are, and which memory, is left open: any
 /// bound the instance's plans.
-pub fn find_prices<'a>(
+pub fn find_prices<'a, F: Fn() -> bool>(
     alloc: Global,
     instance: &'a Instance,
     cost: u64,
     near: usize,
     steps: u64,
+    goes_on: &F,
 ) -> Result<Option<FoundPrices<'a>>, NoMemory>
     requires near { near ≤ MOST_NEAR }
+    requires goes_on { F.IsAlwaysCallable goes_on.now }
     ensures relaxation { IfOk result (λ found. IfSome found (λ prices. prices.relaxation.problem ≡ instance.now)) }
     ensures memory { IfOk result (λ found. IfSome found (λ prices. prices.memory.places ≡ place_count instance.now)) }
 {
@@ -61,8 +63,17 @@ pub fn find_prices<'a>(
     let remembered = Remembered::largest(alloc, instance, size, near, steps)?;
     let (memory, size) = (remembered.memory, remembered.size);
     let mut walks = Walks::new(alloc, instance, scale, unit, size, remembered.looks)?;
-    let best = ascend(alloc, instance, &mut walks, scale, cost, size, steps)?;
-    let (prices, cuts) = best.into_best();
+    let mut ascent = new_ascent(alloc, instance, scale, cost)?;
+    ascend(
+        alloc,
+        instance,
+        &mut walks,
+        &mut ascent,
+        size,
+        steps,
+        goes_on,
+    )?;
+    let (prices, cuts) = ascent.into_best();
     let prices = lifted(alloc, instance, &mut walks, &prices, cuts.as_slice())?;
     let cuts = cuts.into_cuts(alloc, instance)?;
     match Relaxation::new(alloc, instance, scale, unit, &prices, &cuts)? {
@@ -71,26 +82,37 @@ pub fn find_prices<'a>(
     }
 }
 
-// Fills the tables and steps, till the steps are taken or no more are worth it.
-fn ascend(
+// Begins with no prices.
+fn new_ascent(
     alloc: Global,
     instance: &Instance,
-    walks: &mut Walks,
     scale: u64,
     cost: u64,
-    size: Size,
-    steps: u64,
 ) -> Result<Ascent, NoMemory> {
     let places = usize::from(instance.customers()) + 1;
     let scale = i64::try_from(scale).unwrap_or(1);
     let aim = i64::try_from(cost).unwrap_or(i64::MAX);
-    let mut ascent = Ascent::new(alloc, places, scale, aim)?;
+    Ascent::new(alloc, places, scale, aim)
+}
+
+// Fills the tables and steps, till the steps are taken, or no more are worth it, or it is told to stop.
+fn ascend<F: Fn() -> bool>(
+    alloc: Global,
+    instance: &Instance,
+    walks: &mut Walks,
+    ascent: &mut Ascent,
+    size: Size,
+    steps: u64,
+    goes_on: &F,
+) -> Result<(), NoMemory>
+    requires { F.IsAlwaysCallable goes_on.now }
+{
     let mut left = steps;
     for _ in 0..MAX_ROUNDS {
         let round = size
             .steps()
             .saturating_add(size.tolls(ascent.tolled_cuts()));
-        if left < round {
+        if left < round || !goes_on() {
             break;
         }
         left -= round;
@@ -102,7 +124,7 @@ fn ascend(
             break;
         }
     }
-    Ok(ascent)
+    Ok(())
 }
 
 // The same prices, and so much more for each unit of a customer's demand that no way costs less than nothing. All walks of a load

@@ -343,7 +343,7 @@ fn demands_in_units(rt: HostRuntime) -> Result<(), Fail> {
 fn found_prices_bound(rt: HostRuntime) -> Result<(), Fail> {
     let weights = Weights::points(rt.alloc(), Metric::Euc2d, &POINTS)?;
     let instance = made(&rt, rt.alloc(), weights, &[0, 1, 2, 1], 3)?;
-    let Some(found) = find_prices(rt.alloc(), &instance, 46, 3, 1_000_000)? else {
+    let Some(found) = find_prices(rt.alloc(), &instance, 46, 3, 1_000_000, &|| true)? else {
         panic!(rt; "no prices");
     };
     let relaxation = found.relaxation;
@@ -358,6 +358,25 @@ fn found_prices_bound(rt: HostRuntime) -> Result<(), Fail> {
     Ok(())
 }
 
+// Told to stop before the first round, it has found no prices: ways cost what they do in the instance.
+#[test]
+fn stopped_before_the_first_round(rt: HostRuntime) -> Result<(), Fail> {
+    let weights = Weights::points(rt.alloc(), Metric::Euc2d, &POINTS)?;
+    let instance = made(&rt, rt.alloc(), weights, &[0, 1, 2, 1], 3)?;
+    let Some(found) = find_prices(rt.alloc(), &instance, 46, 3, 1_000_000, &|| false)? else {
+        panic!(rt; "no prices");
+    };
+    let priced = found.relaxation.relaxed();
+    assert!(rt; priced.customers() == 3 && instance.customers() == 3);
+    for customer in 1..4 {
+        assert_eq!(rt;
+            priced.weight(0, customer),
+            found.relaxation.scale() * instance.weight(0, customer)
+        );
+    }
+    Ok(())
+}
+
 #[test]
 fn the_most_nodes(rt: HostRuntime) -> Result<(), Fail> {
     let instance = most_nodes(&rt, rt.alloc())?;
@@ -366,7 +385,7 @@ fn the_most_nodes(rt: HostRuntime) -> Result<(), Fail> {
         panic!(rt; "no relaxation");
     };
     assert_eq!(rt; relaxation.limit(0), Some(1_199_000_000_000));
-    assert!(rt; find_prices(rt.alloc(), &instance, 0, 3, 1_000_000)?.is_none());
+    assert!(rt; find_prices(rt.alloc(), &instance, 0, 3, 1_000_000, &|| true)?.is_none());
     Ok(())
 }
 

@@ -418,7 +418,7 @@ fn has(places: u32, place: usize) -> bool {
 fn found_prices_bound_walks(rt: HostRuntime) -> Result<(), Fail> {
     let weights = Weights::points(rt.alloc(), Metric::Euc2d, &POINTS)?;
     let instance = made(&rt, rt.alloc(), weights, &[0, 1, 2, 1], 3)?;
-    let Some(found) = find_prices(rt.alloc(), &instance, 46, 3, 1_000_000)? else {
+    let Some(found) = find_prices(rt.alloc(), &instance, 46, 3, 1_000_000, &|| true)? else {
         panic!(rt; "no prices");
     };
     assert_eq!(rt; found.memory.masks(), 4);

@@ -1,5 +1,5 @@
 -- What is known of the words under a front, and how the search of a piece ends.
-use Rattle.std.specs.Prelude.{◌≡◌, ◌⊎◌, ℕ, ◌+◌, ◌≤◌, ◌<◌, MatchOption, Option, Some, List}
+use Rattle.std.specs.Prelude.{◌≡◌, ◌⊎◌, ℕ, ◌+◌, ◌≤◌, ◌<◌, Bool, IsTrue, MatchOption, Option, Some, List}
 use Rattle.std.specs.List.{All, Contains}
 use Rattle.std.specs.Option.{ForSome, option_map}
 use Rattle.vrp_bound.specs.Bound.{IsLowerBound}
@@ -51,13 +51,14 @@ pub record IsFinished (p : Problem) (front : List ℕ) (budget floor spent : ℕ
   -- so none costs less than the floor
   pub none_cheaper : NoneCheaperUnder p front floor
 
--- the budget is spent, and the front's tree is above it
-pub record IsUnfinished (p : Problem) (among front : List ℕ) (budget spent low : ℕ) : Type 0 where
-  pub all_spent : spent ≡ budget
-  pub tree : TreeHasAtLeast p front (budget + 1)
+-- the budget is spent, or the board may stop a search, and the front's tree has more than was looked at
+pub record IsUnfinished (p : Problem) (among front : List ℕ) (budget : ℕ) (may_stop : Bool) (spent low : ℕ) : Type 0 where
+  pub within : spent ≤ budget
+  pub all_spent : (spent ≡ budget) ⊎ IsTrue may_stop
+  pub tree : TreeHasAtLeast p front (spent + 1)
   pub is_low : IsLow p among front (Some low)
   pub none_cheaper : NoneCheaperUnder p front low
 
-abbrev pub EndsSearch : Problem → List ℕ → List ℕ → ℕ → ℕ → Ended → Type 0
-EndsSearch p among front budget floor (Finished spent first) = IsFinished p front budget floor spent first
-EndsSearch p among front budget floor (Unfinished spent low) = IsUnfinished p among front budget spent low
+abbrev pub EndsSearch : Problem → List ℕ → List ℕ → ℕ → Bool → ℕ → Ended → Type 0
+EndsSearch p among front budget may_stop floor (Finished spent first) = IsFinished p front budget floor spent first
+EndsSearch p among front budget may_stop floor (Unfinished spent low) = IsUnfinished p among front budget may_stop spent low

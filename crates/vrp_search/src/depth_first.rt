@@ -12,6 +12,7 @@ use crate::partial::Partial;
 use crate::piece::Piece;
 use crate::prices::Prices;
 use crate::pruning::Pruning;
+use crate::spending::Spending;
 use std::alloc::Global;
 use vrp_bound::{Tables, bounds_hold};
 use vrp_model::{Instance, NoMemory, Plan, dead_fronts, plans_cost_less, words_are_plans};
@@ -23,16 +24,17 @@ pub enum Ended {
     /// offered, which is before all others that it offered. So none costs less than the floor. This many partial plans were looked
     /// at.
     Finished { spent: u64, first: Option<Plan> },
-    /// The budget was spent before the whole tree was looked at. No plan under the piece costs less than `low`, which is what
-    /// is paid along the piece's word, and the bound on what is still to pay there.
+    /// The whole tree was not looked at: the budget was spent, or the board said so. This many partial plans were looked at, and
+    /// the tree has more. No plan under the piece costs less than `low`, which is what is paid along the piece's word, and the
+    /// bound on what is still to pay there.
     Unfinished { spent: u64, low: u64 },
 }
 
 /// Searches the plans under a piece, and offers those to the board that may be before all that it knows. It looks at no more
 /// partial plans than the budget says, at each at most once, at the piece's own word first, and at children by rising symbol. It
 /// doesn't go below one whose cost and bound together are above what the board answers, or not under the cost of the last plan that
-/// it offered, or whose bound says that no plan is under it, or that is dead, or of which the tree bound says the same. The tables
-/// are over all customers that the piece leaves unserved, and may be over more. Where memory is refused the board has the offers
+/// it offered, or whose bound says that no plan is under it, or that is dead, or of which the tree bound says the same. It asks the
+/// board now and then whether to go on. The tables are over all customers that the piece leaves unserved, and may be over more. Where memory is refused the board has the offers
 /// that were made before.
 pub fn search<B: Board>(
     alloc: Global,
@@ -50,7 +52,7 @@ pub fn search<B: Board>(
     ensures serves { B.serves board.new instance.now }
     ensures keeps { (earlier : B) → B.keeps earlier board.old → B.keeps earlier board.new }
     ensures falls { B.floor board.new ≤ B.floor board.old }
-    ensures ended { IfOk result (EndsSearch instance.now tables.now.among piece.now.word budget (B.floor board.new)) }
+    ensures ended { IfOk result (EndsSearch instance.now tables.now.among piece.now.word budget (B.may_stop board.new) (B.floor board.new)) }
 {
     let Some(Root { partial, low }) = opened(alloc, instance, tables, piece, board)? else {
         return Ok(Ended::Finished {
@@ -83,7 +85,7 @@ pub fn search_by_prices<B: Board>(
     ensures serves { B.serves board.new instance.now }
     ensures keeps { (earlier : B) → B.keeps earlier board.old → B.keeps earlier board.new }
     ensures falls { B.floor board.new ≤ B.floor board.old }
-    ensures ended { IfOk result (EndsSearch instance.now tables.now.among piece.now.word budget (B.floor board.new)) }
+    ensures ended { IfOk result (EndsSearch instance.now tables.now.among piece.now.word budget (B.may_stop board.new) (B.floor board.new)) }
 {
     let Some(Root { partial, low }) = opened(alloc, instance, tables, piece, board)? else {
         return Ok(Ended::Finished {
@@ -139,7 +141,7 @@ fn opened<'a, B: Board>(
 }
 
 /// Searches the plans under the front that a partial plan has come to, its root, as `search` does, and prunes by what it is given.
-/// No plan under the root costs less than `low`, which is told where the budget is spent first.
+/// No plan under the root costs less than `low`, which is told where the search is left unfinished.
 pub(crate) fn search_under<B: Board, P: Pruning + Drop>(
     alloc: Global,
     mut partial: Partial<'_>,
@@ -155,21 +157,24 @@ pub(crate) fn search_under<B: Board, P: Pruning + Drop>(
     ensures serves { B.serves board.new partial.entry.problem }
     ensures keeps { (earlier : B) → B.keeps earlier board.old → B.keeps earlier board.new }
     ensures falls { B.floor board.new ≤ B.floor board.old }
-    ensures ended { IfOk result (EndsUnder partial.entry.problem partial.entry.word low budget (B.floor board.new)) }
+    ensures ended { IfOk result (EndsUnder partial.entry.problem partial.entry.word low budget (B.may_stop board.new) (B.floor board.new)) }
 {
     // All plans cost less than `NO_COST`.
     words_are_plans();
     plans_cost_less();
     let root = partial.depth();
-    let mut spent = 1;
+    let mut spending = Spending::first(budget);
     let mut found = Found::nothing();
     found.offer_complete(alloc, &partial, board)?;
     let mut next = 0;
     loop {
         match partial.next_child(next) {
-            Some(_) if spent == budget => return Ok(Ended::Unfinished { spent, low }),
+            Some(_) if spending.is_over(board) => {
+                let spent = spending.spent;
+                return Ok(Ended::Unfinished { spent, low });
+            }
             Some(symbol) => {
-                spent += 1;
+                spending.look();
                 let least = board.least();
                 if let Some(counted) = pruning.promising(&partial, symbol, least, found.cost()) {
                     pruning.push(&mut partial, symbol, counted);
@@ -184,6 +189,7 @@ pub(crate) fn search_under<B: Board, P: Pruning + Drop>(
                 }
             }
             None if partial.depth() == root => {
+                let spent = spending.spent;
                 let first = found.into_plan();
                 return Ok(Ended::Finished { spent, first });
             }

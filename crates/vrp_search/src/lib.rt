@@ -16,10 +16,11 @@ mod prices;
 mod pruning;
 #[cfg(test)]
 mod slow;
+mod spending;
 mod tally;
 mod tree_pruning;
 
-pub use board::Board;
+pub use board::{Board, LOOKS_BEFORE_ASKING};
 pub use cutting::{Cutting, MAX_PIECES, MAX_REFINED};
 pub use depth_first::{Ended, search, search_by_prices};
 pub use law::{one_low, one_piece, own_low_no_lower};

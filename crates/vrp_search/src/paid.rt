@@ -17,8 +17,10 @@ pub(crate) struct Paid {
 impl Paid {
     /// That of the empty word.
     pub(crate) fn root(instance: &Instance) -> Paid
-        ensures { IsPaid instance.now [] result }
+        ensures { IsPaidAt instance.now [] 0 result }
     {
+        // The number of customers comes with what is known of every instance.
+        let _customers = instance.customers();
         Paid {
             cost: 0,
             load: 0,

@@ -1,7 +1,8 @@
 //! The prices that a search prunes by.
-ghost use Rattle.std.specs.Prelude.{◌≡◌, ℕ, ◌≤◌, List, IfOk, IsTrue};
+ghost use Rattle.std.specs.Prelude.{◌≡◌, ℕ, ◌≤◌, List, [], IfOk, IsTrue};
 ghost use Rattle.vrp_model.specs.declared.limits.TheConstants.{NO_COST};
 ghost use Rattle.vrp_model.specs.Problem.{place_count};
+ghost use Rattle.vrp_model.specs.Word.{NoneCheaperUnder};
 ghost use Rattle.vrp_prices.specs.Relaxation.{Bounds};
 ghost use Rattle.vrp_search.specs.Inner.Paid.{IsPaidAt};
 ghost use Rattle.vrp_search.specs.Inner.Under.{AllCostMore};
@@ -11,7 +12,7 @@ use std::alloc::Global;
 use std::marker::Model;
 use vrp_bound::MemoryTables;
 use vrp_memory::Memory;
-use vrp_model::{Instance, NoMemory};
+use vrp_model::{Instance, NO_COST, NoMemory};
 use vrp_prices::{Relaxation, dear_fronts};
 
 /// A relaxation of an instance by prices, and tables of walks that remember over all customers in it.
@@ -45,6 +46,24 @@ impl<'a> Prices<'a> {
     {
         let tables = MemoryTables::new(alloc, relaxation.relaxed(), memory)?;
         Ok(Prices { relaxation, tables })
+    }
+
+    /// What the prices tell that each plan of the instance costs at least.
+    pub fn lower_bound(&self) -> u64
+        ensures { NoneCheaperUnder self.now.problem [] result }
+    {
+        let root = Paid::root(self.relaxed());
+        let mut low = 0;
+        let mut high = NO_COST;
+        while low < high {
+            let cost = low + (high - low) / 2;
+            if self.is_dear(0, root, cost) {
+                low = cost + 1;
+            } else {
+                high = cost;
+            }
+        }
+        low
     }
 
     /// The instance with prices.

@@ -27,7 +27,7 @@ fn worked_by_hand(rt: HostRuntime) -> Result<(), Fail> {
     ];
     for (ways, demands, trucks, cost) in table {
         let instance = by_matrix(&rt, rt.alloc(), ways, demands, 2, *trucks)?;
-        let plan = first_plan(rt.alloc(), &instance, 100)?;
+        let plan = first_plan(rt.alloc(), &instance, 100, &|| true)?;
         assert_eq!(rt; plan.as_ref().map(Plan::cost), *cost, "{ways:?}");
     }
     Ok(())
@@ -37,7 +37,7 @@ fn worked_by_hand(rt: HostRuntime) -> Result<(), Fail> {
 #[test]
 fn many_customers(rt: HostRuntime) -> Result<(), Fail> {
     let instance = scattered(&rt, rt.alloc(), 1_200, 1, 0)?;
-    let plan = first_plan(rt.alloc(), &instance, 200)?;
+    let plan = first_plan(rt.alloc(), &instance, 200, &|| true)?;
     assert!(rt; plan.is_some_and(|plan| plan.cost() < 124_175));
     Ok(())
 }
@@ -46,12 +46,26 @@ fn many_customers(rt: HostRuntime) -> Result<(), Fail> {
 #[test]
 fn the_same_twice(rt: HostRuntime) -> Result<(), Fail> {
     let instance = scattered(&rt, rt.alloc(), 60, 1, 0)?;
-    let once = first_plan(rt.alloc(), &instance, 1_000)?;
-    let again = first_plan(rt.alloc(), &instance, 1_000)?;
+    let once = first_plan(rt.alloc(), &instance, 1_000, &|| true)?;
+    let again = first_plan(rt.alloc(), &instance, 1_000, &|| true)?;
     assert!(rt; once.is_some());
     assert_eq!(rt;
         once.as_ref().map(Plan::word),
         again.as_ref().map(Plan::word)
+    );
+    Ok(())
+}
+
+// Told to stop before the first move, the plan is that by savings.
+#[test]
+fn stopped_at_once(rt: HostRuntime) -> Result<(), Fail> {
+    let instance = scattered(&rt, rt.alloc(), 60, 1, 0)?;
+    let by_savings = savings_plan(rt.alloc(), &instance)?;
+    let stopped = first_plan(rt.alloc(), &instance, 1_000, &|| false)?;
+    assert!(rt; stopped.is_some());
+    assert_eq!(rt;
+        stopped.as_ref().map(Plan::word),
+        by_savings.as_ref().map(Plan::word)
     );
     Ok(())
 }

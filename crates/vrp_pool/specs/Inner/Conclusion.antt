@@ -79,7 +79,7 @@ pub record IsLeftAt (s : Search) (cutting : List (List ℕ)) (left : Left) : Typ
 
 -- a front is left, no word under it costs less than this, and its low is no less
 pub record IsLeftWith (s : Search) (front : List ℕ) (least : ℕ) : Type 0 where
-  pub is_left : IsLeft s.problem s.budget front
+  pub is_left : IsLeft s.problem s.budget s.may_stop front
   pub none_cheaper : NoneCheaperUnder s.problem front least
   pub than_low : (other : ℕ) → IsOwnLow s.problem front (Some other) → least ≤ other
 

@@ -1,5 +1,5 @@
 -- What workers leave of the pieces that they draw.
-use Rattle.std.specs.Prelude.{◌≡◌, ℕ, ◌+◌, ◌≤◌, ◌<◌, Bool, false, None, Some, List, [], ◌++◌, length, map, slice_index_or}
+use Rattle.std.specs.Prelude.{◌≡◌, ◌⊎◌, ℕ, ◌+◌, ◌≤◌, ◌<◌, Bool, false, IsTrue, None, Some, List, [], ◌++◌, length, map, slice_index_or}
 use Rattle.std.specs.List.{All}
 use Rattle.std.specs.Option.{ForSome}
 use Rattle.vrp_model.specs.Cheapest.{cost_of}
@@ -19,11 +19,12 @@ use Rattle.vrp_pool.specs.declared.outcome.Outcome.{Outcome}
 use Rattle.vrp_pool.specs.declared.outcome.Outcome.TheVariants as outcome
 use Rattle.vrp_pool.specs.declared.outcome.Searched.{Searched}
 
--- what is searched, in how many pieces, and how many partial plans may be looked at in each
+-- what is searched, in how many pieces, how many partial plans may be looked at in each, and whether the search may be stopped
 pub record Search : Type 0 where
   pub problem : Problem
   pub pieces : ℕ
   pub budget : ℕ
+  pub may_stop : Bool
 
 pub record WorkerState : Type 0 where
   pub drawer : DrawerState
@@ -38,19 +39,22 @@ pub record IsFinishedPiece (s : Search) (least : ℕ) (piece : NumberedWord) (do
   pub plan_of : ForSome done.first (IsPlanOf s.problem)
   pub none_before : NoneBeforeUnder s.problem piece.word done.floor done.first
 
--- The piece is the one that is left. Its tree is above the budget, and no word under it costs less than its low, by tables over all
--- customers
+-- The piece is the one that is left. So many partial plans of its tree were looked at, as many as the budget allows unless the search
+-- may be stopped, and the tree has more. No word under it costs less than its low, by tables over all customers
 pub record IsLeftPiece (s : Search) (piece : NumberedWord) (left : Left) : Type 0 where
   pub same : left.piece ≡ piece
   pub front : IsFront s.problem piece.word
-  pub large : TreeHasAtLeast s.problem piece.word (s.budget + 1)
+  pub looked : ℕ
+  pub within : looked ≤ s.budget
+  pub all_spent : (looked ≡ s.budget) ⊎ IsTrue s.may_stop
+  pub large : TreeHasAtLeast s.problem piece.word (looked + 1)
   pub is_low : IsLow s.problem (customers s.problem) piece.word (Some left.low)
   pub none_cheaper : NoneCheaperUnder s.problem piece.word left.low
 
 -- what is known of a piece that was searched
 -- as a search does that has tables over all customers
 abbrev pub EndsPiece : Search → List ℕ → ℕ → Ended → Type 0
-EndsPiece s word floor ended = EndsSearch s.problem (customers s.problem) word s.budget floor ended
+EndsPiece s word floor ended = EndsSearch s.problem (customers s.problem) word s.budget s.may_stop floor ended
 
 abbrev pub IsOutcome : Search → ℕ → NumberedWord → Outcome → Type 0
 IsOutcome s least piece (outcome.Finished done) = IsFinishedPiece s least piece done
@@ -70,10 +74,11 @@ AreFronts s pieces = All (λ piece. IsFront s.problem piece.word) pieces
 
 -- ---- the work of one worker
 
--- a worker whose plan is lawful, and that draws from a pile of fronts
+-- a worker whose plan is lawful, that draws from a pile of fronts, and whose board may stop where the search may
 pub record CanWork (s : Search) (worker : WorkerState) : Type 0 where
   pub fronts : AreFronts s worker.drawer.put
   pub serves : ForSome worker.board.best (IsPlanOf s.problem)
+  pub may_stop : worker.board.may_stop ≡ s.may_stop
 
 -- the same worker, later: it draws from the same pile, its plan is lawful, and neither that nor the floor costs more
 pub record IsWorked (s : Search) (old new : WorkerState) : Type 0 where
@@ -115,8 +120,8 @@ abbrev pub AreNewCallers : RegisterState → List CallerState → Type 0
 AreNewCallers register callers = All (IsNewCaller register) callers
 
 -- the worker who is this caller, and has done nothing yet
-abbrev pub new_worker : RegisterState → CallerState → DrawerState → WorkerState
-new_worker register caller drawer = record { drawer = drawer; board = record { register = register; caller = caller; best = None }; outcomes = []; refused = false }
+abbrev pub new_worker : Search → RegisterState → CallerState → DrawerState → WorkerState
+new_worker s register caller drawer = record { drawer = drawer; board = record { register = register; caller = caller; best = None; may_stop = s.may_stop }; outcomes = []; refused = false }
 
 -- a worker that can work, draws from this pile and offers to this register
 pub record IsWorker (s : Search) (register : RegisterState) (pile : PileId) (worker : WorkerState) : Type 0 where

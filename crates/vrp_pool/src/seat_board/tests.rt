@@ -5,6 +5,7 @@ ghost use Rattle.vrp_model.specs.Route.{IsPlanOf};
 
 use super::*;
 use crate::fixture::{both_ways_equal, three_nodes};
+use crate::gates::NoGate;
 use std::marker::Brand;
 use std::process::Abort;
 use std::sync::ledger::Blank;
@@ -33,7 +34,7 @@ fn check_one_seat<L: Ledger, R: Wait + Abort>(
     let Some(caller) = callers.pop() else {
         unreachable!()
     };
-    let mut board = SeatBoard::new(rt, &register, caller);
+    let mut board = SeatBoard::new(rt, &register, caller, &NoGate);
     assert_eq!(rt; board.least(), 30);
     assert_eq!(rt; least_after(alloc, &instance, &mut board, &joined)?, 20);
     let (_caller, best) = board.into_parts();
@@ -75,7 +76,7 @@ fn check_ties_of<L: Ledger, R: Wait + Abort>(
     let Some(caller) = callers.pop() else {
         unreachable!()
     };
-    let mut board = SeatBoard::new(rt, &register, caller);
+    let mut board = SeatBoard::new(rt, &register, caller, &NoGate);
     assert_eq!(rt; least_after(alloc, &instance, &mut board, &earlier)?, 6);
     assert_eq!(rt; least_after(alloc, &instance, &mut board, &later)?, 6);
     let (_caller, best) = board.into_parts();
@@ -107,7 +108,7 @@ fn joined(rt: &impl Abort, alloc: Global, instance: &Instance, first: u16) -> Re
 fn least_after<R: Wait, L: Ledger>(
     alloc: Global,
     instance: &Instance,
-    board: &mut SeatBoard<'_, R, L>,
+    board: &mut SeatBoard<'_, R, L, NoGate>,
     plan: &Plan,
 ) -> Result<u64, NoMemory>
     requires serves { ForSome board.old.best (IsPlanOf instance.now) }

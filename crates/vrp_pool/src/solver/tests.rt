@@ -13,6 +13,7 @@ use vrp_first::first_plan;
 use vrp_search::MAX_PIECES;
 
 mod gated;
+mod stopped;
 
 const AMPLE: u64 = 1_000_000;
 
@@ -108,7 +109,7 @@ fn left_open(rt: HostRuntime) -> Result<(), Fail> {
 #[test]
 fn first_plan_by_savings(rt: HostRuntime) -> Result<(), Fail> {
     let free = line(rt.alloc())?;
-    let savings = first_plan(rt.alloc(), &free, 0)?.map(|plan| plan.cost());
+    let savings = first_plan(rt.alloc(), &free, 0, &|| true)?.map(|plan| plan.cost());
     assert_eq!(rt; savings, Some(400));
     let limited = line(rt.alloc())?.with_trucks(2);
     for instance in [&free, &limited] {

@@ -1,5 +1,5 @@
 -- How a search below a front ends.
-use Rattle.std.specs.Prelude.{ℕ, ◌<◌, Some, List}
+use Rattle.std.specs.Prelude.{ℕ, ◌<◌, Bool, Some, List}
 use Rattle.vrp_model.specs.Problem.{Problem}
 use Rattle.vrp_model.specs.Word.{BeginsWith, IsLawfulWord, word_cost}
 use Rattle.vrp_search.specs.Search.{EndsSearch, IsLow}
@@ -10,5 +10,5 @@ abbrev pub AllCostMore : Problem → List ℕ → ℕ → Type 0
 AllCostMore p front cost = (word : List ℕ) → IsLawfulWord p word → BeginsWith word front → cost < word_cost p word
 
 -- as the search of a piece with this word does, whichever tables give it this low
-abbrev pub EndsUnder : Problem → List ℕ → ℕ → ℕ → ℕ → Ended → Type 0
-EndsUnder p root low budget floor ended = (among : List ℕ) → IsLow p among root (Some low) → EndsSearch p among root budget floor ended
+abbrev pub EndsUnder : Problem → List ℕ → ℕ → ℕ → Bool → ℕ → Ended → Type 0
+EndsUnder p root low budget may_stop floor ended = (among : List ℕ) → IsLow p among root (Some low) → EndsSearch p among root budget may_stop floor ended

@@ -4,4 +4,4 @@ use Rattle.vrp_command.proofs.command.answer_to.Goals as goal
 pub report-requires : goal.report-requires
 report-requires g c =
     let p = c.args.instance.now in
-    λ plan is. stops_within p plan.routes (answer_lawful p c.args.options.pieces c.args.options.budget c.in_ok-answer.answer c.in_ok-answer.ensures plan is).lawful
+    λ plan is. stops_within p plan.routes (answer_lawful p c.args.options.pieces c.args.options.budget (g.G.Gate.may_stop c.args.gate.now) c.in_ok-answer.answer c.in_ok-answer.ensures plan is).lawful

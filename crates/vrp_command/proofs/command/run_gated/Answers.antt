@@ -23,7 +23,7 @@ returns-in_err-write_report-clause-begun g c =
     let left = g.R.Read.remaining in
     let held = g.W.Write.contents in
     let meant = rw c.deref.ensures.value at c.in_ok-instance.ensures.meant in
-    let begins : PrintsPart c.args.options (left c.args.input.now) (left c.read_input.new.input) (held c.args.output.now) (held c.write_report.new.output) =
+    let begins : PrintsPart c.args.options (g.G.Gate.may_stop c.args.gate.now) (left c.args.input.now) (left c.read_input.new.input) (held c.args.output.now) (held c.write_report.new.output) =
     record {
       bytes = c.in_ok-bytes.bytes.items;
       input = c.in_ok-bytes.ensures.read;

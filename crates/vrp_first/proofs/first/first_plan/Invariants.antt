@@ -3,4 +3,4 @@ use Rattle.vrp_model.specs.Route.{IsPlanOf}
 use Rattle.vrp_first.proofs.first.first_plan.Given as goal
 
 abbrev pub invariant-loop-number : goal.invariant-loop-number
-invariant-loop-number l = IfSome l.best (IsPlanOf l.instance)
+invariant-loop-number g l = IfSome l.best (IsPlanOf l.instance)

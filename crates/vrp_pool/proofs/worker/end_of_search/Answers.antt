@@ -1,14 +1,16 @@
-use Rattle.std.proofs.Common.{ap, sym, subst}
+use Rattle.std.proofs.Common.{◌≡◌, ◌∙◌, ◌⊎◌, ◌≤◌, Bool, IsTrue, ap, sym, subst}
 use Rattle.std.specs.Prelude.{IfOk}
 use Rattle.std.proofs.lemmas.Result.{IfOk-weaker}
 use Rattle.std.specs.Option.{ForSome, option_map}
 use Rattle.vrp_bound.specs.Tables.{TablesOf}
+use Rattle.vrp_model.specs.Problem.{customers}
 use Rattle.vrp_model.specs.Route.{IsPlanOf}
 use Rattle.vrp_model.proofs.UnservedCustomers.{unserved_are_customers}
 use Rattle.vrp_search.specs.Search.{AreCovered, EndsSearch}
 use Rattle.vrp_pool.specs.SeatBoard.{floor_of}
 use Rattle.vrp_pool.specs.Inner.Workers.{EndsPiece, Search}
 use Rattle.vrp_pool.proofs.Floors.{later_itself}
+use Rattle.vrp_pool.proofs.Outcomes.{ends_within}
 use Rattle.vrp_pool.proofs.worker.end_of_search.Goals as goal
 
 pub search_by_prices-requires-clause-prices : goal.search_by_prices-requires-clause-prices
@@ -47,19 +49,33 @@ returns-in-None-clause-later g c = c.search.ensures.keeps c.args.board.now (late
 pub returns-in-Some-clause-ended : goal.returns-in-Some-clause-ended
 returns-in-Some-clause-ended g c =
     let p = c.shared.inside.instance.now in
-    let s : Search = record { problem = p; pieces = c.shared.inside.pieces; budget = c.shared.inside.budget } in
+    let s : Search = record { problem = p; pieces = c.shared.inside.pieces; budget = c.shared.inside.budget; may_stop = g.G.Gate.may_stop c.shared.inside.gate.now } in
     let floor = floor_of c.search_by_prices.new.board in
+    let stops = c.search_by_prices.new.board.may_stop in
+    let budget = c.piece_budget-budget.result in
     let word = c.args.piece.now.word in
-    subst (λ (s : Search). IfOk c.search_by_prices.result (EndsPiece s word floor)) c.shared.view_is
-    (IfOk-weaker c.search_by_prices.result (EndsSearch p c.shared.inside.tables.now.among word s.budget floor) (EndsPiece s word floor)
-    (λ ended ends. subst (λ (tables : TablesOf). EndsSearch p tables.among word s.budget floor ended) c.shared.invariant.0 ends) c.search_by_prices.ensures.ended)
+    let same : stops ≡ c.args.shared.now.may_stop = (c.search_by_prices.ensures.keeps c.args.board.now (later_itself c.args.board.now)).may_stop ∙ c.requires.gate in
+    IfOk-weaker c.search_by_prices.result (EndsSearch p c.shared.inside.tables.now.among word budget stops floor) (EndsPiece c.args.shared.now word floor)
+    (λ ended ends. subst (λ (s : Search). EndsPiece s word floor ended) c.shared.view_is
+    (ends_within p (customers p) word budget s.budget floor s.may_stop ended
+    (subst (λ (s : Search). budget ≤ s.budget) (sym c.shared.view_is) c.piece_budget-budget.ensures.within)
+    (subst (λ (s : Search). (budget ≡ s.budget) ⊎ IsTrue s.may_stop) (sym c.shared.view_is) c.piece_budget-budget.ensures.all)
+    (subst (λ (stops : Bool). EndsSearch p (customers p) word budget stops floor ended) (same ∙ ap (λ (s : Search). s.may_stop) (sym c.shared.view_is))
+    (subst (λ (tables : TablesOf). EndsSearch p tables.among word budget stops floor ended) c.shared.invariant.0 ends)))) c.search_by_prices.ensures.ended
 
 pub returns-in-None-clause-ended : goal.returns-in-None-clause-ended
 returns-in-None-clause-ended g c =
     let p = c.shared.inside.instance.now in
-    let s : Search = record { problem = p; pieces = c.shared.inside.pieces; budget = c.shared.inside.budget } in
+    let s : Search = record { problem = p; pieces = c.shared.inside.pieces; budget = c.shared.inside.budget; may_stop = g.G.Gate.may_stop c.shared.inside.gate.now } in
     let floor = floor_of c.search.new.board in
+    let stops = c.search.new.board.may_stop in
+    let budget = c.piece_budget-budget.result in
     let word = c.args.piece.now.word in
-    subst (λ (s : Search). IfOk c.search.result (EndsPiece s word floor)) c.shared.view_is
-    (IfOk-weaker c.search.result (EndsSearch p c.shared.inside.tables.now.among word s.budget floor) (EndsPiece s word floor)
-    (λ ended ends. subst (λ (tables : TablesOf). EndsSearch p tables.among word s.budget floor ended) c.shared.invariant.0 ends) c.search.ensures.ended)
+    let same : stops ≡ c.args.shared.now.may_stop = (c.search.ensures.keeps c.args.board.now (later_itself c.args.board.now)).may_stop ∙ c.requires.gate in
+    IfOk-weaker c.search.result (EndsSearch p c.shared.inside.tables.now.among word budget stops floor) (EndsPiece c.args.shared.now word floor)
+    (λ ended ends. subst (λ (s : Search). EndsPiece s word floor ended) c.shared.view_is
+    (ends_within p (customers p) word budget s.budget floor s.may_stop ended
+    (subst (λ (s : Search). budget ≤ s.budget) (sym c.shared.view_is) c.piece_budget-budget.ensures.within)
+    (subst (λ (s : Search). (budget ≡ s.budget) ⊎ IsTrue s.may_stop) (sym c.shared.view_is) c.piece_budget-budget.ensures.all)
+    (subst (λ (stops : Bool). EndsSearch p (customers p) word budget stops floor ended) (same ∙ ap (λ (s : Search). s.may_stop) (sym c.shared.view_is))
+    (subst (λ (tables : TablesOf). EndsSearch p tables.among word budget stops floor ended) c.shared.invariant.0 ends)))) c.search.ensures.ended

@@ -32,9 +32,10 @@ returns-clause-ended g c =
     let root = c.args.piece.now.word in
     let one = c.in-Some.field-0 in
     let budget = c.args.budget in
+    let may_stop = g.B.Board.may_stop c.search_under.new.board in
     let floor = g.B.Board.floor c.search_under.new.board in
     let at : one.partial ≡ record { problem = p; word = root } = subst (λ (o : Option Root). IfSome o (λ one. one.partial ≡ record { problem = p; word = root })) c.in-Some.is c.in_ok-partial.ensures.at in
     let is_low : IsLow p among root (Some one.low) = subst (λ (o : Option Root). IfSome o (λ one. IsLow p among root (Some one.low))) c.in-Some.is c.in_ok-partial.ensures.low in
-    IfOk-weaker c.search_under.result (EndsUnder one.partial.problem one.partial.word one.low budget floor) (EndsSearch p among root budget floor)
-    (λ ended ends. subst (λ (v : PartialPlan). (among : List ℕ) → IsLow v.problem among v.word (Some one.low) → EndsSearch v.problem among v.word budget floor ended) at ends among is_low)
+    IfOk-weaker c.search_under.result (EndsUnder one.partial.problem one.partial.word one.low budget may_stop floor) (EndsSearch p among root budget may_stop floor)
+    (λ ended ends. subst (λ (v : PartialPlan). (among : List ℕ) → IsLow v.problem among v.word (Some one.low) → EndsSearch v.problem among v.word budget may_stop floor ended) at ends among is_low)
     c.search_under.ensures.ended

@@ -1,4 +1,4 @@
-use Rattle.std.proofs.Common.{◌≡◌, ◌≢◌, ◌∙◌, ℕ, ◌+◌, ◌≤◌, ◌<◌, List, [], ◌∷◌, ◌++◌, length, length-append, refl, sym, subst, ap, arith}
+use Rattle.std.proofs.Common.{◌≡◌, ◌≢◌, ◌⊎◌, IsTrue, ◌∙◌, ℕ, ◌+◌, ◌≤◌, ◌<◌, List, [], ◌∷◌, ◌++◌, length, length-append, refl, sym, subst, ap, arith}
 use Rattle.vrp_model.specs.Problem.{Problem}
 use Rattle.vrp_model.specs.declared.limits.TheConstants.{NO_COST}
 use Rattle.vrp_model.specs.Word.{BeginsWith, TreeHasAtLeast, word_cost}
@@ -11,195 +11,208 @@ use Rattle.vrp_search.proofs.SearchProgress.{Progress, descended, ends_at_last, 
 use Rattle.vrp_search.proofs.WordOrder.{without_last}
 use Rattle.vrp_search.proofs.depth_first.search_under.Goals as goal
 
-pub loop-found-init : goal.loop-found-init
-loop-found-init g c =
+pub loop-spending-init : goal.loop-spending-init
+loop-spending-init g c =
     let p = c.args.partial.problem in
     let root = c.args.partial.word in
     let floor = g.B.Board.floor c.offer_complete.new.board in
     let kept = subst (λ f. IsLastOffer p root floor f c.offer_complete.new.self.plan) c.nothing-found.ensures c.in_ok-offer_complete.ensures.kept in
+    let progress = opened p root floor c.offer_complete.new.self.plan c.depth-root.ensures.front
+    (λ w lawful.
+    let plan = c.words_are_plans.ensures p w lawful in
+    omega (arith, c.plans_cost_less.ensures p plan.0 c.depth-root.ensures.problem plan.2, plan.5)) kept in
     record {
       problem = refl;
       step = c.requires.step;
-      progress = opened p root floor c.offer_complete.new.self.plan c.depth-root.ensures.front
-          (λ w lawful.
-          let plan = c.words_are_plans.ensures p w lawful in
-          omega (arith, c.plans_cost_less.ensures p plan.0 c.depth-root.ensures.problem plan.2, plan.5)) kept;
+      progress = subst (λ n. Progress p root root 0 n floor c.offer_complete.new.self.plan) (sym c.first-spending.ensures.spent) progress;
       serves = c.offer_complete.ensures.serves;
       keeps = c.offer_complete.ensures.keeps;
       falls = c.offer_complete.ensures.falls;
-      some = omega arith;
-      within = c.requires.budget;
+      some = omega (arith, c.first-spending.ensures.spent);
+      budget = c.first-spending.ensures.budget;
+      within = omega (arith, c.first-spending.ensures.spent, c.requires.budget);
     }
 
 pub returns-in-Some-clause-ended : goal.returns-in-Some-clause-ended
 returns-in-Some-clause-ended g c = λ among is_low.
     let p = c.args.partial.problem in
     let root = c.args.partial.word in
-    let child = subst (λ (q : Problem). IsNextChild q c.loop-found.partial.word c.loop-found.next c.in-Some.field-0) c.loop-found.invariant.problem c.in-Some.ensures.next in
-    let tree = unfinished p root c.loop-found.partial.word c.loop-found.next c.in-Some.field-0 c.loop-found.spent (g.B.Board.floor c.loop-found.board) c.loop-found.found.plan c.loop-found.invariant.progress child in
+    let child = subst (λ (q : Problem). IsNextChild q c.loop-spending.partial.word c.loop-spending.next c.in-Some.field-0) c.loop-spending.invariant.problem c.in-Some.ensures.next in
+    let tree = unfinished p root c.loop-spending.partial.word c.loop-spending.next c.in-Some.field-0 c.loop-spending.spending.spent (g.B.Board.floor c.loop-spending.board) c.loop-spending.found.plan c.loop-spending.invariant.progress child in
     record {
-      all_spent = c.if-spent-budget.true;
-      tree = subst (λ n. TreeHasAtLeast p root (n + 1)) c.if-spent-budget.true tree;
+      within = omega (arith, c.is_over.ensures.spent, c.loop-spending.invariant.within);
+      all_spent = subst (λ n. (c.is_over.new.self.spent ≡ n) ⊎ IsTrue (g.B.Board.may_stop c.loop-spending.board)) (c.is_over.ensures.budget ∙ c.loop-spending.invariant.budget) (c.is_over.ensures.over c.if-is_over.true);
+      tree = subst (λ n. TreeHasAtLeast p root (n + 1)) (sym c.is_over.ensures.spent) tree;
       is_low = is_low;
       none_cheaper = c.requires.low;
     }
 
 pub promising-requires-clause-step : goal.promising-requires-clause-step
-promising-requires-clause-step g c = (c.args.partial.word, c.loop-found.invariant.step)
+promising-requires-clause-step g c = (c.args.partial.word, c.loop-spending.invariant.step)
 
 pub prunes-requires : goal.prunes-requires
 prunes-requires g c =
     let root = c.args.partial.word in
     record {
-      step = (root, c.push.ensures.step root c.loop-found.invariant.step);
+      step = (root, c.push.ensures.step root c.loop-spending.invariant.step);
     }
 
 pub pop-next-requires-clause-step : goal.pop-next-requires-clause-step
 pop-next-requires-clause-step g c =
     let root = c.args.partial.word in
-    (root, c.prunes.ensures.step root (c.push.ensures.step root c.loop-found.invariant.step))
+    (root, c.prunes.ensures.step root (c.push.ensures.step root c.loop-spending.invariant.step))
 
-pub loop-found-preserved-then-prunes : goal.loop-found-preserved-then-prunes
-loop-found-preserved-then-prunes g c =
+pub loop-spending-preserved-then-prunes : goal.loop-spending-preserved-then-prunes
+loop-spending-preserved-then-prunes g c =
     let p = c.args.partial.problem in
     let root = c.args.partial.word in
-    let word = c.loop-found.partial.word in
+    let word = c.loop-spending.partial.word in
     let k = c.in-Some.field-0 in
-    let old = g.B.Board.floor c.loop-found.board in
+    let old = g.B.Board.floor c.loop-spending.board in
     let floor = g.B.Board.floor c.least-least.new.self in
-    let first = c.loop-found.found.plan in
-    let child = subst (λ (q : Problem). IsNextChild q word c.loop-found.next k) c.loop-found.invariant.problem c.in-Some.ensures.next in
-    let problem : c.push.new.partial.problem ≡ p = ap (λ (v : PartialPlan). v.problem) c.push.ensures.partial ∙ c.loop-found.invariant.problem in
+    let first = c.loop-spending.found.plan in
+    let child = subst (λ (q : Problem). IsNextChild q word c.loop-spending.next k) c.loop-spending.invariant.problem c.in-Some.ensures.next in
+    let problem : c.push.new.partial.problem ≡ p = ap (λ (v : PartialPlan). v.problem) c.push.ensures.partial ∙ c.loop-spending.invariant.problem in
     let longer : c.push.new.partial.word ≡ word ++ k ∷ [] = ap (λ (v : PartialPlan). v.word) c.push.ensures.partial in
     let none = subst (λ (w : List ℕ). NoneOfUse p w c.least-least.result c.cost-in-Some-promising.result) longer
     (subst (λ (q : Problem). NoneOfUse q c.push.new.partial.word c.least-least.result c.cost-in-Some-promising.result) problem (c.prunes.ensures.none c.if-prunes.true)) in
     let parts = without_last c.pop-next.new.partial.word word c.pop-next.result k (sym c.pop-next.ensures.word ∙ longer) in
-    let under = subst (λ (w : List ℕ). BeginsWith w root) (sym parts.0) c.loop-found.invariant.progress.under in
-    let progress = pruned p root word c.loop-found.next k c.loop-found.spent old floor first c.loop-found.invariant.progress child c.least-least.ensures.falls
+    let under = subst (λ (w : List ℕ). BeginsWith w root) (sym parts.0) c.loop-spending.invariant.progress.under in
+    let progress = pruned p root word c.loop-spending.next k c.loop-spending.spending.spent old floor first c.loop-spending.invariant.progress child c.least-least.ensures.falls
     (λ w lawful from begins.
     let plan = c.words_are_plans.ensures p w lawful in
     let small : word_cost p w < NO_COST = omega (arith, c.plans_cost_less.ensures p plan.0 c.depth-root.ensures.problem plan.2, plan.5) in
-    no_use p (word ++ c.loop-found.next ∷ []) floor c.least-least.result c.cost-in-Some-promising.result first w c.least-least.ensures.answered c.cost-in-Some-promising.ensures small c.loop-found.invariant.progress.behind from (none w lawful begins)) in
+    no_use p (word ++ c.loop-spending.next ∷ []) floor c.least-least.result c.cost-in-Some-promising.result first w c.least-least.ensures.answered c.cost-in-Some-promising.ensures small c.loop-spending.invariant.progress.behind from (none w lawful begins)) in
+    let spent = c.look.ensures.spent ∙ ap (λ n. n + 1) c.is_over.ensures.spent in
     record {
       problem = c.pop-next.ensures.problem ∙ problem;
-      step = c.pop-next.ensures.step root (c.prunes.ensures.step root (c.push.ensures.step root c.loop-found.invariant.step)) under;
-      progress = subst (λ (w : List ℕ). Progress p root w (c.pop-next.result + 1) (c.loop-found.spent + 1) floor first) (sym parts.0)
-          (subst (λ n. Progress p root word (n + 1) (c.loop-found.spent + 1) floor first) (sym parts.1) progress);
-      serves = c.least-least.ensures.serves p c.loop-found.invariant.serves;
-      keeps = λ earlier kept. c.least-least.ensures.keeps earlier (c.loop-found.invariant.keeps earlier kept);
-      falls = omega (arith, c.least-least.ensures.falls, c.loop-found.invariant.falls);
-      some = omega arith;
-      within = omega (arith, c.if-spent-budget.false, c.loop-found.invariant.within);
+      step = c.pop-next.ensures.step root (c.prunes.ensures.step root (c.push.ensures.step root c.loop-spending.invariant.step)) under;
+      progress = subst (λ (w : List ℕ). Progress p root w (c.pop-next.result + 1) c.look.new.self.spent floor first) (sym parts.0)
+          (subst (λ n. Progress p root word (n + 1) c.look.new.self.spent floor first) (sym parts.1)
+          (subst (λ n. Progress p root word (k + 1) n floor first) (sym spent) progress));
+      serves = c.least-least.ensures.serves p c.loop-spending.invariant.serves;
+      keeps = λ earlier kept. c.least-least.ensures.keeps earlier (c.loop-spending.invariant.keeps earlier kept);
+      falls = omega (arith, c.least-least.ensures.falls, c.loop-spending.invariant.falls);
+      some = omega (arith, spent);
+      budget = c.look.ensures.budget ∙ c.is_over.ensures.budget ∙ c.loop-spending.invariant.budget;
+      within = omega (arith, spent, c.is_over.ensures.more c.if-is_over.false, c.is_over.ensures.spent, c.is_over.new.self.until, c.is_over.new.self.within, c.is_over.ensures.budget, c.loop-spending.invariant.budget);
     }
 
 pub offer_complete-requires-else-prunes : goal.offer_complete-requires-else-prunes
 offer_complete-requires-else-prunes g c =
-    let problem : c.push.new.partial.problem ≡ c.args.partial.problem = ap (λ (v : PartialPlan). v.problem) c.push.ensures.partial ∙ c.loop-found.invariant.problem in
-    subst (λ (q : Problem). g.B.Board.serves c.least-least.new.self q) (sym problem) (c.least-least.ensures.serves c.args.partial.problem c.loop-found.invariant.serves)
+    let problem : c.push.new.partial.problem ≡ c.args.partial.problem = ap (λ (v : PartialPlan). v.problem) c.push.ensures.partial ∙ c.loop-spending.invariant.problem in
+    subst (λ (q : Problem). g.B.Board.serves c.least-least.new.self q) (sym problem) (c.least-least.ensures.serves c.args.partial.problem c.loop-spending.invariant.serves)
 
 pub returns-in_err-offer_complete-in-Some-2-clause-keeps : goal.returns-in_err-offer_complete-in-Some-2-clause-keeps
-returns-in_err-offer_complete-in-Some-2-clause-keeps g c = λ earlier kept. c.offer_complete-else-prunes.ensures.keeps earlier (c.least-least.ensures.keeps earlier (c.loop-found.invariant.keeps earlier kept))
+returns-in_err-offer_complete-in-Some-2-clause-keeps g c = λ earlier kept. c.offer_complete-else-prunes.ensures.keeps earlier (c.least-least.ensures.keeps earlier (c.loop-spending.invariant.keeps earlier kept))
 
-pub loop-found-preserved-else-prunes : goal.loop-found-preserved-else-prunes
-loop-found-preserved-else-prunes g c =
+pub loop-spending-preserved-else-prunes : goal.loop-spending-preserved-else-prunes
+loop-spending-preserved-else-prunes g c =
     let p = c.args.partial.problem in
     let root = c.args.partial.word in
-    let word = c.loop-found.partial.word in
+    let word = c.loop-spending.partial.word in
     let k = c.in-Some.field-0 in
-    let old = g.B.Board.floor c.loop-found.board in
+    let old = g.B.Board.floor c.loop-spending.board in
     let floor = g.B.Board.floor c.offer_complete-else-prunes.new.board in
-    let first = c.loop-found.found.plan in
+    let first = c.loop-spending.found.plan in
     let new = c.offer_complete-else-prunes.new.self.plan in
-    let child = subst (λ (q : Problem). IsNextChild q word c.loop-found.next k) c.loop-found.invariant.problem c.in-Some.ensures.next in
-    let problem : c.push.new.partial.problem ≡ p = ap (λ (v : PartialPlan). v.problem) c.push.ensures.partial ∙ c.loop-found.invariant.problem in
+    let child = subst (λ (q : Problem). IsNextChild q word c.loop-spending.next k) c.loop-spending.invariant.problem c.in-Some.ensures.next in
+    let problem : c.push.new.partial.problem ≡ p = ap (λ (v : PartialPlan). v.problem) c.push.ensures.partial ∙ c.loop-spending.invariant.problem in
     let longer : c.push.new.partial.word ≡ word ++ k ∷ [] = ap (λ (v : PartialPlan). v.word) c.push.ensures.partial in
     let falls : floor ≤ old = omega (arith, c.offer_complete-else-prunes.ensures.falls, c.least-least.ensures.falls) in
     let kept = subst (λ (w : List ℕ). IsLastOffer p w floor first new) longer (subst (λ (q : Problem). IsLastOffer q c.push.new.partial.word floor first new) problem c.in_ok-offer_complete-in-Some-2.ensures.kept) in
+    let spent = c.look.ensures.spent ∙ ap (λ n. n + 1) c.is_over.ensures.spent in
+    let progress = descended p root word c.loop-spending.next k c.loop-spending.spending.spent old floor first new c.loop-spending.invariant.progress child falls
+    (λ w lawful.
+    let plan = c.words_are_plans.ensures p w lawful in
+    omega (arith, c.plans_cost_less.ensures p plan.0 c.depth-root.ensures.problem plan.2, plan.5)) kept in
     record {
       problem = problem;
-      step = c.prunes.ensures.step root (c.push.ensures.step root c.loop-found.invariant.step);
-      progress = subst (λ (w : List ℕ). Progress p root w 0 (c.loop-found.spent + 1) floor new) (sym longer)
-          (descended p root word c.loop-found.next k c.loop-found.spent old floor first new c.loop-found.invariant.progress child falls
-          (λ w lawful.
-          let plan = c.words_are_plans.ensures p w lawful in
-          omega (arith, c.plans_cost_less.ensures p plan.0 c.depth-root.ensures.problem plan.2, plan.5)) kept);
+      step = c.prunes.ensures.step root (c.push.ensures.step root c.loop-spending.invariant.step);
+      progress = subst (λ (w : List ℕ). Progress p root w 0 c.look.new.self.spent floor new) (sym longer)
+          (subst (λ n. Progress p root (word ++ k ∷ []) 0 n floor new) (sym spent) progress);
       serves = subst (λ (q : Problem). g.B.Board.serves c.offer_complete-else-prunes.new.board q) problem c.offer_complete-else-prunes.ensures.serves;
-      keeps = λ earlier kept. c.offer_complete-else-prunes.ensures.keeps earlier (c.least-least.ensures.keeps earlier (c.loop-found.invariant.keeps earlier kept));
-      falls = omega (arith, falls, c.loop-found.invariant.falls);
-      some = omega arith;
-      within = omega (arith, c.if-spent-budget.false, c.loop-found.invariant.within);
+      keeps = λ earlier kept. c.offer_complete-else-prunes.ensures.keeps earlier (c.least-least.ensures.keeps earlier (c.loop-spending.invariant.keeps earlier kept));
+      falls = omega (arith, falls, c.loop-spending.invariant.falls);
+      some = omega (arith, spent);
+      budget = c.look.ensures.budget ∙ c.is_over.ensures.budget ∙ c.loop-spending.invariant.budget;
+      within = omega (arith, spent, c.is_over.ensures.more c.if-is_over.false, c.is_over.ensures.spent, c.is_over.new.self.until, c.is_over.new.self.within, c.is_over.ensures.budget, c.loop-spending.invariant.budget);
     }
 
-pub loop-found-preserved-in_default : goal.loop-found-preserved-in_default
-loop-found-preserved-in_default g c =
+pub loop-spending-preserved-in_default : goal.loop-spending-preserved-in_default
+loop-spending-preserved-in_default g c =
     let p = c.args.partial.problem in
     let root = c.args.partial.word in
-    let word = c.loop-found.partial.word in
+    let word = c.loop-spending.partial.word in
     let k = c.in-Some.field-0 in
-    let old = g.B.Board.floor c.loop-found.board in
+    let old = g.B.Board.floor c.loop-spending.board in
     let floor = g.B.Board.floor c.least-least.new.self in
-    let first = c.loop-found.found.plan in
-    let child = subst (λ (q : Problem). IsNextChild q word c.loop-found.next k) c.loop-found.invariant.problem c.in-Some.ensures.next in
-    let none : NoneOfUse p (word ++ k ∷ []) c.least-least.result c.cost.result = subst (λ (q : Problem). NoneOfUse q (word ++ k ∷ []) c.least-least.result c.cost.result) c.loop-found.invariant.problem c.in_default.ensures.of_use in
+    let first = c.loop-spending.found.plan in
+    let child = subst (λ (q : Problem). IsNextChild q word c.loop-spending.next k) c.loop-spending.invariant.problem c.in-Some.ensures.next in
+    let none : NoneOfUse p (word ++ k ∷ []) c.least-least.result c.cost.result = subst (λ (q : Problem). NoneOfUse q (word ++ k ∷ []) c.least-least.result c.cost.result) c.loop-spending.invariant.problem c.in_default.ensures.of_use in
+    let spent = c.look.ensures.spent ∙ ap (λ n. n + 1) c.is_over.ensures.spent in
+    let progress = pruned p root word c.loop-spending.next k c.loop-spending.spending.spent old floor first c.loop-spending.invariant.progress child c.least-least.ensures.falls
+    (λ w lawful from begins.
+    let plan = c.words_are_plans.ensures p w lawful in
+    let small : word_cost p w < NO_COST = omega (arith, c.plans_cost_less.ensures p plan.0 c.depth-root.ensures.problem plan.2, plan.5) in
+    no_use p (word ++ c.loop-spending.next ∷ []) floor c.least-least.result c.cost.result first w c.least-least.ensures.answered c.cost.ensures small c.loop-spending.invariant.progress.behind from (none w lawful begins)) in
     record {
-      problem = c.loop-found.invariant.problem;
-      step = c.loop-found.invariant.step;
-      progress = pruned p root word c.loop-found.next k c.loop-found.spent old floor first c.loop-found.invariant.progress child c.least-least.ensures.falls
-          (λ w lawful from begins.
-          let plan = c.words_are_plans.ensures p w lawful in
-          let small : word_cost p w < NO_COST = omega (arith, c.plans_cost_less.ensures p plan.0 c.depth-root.ensures.problem plan.2, plan.5) in
-          no_use p (word ++ c.loop-found.next ∷ []) floor c.least-least.result c.cost.result first w c.least-least.ensures.answered c.cost.ensures small c.loop-found.invariant.progress.behind from (none w lawful begins));
-      serves = c.least-least.ensures.serves p c.loop-found.invariant.serves;
-      keeps = λ earlier kept. c.least-least.ensures.keeps earlier (c.loop-found.invariant.keeps earlier kept);
-      falls = omega (arith, c.least-least.ensures.falls, c.loop-found.invariant.falls);
-      some = omega arith;
-      within = omega (arith, c.if-spent-budget.false, c.loop-found.invariant.within);
+      problem = c.loop-spending.invariant.problem;
+      step = c.loop-spending.invariant.step;
+      progress = subst (λ n. Progress p root word (k + 1) n floor first) (sym spent) progress;
+      serves = c.least-least.ensures.serves p c.loop-spending.invariant.serves;
+      keeps = λ earlier kept. c.least-least.ensures.keeps earlier (c.loop-spending.invariant.keeps earlier kept);
+      falls = omega (arith, c.least-least.ensures.falls, c.loop-spending.invariant.falls);
+      some = omega (arith, spent);
+      budget = c.look.ensures.budget ∙ c.is_over.ensures.budget ∙ c.loop-spending.invariant.budget;
+      within = omega (arith, spent, c.is_over.ensures.more c.if-is_over.false, c.is_over.ensures.spent, c.is_over.new.self.until, c.is_over.new.self.within, c.is_over.ensures.budget, c.loop-spending.invariant.budget);
     }
 
 pub returns-in-None-clause-ended : goal.returns-in-None-clause-ended
 returns-in-None-clause-ended g c = λ among is_low.
     let p = c.args.partial.problem in
     let root = c.args.partial.word in
-    let word = c.loop-found.partial.word in
-    let none = subst (λ (q : Problem). NoChildFrom q word c.loop-found.next) c.loop-found.invariant.problem c.in-None.ensures.next in
+    let word = c.loop-spending.partial.word in
+    let none = subst (λ (q : Problem). NoChildFrom q word c.loop-spending.next) c.loop-spending.invariant.problem c.in-None.ensures.next in
     let as_long : length word ≡ length root = sym c.depth.ensures.value ∙ c.if-depth-root.true ∙ c.depth-root.ensures.value in
-    subst (IsFinished p root c.args.budget (g.B.Board.floor c.loop-found.board) c.loop-found.spent) (sym c.into_plan-first.ensures)
-    (ends_at_last p root word c.loop-found.next c.loop-found.spent (g.B.Board.floor c.loop-found.board) c.args.budget c.loop-found.found.plan c.loop-found.invariant.progress none as_long c.loop-found.invariant.some c.loop-found.invariant.within)
+    subst (IsFinished p root c.args.budget (g.B.Board.floor c.loop-spending.board) c.loop-spending.spending.spent) (sym c.into_plan-first.ensures)
+    (ends_at_last p root word c.loop-spending.next c.loop-spending.spending.spent (g.B.Board.floor c.loop-spending.board) c.args.budget c.loop-spending.found.plan c.loop-spending.invariant.progress none as_long c.loop-spending.invariant.some c.loop-spending.invariant.within)
 
 pub pop-next-requires-in-None-2-clause-some : goal.pop-next-requires-in-None-2-clause-some
 pop-next-requires-in-None-2-clause-some g c =
-    let word = c.loop-found.partial.word in
+    let word = c.loop-spending.partial.word in
     let root = c.args.partial.word in
-    let under = c.loop-found.invariant.progress.under in
+    let under = c.loop-spending.invariant.progress.under in
     let differs : length word ≢ length root = λ same. c.if-depth-root.false (c.depth.ensures.value ∙ same ∙ sym c.depth-root.ensures.value) in
     omega (arith, differs, ap length under.1, length-append root under.0)
 
 pub pop-next-requires-in-None-2-clause-step : goal.pop-next-requires-in-None-2-clause-step
-pop-next-requires-in-None-2-clause-step g c = (c.args.partial.word, c.loop-found.invariant.step)
+pop-next-requires-in-None-2-clause-step g c = (c.args.partial.word, c.loop-spending.invariant.step)
 
-pub loop-found-preserved : goal.loop-found-preserved
-loop-found-preserved g c =
+pub loop-spending-preserved : goal.loop-spending-preserved
+loop-spending-preserved g c =
     let p = c.args.partial.problem in
     let root = c.args.partial.word in
-    let floor = g.B.Board.floor c.loop-found.board in
-    let first = c.loop-found.found.plan in
-    let none = subst (λ (q : Problem). NoChildFrom q c.loop-found.partial.word c.loop-found.next) c.loop-found.invariant.problem c.in-None.ensures.next in
+    let floor = g.B.Board.floor c.loop-spending.board in
+    let first = c.loop-spending.found.plan in
+    let none = subst (λ (q : Problem). NoChildFrom q c.loop-spending.partial.word c.loop-spending.next) c.loop-spending.invariant.problem c.in-None.ensures.next in
     let popped = c.pop-next-in-None-2.new.partial.word in
     let last = c.pop-next-in-None-2.result in
     let word = c.pop-next-in-None-2.ensures.word in
-    let differs : length c.loop-found.partial.word ≢ length root = λ same. c.if-depth-root.false (c.depth.ensures.value ∙ same ∙ sym c.depth-root.ensures.value) in
-    let under = c.loop-found.invariant.progress.under in
+    let differs : length c.loop-spending.partial.word ≢ length root = λ same. c.if-depth-root.false (c.depth.ensures.value ∙ same ∙ sym c.depth-root.ensures.value) in
+    let under = c.loop-spending.invariant.progress.under in
     let longer : length root ≤ length popped = omega (arith, differs, ap length under.1, length-append root under.0, ap length word, length-append popped (last ∷ [])) in
-    let progress = returned p root popped last c.loop-found.next c.loop-found.spent floor first
-    (subst (λ (w : List ℕ). Progress p root w c.loop-found.next c.loop-found.spent floor first) word c.loop-found.invariant.progress)
-    (subst (λ (w : List ℕ). NoChildFrom p w c.loop-found.next) word none) longer in
+    let progress = returned p root popped last c.loop-spending.next c.loop-spending.spending.spent floor first
+    (subst (λ (w : List ℕ). Progress p root w c.loop-spending.next c.loop-spending.spending.spent floor first) word c.loop-spending.invariant.progress)
+    (subst (λ (w : List ℕ). NoChildFrom p w c.loop-spending.next) word none) longer in
     record {
-      problem = c.pop-next-in-None-2.ensures.problem ∙ c.loop-found.invariant.problem;
-      step = c.pop-next-in-None-2.ensures.step root c.loop-found.invariant.step progress.under;
+      problem = c.pop-next-in-None-2.ensures.problem ∙ c.loop-spending.invariant.problem;
+      step = c.pop-next-in-None-2.ensures.step root c.loop-spending.invariant.step progress.under;
       progress = progress;
-      serves = c.loop-found.invariant.serves;
-      keeps = c.loop-found.invariant.keeps;
-      falls = c.loop-found.invariant.falls;
-      some = c.loop-found.invariant.some;
-      within = c.loop-found.invariant.within;
+      serves = c.loop-spending.invariant.serves;
+      keeps = c.loop-spending.invariant.keeps;
+      falls = c.loop-spending.invariant.falls;
+      some = c.loop-spending.invariant.some;
+      budget = c.loop-spending.invariant.budget;
+      within = c.loop-spending.invariant.within;
     }

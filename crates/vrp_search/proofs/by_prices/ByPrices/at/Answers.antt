@@ -19,7 +19,7 @@ loop-symbol-init c =
           problem = problem;
           is_front = fronts_before p [] c.args.partial.now.word (c.relaxed-relaxed.ensures.bounds.fronts c.args.partial.now.word (subst (λ (q : Problem). IsFront q c.args.partial.now.word) (sym c.requires.problem) c.word-symbol-items.ensures.front));
           ends = refl;
-          counted = rw (sym c.relaxed-relaxed.ensures.value) c.root-paid.ensures;
+          counted = rw (sym c.relaxed-relaxed.ensures.value) c.root-paid.ensures.counted;
         };
         many = omega (arith, c.in_ok-before.ensures.len);
         kept = λ k other lt. absurd (omega (arith, lt));

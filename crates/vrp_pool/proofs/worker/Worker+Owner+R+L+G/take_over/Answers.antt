@@ -5,8 +5,8 @@ use Rattle.vrp_model.specs.Problem.{IsProblem}
 use Rattle.vrp_pool.specs.Inner.Workers.{CanWork, IsTakenOver, Search, WorkerState}
 use Rattle.vrp_pool.proofs.BestPlan.{at_most_none}
 use Rattle.vrp_pool.proofs.Floors.{later_itself, still_no_less}
-use Rattle.vrp_pool.proofs.worker.Worker+Owner+R+L.take_over.Goals as goal
-use Rattle.vrp_pool.proofs.worker.Worker+Owner+R+L.take_over.Goals.{in-Some-best+in_ok-keep, in_default-best}
+use Rattle.vrp_pool.proofs.worker.Worker+Owner+R+L+G.take_over.Goals as goal
+use Rattle.vrp_pool.proofs.worker.Worker+Owner+R+L+G.take_over.Goals.{in-Some-best+in_ok-keep, in_default-best}
 
 pub keep-requires : goal.keep-requires
 keep-requires g c =

@@ -1,0 +1,109 @@
+//! Searches that their board stops.
+ghost use Rattle.std.specs.Prelude.{true, ⊤};
+
+use crate::board::Board;
+use crate::cutting::Cutting;
+use crate::depth_first::{Ended, search};
+use std::alloc::Global;
+use std::test::Fail;
+use vrp_bound::Tables;
+use vrp_model::{Instance, Metric, NO_COST, NoMemory, Plan, Weights};
+
+// Keeps the least cost alone.
+#[derive(Drop)]
+struct CostBoard {
+    least: u64,
+    goes_on: bool,
+}
+
+impl Board for CostBoard {
+    ghost serves = { λ _ _. ⊤ };
+
+    ghost floor = { λ board. board.least };
+
+    ghost keeps = { λ _ _. ⊤ };
+
+    ghost may_stop = { λ _. true };
+
+    fn least(&mut self) -> u64 {
+        self.least
+    }
+
+    fn offer(&mut self, _alloc: Global, plan: &Plan) -> Result<(), NoMemory> {
+        self.least = self.least.min(plan.cost());
+        Ok(())
+    }
+
+    fn goes_on(&self) -> bool {
+        self.goes_on
+    }
+}
+
+// The board is asked once, after 65,536 partial plans, where the budget allows more.
+#[test]
+fn stops_where_the_board_says_so(rt: HostRuntime) -> Result<(), Fail> {
+    let instance = scattered(rt.alloc())?;
+    let table = [
+        (false, 1, 1),
+        (false, 65_535, 65_535),
+        (false, 65_536, 65_536),
+        (false, 65_537, 65_536),
+        (false, 1_000_000, 65_536),
+        (true, 65_537, 65_537),
+        (true, 200_000, 200_000),
+    ];
+    for (goes_on, budget, looked) in table {
+        let mut board = CostBoard {
+            least: NO_COST,
+            goes_on,
+        };
+        let cutting = Cutting::whole(rt.alloc(), &instance)?;
+        let tables = Tables::over_all(rt.alloc(), &instance)?;
+        assert!(rt; budget >= 1);
+        let ended = search(
+            rt.alloc(),
+            &instance,
+            &tables,
+            &cutting.pieces()[0],
+            budget,
+            &mut board,
+        )?;
+        let Ended::Unfinished { spent, .. } = ended else {
+            panic!(rt; "{ended:?}")
+        };
+        assert_eq!(rt; spent, looked, "{goes_on} {budget}");
+    }
+    Ok(())
+}
+
+// Twenty scattered customers, four to a truck.
+fn scattered(alloc: Global) -> Result<Instance, Fail> {
+    let points = [
+        (50, 50),
+        (17, 72),
+        (97, 8),
+        (32, 15),
+        (63, 97),
+        (57, 60),
+        (83, 48),
+        (26, 12),
+        (62, 3),
+        (49, 55),
+        (77, 97),
+        (12, 34),
+        (88, 71),
+        (5, 90),
+        (41, 81),
+        (93, 29),
+        (70, 22),
+        (36, 39),
+        (2, 5),
+        (60, 35),
+        (80, 85),
+    ];
+    let demands = [
+        0, 1, 1, 1, 1, 1, 1, 1, 1, 1, 1, 1, 1, 1, 1, 1, 1, 1, 1, 1, 1,
+    ];
+    let weights = Weights::points(alloc, Metric::Euc2d, &points)?;
+    Ok(Instance::new(alloc, weights, &demands, 4, &[1], None)?)
+}
