@@ -1,5 +1,5 @@
 //! The command line's options, their ranges and their help, as `clap` is told them.
-use crate::options::MAX_BUDGET;
+use crate::options::{MAX_BUDGET, MAX_SECONDS};
 use clap::{Arg, Command, Error, value_parser};
 use std::alloc::Global;
 use vrp_model::MAX_NODES;
@@ -22,14 +22,17 @@ const PIECES: &str =
 const BUDGET: &str =
     "How many partial plans are looked at under each piece before it\nis left open. More of them prove more, and take longer.\nFrom 1 to 1000000000000; default 10000000.";
 
+const SECONDS: &str =
+    "After how many seconds the search ends and prints what it has.\nWithout --budget that is its only limit.\nFrom 1 to 1000000; default is none.";
+
 const DEPOT: &str =
     "The node that the trucks start from: one of the depots that the\nfile lists.\nFrom 1 to 1200; default is the first one listed.";
 
 const TRUCKS: &str =
-    "How many trucks there are: a plan has at most so many routes.\nFrom 1 to 1200; default is as many as are wanted.";
+    "How many trucks there are: a plan has no more routes.\nFrom 1 to 1200; default is as many as are wanted.";
 
 const VERDICTS_AND_STATUSES: &str =
-    "The last line of the report is the verdict:\n  Proven  no plan costs less than the printed one\n  Open L  a piece was left open: no plan costs less than L, but one may\n          cost less than the printed one\n  NoPlan  so few trucks can't serve all customers\n\nExit statuses:\n  0  Proven, NoPlan, or this help\n  1  Open\n  2  the command line is refused\n  3  the file is refused\n  4  no memory\n  5  a read or a write failed\n\nExample, with four threads, and as many partial plans as it takes:\n  cvrp --workers 4 --budget 1000000000000 < examples/E-n51-k5.vrp";
+    "The last line of the report is the verdict:\n  Proven  no plan costs less than the printed one\n  Open L  a piece was left open: no plan costs less than L, but one may\n          cost less than the printed one\n  NoPlan  so few trucks can't serve all customers\n\nExit statuses:\n  0  Proven, NoPlan, or this help\n  1  Open\n  2  the command line is refused\n  3  the file is refused\n  4  no memory\n  5  a read or a write failed\n\nExample, with four threads, for ten minutes at most:\n  cvrp --workers 4 --seconds 600 < examples/E-n51-k5.vrp";
 
 /// The command line of the program.
 pub(crate) fn grammar<'a>(alloc: Global) -> Result<Command<'a>, Error> {
@@ -43,6 +46,7 @@ pub(crate) fn grammar<'a>(alloc: Global) -> Result<Command<'a>, Error> {
         .arg(workers(alloc))?
         .arg(pieces(alloc))?
         .arg(budget(alloc))?
+        .arg(seconds(alloc))?
         .arg(node(alloc, "depot").value_name("NODE").help(DEPOT))?
         .arg(node(alloc, "trucks").value_name("TRUCKS").help(TRUCKS))?;
     Ok(command)
@@ -70,6 +74,14 @@ fn budget<'a>(alloc: Global) -> Arg<'a> {
         .value_name("PLANS")
         .help(BUDGET)
         .value_parser(value_parser!(u64).range(1..=MAX_BUDGET as i64))
+}
+
+fn seconds<'a>(alloc: Global) -> Arg<'a> {
+    Arg::new(alloc, "seconds")
+        .long("seconds")
+        .value_name("SECONDS")
+        .help(SECONDS)
+        .value_parser(value_parser!(u32).range(1..=i64::from(MAX_SECONDS)))
 }
 
 // An option whose value is a number of nodes, or one of them.

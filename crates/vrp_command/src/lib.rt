@@ -3,6 +3,7 @@
 
 mod answer;
 mod command;
+mod deadline;
 mod fault;
 mod grammar;
 mod input;
@@ -19,8 +20,8 @@ mod words;
 pub use command::run;
 pub use fault::{RunError, exit_status, fault_line};
 pub use law::one_report;
-pub use options::{MAX_BUDGET, Options, Status};
+pub use options::{MAX_BUDGET, MAX_SECONDS, Options, Request, Status};
 pub use program::{end_without_run, run_words};
-pub use vrp_pool::{Gate, MAX_WORKERS, NoGate};
+pub use vrp_pool::{Gate, MAX_WORKERS, News, NoGate};
 pub use vrp_search::MAX_PIECES;
-pub use words::{LineFault, line_status, parse_words, words_fault};
+pub use words::{LineFault, line_status, parse_request, parse_words, words_fault};

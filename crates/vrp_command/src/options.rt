@@ -4,6 +4,9 @@ ghost use Rattle.vrp_command.specs.Options.{IsDefault};
 /// The most partial plans that may be looked at in each part.
 pub const MAX_BUDGET: u64 = 1_000_000_000_000;
 
+/// The most seconds that a run may be limited to.
+pub const MAX_SECONDS: u32 = 1_000_000;
+
 /// How a run is asked for.
 #[derive(Clone, Copy, Debug, PartialEq, Eq)]
 pub struct Options {
@@ -33,6 +36,15 @@ impl Default for Options {
             trucks: None,
         }
     }
+}
+
+/// What the words of a command line ask for.
+#[derive(Clone, Copy, Debug, PartialEq, Eq)]
+pub struct Request {
+    /// How the run is asked for.
+    pub options: Options,
+    /// After how many seconds the search ends, from 1 to `MAX_SECONDS`, or else no limit.
+    pub seconds: Option<u32>,
 }
 
 /// The verdict on the plan that was printed.

@@ -6,19 +6,21 @@ ghost use Rattle.vrp_command.specs.Options.{line_code};
 ghost use Rattle.vrp_command.specs.Program.{PrintsReport};
 
 use crate::command::run_gated;
+use crate::deadline::Deadline;
 use crate::fault::{RunError, exit_status, fault_line};
 use crate::options::Status;
-use crate::words::{LineFault, line_status, parse_words};
+use crate::words::{LineFault, line_status, parse_request};
 use std::alloc::Global;
 use std::io::{Read, Write};
 use std::sync::Wait;
 use std::thread::Threads;
+use std::time::Clock;
 use vrp_pool::Gate;
 
 /// Does what the words behind the program's name ask for, and answers the exit status. The report goes to `output`, and so do the
 /// help and the version; why there is no report goes to `errors`. A gate is told before each piece is searched, and may stop the
-/// search. What the words ask for no clause says.
-pub fn run_words<T: Threads + Wait + Sync, R: Read, W: Write, E: Write, G: Gate + Sync>(
+/// search, as a limit of seconds does. What the words ask for no clause says.
+pub fn run_words<T: Threads + Wait + Clock + Sync, R: Read, W: Write, E: Write, G: Gate + Sync>(
     rt: &T,
     alloc: Global,
     words: &[&str],
@@ -34,9 +36,10 @@ pub fn run_words<T: Threads + Wait + Sync, R: Read, W: Write, E: Write, G: Gate 
     ensures refused { result ≡ 2 → Keeps (R.remaining input.old) (R.remaining input.new) }
     ensures silent { 2 ≤ result → result ≤ 4 → Keeps (W.contents output.old) (W.contents output.new) }
 {
-    match parse_words(alloc, words) {
-        Ok(options) => {
-            let outcome = run_gated(rt, alloc, options, input, output, gate);
+    match parse_request(alloc, words) {
+        Ok(request) => {
+            let deadline = Deadline::new(rt, request.seconds, gate);
+            let outcome = run_gated(rt, alloc, request.options, input, output, &deadline);
             end(alloc, &outcome, errors)
         }
         Err(fault) => end_without_run(&fault, output, errors),

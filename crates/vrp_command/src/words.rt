@@ -4,9 +4,10 @@ ghost use Rattle.std.specs.Option.{ForSome};
 ghost use Rattle.clap.specs.Words.{kind_of};
 ghost use Rattle.vrp_model.specs.declared.limits.TheConstants.{MAX_NODES};
 ghost use Rattle.vrp_command.specs.Options.{AreInRange, line_code};
+ghost use Rattle.vrp_command.specs.declared.options.TheConstants.{MAX_SECONDS};
 
 use crate::grammar::grammar;
-use crate::options::{MAX_BUDGET, Options};
+use crate::options::{MAX_BUDGET, MAX_SECONDS, Options, Request};
 use clap::error::ErrorKind;
 use clap::{ArgMatches, Error};
 use std::alloc::{AllocError, Global};
@@ -36,17 +37,26 @@ impl From<AllocError> for LineFault {
     }
 }
 
-/// Reads the words behind the program's name. An option that they leave out has its default. Which words give which options, and
-/// which are refused, no clause says.
+/// Reads the words behind the program's name. An option that they leave out has its default, and with a limit of seconds the default
+/// of the budget is the largest. Which words give which options, and which are refused, no clause says.
+pub fn parse_request(alloc: Global, words: &[&str]) -> Result<Request, LineFault>
+    ensures in_range { IfOk result (λ request. AreInRange request.options) }
+    ensures some_depot { IfOk result (λ request. ForSome request.options.depot (λ node. 1 ≤ node)) }
+    ensures few_depot { IfOk result (λ request. ForSome request.options.depot (λ node. node ≤ MAX_NODES)) }
+{
+    match asked_for(alloc, words) {
+        Ok(request) => Ok(request),
+        Err(error) => Err(line_fault(alloc, &error)),
+    }
+}
+
+/// The same, of the options of a run alone.
 pub fn parse_words(alloc: Global, words: &[&str]) -> Result<Options, LineFault>
     ensures in_range { IfOk result AreInRange }
     ensures some_depot { IfOk result (λ options. ForSome options.depot (λ node. 1 ≤ node)) }
     ensures few_depot { IfOk result (λ options. ForSome options.depot (λ node. node ≤ MAX_NODES)) }
 {
-    match asked_for(alloc, words) {
-        Ok(options) => Ok(options),
-        Err(error) => Err(line_fault(alloc, &error)),
-    }
+    Ok(parse_request(alloc, words)?.options)
 }
 
 /// The fault of a command line whose words can't be had: for want of memory, or since one of them is not UTF-8 and so no text to be
@@ -82,10 +92,10 @@ pub fn line_status(fault: &LineFault) -> u8
 }
 
 // The options, as `clap` reads the words.
-fn asked_for(alloc: Global, words: &[&str]) -> Result<Options, Error>
-    ensures in_range { IfOk result AreInRange }
-    ensures some_depot { IfOk result (λ options. ForSome options.depot (λ node. 1 ≤ node)) }
-    ensures few_depot { IfOk result (λ options. ForSome options.depot (λ node. node ≤ MAX_NODES)) }
+fn asked_for(alloc: Global, words: &[&str]) -> Result<Request, Error>
+    ensures in_range { IfOk result (λ request. AreInRange request.options) }
+    ensures some_depot { IfOk result (λ request. ForSome request.options.depot (λ node. 1 ≤ node)) }
+    ensures few_depot { IfOk result (λ request. ForSome request.options.depot (λ node. node ≤ MAX_NODES)) }
 {
     let matches = grammar(alloc)?.try_get_matches_from(words)?;
     Ok(chosen(&matches))
@@ -106,19 +116,26 @@ pub(crate) fn line_fault(alloc: Global, error: &Error) -> LineFault
 }
 
 // The values that stand in the words, and else the defaults.
-fn chosen(matches: &ArgMatches<'_>) -> Options
-    ensures in_range { AreInRange result }
-    ensures some_depot { ForSome result.depot (λ node. 1 ≤ node) }
-    ensures few_depot { ForSome result.depot (λ node. node ≤ MAX_NODES) }
+fn chosen(matches: &ArgMatches<'_>) -> Request
+    ensures in_range { AreInRange result.options }
+    ensures some_depot { ForSome result.options.depot (λ node. 1 ≤ node) }
+    ensures few_depot { ForSome result.options.depot (λ node. node ≤ MAX_NODES) }
 {
     let default = Options::default();
-    Options {
+    let seconds = seconds(matches);
+    let most = if seconds.is_some() {
+        MAX_BUDGET
+    } else {
+        default.budget
+    };
+    let options = Options {
         workers: number(matches, "workers", MAX_WORKERS, default.workers),
         pieces: number(matches, "pieces", MAX_PIECES, default.pieces),
-        budget: budget(matches, default.budget),
+        budget: budget(matches, most),
         depot: node(matches, "depot"),
         trucks: node(matches, "trucks"),
-    }
+    };
+    Request { options, seconds }
 }
 
 // The number behind an option, and else the default. `clap` lets through only numbers of the range.
@@ -144,6 +161,17 @@ fn budget(matches: &ArgMatches<'_>, default: u64) -> u64
     match matches.get_one::<u64>("budget") {
         Some(number) if 1 <= number && number <= MAX_BUDGET => number,
         _ => default,
+    }
+}
+
+// The same of the seconds, which have no default.
+fn seconds(matches: &ArgMatches<'_>) -> Option<u32>
+    ensures some { ForSome result (λ seconds. 1 ≤ seconds) }
+    ensures few { ForSome result (λ seconds. seconds ≤ MAX_SECONDS) }
+{
+    match matches.get_one::<u32>("seconds") {
+        Some(seconds) if 1 <= seconds && seconds <= MAX_SECONDS => Some(seconds),
+        _ => None,
     }
 }
 

@@ -1,8 +1,8 @@
 //! Command lines: what they ask for, and how they are refused.
 use crate::words::line_fault;
 use crate::{
-    LineFault, MAX_BUDGET, MAX_PIECES, MAX_WORKERS, Options, end_without_run, line_status,
-    parse_words, words_fault,
+    LineFault, MAX_BUDGET, MAX_PIECES, MAX_SECONDS, MAX_WORKERS, Options, Request, end_without_run,
+    line_status, parse_request, parse_words, words_fault,
 };
 use clap::Error;
 use std::alloc::{AllocError, Global};
@@ -96,6 +96,24 @@ fn nodes(rt: HostRuntime) {
     );
 }
 
+// A limit of seconds is the only one, unless a budget is named.
+#[test]
+fn seconds(rt: HostRuntime) {
+    let table: [(&[&str], Option<u32>, u64); 4] = [
+        (&[], None, DEFAULT.budget),
+        (&["--seconds", "1"], Some(1), MAX_BUDGET),
+        (&["--seconds", "1000000"], Some(MAX_SECONDS), MAX_BUDGET),
+        (&["--seconds", "5", "--budget", "3"], Some(5), 3),
+    ];
+    for (words, seconds, budget) in table {
+        let options = Options { budget, ..DEFAULT };
+        match parse_request(rt.alloc(), words) {
+            Ok(request) => assert_eq!(rt; request, Request { options, seconds }, "{words:?}"),
+            Err(_) => assert!(rt; false, "{words:?} is refused"),
+        }
+    }
+}
+
 #[test]
 fn all_options(rt: HostRuntime) {
     let words = [
@@ -158,6 +176,14 @@ fn out_of_range(rt: HostRuntime) {
         &["--budget", "1000000000001"],
         "error: invalid value",
     );
+    for most in ["0", "1000001"] {
+        assert_refused(
+            &rt,
+            rt.alloc(),
+            &["--seconds", most],
+            "error: invalid value",
+        );
+    }
     assert_refused(&rt, rt.alloc(), &["--depot", "0"], "error: invalid value");
     assert_refused(
         &rt,
@@ -274,8 +300,10 @@ fn helps_tell_ranges_and_defaults(rt: HostRuntime) -> Result<(), Fail> {
         let told = format!(in rt.alloc(); "From 1 to {most}; default {default}.\n")?;
         assert!(rt; help.as_str().contains(told.as_str()), "{told}");
     }
-    let nodes = format!(in rt.alloc(); "From 1 to {MAX_NODES}; default is")?;
-    assert!(rt; help.as_str().contains(nodes.as_str()), "{nodes}");
+    for most in [u32::from(MAX_NODES), MAX_SECONDS] {
+        let told = format!(in rt.alloc(); "From 1 to {most}; default is")?;
+        assert!(rt; help.as_str().contains(told.as_str()), "{told}");
+    }
     Ok(())
 }
 

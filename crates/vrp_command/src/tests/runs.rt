@@ -9,6 +9,7 @@ use std::sync::Wait;
 use std::sync::atomic::{AtomicU64, Ordering};
 use std::test::*;
 use std::thread::{Threads, yield_now};
+use std::time::Clock;
 
 // Two depots are listed, a customer's step apart.
 const DEPOTS: &str =
@@ -55,7 +56,7 @@ const SIX: &str =
 type End<'a> = (u8, &'a str, &'a str);
 
 // Asserts how the program ends that is asked for by these words over a text.
-fn assert_run_by<R: Abort + Threads + Wait + Sync>(
+fn assert_run_by<R: Abort + Threads + Wait + Clock + Sync>(
     rt: &R,
     alloc: Global,
     words: &[&str],
@@ -343,4 +344,44 @@ fn by_workers(rt: HostRuntime) {
         assert_eq!(rt; ended, 1, "{workers} workers");
         assert_eq!(rt; gate.let_go.load(Ordering::SeqCst), 0, "{workers} workers");
     }
+}
+
+// Sixty customers on a lattice, and a truck that can serve them all.
+fn lattice(alloc: Global) -> Result<String, Fail> {
+    let mut text = String::from_str(
+        alloc,
+        "TYPE : CVRP\nDIMENSION : 61\nEDGE_WEIGHT_TYPE : EUC_2D\nCAPACITY : 60\nNODE_COORD_SECTION\n1 50 50\n",
+    )?;
+    for node in 2..62u32 {
+        let (x, y) = (node * 37 % 101, node * 59 % 103);
+        write!(text, "{node} {x} {y}\n")?;
+    }
+    text.push_str("DEMAND_SECTION\n1 0\n")?;
+    for node in 2..62u32 {
+        write!(text, "{node} 1\n")?;
+    }
+    text.push_str("DEPOT_SECTION\n1\n-1\nEOF\n")?;
+    Ok(text)
+}
+
+// A search that would take days ends where its time is up, and prints what it has. Without the limit this test wouldn't end.
+#[test]
+fn by_seconds(rt: HostRuntime) -> Result<(), Fail> {
+    let text = lattice(rt.alloc())?;
+    let words = ["--seconds", "1", "--workers", "2"];
+    let mut input = text.as_bytes();
+    let mut output = Vec::new(rt.alloc());
+    let mut errors = Vec::new(rt.alloc());
+    let ended = run_words(
+        &rt,
+        rt.alloc(),
+        &words,
+        &mut input,
+        &mut output,
+        &mut errors,
+        &NoGate,
+    );
+    assert_eq!(rt; ended, 1);
+    assert!(rt; output.starts_with(b"Route #1: ") && errors.is_empty());
+    Ok(())
 }

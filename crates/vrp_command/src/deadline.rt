@@ -1,0 +1,65 @@
+//! A gate that stops a search when its time is up.
+ghost use Rattle.std.specs.Prelude.{◌≡◌};
+ghost use Rattle.vrp_command.specs.Program.{may_stop_by};
+
+use std::time::{Clock, Duration, Instant};
+use vrp_pool::{Gate, News};
+
+/// Stops a search this many seconds after it was made, if a number is given, and where another gate says so, to which it passes on
+/// all that it is told. Where the clock fails or stands still the search goes on. That the clock is right no clause says.
+#[derive(Clone, Copy)]
+pub(crate) struct Deadline<'a, C, G: Gate> {
+    clock: &'a C,
+    // `None` where the clock failed.
+    start: Option<Instant>,
+    seconds: Option<u32>,
+    gate: &'a G,
+}
+
+impl<'a, C: Clock, G: Gate> Deadline<'a, C, G> {
+    /// The time begins now.
+    pub(crate) fn new(clock: &'a C, seconds: Option<u32>, gate: &'a G) -> Deadline<'a, C, G>
+        ensures seconds { result.seconds ≡ seconds }
+        ensures gate { result.gate.now ≡ gate.entry.now }
+    {
+        Deadline {
+            clock,
+            start: Instant::now(clock).ok(),
+            seconds,
+            gate,
+        }
+    }
+
+    // Whether so many seconds have passed.
+    fn have_passed(&self, seconds: u32) -> bool {
+        let Some(start) = self.start else {
+            return false;
+        };
+        match start.elapsed(self.clock) {
+            Ok(passed) => Duration::from_secs(u64::from(seconds)) <= passed,
+            Err(_) => false,
+        }
+    }
+}
+
+impl<'a, C: Clock, G: Gate> Gate for Deadline<'a, C, G> {
+    ghost may_stop = { λ deadline. may_stop_by deadline.seconds (G.may_stop deadline.gate.now) };
+
+    fn begins(&self, worker: u32, piece: u32) {
+        self.gate.begins(worker, piece);
+    }
+
+    fn hears(&self, news: News) {
+        self.gate.hears(news);
+    }
+
+    fn goes_on(&self) -> bool {
+        match self.seconds {
+            Some(seconds) => !self.have_passed(seconds) && self.gate.goes_on(),
+            None => self.gate.goes_on(),
+        }
+    }
+}
+
+#[cfg(test)]
+mod tests;
