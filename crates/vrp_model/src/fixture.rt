@@ -1,5 +1,6 @@
-//! The instances that tests are made on: three nodes at (0, 0), (3, 4) and (6, 8), or up to four nodes with a full matrix.
+//! The instances that tests are made on: three nodes at (0, 0), (3, 4) and (6, 8), or up to four nodes with a matrix.
 ghost use Rattle.std.specs.Prelude.{◌≡◌, ◌≤◌, length, All, IsTrue, ◌↔◌};
+ghost use Rattle.vrp_model.specs.Grid.{Grid};
 
 use crate::instance::{Instance, InstanceError};
 use crate::layout::Layout;
@@ -8,43 +9,54 @@ use crate::weights::Weights;
 use std::alloc::Global;
 use std::process::Abort;
 
-/// What an instance is made from, apart from the points; the capacity is 2.
-#[derive(Clone, Copy, Debug)]
-pub(crate) struct Case<'a> {
-    pub demands: [u64; 3],
-    pub depots: &'a [u16],
-    pub chosen: Option<u16>,
-}
+/// What an instance of the three nodes is made from, where a truck carries 2: the demands, the listed depots, and the chosen one.
+pub(crate) type Case<'a> = ([u64; 3], &'a [u16], Option<u16>);
 
 /// The instance of a case.
-pub(crate) fn three_nodes(
+pub(crate) fn three_nodes(rt: &impl Abort, alloc: Global, case: Case<'_>) -> Instance {
+    instance_of(rt, alloc, case).expect(rt, "an instance")
+}
+
+/// The instance of a case, or why there is none.
+pub(crate) fn instance_of(
     rt: &impl Abort,
     alloc: Global,
     case: Case<'_>,
 ) -> Result<Instance, InstanceError> {
-    assert!(rt; !case.depots.is_empty() && are_nodes(case.depots, 3));
-    match Weights::points(alloc, Metric::Euc2d, &[(0, 0), (3, 4), (6, 8)]) {
-        Ok(weights) => Instance::new(alloc, weights, &case.demands, 2, case.depots, case.chosen),
-        Err(_) => Err(InstanceError::OutOfMemory),
-    }
+    let (demands, depots, chosen) = case;
+    assert!(rt; !depots.is_empty() && are_nodes(depots, 3));
+    let points = [(0, 0), (3, 4), (6, 8)];
+    let weights = Weights::points(alloc, Metric::Euc2d, &points).expect(rt, "memory");
+    Instance::new(alloc, weights, &demands, 2, depots, chosen)
 }
 
-/// The instance of a full matrix of the weights between n nodes, none of which demands anything.
-pub(crate) fn full_matrix(
+/// What an instance of up to four nodes is made from: the weights of a full matrix, the demands, what a truck carries, and the listed
+/// depots.
+pub(crate) type Square<'a> = (&'a [u64], &'a [u64], u64, &'a [u16]);
+
+/// The instance of a square.
+pub(crate) fn full_matrix(rt: &impl Abort, alloc: Global, square: Square<'_>) -> Instance {
+    let (weights, demands, capacity, depots) = square;
+    assert!(rt; demands.len() <= 4 && capacity <= 9);
+    let nodes = demands.len() as u16;
+    assert!(rt; !depots.is_empty() && are_nodes(depots, nodes));
+    let weights = matrix(rt, alloc, Layout::FullMatrix, weights, nodes);
+    Instance::new(alloc, weights, demands, capacity, depots, None).expect(rt, "an instance")
+}
+
+/// The weights of up to four nodes in a layout, by the entries of a file.
+pub(crate) fn matrix(
     rt: &impl Abort,
     alloc: Global,
+    layout: Layout,
     entries: &[u64],
     n: u16,
-    depots: &[u16],
-) -> Result<Instance, InstanceError> {
-    assert!(rt; 1 <= n && n <= 4 && entries.len() == Layout::FullMatrix.entries(n));
+) -> Weights
+    ensures { result.nodes ≡ n }
+{
+    assert!(rt; 1 <= n && n <= 4 && entries.len() == layout.entries(n));
     assert!(rt; entries.iter().all(|&entry| entry <= 100));
-    assert!(rt; !depots.is_empty() && are_nodes(depots, n));
-    let demands = [0; 4];
-    match Weights::matrix(alloc, Layout::FullMatrix, entries, n) {
-        Ok(weights) => Instance::new(alloc, weights, &demands[..usize::from(n)], 2, depots, None),
-        Err(_) => Err(InstanceError::OutOfMemory),
-    }
+    Weights::matrix(alloc, layout, entries, n).expect(rt, "memory")
 }
 
 // Whether each number is that of one of n nodes.

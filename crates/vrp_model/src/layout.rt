@@ -89,28 +89,29 @@ impl Layout {
 #[cfg(test)]
 mod tests {
     use super::*;
-    use std::test::Fail;
+    use crate::assertion::assert_same;
+
+    const STRICT: [usize; 3] = [0, 3, 6];
+
+    const DIAGONAL: [usize; 3] = [1, 6, 10];
+
+    const ENTRIES: &[(Layout, [usize; 3])] = &[
+        (Layout::FullMatrix, [1, 9, 16]),
+        (Layout::UpperRow, STRICT),
+        (Layout::LowerRow, STRICT),
+        (Layout::UpperCol, STRICT),
+        (Layout::LowerCol, STRICT),
+        (Layout::UpperDiagRow, DIAGONAL),
+        (Layout::LowerDiagRow, DIAGONAL),
+        (Layout::UpperDiagCol, DIAGONAL),
+        (Layout::LowerDiagCol, DIAGONAL),
+    ];
 
     #[test]
-    fn entries_of_one_three_and_four_nodes(rt: HostRuntime) -> Result<(), Fail> {
-        let strict = [0, 3, 6];
-        let diagonal = [1, 6, 10];
-        let cases = [
-            (Layout::FullMatrix, [1, 9, 16]),
-            (Layout::UpperRow, strict),
-            (Layout::LowerRow, strict),
-            (Layout::UpperCol, strict),
-            (Layout::LowerCol, strict),
-            (Layout::UpperDiagRow, diagonal),
-            (Layout::LowerDiagRow, diagonal),
-            (Layout::UpperDiagCol, diagonal),
-            (Layout::LowerDiagCol, diagonal),
-        ];
-        for (layout, [one, three, four]) in cases {
-            assert_eq!(rt; layout.entries(1), one);
-            assert_eq!(rt; layout.entries(3), three);
-            assert_eq!(rt; layout.entries(4), four);
+    fn entries_of_one_three_and_four_nodes(rt: HostRuntime) {
+        for &(layout, entries) in ENTRIES {
+            let found = [layout.entries(1), layout.entries(3), layout.entries(4)];
+            assert_same(&rt, found, entries, layout);
         }
-        Ok(())
     }
 }

@@ -2,6 +2,8 @@
 //! crate's promises cite (`specs/`).
 #![tactic(auto)]
 
+#[cfg(test)]
+mod assertion;
 mod depots;
 #[cfg(test)]
 mod fixture;

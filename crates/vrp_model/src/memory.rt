@@ -24,14 +24,11 @@ impl<T: Drop> From<AllocFailed<T>> for NoMemory {
 #[cfg(test)]
 mod tests {
     use super::*;
-    use std::test::Fail;
+    use crate::assertion::assert_same;
 
     #[test]
-    fn text(rt: HostRuntime) -> Result<(), Fail> {
-        assert_eq!(rt;
-            NoMemory(()).to_string(rt.alloc())?.as_str(),
-            "out of memory"
-        );
-        Ok(())
+    fn text(rt: HostRuntime) {
+        let text = NoMemory(()).to_string(rt.alloc()).expect(&rt, "memory");
+        assert_same(&rt, text.as_str(), "out of memory", "the text");
     }
 }

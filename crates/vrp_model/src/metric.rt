@@ -76,47 +76,68 @@ fn pseudo_root(square: u64) -> u64
 
 #[cfg(test)]
 mod tests {
+    use super::Metric::{Att, Ceil2d, Euc2d, Man2d, Max2d};
     use super::*;
+    use crate::assertion::assert_same;
+
+    // How far a point lies in the east and in the north, and the Euclidean distance, that rounded up, and the pseudo-Euclidean one.
+    const BY_ROOTS: &[(u8, u8, [u64; 3])] = &[
+        (0, 0, [0, 0, 0]),
+        (0, 1, [1, 1, 1]),
+        (1, 1, [1, 2, 1]),
+        (1, 2, [2, 3, 1]),
+        (2, 2, [3, 3, 1]),
+        (1, 3, [3, 4, 1]),
+        (3, 3, [4, 5, 2]),
+        (3, 4, [5, 5, 2]),
+        (2, 6, [6, 7, 2]),
+        (2, 9, [9, 10, 3]),
+        (3, 9, [9, 10, 3]),
+        (6, 8, [10, 10, 4]),
+    ];
 
     #[test]
-    fn distances(rt: HostRuntime) {
-        let table: [((u8, u8), u64, u64, u64); 12] = [
-            ((0, 0), 0, 0, 0),
-            ((0, 1), 1, 1, 1),
-            ((1, 1), 1, 2, 1),
-            ((1, 2), 2, 3, 1),
-            ((2, 2), 3, 3, 1),
-            ((1, 3), 3, 4, 1),
-            ((3, 3), 4, 5, 2),
-            ((3, 4), 5, 5, 2),
-            ((2, 6), 6, 7, 2),
-            ((2, 9), 9, 10, 3),
-            ((3, 9), 9, 10, 3),
-            ((6, 8), 10, 10, 4),
-        ];
-        for ((east, north), euclidean, ceiling, pseudo_euclidean) in table {
+    fn distances_by_roots(rt: HostRuntime) {
+        for &(east, north, distances) in BY_ROOTS {
             let to = (i64::from(east), i64::from(north));
-            assert_eq!(rt; Metric::Euc2d.distance((0, 0), to), euclidean);
-            assert_eq!(rt; Metric::Ceil2d.distance((0, 0), to), ceiling);
-            assert_eq!(rt; Metric::Att.distance((0, 0), to), pseudo_euclidean);
+            let found = [
+                Euc2d.distance((0, 0), to),
+                Ceil2d.distance((0, 0), to),
+                Att.distance((0, 0), to),
+            ];
+            assert_same(&rt, found, distances, to);
         }
     }
 
-    #[test]
-    fn distances_along_the_axes(rt: HostRuntime) {
-        assert_eq!(rt; Metric::Man2d.distance((0, 0), (1, 1)), 2);
-        assert_eq!(rt; Metric::Max2d.distance((0, 0), (1, 1)), 1);
-        assert_eq!(rt; Metric::Att.distance((0, 0), (0, 10)), 4);
-    }
-
+    // From one corner to the one that lies farthest from it.
     #[test]
     fn longest_distances(rt: HostRuntime) {
         let corner = (-100_000_000, -100_000_000);
         let opposite = (100_000_000, 100_000_000);
-        assert_eq!(rt; Metric::Euc2d.distance(corner, opposite), 282_842_712);
-        assert_eq!(rt; Metric::Ceil2d.distance(corner, opposite), 282_842_713);
-        assert_eq!(rt; Metric::Man2d.distance(corner, opposite), 400_000_000);
-        assert_eq!(rt; Metric::Max2d.distance(corner, opposite), 200_000_000);
-        assert_eq!(rt; Metric::Att.distance(corner, opposite), 89_442_720);
+        let found = [
+            Euc2d.distance(corner, opposite),
+            Ceil2d.distance(corner, opposite),
+            Man2d.distance(corner, opposite),
+            Max2d.distance(corner, opposite),
+            Att.distance(corner, opposite),
+        ];
+        let distances = [
+            282_842_712,
+            282_842_713,
+            400_000_000,
+            200_000_000,
+            89_442_720,
+        ];
+        assert_same(&rt, found, distances, opposite);
+    }
+
+    #[test]
+    fn distances_along_the_axes(rt: HostRuntime) {
+        let found = [
+            Man2d.distance((0, 0), (1, 1)),
+            Max2d.distance((0, 0), (1, 1)),
+            Att.distance((0, 0), (0, 10)),
+        ];
+        assert_same(&rt, found, [2, 1, 4], "one step, and ten");
     }
 }
