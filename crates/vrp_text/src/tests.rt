@@ -12,9 +12,20 @@ mod sections;
 
 use crate::{TextError, read};
 use std::alloc::Global;
+use std::fmt::Debug;
 use std::process::Abort;
-use std::test::Fail;
 use vrp_model::{Instance, Plan};
+
+/// `assert_eq!` as a function: it is proved once, and the macro wherever it stands. A failure names this line, so `at` tells the
+/// values of one call from those of another.
+pub(crate) fn assert_same<T: PartialEq + Debug + Drop>(
+    rt: &impl Abort,
+    found: T,
+    wanted: T,
+    at: impl Debug + Drop,
+) {
+    assert!(rt; found == wanted, "{found:?} is not {wanted:?}, at {at:?}");
+}
 
 /// Three nodes on a line, 5 apart, and the depot at one end.
 pub(crate) const SMALL: &str =
@@ -56,7 +67,7 @@ pub(crate) fn matrix_places() -> Places {
 
 /// The places of an instance, of which there are three.
 pub(crate) fn places_of(rt: &impl Abort, instance: &Instance) -> Places {
-    assert_eq!(rt; instance.customers(), 2);
+    assert!(rt; instance.customers() == 2);
     Places {
         nodes: [instance.node(0), instance.node(1), instance.node(2)],
         demands: [instance.demand(0), instance.demand(1), instance.demand(2)],
@@ -73,15 +84,16 @@ pub(crate) fn places_of(rt: &impl Abort, instance: &Instance) -> Places {
 }
 
 /// Asserts what the plan of one truck for each customer costs.
-pub(crate) fn assert_singles_cost(
-    rt: &impl Abort,
-    alloc: Global,
-    instance: &Instance,
-    cost: u64,
-) -> Result<(), Fail> {
-    let plan = Plan::singles(alloc, instance)?.expect(rt, "a truck for each");
-    assert_eq!(rt; plan.cost(), cost);
-    Ok(())
+pub(crate) fn assert_singles_cost(rt: &impl Abort, alloc: Global, instance: &Instance, cost: u64) {
+    let plan = Plan::singles(alloc, instance).expect(rt, "memory");
+    let plan = plan.expect(rt, "a truck for each");
+    assert_same(rt, plan.cost(), cost, "the cost");
+}
+
+/// A text with another one in place of a part, wherever that stands.
+pub(crate) fn with(rt: &impl Abort, alloc: Global, text: &str, old: &str, new: &str) -> String {
+    assert!(rt; text.contains(old), "no {old}");
+    text.replace(alloc, old, new).expect(rt, "memory")
 }
 
 /// Why these bytes are refused, or None where they are not.
@@ -98,20 +110,37 @@ pub(crate) fn assert_refused(
     refusal: TextError,
 ) {
     let found = refusal_of(alloc, text.as_bytes(), chosen);
-    assert_eq!(rt; found, Some(refusal), "of {text}");
+    assert_same(rt, found, Some(refusal), text);
 }
 
-/// Asserts that a file is refused for this with one text in place of another, where that stands first.
-pub(crate) fn assert_change_refused(
+/// One text, another in its place, and why a file is refused with that where the first one stands first.
+pub(crate) type Change<'a> = (&'a str, &'a str, TextError);
+
+/// Asserts that a file is refused with each of these changes.
+pub(crate) fn assert_changes_refused(
     rt: &impl Abort,
     alloc: Global,
     file: &str,
-    old: &str,
-    new: &str,
-    refusal: TextError,
-) -> Result<(), Fail> {
+    changes: &[Change<'_>],
+) {
+    for &change in changes {
+        assert_change_refused(rt, alloc, file, change);
+    }
+}
+
+/// A file, and a change.
+pub(crate) type FileChange<'a> = (&'a str, &'a str, &'a str, TextError);
+
+/// Asserts that each of these files is refused with its change.
+pub(crate) fn assert_files_refused(rt: &impl Abort, alloc: Global, changes: &[FileChange<'_>]) {
+    for &(file, old, new, refusal) in changes {
+        assert_change_refused(rt, alloc, file, (old, new, refusal));
+    }
+}
+
+fn assert_change_refused(rt: &impl Abort, alloc: Global, file: &str, change: Change<'_>) {
+    let (old, new, refusal) = change;
     assert!(rt; file.contains(old), "no {old}");
-    let text = file.replacen(alloc, old, new, 1)?;
+    let text = file.replacen(alloc, old, new, 1).expect(rt, "memory");
     assert_refused(rt, alloc, text.as_str(), None, refusal);
-    Ok(())
 }

@@ -1,9 +1,11 @@
 //! Files that are spelled in other ways, or state other instances.
-use super::{MATRIX, Places, SMALL, assert_singles_cost, matrix_places, places_of, small_places};
-use crate::read;
+use super::{
+    MATRIX, Places, SMALL, assert_same, assert_singles_cost, matrix_places, places_of,
+    small_places, with,
+};
+use crate::{TextError, read};
 use std::alloc::Global;
 use std::process::Abort;
-use std::test::*;
 use vrp_model::Instance;
 
 // The small file from its end to its front.
@@ -14,7 +16,7 @@ const REVERSED: &str =
 const TWO: &str =
     "TYPE : CVRP\nDIMENSION : 2\nEDGE_WEIGHT_TYPE : METRIC\nCAPACITY : 1\nNODE_COORD_SECTION\n1 FROM\n2 TO\nDEMAND_SECTION\n1 0\n2 1\nDEPOT_SECTION\n1\n-1\nEOF\n";
 
-const SAME_AS_SMALL: [(&str, &str); 42] = [
+const SAME_AS_SMALL: &[(&str, &str)] = &[
     ("EOF", "EOF"),
     (SMALL, REVERSED),
     // Lines, blanks and colons.
@@ -76,29 +78,21 @@ const SAME_AS_SMALL: [(&str, &str); 42] = [
 
 // The small file with one text in place of another, wherever it stands, means the same.
 #[test]
-fn same_as_the_small_file(rt: HostRuntime) -> Result<(), Fail> {
-    for (old, new) in SAME_AS_SMALL {
-        let instance = changed(&rt, rt.alloc(), SMALL, old, new)?;
-        assert_eq!(rt; places_of(&rt, &instance), small_places(), "at {new}");
-        assert_singles_cost(&rt, rt.alloc(), &instance, 30)?;
+fn same_as_the_small_file(rt: HostRuntime) {
+    for &(old, new) in SAME_AS_SMALL {
+        let instance = changed(&rt, rt.alloc(), SMALL, old, new);
+        assert_same(&rt, places_of(&rt, &instance), small_places(), new);
+        assert_singles_cost(&rt, rt.alloc(), &instance, 30);
     }
-    Ok(())
 }
 
 // The instance of a file with one text in place of another, wherever that stands.
-fn changed(
-    rt: &impl Abort,
-    alloc: Global,
-    file: &str,
-    old: &str,
-    new: &str,
-) -> Result<Instance, Fail> {
-    assert!(rt; file.contains(old), "no {old}");
-    let text = file.replace(alloc, old, new)?;
-    Ok(read(alloc, text.as_bytes(), None).expect(rt, new))
+fn changed(rt: &impl Abort, alloc: Global, file: &str, old: &str, new: &str) -> Instance {
+    let text = with(rt, alloc, file, old, new);
+    read(alloc, text.as_bytes(), None).expect(rt, new)
 }
 
-const SAME_AS_MATRIX: [(&str, &str); 5] = [
+const SAME_AS_MATRIX: &[(&str, &str)] = &[
     ("EOF", "EOF"),
     ("\n0 1 2\n3 0 4\n5 6 0\n", "\n0 1\n2 3 0 4 5 6.0\n0\n"),
     // Coordinates are not looked at, before the file is known as explicit either.
@@ -113,12 +107,11 @@ const SAME_AS_MATRIX: [(&str, &str); 5] = [
 
 // The same of the file with a matrix.
 #[test]
-fn same_as_the_file_with_a_matrix(rt: HostRuntime) -> Result<(), Fail> {
-    for (old, new) in SAME_AS_MATRIX {
-        let instance = changed(&rt, rt.alloc(), MATRIX, old, new)?;
-        assert_eq!(rt; places_of(&rt, &instance), matrix_places(), "at {new}");
+fn same_as_the_file_with_a_matrix(rt: HostRuntime) {
+    for &(old, new) in SAME_AS_MATRIX {
+        let instance = changed(&rt, rt.alloc(), MATRIX, old, new);
+        assert_same(&rt, places_of(&rt, &instance), matrix_places(), new);
     }
-    Ok(())
 }
 
 // Each number of a row goes to its node, in whatever order the rows stand.
@@ -133,7 +126,7 @@ fn rows_in_another_order(rt: HostRuntime) {
         capacity: 9,
         weights: [8, 120, 8, 114, 120, 114],
     };
-    assert_eq!(rt; places_of(&rt, &instance), places);
+    assert_same(&rt, places_of(&rt, &instance), places, "other rows");
 }
 
 // The points that lie farthest from one another.
@@ -141,7 +134,7 @@ const LOW: &str = "-100000000 -1e8";
 
 const HIGH: &str = "100000000 +1e8";
 
-const COSTS_BY_METRIC: [(&str, &str, &str, u64); 13] = [
+const COSTS_BY_METRIC: &[(&str, &str, &str, u64)] = &[
     ("EUC_2D", "0 0", "1 1", 2),
     ("CEIL_2D", "0 0", "1 1", 4),
     ("MAN_2D", "0 0", "1 1", 4),
@@ -159,30 +152,21 @@ const COSTS_BY_METRIC: [(&str, &str, &str, u64); 13] = [
 
 // The distances of two points, there and back.
 #[test]
-fn costs_by_metric(rt: HostRuntime) -> Result<(), Fail> {
-    for (metric, from, to, cost) in COSTS_BY_METRIC {
-        let instance = two_points(&rt, rt.alloc(), metric, from, to)?;
-        assert_singles_cost(&rt, rt.alloc(), &instance, cost)?;
+fn costs_by_metric(rt: HostRuntime) {
+    for &(metric, from, to, cost) in COSTS_BY_METRIC {
+        let instance = two_points(&rt, rt.alloc(), metric, from, to);
+        assert_singles_cost(&rt, rt.alloc(), &instance, cost);
     }
-    Ok(())
 }
 
 // Two nodes at these points.
-fn two_points(
-    rt: &impl Abort,
-    alloc: Global,
-    metric: &str,
-    from: &str,
-    to: &str,
-) -> Result<Instance, Fail> {
-    let text = TWO
-        .replace(alloc, "METRIC", metric)?
-        .replace(alloc, "FROM", from)?
-        .replace(alloc, "TO", to)?;
-    Ok(read(alloc, text.as_bytes(), None).expect(rt, text.as_str()))
+fn two_points(rt: &impl Abort, alloc: Global, metric: &str, from: &str, to: &str) -> Instance {
+    let text = with(rt, alloc, TWO, "METRIC", metric);
+    let text = with(rt, alloc, text.as_str(), "FROM", from);
+    changed(rt, alloc, text.as_str(), "TO", to)
 }
 
-const DEPOTS: [(&str, Option<u16>, u16, u16, u64); 6] = [
+const DEPOTS: &[(&str, Option<u16>, u16, u16, u64)] = &[
     ("1 2 -1", None, 1, 3, 20),
     ("2 1 -1 3", None, 2, 3, 10),
     ("2 1 2", None, 2, 3, 10),
@@ -193,38 +177,31 @@ const DEPOTS: [(&str, Option<u16>, u16, u16, u64); 6] = [
 
 // The first depot that is listed, or the chosen one; another one is neither depot nor customer.
 #[test]
-fn depots(rt: HostRuntime) -> Result<(), Fail> {
-    for (listed, chosen, depot, customer, cost) in DEPOTS {
-        let instance = with_depots(&rt, rt.alloc(), listed, chosen)?;
-        assert_eq!(rt; instance.customers(), 1, "at {listed}");
+fn depots(rt: HostRuntime) {
+    for &(listed, chosen, depot, customer, cost) in DEPOTS {
+        let instance = with_depots(&rt, rt.alloc(), listed, chosen);
+        assert!(rt; instance.customers() == 1, "at {listed}");
         let nodes = (instance.node(0), instance.node(1));
-        assert_eq!(rt; nodes, (depot, customer), "at {listed}");
-        assert_singles_cost(&rt, rt.alloc(), &instance, cost)?;
+        assert_same(&rt, nodes, (depot, customer), listed);
+        assert_singles_cost(&rt, rt.alloc(), &instance, cost);
     }
-    Ok(())
 }
 
 // The small file with these depots, where the second node has no demand.
-fn with_depots(
-    rt: &impl Abort,
-    alloc: Global,
-    listed: &str,
-    chosen: Option<u16>,
-) -> Result<Instance, Fail> {
-    let text = SMALL
-        .replace(alloc, "\n2 1\n", "\n2 0\n")?
-        .replace(alloc, "\n1\n-1\n", "\nLISTED\n")?
-        .replace(alloc, "LISTED", listed)?;
-    Ok(read(alloc, text.as_bytes(), chosen).expect(rt, listed))
+fn with_depots(rt: &impl Abort, alloc: Global, listed: &str, chosen: Option<u16>) -> Instance {
+    let text = with(rt, alloc, SMALL, "\n2 1\n", "\n2 0\n");
+    let text = with(rt, alloc, text.as_str(), "\n1\n-1\n", "\nLISTED\n");
+    let text = with(rt, alloc, text.as_str(), "LISTED", listed);
+    read(alloc, text.as_bytes(), chosen).expect(rt, listed)
 }
 
 #[test]
-fn one_node(rt: HostRuntime) -> Result<(), Fail> {
+fn one_node(rt: HostRuntime) {
     let text =
         "TYPE : CVRP\nDIMENSION : 1\nEDGE_WEIGHT_TYPE : EUC_2D\nCAPACITY : 1\nNODE_COORD_SECTION\n1 0 0\nDEMAND_SECTION\n1 0\nDEPOT_SECTION\n1\n-1\nEOF\n";
-    let instance = read(rt.alloc(), text.as_bytes(), None)?;
-    assert_eq!(rt; instance.customers(), 0);
-    assert_singles_cost(&rt, rt.alloc(), &instance, 0)
+    let instance = read(rt.alloc(), text.as_bytes(), None).expect(&rt, text);
+    assert_same(&rt, instance.customers(), 0, "the depot alone");
+    assert_singles_cost(&rt, rt.alloc(), &instance, 0);
 }
 
 // Says something where a growth is refused: run it by `rt try --test --fail-alloc N`, N from 1 on.
@@ -232,8 +209,8 @@ fn one_node(rt: HostRuntime) -> Result<(), Fail> {
 fn refused_growth(rt: HostRuntime) {
     for (text, places) in [(SMALL, small_places()), (MATRIX, matrix_places())] {
         match read(rt.alloc(), text.as_bytes(), None) {
-            Ok(instance) => assert_eq!(rt; places_of(&rt, &instance), places),
-            Err(refusal) => assert_eq!(rt; refusal, crate::TextError::OutOfMemory),
+            Ok(instance) => assert_same(&rt, places_of(&rt, &instance), places, text),
+            Err(refusal) => assert_same(&rt, refusal, TextError::OutOfMemory, text),
         }
     }
 }

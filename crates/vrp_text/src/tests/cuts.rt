@@ -1,8 +1,7 @@
 //! Files that are cut off.
-use super::{SMALL, refusal_of};
+use super::{SMALL, assert_same, refusal_of};
 use crate::error::TextError::{BadNumber, BadValue, Missing, UnknownKeyword, WrongCount};
 use crate::{Key, TextError};
-use std::test::*;
 
 // Why the small file is refused when it is cut off after this many bytes, where it is.
 fn refusal_after(length: usize) -> Option<TextError> {
@@ -54,9 +53,9 @@ fn refusal_after(length: usize) -> Option<TextError> {
 #[test]
 fn cut_after_every_byte(rt: HostRuntime) {
     let bytes = SMALL.as_bytes();
-    assert_eq!(rt; bytes.len(), 183);
+    assert!(rt; bytes.len() == 183);
     for length in 0..184 {
         let refusal = refusal_of(rt.alloc(), &bytes[..length], None);
-        assert_eq!(rt; refusal, refusal_after(length), "at {length}");
+        assert_same(&rt, refusal, refusal_after(length), length);
     }
 }

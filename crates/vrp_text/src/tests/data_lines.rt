@@ -1,12 +1,11 @@
 //! Files with a faulty data line, and files with more than one fault.
-use super::{SMALL, assert_change_refused};
+use super::{Change, SMALL, assert_changes_refused};
+use crate::Key;
 use crate::error::TextError::{
     BadNumber, BadValue, DataOutside, NotWhole, UnknownKeyword, Unsupported, WrongCount,
 };
-use crate::{Key, TextError};
-use std::test::*;
 
-const DATA_LINES: [(&str, &str, TextError); 38] = [
+const DATA_LINES: &[Change<'_>] = &[
     // No section.
     ("NAME : A", "5\nNAME : A", DataOutside(1)),
     // A byte order mark is no blank: with what stands beside it, it is a token.
@@ -55,14 +54,11 @@ const DATA_LINES: [(&str, &str, TextError); 38] = [
 
 // The small file with one text in place of another is refused for this.
 #[test]
-fn data_lines(rt: HostRuntime) -> Result<(), Fail> {
-    for (old, new, refusal) in DATA_LINES {
-        assert_change_refused(&rt, rt.alloc(), SMALL, old, new, refusal)?;
-    }
-    Ok(())
+fn data_lines(rt: HostRuntime) {
+    assert_changes_refused(&rt, rt.alloc(), SMALL, DATA_LINES);
 }
 
-const FIRST_FAULTS: [(&str, &str, TextError); 15] = [
+const FIRST_FAULTS: &[Change<'_>] = &[
     ("2 3 4", "2 3.5 x", NotWhole(9)),
     ("2 3 4", "2 x 3.5", BadNumber(9)),
     ("2 3 4\n3 6 8", "2 3.5 4\n3 x 8", NotWhole(9)),
@@ -104,9 +100,6 @@ const FIRST_FAULTS: [(&str, &str, TextError); 15] = [
 
 // The first faulty line, and in it the first faulty token, comes before all that is found out later.
 #[test]
-fn first_faults(rt: HostRuntime) -> Result<(), Fail> {
-    for (old, new, refusal) in FIRST_FAULTS {
-        assert_change_refused(&rt, rt.alloc(), SMALL, old, new, refusal)?;
-    }
-    Ok(())
+fn first_faults(rt: HostRuntime) {
+    assert_changes_refused(&rt, rt.alloc(), SMALL, FIRST_FAULTS);
 }

@@ -1,10 +1,9 @@
 //! Files that are explicit or not.
-use super::{MATRIX, SMALL, assert_change_refused};
+use super::{FileChange, MATRIX, SMALL, assert_files_refused};
+use crate::Key;
 use crate::error::TextError::{BadNumber, BadValue, Missing, NotWhole, Repeated, Unsupported};
-use crate::{Key, TextError};
-use std::test::*;
 
-const EXPLICIT_FILES: [(&str, &str, &str, TextError); 19] = [
+const EXPLICIT_FILES: &[FileChange<'_>] = &[
     (MATRIX, "FULL_MATRIX", "FUNCTION", BadValue(6)),
     (MATRIX, "FULL_MATRIX", "", BadValue(6)),
     (
@@ -87,9 +86,6 @@ const EXPLICIT_FILES: [(&str, &str, &str, TextError); 19] = [
 
 // Whether a file is explicit is told by its first EDGE_WEIGHT_TYPE before EOF, wherever that stands.
 #[test]
-fn explicit_files(rt: HostRuntime) -> Result<(), Fail> {
-    for (text, old, new, refusal) in EXPLICIT_FILES {
-        assert_change_refused(&rt, rt.alloc(), text, old, new, refusal)?;
-    }
-    Ok(())
+fn explicit_files(rt: HostRuntime) {
+    assert_files_refused(&rt, rt.alloc(), EXPLICIT_FILES);
 }

@@ -1,28 +1,25 @@
 //! Long files, and bytes that are no text.
-use super::{SMALL, places_of, refusal_of, small_places};
+use super::{SMALL, assert_same, places_of, refusal_of, small_places};
 use crate::error::TextError::{
     BadNumber, BadValue, DataOutside, Missing, Repeated, TooLong, UnknownKeyword,
 };
 use crate::{Key, MAX_BYTES, TextError, read};
 use std::alloc::Global;
-use std::test::*;
+use std::process::Abort;
 
 // A file of this many bytes: `front`, and behind it `filling` again and again.
-fn filled(alloc: Global, front: &str, filling: &[u8], length: usize) -> Result<Vec<u8>, Fail> {
-    let block = filling.repeat(alloc, 4096)?;
-    let times = length
-        .checked_div(block.len())
-        .unwrap_or(0)
-        .saturating_add(1);
-    let mut bytes = front.as_bytes().to_vec(alloc)?;
-    for _ in 0..times {
-        bytes.extend_from_slice(&block)?;
+fn filled(rt: &impl Abort, alloc: Global, front: &str, filling: &[u8], length: usize) -> Vec<u8> {
+    let block = filling.repeat(alloc, 4096).expect(rt, "memory");
+    let blocks = length.checked_div(block.len()).unwrap_or(0);
+    let mut bytes = front.as_bytes().to_vec(alloc).expect(rt, "memory");
+    for _ in 0..blocks.saturating_add(1) {
+        bytes.extend_from_slice(&block).expect(rt, "memory");
     }
     bytes.truncate(length);
-    Ok(bytes)
+    bytes
 }
 
-const LONG_FILES: [(&str, &[u8], TextError); 12] = [
+const LONG_FILES: &[(&str, &[u8], TextError)] = &[
     ("", b"\0", DataOutside(1)),
     ("", b"\xff", DataOutside(1)),
     ("", b"NAME\n", UnknownKeyword(209_716)),
@@ -39,72 +36,69 @@ const LONG_FILES: [(&str, &[u8], TextError); 12] = [
 
 // Files of a million bytes: what stands at their front, and what fills them.
 #[test]
-fn long_files(rt: HostRuntime) -> Result<(), Fail> {
-    for (front, filling, answer) in LONG_FILES {
-        let bytes = filled(rt.alloc(), front, filling, 1_048_576)?;
-        assert_eq!(rt; bytes.len(), 1_048_576);
-        assert_eq!(rt;
-            refusal_of(rt.alloc(), &bytes, None),
-            Some(answer),
-            "at {front:?}, {filling:?}"
-        );
+fn long_files(rt: HostRuntime) {
+    for &(front, filling, answer) in LONG_FILES {
+        let bytes = filled(&rt, rt.alloc(), front, filling, 1_048_576);
+        assert_same(&rt, bytes.len(), 1_048_576, front);
+        let found = refusal_of(rt.alloc(), &bytes, None);
+        assert_same(&rt, found, Some(answer), (front, filling));
     }
-    Ok(())
 }
 
 // As many line feeds as a file may have bytes, and one more. With the checks of `rt try` this takes minutes: give it
 // `--seconds 300`.
 #[test]
-fn line_feeds(rt: HostRuntime) -> Result<(), Fail> {
-    let mut bytes = filled(rt.alloc(), "", b"\n", 16_777_216)?;
-    assert_eq!(rt;
-        refusal_of(rt.alloc(), &bytes, None),
-        Some(Missing(Key::Problem))
-    );
-    bytes.push(b'\n')?;
-    assert_eq!(rt; refusal_of(rt.alloc(), &bytes, None), Some(TooLong));
-    Ok(())
+fn line_feeds(rt: HostRuntime) {
+    let mut bytes = filled(&rt, rt.alloc(), "", b"\n", 16_777_216);
+    let found = refusal_of(rt.alloc(), &bytes, None);
+    assert_same(&rt, found, Some(Missing(Key::Problem)), "line feeds");
+    bytes.push(b'\n').expect(&rt, "memory");
+    let found = refusal_of(rt.alloc(), &bytes, None);
+    assert_same(&rt, found, Some(TooLong), "one more");
 }
 
 // As many blanks.
 #[test]
-fn blanks(rt: HostRuntime) -> Result<(), Fail> {
-    let bytes = filled(rt.alloc(), "", b" \t\r ", 16_777_216)?;
-    assert_eq!(rt;
-        refusal_of(rt.alloc(), &bytes, None),
-        Some(Missing(Key::Problem))
-    );
-    Ok(())
+fn blanks(rt: HostRuntime) {
+    let bytes = filled(&rt, rt.alloc(), "", b" \t\r ", 16_777_216);
+    let found = refusal_of(rt.alloc(), &bytes, None);
+    assert_same(&rt, found, Some(Missing(Key::Problem)), "blanks");
 }
 
 // One token of as many digits, and one keyword of as many letters.
 #[test]
-fn longest_tokens(rt: HostRuntime) -> Result<(), Fail> {
+fn longest_tokens(rt: HostRuntime) {
     for (filling, answer) in [(b"7", DataOutside(1)), (b"X", UnknownKeyword(1))] {
-        let bytes = filled(rt.alloc(), "", filling, 16_777_216)?;
-        assert_eq!(rt; refusal_of(rt.alloc(), &bytes, None), Some(answer));
+        let bytes = filled(&rt, rt.alloc(), "", filling, 16_777_216);
+        let found = refusal_of(rt.alloc(), &bytes, None);
+        assert_same(&rt, found, Some(answer), filling);
     }
-    Ok(())
 }
 
 // The small file behind a remark is read up to its last byte, and refused with one byte more.
 #[test]
-fn longest_file_with_an_instance(rt: HostRuntime) -> Result<(), Fail> {
+fn longest_file_with_an_instance(rt: HostRuntime) {
+    let mut bytes = longest_file(&rt, rt.alloc());
+    assert_same(&rt, bytes.len(), 16_777_216, "bytes");
+    let instance = read(rt.alloc(), &bytes, None).expect(&rt, "an instance");
+    assert_same(&rt, places_of(&rt, &instance), small_places(), "places");
+    bytes.push(b'\n').expect(&rt, "memory");
+    let found = refusal_of(rt.alloc(), &bytes, None);
+    assert_same(&rt, found, Some(TooLong), "one more");
+}
+
+fn longest_file(rt: &impl Abort, alloc: Global) -> Vec<u8> {
     let length = MAX_BYTES.saturating_sub(SMALL.len());
-    let mut bytes = filled(rt.alloc(), "COMMENT :", b"\xff", length)?;
+    let mut bytes = filled(rt, alloc, "COMMENT :", b"\xff", length);
     if let Some(last) = bytes.last_mut() {
         *last = b'\n';
     }
-    bytes.extend_from_slice(SMALL.as_bytes())?;
-    assert_eq!(rt; bytes.len(), 16_777_216);
-    let instance = read(rt.alloc(), &bytes, None)?;
-    assert_eq!(rt; places_of(&rt, &instance), small_places());
-    bytes.push(b'\n')?;
-    assert_eq!(rt; refusal_of(rt.alloc(), &bytes, None), Some(TooLong));
-    Ok(())
+    let extended = bytes.extend_from_slice(SMALL.as_bytes());
+    extended.expect(rt, "memory");
+    bytes
 }
 
-const NO_TEXT: [(&str, &[u8], Option<TextError>); 9] = [
+const NO_TEXT: &[(&str, &[u8], Option<TextError>)] = &[
     ("NAME", b"\0NAME", Some(DataOutside(1))),
     ("NAME", b"\xef\xbb\xbfNAME", Some(DataOutside(1))),
     ("three", b"\xff\0\x80", None),
@@ -118,15 +112,21 @@ const NO_TEXT: [(&str, &[u8], Option<TextError>); 9] = [
 
 // Bytes that are no blanks belong to a token or a remark.
 #[test]
-fn bytes_that_are_no_text(rt: HostRuntime) -> Result<(), Fail> {
-    for (old, new, answer) in NO_TEXT {
-        let Some((before, after)) = SMALL.split_once(old) else {
-            return Ok(assert!(rt; false, "at {old}"));
-        };
-        let mut bytes = before.as_bytes().to_vec(rt.alloc())?;
-        bytes.extend_from_slice(new)?;
-        bytes.extend_from_slice(after.as_bytes())?;
-        assert_eq!(rt; refusal_of(rt.alloc(), &bytes, None), answer, "at {new:?}");
+fn bytes_that_are_no_text(rt: HostRuntime) {
+    for &(old, new, answer) in NO_TEXT {
+        let bytes = with_bytes(&rt, rt.alloc(), old, new);
+        let found = refusal_of(rt.alloc(), &bytes, None);
+        assert_same(&rt, found, answer, new);
     }
-    Ok(())
+}
+
+// The small file with these bytes in place of a text, where that stands first.
+fn with_bytes(rt: &impl Abort, alloc: Global, old: &str, new: &[u8]) -> Vec<u8> {
+    let (before, after) = SMALL.split_once(old).expect(rt, old);
+    let parts = [before.as_bytes(), new, after.as_bytes()];
+    let mut bytes = Vec::new(alloc);
+    for part in parts {
+        bytes.extend_from_slice(part).expect(rt, "memory");
+    }
+    bytes
 }

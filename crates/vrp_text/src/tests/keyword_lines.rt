@@ -1,10 +1,8 @@
 //! Files with a faulty keyword line.
-use super::{SMALL, assert_change_refused};
-use crate::TextError;
+use super::{Change, SMALL, assert_changes_refused};
 use crate::error::TextError::{BadValue, Repeated, UnknownKeyword, Unsupported};
-use std::test::*;
 
-const KEYWORD_LINES: [(&str, &str, TextError); 43] = [
+const KEYWORD_LINES: &[Change<'_>] = &[
     // No keyword.
     (
         "CAPACITY : 2\n",
@@ -78,9 +76,6 @@ const KEYWORD_LINES: [(&str, &str, TextError); 43] = [
 
 // The small file with one text in place of another is refused for this.
 #[test]
-fn keyword_lines(rt: HostRuntime) -> Result<(), Fail> {
-    for (old, new, refusal) in KEYWORD_LINES {
-        assert_change_refused(&rt, rt.alloc(), SMALL, old, new, refusal)?;
-    }
-    Ok(())
+fn keyword_lines(rt: HostRuntime) {
+    assert_changes_refused(&rt, rt.alloc(), SMALL, KEYWORD_LINES);
 }

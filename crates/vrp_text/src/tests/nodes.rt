@@ -1,11 +1,10 @@
 //! Numbers that are no nodes, and files of which no instance can be made.
-use super::{MATRIX, SMALL, assert_refused};
+use super::{MATRIX, SMALL, assert_refused, with};
 use crate::{Key, TextError};
-use std::test::*;
 use vrp_model::InstanceError;
 use vrp_model::InstanceError::{DemandOverCapacity, DepotDemand, NotADepot};
 
-const BAD_NODES: [(&str, &str, &str, Key, i64); 20] = [
+const BAD_NODES: &[(&str, &str, &str, Key, i64)] = &[
     (SMALL, "2 3 4", "4 3 4", Key::NodeCoord, 4),
     (SMALL, "2 3 4", "0 3 4", Key::NodeCoord, 0),
     (
@@ -68,20 +67,18 @@ const BAD_NODES: [(&str, &str, &str, Key, i64); 20] = [
 
 // A number is no node, or is given a second time: the first by its place.
 #[test]
-fn bad_nodes(rt: HostRuntime) -> Result<(), Fail> {
-    for (text, old, new, key, node) in BAD_NODES {
+fn bad_nodes(rt: HostRuntime) {
+    for &(text, old, new, key, node) in BAD_NODES {
         assert!(rt; text.contains(old), "no {old}");
-        let text = text.replacen(rt.alloc(), old, new, 1)?;
+        let text = text.replacen(rt.alloc(), old, new, 1).expect(&rt, "memory");
+        let refusal = TextError::BadNode(key, node);
         // Whichever depot is chosen.
-        for chosen in [None, Some(1200)] {
-            let refusal = TextError::BadNode(key, node);
-            assert_refused(&rt, rt.alloc(), text.as_str(), chosen, refusal);
-        }
+        assert_refused(&rt, rt.alloc(), text.as_str(), None, refusal);
+        assert_refused(&rt, rt.alloc(), text.as_str(), Some(1200), refusal);
     }
-    Ok(())
 }
 
-const NO_INSTANCE: [(&str, &str, Option<u16>, InstanceError); 13] = [
+const NO_INSTANCE: &[(&str, &str, Option<u16>, InstanceError)] = &[
     ("1 5 2 1 3 1", "1", None, DepotDemand(1)),
     ("1 0 2 1 3 1", "1 3 2", None, DepotDemand(2)),
     ("3 1 2 1 1 0", "3 2 1", Some(1), DepotDemand(2)),
@@ -99,13 +96,11 @@ const NO_INSTANCE: [(&str, &str, Option<u16>, InstanceError); 13] = [
 
 // No instance can be made of the small file with these demands and depots, where this depot is chosen.
 #[test]
-fn no_instance(rt: HostRuntime) -> Result<(), Fail> {
-    for (demands, depots, chosen, refusal) in NO_INSTANCE {
-        let text = SMALL
-            .replacen(rt.alloc(), "1 0\n2 1\n3 1", demands, 1)?
-            .replacen(rt.alloc(), "1\n-1", depots, 1)?;
+fn no_instance(rt: HostRuntime) {
+    for &(demands, depots, chosen, refusal) in NO_INSTANCE {
+        let text = with(&rt, rt.alloc(), SMALL, "1 0\n2 1\n3 1", demands);
+        let text = with(&rt, rt.alloc(), text.as_str(), "1\n-1", depots);
         let refusal = TextError::Instance(refusal);
         assert_refused(&rt, rt.alloc(), text.as_str(), chosen, refusal);
     }
-    Ok(())
 }
