@@ -43,42 +43,34 @@ pub fn trucks_needed(capacity: u64, amount: u64) -> u64
 #[cfg(test)]
 mod tests {
     use super::*;
-    use std::test::Fail;
-    use vrp_model::{Metric, Weights};
+    use crate::assertion::assert_same;
+    use crate::instances::{LINE, at_points};
 
     // A place, a load, the sum of the least ways in, a rest, and the bound.
     type Asked = (u16, u64, u64, u64, u64);
 
+    const TWO_CUSTOMERS: &[([u64; 3], Asked)] = &[
+        ([0, 1, 1], (0, 0, 10, 2, 15)),
+        ([0, 1, 1], (1, 1, 5, 1, 10)),
+        ([0, 1, 1], (2, 2, 0, 0, 5)),
+        ([0, 1, 1], (0, 0, 0, 0, 0)),
+        ([0, 2, 2], (0, 0, 10, 4, 20)),
+        ([0, 2, 2], (1, 2, 5, 2, 15)),
+        // a truck that isn't full
+        ([0, 1, 2], (0, 0, 10, 3, 20)),
+        ([0, 1, 2], (1, 1, 5, 2, 15)),
+        // customers of no demand
+        ([0, 0, 0], (0, 0, 10, 0, 10)),
+    ];
+
     #[test]
-    fn bounds_of_two_customers(rt: HostRuntime) -> Result<(), Fail> {
-        let table: [([u64; 3], Asked); 9] = [
-            ([0, 1, 1], (0, 0, 10, 2, 15)),
-            ([0, 1, 1], (1, 1, 5, 1, 10)),
-            ([0, 1, 1], (2, 2, 0, 0, 5)),
-            ([0, 1, 1], (0, 0, 0, 0, 0)),
-            ([0, 2, 2], (0, 0, 10, 4, 20)),
-            ([0, 2, 2], (1, 2, 5, 2, 15)),
-            // a truck that isn't full
-            ([0, 1, 2], (0, 0, 10, 3, 20)),
-            ([0, 1, 2], (1, 1, 5, 2, 15)),
-            // customers of no demand
-            ([0, 0, 0], (0, 0, 10, 0, 10)),
-        ];
-        for (demands, (at, load, ins, rest, bound)) in table {
-            let points = [(0, 0), (3, 4), (6, 8)];
-            let weights = Weights::points(rt.alloc(), Metric::Euc2d, &points)?;
-            let instance = Instance::new(rt.alloc(), weights, &demands, 2, &[1], None)?;
-            assert!(rt; at <= instance.customers());
-            assert!(rt; load <= instance.capacity());
-            assert!(rt; at != 0 || load == 0);
-            assert!(rt; ins <= 10);
-            assert!(rt; rest <= instance.whole_demand());
-            assert_eq!(rt;
-                cap_bound(&instance, at, load, ins, rest),
-                bound,
-                "{demands:?} {at} {load} {rest}"
-            );
+    fn bounds_of_two_customers(rt: HostRuntime) {
+        for &(demands, (at, load, ins, rest, bound)) in TWO_CUSTOMERS {
+            let instance = at_points(&rt, rt.alloc(), LINE, &demands, 2);
+            assert!(rt; at <= instance.customers() && load <= instance.capacity());
+            assert!(rt; (at != 0 || load == 0) && ins <= 10 && rest <= instance.whole_demand());
+            let found = cap_bound(&instance, at, load, ins, rest);
+            assert_same(&rt, found, bound, (demands, at, load, rest));
         }
-        Ok(())
     }
 }

@@ -2,6 +2,8 @@
 //! bound, and the least spanning tree.
 #![tactic(auto)]
 
+#[cfg(test)]
+mod assertion;
 mod capacity;
 mod completions;
 mod divisor;
@@ -9,6 +11,8 @@ mod divisor;
 mod fixture;
 mod greater;
 mod homes;
+#[cfg(test)]
+mod instances;
 mod law;
 mod least_homes;
 mod memory_tables;

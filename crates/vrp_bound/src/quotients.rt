@@ -55,28 +55,28 @@ impl Quotients {
 #[cfg(test)]
 mod tests {
     use super::*;
-    use std::test::Fail;
+    use crate::assertion::assert_same;
+
+    // A unit, the greatest amount that is looked up, how many are, an amount, and its whole units.
+    const QUOTIENTS: &[(u64, u64, usize, u64, u64)] = &[
+        (1, 100, 0, 99, 99),
+        (1, 0, 0, 1_000_000_000_000, 1_000_000_000_000),
+        (100, 500, 501, 0, 0),
+        (100, 500, 501, 99, 0),
+        (100, 500, 501, 499, 4),
+        (100, 500, 501, 500, 5),
+        (100, 500, 501, 501, 5),
+        (100, 500, 501, 1_000_000_000_000, 10_000_000_000),
+        (7, 0, 1, 20, 2),
+    ];
 
     #[test]
-    fn looked_up_and_divided(rt: HostRuntime) -> Result<(), Fail> {
-        // a unit, the greatest amount that is looked up, how many are, an amount, and its whole units
-        let table = [
-            (1, 100, 0, 99, 99),
-            (1, 0, 0, 1_000_000_000_000, 1_000_000_000_000),
-            (100, 500, 501, 0, 0),
-            (100, 500, 501, 99, 0),
-            (100, 500, 501, 499, 4),
-            (100, 500, 501, 500, 5),
-            (100, 500, 501, 501, 5),
-            (100, 500, 501, 1_000_000_000_000, 10_000_000_000),
-            (7, 0, 1, 20, 2),
-        ];
-        for (unit, most, count, amount, whole) in table {
+    fn looked_up_and_divided(rt: HostRuntime) {
+        for &(unit, most, count, amount, whole) in QUOTIENTS {
             assert!(rt; 1 <= unit && most <= 500);
-            let quotients = Quotients::up_to(rt.alloc(), unit, most)?;
-            assert_eq!(rt; quotients.count(), count);
-            assert_eq!(rt; quotients.whole_units(amount), whole, "{amount} in {unit}");
+            let quotients = Quotients::up_to(rt.alloc(), unit, most).expect(&rt, "memory");
+            let found = (quotients.count(), quotients.whole_units(amount));
+            assert_same(&rt, found, (count, whole), (unit, most, amount));
         }
-        Ok(())
     }
 }

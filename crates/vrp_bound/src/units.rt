@@ -82,28 +82,28 @@ pub(crate) fn demands_in_units(alloc: Global, scope: UnitScope<'_>) -> Result<Ve
 #[cfg(test)]
 mod tests {
     use super::*;
+    use crate::assertion::assert_same;
     use crate::fixture::are_customers;
-    use std::test::Fail;
-    use vrp_model::{Metric, Weights};
+    use crate::instances::at_points;
+
+    // What the places demand, some customers, and their unit.
+    const UNITS: &[([u64; 4], &[u16], u64)] = &[
+        ([0, 200, 650, 300], &[1, 2, 3], 50),
+        ([0, 200, 650, 300], &[1, 3], 100),
+        ([0, 200, 650, 300], &[2], 650),
+        ([0, 200, 650, 300], &[], 1),
+        ([0, 6, 10, 15], &[1, 2, 3], 1),
+        ([0, 0, 10, 15], &[1, 2], 10),
+    ];
 
     #[test]
-    fn greatest_units(rt: HostRuntime) -> Result<(), Fail> {
-        let table: [([u64; 4], &[u16], u64); 6] = [
-            ([0, 200, 650, 300], &[1, 2, 3], 50),
-            ([0, 200, 650, 300], &[1, 3], 100),
-            ([0, 200, 650, 300], &[2], 650),
-            ([0, 200, 650, 300], &[], 1),
-            ([0, 6, 10, 15], &[1, 2, 3], 1),
-            ([0, 0, 10, 15], &[1, 2], 10),
-        ];
-        for (demands, customers, unit) in table {
+    fn greatest_units(rt: HostRuntime) {
+        for &(demands, customers, unit) in UNITS {
             let points = [(0, 0), (3, 4), (6, 8), (5, -12)];
-            let weights = Weights::points(rt.alloc(), Metric::Euc2d, &points)?;
-            let instance = Instance::new(rt.alloc(), weights, &demands, 1_000, &[1], None)?;
+            let instance = at_points(&rt, rt.alloc(), &points, &demands, 1_000);
             assert!(rt; are_customers(&instance, customers));
             let scope = Scope::new(&instance, customers);
-            assert_eq!(rt; unit_of(scope), unit, "{demands:?} {customers:?}");
+            assert_same(&rt, unit_of(scope), unit, (demands, customers));
         }
-        Ok(())
     }
 }

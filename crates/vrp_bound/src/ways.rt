@@ -24,21 +24,19 @@ pub(crate) fn take_least(ways: &mut Vec<Way>) -> Way
 #[cfg(test)]
 mod tests {
     use super::*;
-    use std::test::Fail;
+    use crate::assertion::assert_same;
 
     #[test]
-    fn taken_by_rising_weight(rt: HostRuntime) -> Result<(), Fail> {
+    fn taken_by_rising_weight(rt: HostRuntime) {
         let mut ways = Vec::new(rt.alloc());
         for (place, weight) in [(1, 7), (2, 3), (3, 9), (4, 3), (5, 0)] {
-            ways.push(Way { place, weight })?;
+            ways.push(Way { place, weight }).expect(&rt, "memory");
         }
-        for (place, weight) in [(5, 0), (2, 3), (4, 3), (1, 7), (3, 9)] {
+        for wanted in [(5, 0), (2, 3), (4, 3), (1, 7), (3, 9)] {
             assert!(rt; !ways.is_empty());
             let way = take_least(&mut ways);
-            assert_eq!(rt; way.place, place);
-            assert_eq!(rt; way.weight, weight);
+            assert_same(&rt, (way.place, way.weight), wanted, "the least");
         }
         assert!(rt; ways.is_empty());
-        Ok(())
     }
 }
