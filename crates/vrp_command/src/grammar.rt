@@ -1,6 +1,6 @@
 //! The command line's options, their ranges and their help, as `clap` is told them.
 use crate::options::{MAX_BUDGET, MAX_SECONDS};
-use clap::{Arg, Command, Error, value_parser};
+use clap::{Arg, ArgAction, Command, Error, value_parser};
 use std::alloc::Global;
 use vrp_model::MAX_NODES;
 use vrp_pool::MAX_WORKERS;
@@ -25,6 +25,9 @@ const BUDGET: &str =
 const SECONDS: &str =
     "After how many seconds the search ends and prints what it has.\nWithout --budget that is its only limit.\nFrom 1 to 1000000; default is none.";
 
+const PROGRESS: &str =
+    "Tell on standard error how the search goes: when something is\nnew, and about every second.";
+
 const DEPOT: &str =
     "The node that the trucks start from: one of the depots that the\nfile lists.\nFrom 1 to 1200; default is the first one listed.";
 
@@ -47,6 +50,7 @@ pub(crate) fn grammar<'a>(alloc: Global) -> Result<Command<'a>, Error> {
         .arg(pieces(alloc))?
         .arg(budget(alloc))?
         .arg(seconds(alloc))?
+        .arg(progress(alloc))?
         .arg(node(alloc, "depot").value_name("NODE").help(DEPOT))?
         .arg(node(alloc, "trucks").value_name("TRUCKS").help(TRUCKS))?;
     Ok(command)
@@ -82,6 +86,13 @@ fn seconds<'a>(alloc: Global) -> Arg<'a> {
         .value_name("SECONDS")
         .help(SECONDS)
         .value_parser(value_parser!(u32).range(1..=i64::from(MAX_SECONDS)))
+}
+
+fn progress<'a>(alloc: Global) -> Arg<'a> {
+    Arg::new(alloc, "progress")
+        .long("progress")
+        .help(PROGRESS)
+        .action(ArgAction::SetTrue)
 }
 
 // An option whose value is a number of nodes, or one of them.

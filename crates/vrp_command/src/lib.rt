@@ -11,6 +11,7 @@ mod law;
 mod options;
 mod output;
 mod program;
+mod progress;
 mod refusal;
 mod report;
 #[cfg(test)]

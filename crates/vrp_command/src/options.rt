@@ -45,6 +45,8 @@ pub struct Request {
     pub options: Options,
     /// After how many seconds the search ends, from 1 to `MAX_SECONDS`, or else no limit.
     pub seconds: Option<u32>,
+    /// Whether standard error is told how the run goes.
+    pub progress: bool,
 }
 
 /// The verdict on the plan that was printed.

@@ -9,9 +9,10 @@ use crate::command::run_gated;
 use crate::deadline::Deadline;
 use crate::fault::{RunError, exit_status, fault_line};
 use crate::options::Status;
+use crate::progress::Progress;
 use crate::words::{LineFault, line_status, parse_request};
 use std::alloc::Global;
-use std::io::{Read, Write};
+use std::io::{Eprint, Read, Write};
 use std::sync::Wait;
 use std::thread::Threads;
 use std::time::Clock;
@@ -20,7 +21,13 @@ use vrp_pool::Gate;
 /// Does what the words behind the program's name ask for, and answers the exit status. The report goes to `output`, and so do the
 /// help and the version; why there is no report goes to `errors`. A gate is told before each piece is searched, and may stop the
 /// search, as a limit of seconds does. What the words ask for no clause says.
-pub fn run_words<T: Threads + Wait + Clock + Sync, R: Read, W: Write, E: Write, G: Gate + Sync>(
+pub fn run_words<
+    T: Threads + Wait + Clock + Eprint + Sync,
+    R: Read,
+    W: Write,
+    E: Write,
+    G: Gate + Sync,
+>(
     rt: &T,
     alloc: Global,
     words: &[&str],
@@ -39,7 +46,9 @@ pub fn run_words<T: Threads + Wait + Clock + Sync, R: Read, W: Write, E: Write, 
     match parse_request(alloc, words) {
         Ok(request) => {
             let deadline = Deadline::new(rt, request.seconds, gate);
-            let outcome = run_gated(rt, alloc, request.options, input, output, &deadline);
+            let progress = Progress::new(rt, request.progress, &deadline);
+            let outcome = run_gated(rt, alloc, request.options, input, output, &progress);
+            progress.tell_end(&outcome);
             end(alloc, &outcome, errors)
         }
         Err(fault) => end_without_run(&fault, output, errors),

@@ -135,7 +135,11 @@ fn chosen(matches: &ArgMatches<'_>) -> Request
         depot: node(matches, "depot"),
         trucks: node(matches, "trucks"),
     };
-    Request { options, seconds }
+    Request {
+        options,
+        seconds,
+        progress: matches.get_flag("progress"),
+    }
 }
 
 // The number behind an option, and else the default. `clap` lets through only numbers of the range.

@@ -64,6 +64,7 @@ pub fn solve<'a, R: Threads + Wait + Sync, G: Gate + Sync>(
 {
     let tables = Tables::over_all(alloc, instance)?;
     if let Some(answer) = looked_at(rt, alloc, instance, &tables, budget)? {
+        hear_plan(gate, answer.plan());
         return Ok(answer);
     }
     let pieces = cutting.pieces().len() as u32;
@@ -169,11 +170,19 @@ fn solve_pile<L: Ledger + Send + Sync, R: Threads + Wait + Sync, G: Gate + Sync>
 {
     let singles = Plan::singles(shared.alloc, shared.instance)?;
     let opening = copied(shared.alloc, singles.as_ref())?;
+    hear_plan(shared.gate, opening.as_ref());
     let workers = thieves.len() as u32 + 1;
     let (register, callers) = Register::<L>::new(shared.alloc, opening, blank, workers)?;
     let (callers, searched) = searched_by_all(shared, &register, owner, thieves, callers)?;
     let Closed { book, .. } = register.close(callers);
     conclude(shared, singles, book.plan(), searched)
+}
+
+// The gate hears what a plan costs, if there is one.
+fn hear_plan<G: Gate>(gate: &G, plan: Option<&Plan>) {
+    if let Some(plan) = plan {
+        gate.hears(News::Plan(plan.cost()));
+    }
 }
 
 // The same plan once more, if there is one.

@@ -99,16 +99,31 @@ fn nodes(rt: HostRuntime) {
 // A limit of seconds is the only one, unless a budget is named.
 #[test]
 fn seconds(rt: HostRuntime) {
-    let table: [(&[&str], Option<u32>, u64); 4] = [
-        (&[], None, DEFAULT.budget),
-        (&["--seconds", "1"], Some(1), MAX_BUDGET),
-        (&["--seconds", "1000000"], Some(MAX_SECONDS), MAX_BUDGET),
-        (&["--seconds", "5", "--budget", "3"], Some(5), 3),
+    let table: [(&[&str], Option<u32>, u64, bool); 6] = [
+        (&[], None, DEFAULT.budget, false),
+        (&["--seconds", "1"], Some(1), MAX_BUDGET, false),
+        (
+            &["--seconds", "1000000"],
+            Some(MAX_SECONDS),
+            MAX_BUDGET,
+            false,
+        ),
+        (&["--seconds", "5", "--budget", "3"], Some(5), 3, false),
+        (&["--progress"], None, DEFAULT.budget, true),
+        (&["--progress", "--seconds", "5"], Some(5), MAX_BUDGET, true),
     ];
-    for (words, seconds, budget) in table {
+    for (words, seconds, budget, progress) in table {
         let options = Options { budget, ..DEFAULT };
         match parse_request(rt.alloc(), words) {
-            Ok(request) => assert_eq!(rt; request, Request { options, seconds }, "{words:?}"),
+            Ok(request) => assert_eq!(rt;
+                request,
+                Request {
+                    options,
+                    seconds,
+                    progress
+                },
+                "{words:?}"
+            ),
             Err(_) => assert!(rt; false, "{words:?} is refused"),
         }
     }

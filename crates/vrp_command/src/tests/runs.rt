@@ -4,6 +4,7 @@ use super::trucks::THREE;
 use super::{REPORT, SMALL};
 use crate::{Gate, NoGate, run_words};
 use std::alloc::Global;
+use std::io::Eprint;
 use std::process::Abort;
 use std::sync::Wait;
 use std::sync::atomic::{AtomicU64, Ordering};
@@ -56,7 +57,7 @@ const SIX: &str =
 type End<'a> = (u8, &'a str, &'a str);
 
 // Asserts how the program ends that is asked for by these words over a text.
-fn assert_run_by<R: Abort + Threads + Wait + Clock + Sync>(
+fn assert_run_by<R: Abort + Threads + Wait + Clock + Eprint + Sync>(
     rt: &R,
     alloc: Global,
     words: &[&str],

@@ -3,7 +3,7 @@ use Rattle.vrp_command.proofs.program.run_words.Goals as goal
 
 pub returns-in-Ok-clause-open : goal.returns-in-Ok-clause-open
 returns-in-Ok-clause-open g c one =
-    let printed = rw (c.new-deadline.ensures.seconds, c.new-deadline.ensures.gate) at c.run_gated-outcome.ensures.printed in
+    let printed = rw (c.new-progress.ensures.gate, c.new-deadline.ensures.seconds, c.new-deadline.ensures.gate) at c.run_gated-outcome.ensures.printed in
     let found = printed_with_one c.run_gated-outcome.result c.end.result c.end.ensures one printed in
     record {
       options = c.in-Ok.request.options;
