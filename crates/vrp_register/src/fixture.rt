@@ -1,40 +1,49 @@
-//! The instances and plans that tests are made on.
+//! The instances and plans that tests are made on. What has no memory for them ends the test.
 ghost use Rattle.std.specs.Prelude.{◌≡◌, ◌≤◌};
 
 use std::alloc::Global;
 use std::process::Abort;
-use std::test::Fail;
-use vrp_model::{Instance, Layout, Metric, NoMemory, Plan, Weights};
+use vrp_model::{Instance, Layout, Metric, Plan, Weights};
 
-/// Three nodes at (0, 0), (3, 4) and (6, 8): two customers, whom one truck can carry together.
-pub(crate) fn three_nodes(alloc: Global) -> Result<Instance, Fail> {
-    let weights = Weights::points(alloc, Metric::Euc2d, &[(0, 0), (3, 4), (6, 8)])?;
-    Ok(Instance::new(alloc, weights, &[0, 1, 1], 2, &[1], None)?)
+/// Two plans of three nodes at (0, 0), (3, 4) and (6, 8): one truck for each of the two customers, which costs 30, and one truck for
+/// both, which costs 20.
+pub(crate) fn singles_and_joined(rt: &impl Abort, alloc: Global) -> (Plan, Plan) {
+    let instance = three_nodes(rt, alloc);
+    (
+        singles(rt, alloc, &instance),
+        joined(rt, alloc, &instance, 1),
+    )
 }
 
-/// Two customers, for whom the words 1 2 0 and 2 1 0 cost 6 each.
-pub(crate) fn both_ways_equal(alloc: Global) -> Result<Instance, Fail> {
+fn three_nodes(rt: &impl Abort, alloc: Global) -> Instance {
+    let points = [(0, 0), (3, 4), (6, 8)];
+    let weights = Weights::points(alloc, Metric::Euc2d, &points).expect(rt, "memory");
+    Instance::new(alloc, weights, &[0, 1, 1], 2, &[1], None).expect(rt, "an instance")
+}
+
+/// Two plans of one truck for two customers, whose words 1 2 0 and 2 1 0 cost 6 each.
+pub(crate) fn forward_and_backward(rt: &impl Abort, alloc: Global) -> (Plan, Plan) {
+    let instance = both_ways_equal(rt, alloc);
+    (
+        joined(rt, alloc, &instance, 1),
+        joined(rt, alloc, &instance, 2),
+    )
+}
+
+fn both_ways_equal(rt: &impl Abort, alloc: Global) -> Instance {
     let entries = [0, 1, 2, 2, 0, 1, 4, 2, 0];
-    let weights = Weights::matrix(alloc, Layout::FullMatrix, &entries, 3)?;
-    Ok(Instance::new(alloc, weights, &[0, 1, 1], 2, &[1], None)?)
+    let weights = Weights::matrix(alloc, Layout::FullMatrix, &entries, 3).expect(rt, "memory");
+    Instance::new(alloc, weights, &[0, 1, 1], 2, &[1], None).expect(rt, "an instance")
 }
 
-/// The plan of one truck for each customer.
-pub(crate) fn singles(
-    rt: &impl Abort,
-    alloc: Global,
-    instance: &Instance,
-) -> Result<Plan, NoMemory> {
-    Ok(Plan::singles(alloc, instance)?.expect(rt, "a truck for each"))
+// The plan of one truck for each customer.
+fn singles(rt: &impl Abort, alloc: Global, instance: &Instance) -> Plan {
+    let plan = Plan::singles(alloc, instance).expect(rt, "memory");
+    plan.expect(rt, "a truck for each")
 }
 
-/// The plan of one truck that serves this one of two customers first, and then the other.
-pub(crate) fn joined(
-    rt: &impl Abort,
-    alloc: Global,
-    instance: &Instance,
-    first: u16,
-) -> Result<Plan, NoMemory> {
+// The plan of one truck that serves this one of two customers first, and then the other.
+fn joined(rt: &impl Abort, alloc: Global, instance: &Instance, first: u16) -> Plan {
     assert!(rt; instance.customers() == 2);
     assert!(rt; 1 <= first);
     assert!(rt; first <= 2);
@@ -44,13 +53,14 @@ pub(crate) fn joined(
     if first == 2 {
         assert!(rt; !instance.symmetric());
     }
-    Plan::of_word(alloc, instance, &[first, second, 0])
+    Plan::of_word(alloc, instance, &[first, second, 0]).expect(rt, "memory")
 }
 
 /// A plan that costs twice this distance: one truck to one customer and back.
-pub(crate) fn there_and_back(rt: &impl Abort, alloc: Global, distance: i64) -> Result<Plan, Fail> {
+pub(crate) fn there_and_back(rt: &impl Abort, alloc: Global, distance: i64) -> Plan {
     assert!(rt; 0 <= distance && distance <= 1_000);
-    let weights = Weights::points(alloc, Metric::Euc2d, &[(0, 0), (0, distance)])?;
-    let instance = Instance::new(alloc, weights, &[0, 1], 2, &[1], None)?;
-    Ok(singles(rt, alloc, &instance)?)
+    let points = [(0, 0), (0, distance)];
+    let weights = Weights::points(alloc, Metric::Euc2d, &points).expect(rt, "memory");
+    let instance = Instance::new(alloc, weights, &[0, 1], 2, &[1], None);
+    singles(rt, alloc, &instance.expect(rt, "an instance"))
 }

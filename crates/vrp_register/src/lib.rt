@@ -1,6 +1,8 @@
 //! The register: the first plan so far by cost and then by word, and the history of all offers, shared among threads.
 #![tactic(auto)]
 
+#[cfg(test)]
+mod assertion;
 mod book;
 mod caller;
 mod cost_word;

@@ -1,72 +1,68 @@
 //! Books of one thread: which offers are kept, and what is noted of each.
 use super::*;
-use crate::fixture::{both_ways_equal, joined, singles, three_nodes};
+use crate::assertion::assert_same;
+use crate::fixture::{forward_and_backward, singles_and_joined};
 use std::process::Abort;
-use std::test::Fail;
 
 // The offers that are made to a book, and the answers.
 type Offers<'a> = &'a [(&'a Plan, bool)];
 
 #[test]
-fn cheaper_plans_are_kept(rt: HostRuntime) -> Result<(), Fail> {
-    let instance = three_nodes(rt.alloc())?;
-    let (singles, joined) = (
-        singles(&rt, rt.alloc(), &instance)?,
-        joined(&rt, rt.alloc(), &instance, 1)?,
-    );
-    assert_eq!(rt; singles.cost(), 30);
-    assert_eq!(rt; joined.cost(), 20);
+fn cheaper_plans_are_kept(rt: HostRuntime) {
     let (rt, alloc) = (&rt, rt.alloc());
-    check_book(
-        rt,
-        alloc,
-        Some(&joined),
-        &[(&singles, false)],
-        Some(&joined),
-    )?;
-    let offers = [(&singles, false), (&joined, true), (&joined, false)];
-    check_book(rt, alloc, Some(&singles), &offers, Some(&joined))?;
-    check_book(rt, alloc, None, &[], None)?;
-    let offers = [(&singles, true), (&singles, false)];
-    check_book(rt, alloc, None, &offers, Some(&singles))?;
-    let offers = [(&joined, true), (&singles, false)];
-    check_book(rt, alloc, None, &offers, Some(&joined))
+    let (singles, joined) = singles_and_joined(rt, alloc);
+    let (singles, joined) = (&singles, &joined);
+    assert_same(rt, (singles.cost(), joined.cost()), (30, 20), "costs");
+    check_book(rt, alloc, Some(joined), &[(singles, false)], Some(joined));
+    let offers = [(singles, false), (joined, true), (joined, false)];
+    check_book(rt, alloc, Some(singles), &offers, Some(joined));
+    check_book(rt, alloc, None, &[], None);
+    let offers = [(singles, true), (singles, false)];
+    check_book(rt, alloc, None, &offers, Some(singles));
+    let offers = [(joined, true), (singles, false)];
+    check_book(rt, alloc, None, &offers, Some(joined));
 }
 
 #[test]
-fn earlier_words_are_kept(rt: HostRuntime) -> Result<(), Fail> {
-    let instance = both_ways_equal(rt.alloc())?;
-    let forward = joined(&rt, rt.alloc(), &instance, 1)?;
-    let backward = joined(&rt, rt.alloc(), &instance, 2)?;
-    assert_eq!(rt; forward.cost(), 6);
-    assert_eq!(rt; backward.cost(), 6);
-    check_book(
-        &rt,
-        rt.alloc(),
-        Some(&backward),
-        &[(&forward, true), (&backward, false)],
-        Some(&forward),
-    )
+fn earlier_words_are_kept(rt: HostRuntime) {
+    let (rt, alloc) = (&rt, rt.alloc());
+    let (forward, backward) = forward_and_backward(rt, alloc);
+    assert_same(rt, (forward.cost(), backward.cost()), (6, 6), "costs");
+    let offers = [(&forward, true), (&backward, false)];
+    check_book(rt, alloc, Some(&backward), &offers, Some(&forward));
 }
 
+// A book opens with this plan, these offers are made to it, and then this one is kept.
 fn check_book(
     rt: &impl Abort,
     alloc: Global,
     opening: Option<&Plan>,
     offers: Offers<'_>,
     kept: Option<&Plan>,
-) -> Result<(), Fail> {
-    let mut book = Book::open(alloc, copied(alloc, opening)?)?;
+) {
+    let opening = copied(alloc, opening).expect(rt, "memory");
+    let mut book = Book::open(alloc, opening).expect(rt, "memory");
     for (place, (plan, answer)) in offers.iter().enumerate() {
-        assert_eq!(rt; book.offer(alloc, u32::try_from(place)?, plan)?, *answer);
+        let caller = u32::try_from(place).expect(rt, "a caller");
+        let found = book.offer(alloc, caller, plan).expect(rt, "memory");
+        assert_same(rt, found, *answer, place);
     }
-    assert_eq!(rt; book.plan().map(Plan::word), kept.map(Plan::word));
-    assert_eq!(rt; book.entries(), offers.len());
+    let found = book.plan().map(Plan::word);
+    assert_same(rt, found, kept.map(Plan::word), "the plan");
+    assert_entries(rt, &book, offers);
+}
+
+// The book has noted these offers, the first by caller 0, the next by caller 1 and so on.
+fn assert_entries(rt: &impl Abort, book: &Book, offers: Offers<'_>) {
+    assert!(rt; book.entries() == offers.len());
     for (place, (plan, answer)) in offers.iter().enumerate() {
-        let entry = book.entry(place);
-        assert_eq!(rt; entry.caller, u32::try_from(place)?);
-        assert_eq!(rt; entry.plan.word(), plan.word());
-        assert_eq!(rt; entry.kept, *answer);
+        let Entry {
+            caller,
+            plan: noted,
+            kept,
+        } = book.entry(place);
+        assert_same(rt, u64::from(*caller), place as u64, place);
+        assert_same(rt, noted.word(), plan.word(), place);
+        assert_same(rt, *kept, *answer, place);
     }
-    Ok(())
 }

@@ -4,122 +4,176 @@ ghost use Rattle.std.specs.List.{All};
 ghost use Rattle.vrp_register.specs.Caller.{IsCallerOf};
 
 use super::*;
-use crate::fixture::{joined, singles, there_and_back, three_nodes};
-use std::alloc::AllocError;
+use crate::assertion::assert_same;
+use crate::fixture::{singles_and_joined, there_and_back};
 use std::marker::Brand;
 use std::process::Abort;
-use std::test::Fail;
 use std::thread;
 use std::thread::{Threads, join};
 
-#[test]
-fn one_thread(rt: HostRuntime) -> Result<(), Fail> {
-    check_one_thread::<Brand, HostRuntime>(&rt, rt.alloc(), Blank::new(2))
+// Asserts how many offers a register had, which plan it kept, and the least cost.
+fn assert_closed(
+    rt: &impl Abort,
+    closed: &Closed,
+    entries: usize,
+    kept: Option<&Plan>,
+    least: u64,
+) {
+    assert_same(rt, closed.book.entries(), entries, "entries");
+    let found = closed.book.plan().map(Plan::word);
+    assert_same(rt, found, kept.map(Plan::word), "the plan");
+    assert_same(rt, closed.least, least, "the least cost");
 }
 
-// One caller offers, and the other asks.
-fn check_one_thread<L: Ledger, R: Wait + Abort>(
+// A register that opens with a plan, and its two callers.
+fn opened_for_two<L: Ledger>(
+    rt: &impl Abort,
+    alloc: Global,
+    blank: Blank,
+    opening: &Plan,
+) -> (Register<L>, Caller<L>, Caller<L>)
+    requires name { blank.name ≡ L.name }
+    requires parts { blank.parts ≡ L.parts }
+    requires two { blank.parts ≡ 2 }
+    ensures callers { result.0.callers ≡ 2 }
+    ensures zero { IsCallerOf result.0 result.1 }
+    ensures one { IsCallerOf result.0 result.2 }
+{
+    let opening = opening.copy(alloc).expect(rt, "memory");
+    let opened = Register::<L>::new(alloc, Some(opening), blank, 2);
+    let (register, mut callers) = opened.expect(rt, "memory");
+    let one = callers.pop().expect(rt, "caller 1");
+    let zero = callers.pop().expect(rt, "caller 0");
+    (register, zero, one)
+}
+
+// What is left of a register of two callers.
+fn closed_for_two<L: Ledger>(
+    rt: &impl Abort,
+    alloc: Global,
+    register: Register<L>,
+    zero: Caller<L>,
+    one: Caller<L>,
+) -> Closed
+    requires callers { register.callers ≡ 2 }
+    requires zero { IsCallerOf register zero }
+    requires one { IsCallerOf register one }
+{
+    let callers = Vec::from_array(alloc, [zero, one]).ok();
+    register.close(callers.expect(rt, "memory"))
+}
+
+#[test]
+fn one_thread(rt: HostRuntime) {
+    let (singles, joined) = singles_and_joined(&rt, rt.alloc());
+    let closed = closed_by_one::<Brand, HostRuntime>(
+        &rt,
+        rt.alloc(),
+        Blank::new(2),
+        &singles,
+        &joined,
+    );
+    assert_closed(&rt, &closed, 1, Some(&joined), 20);
+}
+
+// What is left of a register to which one caller has offered a plan of 20, and which the other has asked.
+fn closed_by_one<L: Ledger, R: Wait + Abort>(
     rt: &R,
     alloc: Global,
     blank: Blank,
-) -> Result<(), Fail>
+    opening: &Plan,
+    joined: &Plan,
+) -> Closed
     requires name { blank.name ≡ L.name }
     requires parts { blank.parts ≡ L.parts }
     requires two { blank.parts ≡ 2 }
 {
-    let instance = three_nodes(alloc)?;
-    let joined = joined(rt, alloc, &instance, 1)?;
-    let opening = singles(rt, alloc, &instance)?;
-    let (register, mut callers) = Register::<L>::new(alloc, Some(opening), blank, 2)?;
-    let (Some(mut one), Some(mut zero)) = (callers.pop(), callers.pop()) else {
-        unreachable!()
-    };
-    let reply = register.offer(rt, alloc, &mut zero, &joined)?;
-    assert_eq!(rt;
-        reply,
-        Reply {
-            kept: true,
-            before: 30
-        }
+    let (register, mut zero, mut one) = opened_for_two::<L>(rt, alloc, blank, opening);
+    let reply = register.offer(rt, alloc, &mut zero, joined);
+    let (kept, before) = (true, 30);
+    assert_same(
+        rt,
+        reply.expect(rt, "memory"),
+        Reply { kept, before },
+        "an offer",
     );
-    assert_eq!(rt; register.least(&mut one), 20);
-    let kept = register.look(rt, alloc)?.expect(rt, "a plan");
-    assert_eq!(rt; kept.word(), joined.word());
-    callers.push(zero)?;
-    callers.push(one)?;
-    let closed = register.close(callers);
-    assert_eq!(rt; closed.book.entries(), 1);
-    assert_eq!(rt; closed.least, 20);
-    Ok(())
+    assert_same(rt, register.least(&mut one), 20, "the least cost");
+    assert_look(rt, alloc, &register, joined);
+    closed_for_two(rt, alloc, register, zero, one)
+}
+
+// A look at a register shows this plan.
+fn assert_look<L: Ledger, R: Wait + Abort>(
+    rt: &R,
+    alloc: Global,
+    register: &Register<L>,
+    wanted: &Plan,
+) {
+    let found = register.look(rt, alloc).expect(rt, "memory");
+    let found = found.as_ref().map(Plan::word);
+    assert_same(rt, found, Some(wanted.word()), "a look");
 }
 
 // The offers that are made to a register, and the answers.
 type Offers<'a> = &'a [(&'a Plan, bool, u64)];
 
 #[test]
-fn refused_offers(rt: HostRuntime) -> Result<(), Fail> {
-    let instance = three_nodes(rt.alloc())?;
-    let (singles, joined) = (
-        singles(&rt, rt.alloc(), &instance)?,
-        joined(&rt, rt.alloc(), &instance, 1)?,
-    );
-    assert_eq!(rt; singles.cost(), 30);
-    assert_eq!(rt; joined.cost(), 20);
+fn refused_offers(rt: HostRuntime) {
     let (rt, alloc) = (&rt, rt.alloc());
-    check_register(rt, alloc, None, &[], None)?;
-    check_register(rt, alloc, Some(&singles), &[], Some(&singles))?;
-    let dear = [(&singles, false, 20), (&joined, false, 20)];
-    check_register(rt, alloc, Some(&joined), &dear, Some(&joined))?;
+    let (singles, joined) = singles_and_joined(rt, alloc);
+    let (singles, joined) = (&singles, &joined);
+    assert_same(rt, (singles.cost(), joined.cost()), (30, 20), "costs");
+    check_register(rt, alloc, None, &[], None);
+    check_register(rt, alloc, Some(singles), &[], Some(singles));
+    let dear = [(singles, false, 20), (joined, false, 20)];
+    check_register(rt, alloc, Some(joined), &dear, Some(joined));
     let cheap = [
-        (&singles, false, 30),
-        (&joined, true, 30),
-        (&singles, false, 20),
+        (singles, false, 30),
+        (joined, true, 30),
+        (singles, false, 20),
     ];
-    check_register(rt, alloc, Some(&singles), &cheap, Some(&joined))?;
+    check_register(rt, alloc, Some(singles), &cheap, Some(joined));
     let first = [
-        (&singles, true, NO_COST),
-        (&singles, false, 30),
-        (&joined, true, 30),
+        (singles, true, NO_COST),
+        (singles, false, 30),
+        (joined, true, 30),
     ];
-    check_register(rt, alloc, None, &first, Some(&joined))?;
-    let many = Vec::from_elem(alloc, (&singles, false, 20), 3_000)?;
-    check_register(rt, alloc, Some(&joined), &many, Some(&joined))
+    check_register(rt, alloc, None, &first, Some(joined));
+    let many = Vec::from_elem(alloc, (singles, false, 20), 3_000).expect(rt, "memory");
+    check_register(rt, alloc, Some(joined), &many, Some(joined));
 }
 
+// One caller makes these offers to a register that opens with this plan, and then this one is kept.
 fn check_register<R: Wait + Abort>(
     rt: &R,
     alloc: Global,
     opening: Option<&Plan>,
     offers: Offers<'_>,
     kept: Option<&Plan>,
-) -> Result<(), Fail> {
-    check_offers::<Brand, R>(rt, alloc, Blank::new(1), opening, offers, kept)
+) {
+    let opening = copied(alloc, opening).expect(rt, "memory");
+    let closed = closed_by_offers::<Brand, R>(rt, alloc, Blank::new(1), opening, offers);
+    let least = kept.map_or(NO_COST, Plan::cost);
+    assert_closed(rt, &closed, offers.len(), kept, least);
 }
 
-// One caller makes these offers to a register that opens with this plan, and then this one is kept.
-fn check_offers<L: Ledger, R: Wait + Abort>(
+fn closed_by_offers<L: Ledger, R: Wait + Abort>(
     rt: &R,
     alloc: Global,
     blank: Blank,
-    opening: Option<&Plan>,
+    opening: Option<Plan>,
     offers: Offers<'_>,
-    kept: Option<&Plan>,
-) -> Result<(), Fail>
+) -> Closed
     requires name { blank.name ≡ L.name }
     requires parts { blank.parts ≡ L.parts }
     requires one { blank.parts ≡ 1 }
 {
-    let (register, mut callers) = Register::<L>::new(alloc, copied(alloc, opening)?, blank, 1)?;
-    let Some(mut caller) = callers.pop() else {
-        unreachable!()
-    };
-    assert_replies(rt, alloc, &register, &mut caller, offers)?;
-    callers.push(caller)?;
-    let Closed { book, least } = register.close(callers);
-    assert_eq!(rt; book.entries(), offers.len());
-    assert_eq!(rt; book.plan().map(Plan::word), kept.map(Plan::word));
-    assert_eq!(rt; least, kept.map_or(NO_COST, Plan::cost));
-    Ok(())
+    let opened = Register::<L>::new(alloc, opening, blank, 1);
+    let (register, mut callers) = opened.expect(rt, "memory");
+    let mut caller = callers.pop().expect(rt, "a caller");
+    assert_replies(rt, alloc, &register, &mut caller, offers);
+    let callers = Vec::from_array(alloc, [caller]).ok();
+    register.close(callers.expect(rt, "memory"))
 }
 
 // A caller makes these offers, and is answered so.
@@ -129,187 +183,149 @@ fn assert_replies<L: Ledger, R: Wait + Abort>(
     register: &Register<L>,
     caller: &mut Caller<L>,
     offers: Offers<'_>,
-) -> Result<(), NoMemory>
+)
     requires { IsCallerOf register.now caller.old }
     ensures { IsCallerOf register.now caller.new }
 {
     for (plan, kept, before) in offers {
-        let reply = register.offer(rt, alloc, caller, plan)?;
+        let reply = register.offer(rt, alloc, caller, plan);
         let (kept, before) = (*kept, *before);
-        assert_eq!(rt; reply, Reply { kept, before });
+        assert_same(
+            rt,
+            reply.expect(rt, "memory"),
+            Reply { kept, before },
+            "an offer",
+        );
     }
-    Ok(())
 }
 
 #[test]
-fn two_threads(rt: HostRuntime) -> Result<(), Fail> {
-    let instance = three_nodes(rt.alloc())?;
-    let singles = singles(&rt, rt.alloc(), &instance)?;
-    let joined = joined(&rt, rt.alloc(), &instance, 1)?;
+fn two_threads(rt: HostRuntime) {
+    let (singles, joined) = singles_and_joined(&rt, rt.alloc());
     let closed = closed_by_two::<Brand, HostRuntime>(
         &rt,
         rt.alloc(),
         Blank::new(2),
         &singles,
         &joined,
-    )?;
-    assert_eq!(rt; closed.least, 20);
-    assert_eq!(rt; closed.book.entries(), 4);
-    assert_eq!(rt;
-        costs_by(rt.alloc(), &closed.book, 0)?.as_slice(),
-        [30, 20].as_slice()
     );
-    assert_eq!(rt;
-        costs_by(rt.alloc(), &closed.book, 1)?.as_slice(),
-        [20, 30].as_slice()
-    );
-    assert_eq!(rt;
-        answers_to(rt.alloc(), &closed.book, 30)?.as_slice(),
-        [false, false].as_slice()
-    );
-    assert_eq!(rt;
-        answers_to(rt.alloc(), &closed.book, 20)?.as_slice(),
-        [true, false].as_slice()
-    );
-    assert_eq!(rt; closed.book.plan().map(Plan::word), Some(joined.word()));
-    Ok(())
+    assert_closed(&rt, &closed, 4, Some(&joined), 20);
+    assert_costs_by(&rt, &closed.book, 0, &[30, 20]);
+    assert_costs_by(&rt, &closed.book, 1, &[20, 30]);
+    assert_answers_to(&rt, &closed.book, 30, &[false, false]);
+    assert_answers_to(&rt, &closed.book, 20, &[true, false]);
 }
 
-// What the plans of a caller cost, in the order of the book.
-fn costs_by(alloc: Global, book: &Book, caller: u32) -> Result<Vec<u64>, AllocError> {
-    let mut costs = Vec::new(alloc);
+// Asserts what the plans of a caller cost, in the order of the book.
+fn assert_costs_by(rt: &impl Abort, book: &Book, caller: u32, costs: &[u64]) {
+    let mut costs = costs.iter();
     for index in 0..book.entries() {
         let entry = book.entry(index);
         if entry.caller == caller {
-            costs.push(entry.plan.cost())?;
+            assert_same(rt, Some(&entry.plan.cost()), costs.next(), caller);
         }
     }
-    Ok(costs)
+    assert_same(rt, costs.next(), None, caller);
 }
 
-// The answers to the offers of this cost, in the order of the book.
-fn answers_to(alloc: Global, book: &Book, cost: u64) -> Result<Vec<bool>, AllocError> {
-    let mut answers = Vec::new(alloc);
+// Asserts the answers to the offers of this cost, in the order of the book.
+fn assert_answers_to(rt: &impl Abort, book: &Book, cost: u64, answers: &[bool]) {
+    let mut answers = answers.iter();
     for index in 0..book.entries() {
         let entry = book.entry(index);
         if entry.plan.cost() == cost {
-            answers.push(entry.kept)?;
+            assert_same(rt, Some(&entry.kept), answers.next(), cost);
         }
     }
-    Ok(answers)
+    assert_same(rt, answers.next(), None, cost);
 }
 
 // What is left of a register to which two threads have each made two offers, in either order.
-fn closed_by_two<L: Ledger + Send + Sync, R: Threads + Wait + Sync>(
+fn closed_by_two<L: Ledger + Send + Sync, R: Threads + Wait + Abort + Sync>(
     rt: &R,
     alloc: Global,
     blank: Blank,
     singles: &Plan,
     joined: &Plan,
-) -> Result<Closed, NoMemory>
+) -> Closed
     requires name { blank.name ≡ L.name }
     requires parts { blank.parts ≡ L.parts }
     requires two { blank.parts ≡ 2 }
 {
-    let opening = singles.copy(alloc)?;
-    let (register, mut callers) = Register::<L>::new(alloc, Some(opening), blank, 2)?;
-    let (Some(one), Some(zero)) = (callers.pop(), callers.pop()) else {
-        unreachable!()
-    };
+    let (register, zero, one) = opened_for_two::<L>(rt, alloc, blank, singles);
     let shared = &register;
     let (zero, one) = join(
         rt,
-        || -> (Caller<L>, Result<(), NoMemory>)
+        || -> Caller<L>
             requires { IsCallerOf shared.now zero }
-            ensures { IsCallerOf shared.entry.now result.0 }
-        { offer_both(rt, alloc, shared, zero, singles, joined) },
-        || -> (Caller<L>, Result<(), NoMemory>)
+            ensures { IsCallerOf shared.entry.now result }
+        { offered(rt, alloc, shared, zero, &[singles, joined]) },
+        || -> Caller<L>
             requires { IsCallerOf shared.now one }
-            ensures { IsCallerOf shared.entry.now result.0 }
-        { offer_both(rt, alloc, shared, one, joined, singles) },
+            ensures { IsCallerOf shared.entry.now result }
+        { offered(rt, alloc, shared, one, &[joined, singles]) },
     );
-    zero.1?;
-    one.1?;
-    callers.push(zero.0)?;
-    callers.push(one.0)?;
-    Ok(register.close(callers))
+    closed_for_two(rt, alloc, register, zero, one)
 }
 
-// Offers two plans, and hands the caller back.
-fn offer_both<L: Ledger, R: Wait>(
+// Offers these plans, and hands the caller back.
+fn offered<L: Ledger, R: Wait + Abort>(
     rt: &R,
     alloc: Global,
     register: &Register<L>,
     mut caller: Caller<L>,
-    first: &Plan,
-    second: &Plan,
-) -> (Caller<L>, Result<(), NoMemory>)
+    plans: &[&Plan],
+) -> Caller<L>
     requires { IsCallerOf register.now caller }
-    ensures { IsCallerOf register.now result.0 }
+    ensures { IsCallerOf register.now result }
 {
-    if let Err(refusal) = register.offer(rt, alloc, &mut caller, first) {
-        return (caller, Err(refusal));
+    for plan in plans {
+        let reply = register.offer(rt, alloc, &mut caller, plan);
+        reply.expect(rt, "memory");
     }
-    if let Err(refusal) = register.offer(rt, alloc, &mut caller, second) {
-        return (caller, Err(refusal));
-    }
-    (caller, Ok(()))
+    caller
 }
 
 #[test]
-fn one_offers_and_one_asks(rt: HostRuntime) -> Result<(), Fail> {
-    let instance = three_nodes(rt.alloc())?;
-    let singles = singles(&rt, rt.alloc(), &instance)?;
-    let joined = joined(&rt, rt.alloc(), &instance, 1)?;
+fn one_offers_and_one_asks(rt: HostRuntime) {
+    let (singles, joined) = singles_and_joined(&rt, rt.alloc());
     let (closed, falls) = closed_while_asked::<Brand, HostRuntime>(
         &rt,
         rt.alloc(),
         Blank::new(2),
-        singles,
+        &singles,
         &joined,
-    )?;
+    );
     assert!(rt; falls);
-    assert_eq!(rt; closed.book.entries(), 1);
-    assert_eq!(rt; closed.least, 20);
-    Ok(())
+    assert_closed(&rt, &closed, 1, Some(&joined), 20);
 }
 
 // One thread offers a plan of 20 to a register of 30, while the other asks: whether it was answered 30 and then 20.
-fn closed_while_asked<L: Ledger + Send + Sync, R: Threads + Wait + Sync>(
+fn closed_while_asked<L: Ledger + Send + Sync, R: Threads + Wait + Abort + Sync>(
     rt: &R,
     alloc: Global,
     blank: Blank,
-    opening: Plan,
+    opening: &Plan,
     joined: &Plan,
-) -> Result<(Closed, bool), NoMemory>
+) -> (Closed, bool)
     requires name { blank.name ≡ L.name }
     requires parts { blank.parts ≡ L.parts }
     requires two { blank.parts ≡ 2 }
 {
-    let (register, mut callers) = Register::<L>::new(alloc, Some(opening), blank, 2)?;
-    let (Some(one), Some(zero)) = (callers.pop(), callers.pop()) else {
-        unreachable!()
-    };
+    let (register, zero, one) = opened_for_two::<L>(rt, alloc, blank, opening);
     let shared = &register;
-    let (zero, one) = join(
+    let (zero, (one, falls)) = join(
         rt,
-        || -> (Caller<L>, Result<Reply, NoMemory>)
+        || -> Caller<L>
             requires { IsCallerOf shared.now zero }
-            ensures { IsCallerOf shared.entry.now result.0 }
-        {
-            let mut zero = zero;
-            let reply = shared.offer(rt, alloc, &mut zero, joined);
-            (zero, reply)
-        },
+            ensures { IsCallerOf shared.entry.now result }
+        { offered(rt, alloc, shared, zero, &[joined]) },
         || -> (Caller<L>, bool)
             requires { IsCallerOf shared.now one }
             ensures { IsCallerOf shared.entry.now result.0 }
         { ask_often(shared, one) },
     );
-    zero.1?;
-    callers.push(zero.0)?;
-    callers.push(one.0)?;
-    Ok((register.close(callers), one.1))
+    (closed_for_two(rt, alloc, register, zero, one), falls)
 }
 
 // Asks 1,000 times, and tells whether the answers were 30 or 20 and never rose.
@@ -327,39 +343,47 @@ fn ask_often<L: Ledger>(register: &Register<L>, mut caller: Caller<L>) -> (Calle
     (caller, falls)
 }
 
+// How many callers there are, all of whom but the first offer all plans, how many offers that makes, and the least cost.
+const MANY: &[(u64, usize, u64)] = &[(1, 0, NO_COST), (8, 70, 2), (64, 630, 2)];
+
 #[test]
-fn many_callers(rt: HostRuntime) -> Result<(), Fail> {
-    let mut plans = Vec::new(rt.alloc());
-    for distance in (1..=10).rev() {
-        plans.push(there_and_back(&rt, rt.alloc(), distance)?)?;
-    }
-    // how many callers there are, all of whom but the first offer all plans, and how many offers that makes
-    for (callers, offers) in [(1, 0), (8, 70), (64, 630)] {
+fn many_callers(rt: HostRuntime) {
+    let plans = falling_plans(&rt, rt.alloc());
+    for &(callers, offers, least) in MANY {
+        assert!(rt; 1 <= callers && callers <= 64);
+        let blank = Blank::new(callers);
         let closed = closed_by_many::<Brand, HostRuntime>(
             &rt,
             rt.alloc(),
-            Blank::new(callers),
+            blank,
             callers,
-            &plans,
-        )?;
-        assert_eq!(rt; closed.book.entries(), offers, "{callers}");
-        assert!(rt; costs_by(rt.alloc(), &closed.book, 0)?.is_empty());
-        let least = if callers == 1 { NO_COST } else { 2 };
-        assert_eq!(rt; closed.least, least, "{callers}");
-        assert_eq!(rt;
-            closed.book.plan().map_or(NO_COST, Plan::cost),
-            least,
-            "{callers}"
+            plans.as_slice(),
         );
-        for caller in 1..callers as u32 {
-            let costs = costs_by(rt.alloc(), &closed.book, caller)?;
-            assert_eq!(rt;
-                costs.as_slice(),
-                [20, 18, 16, 14, 12, 10, 8, 6, 4, 2].as_slice()
-            );
-        }
+        let closed = closed.expect(&rt, "memory");
+        assert_same(&rt, closed.book.entries(), offers, callers);
+        assert_same(&rt, closed.least, least, callers);
+        let kept = closed.book.plan().map_or(NO_COST, Plan::cost);
+        assert_same(&rt, kept, least, callers);
+        assert_costs_by_many(&rt, &closed.book, callers as u32);
     }
-    Ok(())
+}
+
+// Ten plans that cost 20, 18 and so on down to 2.
+fn falling_plans(rt: &impl Abort, alloc: Global) -> Vec<Plan> {
+    let mut plans = Vec::new(alloc);
+    for distance in (1..=10).rev() {
+        let plan = there_and_back(rt, alloc, distance);
+        plans.push(plan).ok().expect(rt, "memory");
+    }
+    plans
+}
+
+// Each caller but the first has offered all plans, in their order.
+fn assert_costs_by_many(rt: &impl Abort, book: &Book, callers: u32) {
+    assert_costs_by(rt, book, 0, &[]);
+    for caller in 1..callers {
+        assert_costs_by(rt, book, caller, &[20, 18, 16, 14, 12, 10, 8, 6, 4, 2]);
+    }
 }
 
 // What is left of a register that opened without a plan, to which eight threads have offered these plans for all callers but the

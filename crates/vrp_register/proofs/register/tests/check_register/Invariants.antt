@@ -1,4 +1,4 @@
 use Rattle.vrp_register.proofs.register.tests.check_register.Given as goal
 
-abbrev pub ghosts-check_offers : goal.ghosts-check_offers
-ghosts-check_offers g a = record { name = a.blank.name; parts = a.blank.parts }
+abbrev pub ghosts-closed_by_offers : goal.ghosts-closed_by_offers
+ghosts-closed_by_offers g a = record { name = a.blank.name; parts = a.blank.parts }
