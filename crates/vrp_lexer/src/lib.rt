@@ -1,6 +1,8 @@
 //! What stands in a line of a CVRP file of TSPLIB 95: lines, tokens, keywords, numerals and the values of keywords.
 #![tactic(auto)]
 
+#[cfg(test)]
+mod assertion;
 mod fault;
 mod key;
 mod keyword;

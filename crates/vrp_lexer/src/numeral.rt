@@ -211,9 +211,9 @@ pub fn number(token: &[u8], low: i64, high: i64) -> Result<i64, FaultyLine>
 #[cfg(test)]
 mod tests {
     use super::*;
-    use std::test::*;
+    use crate::assertion::assert_same;
 
-    const NUMERALS: [(&str, Result<i64, FaultyLine>); 28] = [
+    const NUMERALS: &[(&str, Result<i64, FaultyLine>)] = &[
         ("67", Ok(67)),
         ("+67", Ok(67)),
         ("-67", Ok(-67)),
@@ -246,13 +246,13 @@ mod tests {
 
     #[test]
     fn numerals(rt: HostRuntime) {
-        for (token, want) in NUMERALS {
+        for &(token, want) in NUMERALS {
             let answer = number(token.as_bytes(), i64::MIN, i64::MAX);
-            assert_eq!(rt; answer, want, "at {token}");
+            assert_same(&rt, answer, want, token);
         }
     }
 
-    const NO_NUMERALS: [&str; 30] = [
+    const NO_NUMERALS: &[&str] = &[
         "",
         ".",
         "+",
@@ -287,13 +287,13 @@ mod tests {
 
     #[test]
     fn no_numerals(rt: HostRuntime) {
-        for token in NO_NUMERALS {
+        for &token in NO_NUMERALS {
             let answer = number(token.as_bytes(), i64::MIN, i64::MAX);
-            assert_eq!(rt; answer, Err(FaultyLine::BadNumber), "at {token}");
+            assert_same(&rt, answer, Err(FaultyLine::BadNumber), token);
         }
     }
 
-    const RANGES: [(i64, i64, &str, Result<i64, FaultyLine>); 10] = [
+    const RANGES: &[(i64, i64, &str, Result<i64, FaultyLine>)] = &[
         (0, 10, "0", Ok(0)),
         (0, 10, "1e1", Ok(10)),
         (0, 10, "11", Err(FaultyLine::BadNumber)),
@@ -308,8 +308,8 @@ mod tests {
 
     #[test]
     fn ranges(rt: HostRuntime) {
-        for (low, high, token, want) in RANGES {
-            assert_eq!(rt; number(token.as_bytes(), low, high), want, "at {token}");
+        for &(low, high, token, want) in RANGES {
+            assert_same(&rt, number(token.as_bytes(), low, high), want, token);
         }
     }
 }

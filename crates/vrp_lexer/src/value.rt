@@ -139,89 +139,101 @@ pub fn weight_format(explicit: bool, word: &[u8]) -> Result<WeightFormat, Faulty
 #[cfg(test)]
 mod tests {
     use super::*;
-    use std::test::*;
+    use crate::assertion::assert_same;
+    use FaultyLine::{BadValue, Unsupported};
 
-    const PROBLEM_TYPES: [(&str, Result<(), FaultyLine>); 10] = [
+    // A word, and what it is read as.
+    type Row<T> = (&'static str, Result<T, FaultyLine>);
+
+    const PROBLEM_TYPES: &[Row<()>] = &[
         ("CVRP", Ok(())),
-        ("TSP", Err(FaultyLine::Unsupported)),
-        ("ATSP", Err(FaultyLine::Unsupported)),
-        ("SOP", Err(FaultyLine::Unsupported)),
-        ("HCP", Err(FaultyLine::Unsupported)),
-        ("TOUR", Err(FaultyLine::Unsupported)),
-        ("", Err(FaultyLine::BadValue)),
-        ("cvrp", Err(FaultyLine::BadValue)),
-        ("CVRPTW", Err(FaultyLine::BadValue)),
-        ("VRP", Err(FaultyLine::BadValue)),
+        ("TSP", Err(Unsupported)),
+        ("ATSP", Err(Unsupported)),
+        ("SOP", Err(Unsupported)),
+        ("HCP", Err(Unsupported)),
+        ("TOUR", Err(Unsupported)),
+        ("", Err(BadValue)),
+        ("cvrp", Err(BadValue)),
+        ("CVRPTW", Err(BadValue)),
+        ("VRP", Err(BadValue)),
     ];
 
     #[test]
     fn problem_types(rt: HostRuntime) {
-        for (word, want) in PROBLEM_TYPES {
-            assert_eq!(rt; problem_type(word.as_bytes()), want, "at {word}");
+        for &(word, want) in PROBLEM_TYPES {
+            assert_same(&rt, problem_type(word.as_bytes()), want, word);
         }
     }
+
+    const DIMENSIONS: &[Row<u16>] = &[
+        ("1", Ok(1)),
+        ("+7.0", Ok(7)),
+        ("1.2e3", Ok(1200)),
+        ("", Err(BadValue)),
+        ("0", Err(BadValue)),
+        ("-1", Err(BadValue)),
+        ("2.5", Err(BadValue)),
+        ("1201", Err(BadValue)),
+        ("65537", Err(BadValue)),
+        ("two", Err(BadValue)),
+    ];
 
     #[test]
     fn dimensions(rt: HostRuntime) {
-        for (word, want) in [("1", 1), ("+7.0", 7), ("1.2e3", 1200)] {
-            assert_eq!(rt; dimension(word.as_bytes()), Ok(want), "at {word}");
-        }
-        for word in ["", "0", "-1", "2.5", "1201", "65537", "two"] {
-            assert_eq!(rt;
-                dimension(word.as_bytes()),
-                Err(FaultyLine::BadValue),
-                "at {word}"
-            );
+        for &(word, want) in DIMENSIONS {
+            assert_same(&rt, dimension(word.as_bytes()), want, word);
         }
     }
+
+    const CAPACITIES: &[Row<u64>] = &[
+        ("1", Ok(1)),
+        ("+7.0", Ok(7)),
+        ("1e9", Ok(1_000_000_000)),
+        ("", Err(BadValue)),
+        ("0", Err(BadValue)),
+        ("-1", Err(BadValue)),
+        ("2.5", Err(BadValue)),
+        ("1000000001", Err(BadValue)),
+        ("two", Err(BadValue)),
+    ];
 
     #[test]
     fn capacities(rt: HostRuntime) {
-        for (word, want) in [("1", 1), ("+7.0", 7), ("1e9", 1_000_000_000)] {
-            assert_eq!(rt; capacity(word.as_bytes()), Ok(want), "at {word}");
-        }
-        for word in ["", "0", "-1", "2.5", "1000000001", "two"] {
-            assert_eq!(rt;
-                capacity(word.as_bytes()),
-                Err(FaultyLine::BadValue),
-                "at {word}"
-            );
+        for &(word, want) in CAPACITIES {
+            assert_same(&rt, capacity(word.as_bytes()), want, word);
         }
     }
 
-    const WEIGHT_KINDS: [(&str, WeightKind); 6] = [
-        ("EXPLICIT", WeightKind::Explicit),
-        ("EUC_2D", WeightKind::Points(Metric::Euc2d)),
-        ("CEIL_2D", WeightKind::Points(Metric::Ceil2d)),
-        ("MAN_2D", WeightKind::Points(Metric::Man2d)),
-        ("MAX_2D", WeightKind::Points(Metric::Max2d)),
-        ("ATT", WeightKind::Points(Metric::Att)),
+    const WEIGHT_KINDS: &[Row<WeightKind>] = &[
+        ("EXPLICIT", Ok(WeightKind::Explicit)),
+        ("EUC_2D", Ok(WeightKind::Points(Metric::Euc2d))),
+        ("CEIL_2D", Ok(WeightKind::Points(Metric::Ceil2d))),
+        ("MAN_2D", Ok(WeightKind::Points(Metric::Man2d))),
+        ("MAX_2D", Ok(WeightKind::Points(Metric::Max2d))),
+        ("ATT", Ok(WeightKind::Points(Metric::Att))),
+        ("EUC_3D", Err(Unsupported)),
+        ("MAX_3D", Err(Unsupported)),
+        ("MAN_3D", Err(Unsupported)),
+        ("GEO", Err(Unsupported)),
+        ("XRAY1", Err(Unsupported)),
+        ("XRAY2", Err(Unsupported)),
+        ("SPECIAL", Err(Unsupported)),
+        ("", Err(BadValue)),
+        ("euc_2d", Err(BadValue)),
+        ("EUC", Err(BadValue)),
+        ("EUC_2D_", Err(BadValue)),
+        ("EUC_4D", Err(BadValue)),
+        ("XRAY3", Err(BadValue)),
     ];
 
     #[test]
     fn weight_kinds(rt: HostRuntime) {
-        for (word, want) in WEIGHT_KINDS {
-            assert_eq!(rt; weight_kind(word.as_bytes()), Ok(want), "at {word}");
-        }
-        for word in [
-            "EUC_3D", "MAX_3D", "MAN_3D", "GEO", "XRAY1", "XRAY2", "SPECIAL",
-        ] {
-            assert_eq!(rt;
-                weight_kind(word.as_bytes()),
-                Err(FaultyLine::Unsupported),
-                "at {word}"
-            );
-        }
-        for word in ["", "euc_2d", "EUC", "EUC_2D_", "EUC_4D", "XRAY3"] {
-            assert_eq!(rt;
-                weight_kind(word.as_bytes()),
-                Err(FaultyLine::BadValue),
-                "at {word}"
-            );
+        for &(word, want) in WEIGHT_KINDS {
+            assert_same(&rt, weight_kind(word.as_bytes()), want, word);
         }
     }
 
-    const LAYOUTS: [(&str, Layout); 9] = [
+    const LAYOUTS: &[(&str, Layout)] = &[
         ("FULL_MATRIX", Layout::FullMatrix),
         ("UPPER_ROW", Layout::UpperRow),
         ("LOWER_ROW", Layout::LowerRow),
@@ -233,22 +245,31 @@ mod tests {
         ("LOWER_DIAG_COL", Layout::LowerDiagCol),
     ];
 
+    // A layout is the same for explicit weights and for others.
     #[test]
-    fn weight_formats(rt: HostRuntime) {
-        for (word, layout) in LAYOUTS {
-            for explicit in [false, true] {
-                let want = Ok(WeightFormat::Matrix(layout));
-                assert_eq!(rt; weight_format(explicit, word.as_bytes()), want, "at {word}");
-            }
+    fn layouts(rt: HostRuntime) {
+        for &(word, layout) in LAYOUTS {
+            let want = Ok(WeightFormat::Matrix(layout));
+            assert_same(&rt, weight_format(false, word.as_bytes()), want, word);
+            assert_same(&rt, weight_format(true, word.as_bytes()), want, word);
         }
-        let bad = Err(FaultyLine::BadValue);
-        assert_eq!(rt;
-            weight_format(false, b"FUNCTION"),
-            Ok(WeightFormat::Function)
-        );
-        assert_eq!(rt; weight_format(true, b"FUNCTION"), bad);
-        for word in ["", "full_matrix", "MATRIX", "UPPER", "DIAG_ROW"] {
-            assert_eq!(rt; weight_format(false, word.as_bytes()), bad, "at {word}");
+    }
+
+    // Whether the weights are explicit, and a row.
+    const NO_LAYOUTS: &[(bool, Row<WeightFormat>)] = &[
+        (false, ("FUNCTION", Ok(WeightFormat::Function))),
+        (true, ("FUNCTION", Err(BadValue))),
+        (false, ("", Err(BadValue))),
+        (false, ("full_matrix", Err(BadValue))),
+        (false, ("MATRIX", Err(BadValue))),
+        (false, ("UPPER", Err(BadValue))),
+        (false, ("DIAG_ROW", Err(BadValue))),
+    ];
+
+    #[test]
+    fn no_layouts(rt: HostRuntime) {
+        for &(explicit, (word, want)) in NO_LAYOUTS {
+            assert_same(&rt, weight_format(explicit, word.as_bytes()), want, word);
         }
     }
 }

@@ -1,8 +1,8 @@
 //! What words are keywords.
 use super::*;
-use std::test::*;
+use crate::assertion::assert_same;
 
-const KEYWORDS: [(&str, Option<Keyword>); 14] = [
+const KEYWORDS: &[(&str, Option<Keyword>)] = &[
     ("TYPE", Some(Keyword::Key(Key::Problem))),
     ("EDGE_WEIGHT_FORMAT", Some(Keyword::Key(Key::WeightFormat))),
     ("DEPOT_SECTION", Some(Keyword::Key(Key::Depot))),
@@ -21,7 +21,7 @@ const KEYWORDS: [(&str, Option<Keyword>); 14] = [
 
 #[test]
 fn keywords_of_words(rt: HostRuntime) {
-    for (word, expected) in KEYWORDS {
-        assert_eq!(rt; keyword_of(word.as_bytes()), expected, "at {word}");
+    for &(word, expected) in KEYWORDS {
+        assert_same(&rt, keyword_of(word.as_bytes()), expected, word);
     }
 }

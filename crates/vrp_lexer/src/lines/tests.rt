@@ -1,12 +1,12 @@
 //! Which lines files have.
 use super::*;
+use crate::assertion::assert_same;
 use crate::key::Key;
 use std::process::Abort;
-use std::test::*;
 
 const CAPACITY: Option<Keyword> = Some(Keyword::Key(Key::Capacity));
 
-const HEADINGS: [(&str, Option<Keyword>, &str); 14] = [
+const HEADINGS: &[(&str, Option<Keyword>, &str)] = &[
     ("CAPACITY:5", CAPACITY, "5"),
     ("CAPACITY+2", CAPACITY, "+2"),
     ("CAPACITY 2", CAPACITY, "2"),
@@ -26,7 +26,7 @@ const HEADINGS: [(&str, Option<Keyword>, &str); 14] = [
 // Each line begins with this keyword, behind which this stands.
 #[test]
 fn headings(rt: HostRuntime) {
-    for (text, keyword, behind) in HEADINGS {
+    for &(text, keyword, behind) in HEADINGS {
         let mut lines = Lines::of(text.as_bytes());
         assert!(rt; lines.next_data().is_none(), "at {text}");
         assert_heading_alone(&rt, &mut lines, keyword, behind);
@@ -40,12 +40,10 @@ fn assert_heading_alone(
     keyword: Option<Keyword>,
     behind: &str,
 ) {
-    let Some(heading) = lines.next_heading() else {
-        return assert!(rt; false, "before {behind}");
-    };
-    assert_eq!(rt; heading.number, 1, "before {behind}");
-    assert_eq!(rt; heading.keyword, keyword, "before {behind}");
-    assert_eq!(rt; heading.behind, behind.as_bytes());
+    let heading = lines.next_heading().expect(rt, behind);
+    assert_same(rt, heading.number, 1, behind);
+    assert_same(rt, heading.keyword, keyword, behind);
+    assert_same(rt, heading.behind, behind.as_bytes(), behind);
     assert_no_more(rt, lines);
 }
 
@@ -54,7 +52,7 @@ fn assert_no_more(rt: &impl Abort, lines: &mut Lines<'_>) {
     assert!(rt; lines.next_heading().is_none());
 }
 
-const DATA_LINES: [&[u8]; 9] = [
+const DATA_LINES: &[&[u8]] = &[
     b"",
     b" \t\r",
     b"1 2 3",
@@ -69,14 +67,14 @@ const DATA_LINES: [&[u8]; 9] = [
 // Each line is a data line.
 #[test]
 fn data_lines(rt: HostRuntime) {
-    for text in DATA_LINES {
+    for &text in DATA_LINES {
         let mut lines = Lines::of(text);
         assert_data_line(&rt, &mut lines, 1, text);
         assert_no_more(&rt, &mut lines);
     }
 }
 
-const ENDS: [(&str, Option<u32>); 10] = [
+const ENDS: &[(&str, Option<u32>)] = &[
     ("EOF\nNAME : A", None),
     (" EOF : 1\nNAME : A", None),
     ("EOF-\nNAME : A", None),
@@ -92,11 +90,15 @@ const ENDS: [(&str, Option<u32>); 10] = [
 // No line behind EOF is read, and EOF ends a file as a keyword alone.
 #[test]
 fn ends(rt: HostRuntime) {
-    for (text, number) in ENDS {
+    for &(text, number) in ENDS {
         let mut lines = Lines::of(text.as_bytes());
-        let found = lines.next_heading();
-        assert_eq!(rt; found.map(|heading| heading.number), number, "at {text}");
+        assert_same(&rt, next_number(&mut lines), number, text);
     }
+}
+
+// The number of the next heading.
+fn next_number(lines: &mut Lines<'_>) -> Option<u32> {
+    Some(lines.next_heading()?.number)
 }
 
 // A file's lines, each with its number.
@@ -115,18 +117,13 @@ fn numbered_lines(rt: HostRuntime) {
 
 // The next line is a data line of this number.
 fn assert_data_line(rt: &impl Abort, lines: &mut Lines<'_>, number: u32, text: &[u8]) {
-    let Some(line) = lines.next_data() else {
-        return assert!(rt; false, "at {number}");
-    };
-    assert_eq!(rt; line.number, number);
-    assert_eq!(rt; line.text, text);
+    let line = lines.next_data().expect(rt, "a data line");
+    assert_same(rt, line.number, number, number);
+    assert_same(rt, line.text, text, number);
 }
 
 // The next line is a heading of this number, and no data line.
 fn assert_heading(rt: &impl Abort, lines: &mut Lines<'_>, number: u32) {
     assert!(rt; lines.next_data().is_none(), "at {number}");
-    assert_eq!(rt;
-        lines.next_heading().map(|heading| heading.number),
-        Some(number)
-    );
+    assert_same(rt, next_number(lines), Some(number), number);
 }

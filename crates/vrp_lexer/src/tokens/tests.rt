@@ -1,9 +1,9 @@
 //! Which tokens texts have.
 use super::*;
+use crate::assertion::assert_same;
 use std::process::Abort;
-use std::test::*;
 
-const TOKENS: [(&str, [&str; 3]); 10] = [
+const TOKENS: &[(&str, [&str; 3])] = &[
     ("", ["", "", ""]),
     (" \t\r", ["", "", ""]),
     ("1", ["1", "", ""]),
@@ -24,12 +24,13 @@ fn tokens_of_texts(rt: HostRuntime) {
     }
 }
 
-fn assert_tokens(rt: &impl Abort, text: &str, expected: [&str; 3]) {
+fn assert_tokens(rt: &impl Abort, text: &str, expected: &[&str]) {
     let mut tokens = Tokens::of(text.as_bytes());
     for token in expected {
-        assert_eq!(rt; tokens.is_empty(), token.is_empty(), "at {text}");
-        assert_eq!(rt; tokens.next().unwrap_or(b""), token.as_bytes(), "at {text}");
+        assert_same(rt, tokens.is_empty(), token.is_empty(), text);
+        let found = tokens.next().unwrap_or(b"");
+        assert_same(rt, found, token.as_bytes(), text);
     }
     assert!(rt; tokens.is_empty(), "at {text}");
-    assert_eq!(rt; tokens.next(), None, "at {text}");
+    assert_same(rt, tokens.next(), None, text);
 }
