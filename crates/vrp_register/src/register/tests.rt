@@ -89,14 +89,7 @@ fn closed_by_one<L: Ledger, R: Wait + Abort>(
     requires two { blank.parts ≡ 2 }
 {
     let (register, mut zero, mut one) = opened_for_two::<L>(rt, alloc, blank, opening);
-    let reply = register.offer(rt, alloc, &mut zero, joined);
-    let (kept, before) = (true, 30);
-    assert_same(
-        rt,
-        reply.expect(rt, "memory"),
-        Reply { kept, before },
-        "an offer",
-    );
+    assert_replies(rt, alloc, &register, &mut zero, &[(joined, true, 30)]);
     assert_same(rt, register.least(&mut one), 20, "the least cost");
     assert_look(rt, alloc, &register, joined);
     closed_for_two(rt, alloc, register, zero, one)
@@ -157,6 +150,7 @@ fn check_register<R: Wait + Abort>(
     assert_closed(rt, &closed, offers.len(), kept, least);
 }
 
+// What is left of a register to which one caller has made these offers.
 fn closed_by_offers<L: Ledger, R: Wait + Abort>(
     rt: &R,
     alloc: Global,
@@ -187,15 +181,9 @@ fn assert_replies<L: Ledger, R: Wait + Abort>(
     requires { IsCallerOf register.now caller.old }
     ensures { IsCallerOf register.now caller.new }
 {
-    for (plan, kept, before) in offers {
-        let reply = register.offer(rt, alloc, caller, plan);
-        let (kept, before) = (*kept, *before);
-        assert_same(
-            rt,
-            reply.expect(rt, "memory"),
-            Reply { kept, before },
-            "an offer",
-        );
+    for &(plan, kept, before) in offers {
+        let reply = register.offer(rt, alloc, caller, plan).expect(rt, "memory");
+        assert_same(rt, reply, Reply { kept, before }, before);
     }
 }
 
