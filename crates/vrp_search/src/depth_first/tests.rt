@@ -305,13 +305,13 @@ fn push(rt: &impl Abort, partial: &mut Partial<'_>, symbol: u16)
 }
 
 /// Searches the whole tree with tables over all customers.
-pub(crate) fn search_all(
+pub(crate) fn search_all<B: Board>(
     alloc: Global,
     instance: &Instance,
     budget: u64,
-    board: &mut Local,
+    board: &mut B,
 ) -> Result<Ended, NoMemory>
-    requires board { ForSome board.old (IsPlanOf instance.now) }
+    requires board { B.serves board.old instance.now }
     requires budget { 1 ≤ budget }
 {
     let cutting = Cutting::whole(alloc, instance)?;
@@ -319,15 +319,15 @@ pub(crate) fn search_all(
 }
 
 // Searches a piece with tables over all customers.
-fn search_piece(
+fn search_piece<B: Board>(
     alloc: Global,
     instance: &Instance,
     piece: &Piece,
     budget: u64,
-    board: &mut Local,
+    board: &mut B,
 ) -> Result<Ended, NoMemory>
     requires piece { IsFront instance.now piece.now.word }
-    requires board { ForSome board.old (IsPlanOf instance.now) }
+    requires board { B.serves board.old instance.now }
     requires budget { 1 ≤ budget }
 {
     let tables = Tables::over_all(alloc, instance)?;

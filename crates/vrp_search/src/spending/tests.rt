@@ -2,11 +2,11 @@
 ghost use Rattle.std.specs.Prelude.{true, ⊤};
 
 use crate::board::Board;
-use crate::cutting::Cutting;
-use crate::depth_first::{Ended, search};
+use crate::depth_first::Ended;
+use crate::depth_first::tests::search_all;
 use std::alloc::Global;
+use std::process::Abort;
 use std::test::Fail;
-use vrp_bound::Tables;
 use vrp_model::{Instance, Metric, NO_COST, NoMemory, Plan, Weights};
 
 // Keeps the least cost alone.
@@ -39,41 +39,47 @@ impl Board for CostBoard {
     }
 }
 
-// The board is asked once, after 65,536 partial plans, where the budget allows more.
+// What the board says, the budget, and how many partial plans are looked at. The board is asked after 65,536 of them.
+const STOPS: &[(bool, u64, u64)] = &[
+    (false, 1, 1),
+    (false, 65_535, 65_535),
+    (false, 65_536, 65_536),
+    (false, 65_537, 65_536),
+    (false, 1_000_000, 65_536),
+    (true, 65_537, 65_537),
+    (true, 200_000, 200_000),
+];
+
 #[test]
 fn stops_where_the_board_says_so(rt: HostRuntime) -> Result<(), Fail> {
     let instance = scattered(rt.alloc())?;
-    let table = [
-        (false, 1, 1),
-        (false, 65_535, 65_535),
-        (false, 65_536, 65_536),
-        (false, 65_537, 65_536),
-        (false, 1_000_000, 65_536),
-        (true, 65_537, 65_537),
-        (true, 200_000, 200_000),
-    ];
-    for (goes_on, budget, looked) in table {
-        let mut board = CostBoard {
-            least: NO_COST,
-            goes_on,
-        };
-        let cutting = Cutting::whole(rt.alloc(), &instance)?;
-        let tables = Tables::over_all(rt.alloc(), &instance)?;
-        assert!(rt; budget >= 1);
-        let ended = search(
-            rt.alloc(),
-            &instance,
-            &tables,
-            &cutting.pieces()[0],
-            budget,
-            &mut board,
-        )?;
-        let Ended::Unfinished { spent, .. } = ended else {
-            panic!(rt; "{ended:?}")
-        };
-        assert_eq!(rt; spent, looked, "{goes_on} {budget}");
+    for &(goes_on, budget, looked) in STOPS {
+        assert_looked(&rt, rt.alloc(), &instance, (goes_on, budget), looked);
     }
     Ok(())
+}
+
+// Asserts how many partial plans are looked at before the search is left unfinished.
+fn assert_looked(
+    rt: &impl Abort,
+    alloc: Global,
+    instance: &Instance,
+    (goes_on, budget): (bool, u64),
+    looked: u64,
+) {
+    let mut board = CostBoard {
+        least: NO_COST,
+        goes_on,
+    };
+    assert!(rt; budget >= 1);
+    let ended = search_all(alloc, instance, budget, &mut board).expect(rt, "memory");
+    let Ended::Unfinished { spent, .. } = ended else {
+        panic!(rt; "{ended:?}")
+    };
+    assert!(rt;
+        spent == looked,
+        "{spent} is not {looked}, at {goes_on} {budget}"
+    );
 }
 
 // Twenty scattered customers, four to a truck.

@@ -6,7 +6,7 @@ use Rattle.vrp_search.specs.Search.{AreCovered}
 use Rattle.vrp_search.proofs.depth_first.tests.search_piece.Goals as goal
 
 pub search-requires-clause-covered : goal.search-requires-clause-covered
-search-requires-clause-covered c =
+search-requires-clause-covered g c =
     let p = c.args.instance.now in
     let front = c.args.piece.now.word in
     let among : c.in_ok-tables.tables.among ≡ customers p = ap (λ (tables : TablesOf). tables.among) c.in_ok-tables.ensures in
