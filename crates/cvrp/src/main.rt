@@ -2,10 +2,11 @@
 #![tactic(auto)]
 
 use std::env::{self, Env};
-use std::io::{self, Write};
+use std::io::{self, Eprint, Write};
 use std::process::ExitCode;
 use std::sync::Wait;
 use std::thread::Threads;
+use std::time::Clock;
 use vrp_command::{LineFault, NoGate, end_without_run, run_words, words_fault};
 
 fn main(rt: HostRuntime) -> ExitCode {
@@ -17,10 +18,10 @@ fn main(rt: HostRuntime) -> ExitCode {
 }
 
 // The exit status of what the words behind the program's name ask for, if they can be had.
-fn run_args<R: Env + AllocGlobal + Input + Print + Threads + Wait + Sync, E: Write>(
-    rt: &R,
-    errors: &mut E,
-) -> Result<u8, LineFault> {
+fn run_args<
+    R: Env + AllocGlobal + Input + Print + Eprint + Clock + Threads + Wait + Sync,
+    E: Write,
+>(rt: &R, errors: &mut E) -> Result<u8, LineFault> {
     let args = match env::args(rt) {
         Ok(args) => args,
         Err(error) => return Err(words_fault(rt.alloc(), &error)),

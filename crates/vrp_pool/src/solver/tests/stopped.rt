@@ -65,41 +65,60 @@ impl Gate for GoesOn {
     }
 }
 
-// With a budget of 999 nothing comes before the pieces, and each takes more. With a larger one the gate is asked once in each of four
-// runs of ruin and recreate, which it stops, and once before the rounds for prices, unless the budget is too small for these.
+// Workers, pieces, and the budget of each piece.
+type Asked = (u32, u32, u64);
+
+// Between which numbers the gate goes on, and how many partial plans are looked at in all. With a budget of 999 nothing comes before
+// the pieces, and each takes more. With a larger one the gate is asked once in each of four runs of ruin and recreate, which it stops,
+// and once before the rounds for prices, unless the budget is too small for these.
+const STOPPED: &[(Asked, (u64, u64), u64)] = &[
+    ((1, 21, 999), (0, 0), 21),
+    ((2, 21, 999), (0, 0), 21),
+    ((8, 21, 999), (0, 0), 21),
+    ((1, 21, 999), (0, 1), 1_019),
+    ((2, 21, 999), (0, 1), 1_019),
+    ((8, 21, 999), (0, 1), 1_019),
+    ((1, 21, AMPLE), (0, 0), 21),
+    ((1, 1, 100_000_000), (5, 5), 1),
+    ((1, 1, 100_000_000), (5, 6), 65_536),
+    ((1, 1, 100_000_000), (5, 7), 131_072),
+    ((1, 1, 120_000), (4, 6), 120_000),
+];
+
 #[test]
 fn stopped_searches(rt: HostRuntime) -> Result<(), Fail> {
-    // Workers, pieces, the budget, between which numbers the gate goes on, and how many partial plans are looked at in all.
-    let table = [
-        (1, 21, 999, (0, 0), 21),
-        (2, 21, 999, (0, 0), 21),
-        (8, 21, 999, (0, 0), 21),
-        (1, 21, 999, (0, 1), 999 + 20),
-        (2, 21, 999, (0, 1), 999 + 20),
-        (8, 21, 999, (0, 1), 999 + 20),
-        (1, 21, AMPLE, (0, 0), 21),
-        (1, 1, 100_000_000, (5, 5), 1),
-        (1, 1, 100_000_000, (5, 6), 65_536),
-        (1, 1, 100_000_000, (5, 7), 131_072),
-        (1, 1, 120_000, (4, 6), 120_000),
-    ];
     let instance = four_trucks(rt.alloc())?;
-    for (workers, pieces, budget, (from, below), looked) in table {
+    for &(asked, (from, below), looked) in STOPPED {
         let gate = GoesOn::between(from, below);
-        let cutting = cut(rt.alloc(), &instance, pieces)?;
-        assert_eq!(rt; cutting.pieces().len() as u32, pieces);
-        assert!(rt; workers <= MAX_WORKERS);
-        let answer = solve(&rt, rt.alloc(), &instance, cutting, workers, budget, &gate)?;
+        let answer = answer_behind(&rt, rt.alloc(), &instance, asked, &gate)?;
         let is_open = matches!(answer, Answer::Open { .. });
-        assert!(rt; is_open, "{workers} {budget} {below}");
-        assert_eq!(rt;
-            gate.looked.load(Ordering::SeqCst),
-            looked,
-            "{workers} {budget} {below}"
-        );
-        assert_eq!(rt; gate.done.load(Ordering::SeqCst), u64::from(pieces));
+        assert!(rt; is_open, "{asked:?} {below}");
+        assert_heard(&rt, &gate, asked, looked);
     }
     Ok(())
+}
+
+// The answer of a search behind a gate.
+fn answer_behind<R: Abort + Threads + Wait + Sync>(
+    rt: &R,
+    alloc: Global,
+    instance: &Instance,
+    (workers, pieces, budget): Asked,
+    gate: &GoesOn,
+) -> Result<Answer, Fail> {
+    assert!(rt; 1 <= workers && workers <= MAX_WORKERS);
+    assert!(rt; pieces <= MAX_PIECES);
+    assert!(rt; 1 <= budget);
+    let cutting = cut(alloc, instance, pieces)?;
+    Ok(solve(rt, alloc, instance, cutting, workers, budget, gate)?)
+}
+
+// Asserts of how many partial plans a gate has heard, and that all pieces are done with.
+fn assert_heard(rt: &impl Abort, gate: &GoesOn, asked: Asked, looked: u64) {
+    let heard = gate.looked.load(Ordering::SeqCst);
+    assert!(rt; heard == looked, "{heard} is not {looked}, at {asked:?}");
+    let done = gate.done.load(Ordering::SeqCst);
+    assert!(rt; done == u64::from(asked.1), "{done}, at {asked:?}");
 }
 
 // A gate that stops nothing hears of the plan that is proved, and of a bound below it.
@@ -108,16 +127,13 @@ fn what_a_gate_hears(rt: HostRuntime) -> Result<(), Fail> {
     let instance = four_trucks(rt.alloc())?;
     for workers in [1, 2] {
         let gate = GoesOn::between(0, u64::MAX);
-        let cutting = cut(rt.alloc(), &instance, 21)?;
-        let answer = solve(&rt, rt.alloc(), &instance, cutting, workers, AMPLE, &gate)?;
-        let Answer::Proven(plan) = answer else {
-            panic!(rt; "not proven");
-        };
-        assert_eq!(rt; plan.cost(), 375);
-        assert_eq!(rt; gate.least.load(Ordering::SeqCst), 375);
+        let asked = (workers, 21, AMPLE);
+        let answer = answer_behind(&rt, rt.alloc(), &instance, asked, &gate)?;
+        assert!(rt; matches!(answer, Answer::Proven(_)), "not proven");
+        let least = gate.least.load(Ordering::SeqCst);
+        assert!(rt; least == 375, "{least}");
         let bound = gate.bound.load(Ordering::SeqCst);
         assert!(rt; 365 < bound && bound <= 375, "{bound}");
-        assert_eq!(rt; gate.done.load(Ordering::SeqCst), 21);
     }
     Ok(())
 }
