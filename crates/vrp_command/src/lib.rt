@@ -8,6 +8,7 @@ mod fault;
 mod grammar;
 mod input;
 mod law;
+mod line;
 mod options;
 mod output;
 mod program;

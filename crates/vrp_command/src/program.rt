@@ -19,7 +19,7 @@ use std::time::Clock;
 use vrp_pool::Gate;
 
 /// Does what the words behind the program's name ask for, and answers the exit status. The report goes to `output`, and so do the
-/// help and the version; why there is no report goes to `errors`. A gate is told before each piece is searched, and may stop the
+/// help and the version; why there is no report goes to `errors`, and how the run goes, where that is asked for, to `rt`. A gate is told before each piece is searched, and may stop the
 /// search, as a limit of seconds does. What the words ask for no clause says.
 pub fn run_words<
     T: Threads + Wait + Clock + Eprint + Sync,

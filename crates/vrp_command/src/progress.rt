@@ -1,93 +1,25 @@
-//! Lines on standard error that tell how a run goes.
-ghost use Rattle.std.specs.Prelude.{◌≡◌, None};
+//! A gate that tells on standard error how a run goes.
+ghost use Rattle.std.specs.Prelude.{◌≡◌};
 
 use crate::fault::RunError;
+use crate::line::{Line, Stage};
 use crate::options::Status;
-use std::fmt;
 use std::io::Eprint;
 use std::sync::atomic::{AtomicU64, Ordering};
 use std::time::{Clock, Instant};
 use vrp_pool::{Gate, News};
 
-/// What a run is at.
-#[derive(Clone, Copy, Debug, PartialEq, Eq)]
-enum Stage {
-    Look,
-    FirstPlan,
-    Prices,
-    Search,
-    Ended(Status),
-}
+// What stands for no cost.
+const NO_PLAN: u64 = u64::MAX;
 
-impl fmt::Display for Stage {
-    // What is printed no clause says.
-    ghost output = { λ _. None };
+// What stands for each stage of a run that has not ended.
+const FIRST_LOOK: u64 = 0;
 
-    fn fmt<W: fmt::Write>(&self, f: &mut fmt::Formatter<W>) -> fmt::Result {
-        f.write_str(match self {
-            Stage::Look => "first look",
-            Stage::FirstPlan => "first plan",
-            Stage::Prices => "prices",
-            Stage::Search => "search",
-            Stage::Ended(Status::Proven) => "Proven",
-            Stage::Ended(Status::Open) => "Open",
-            Stage::Ended(Status::NoPlan) => "NoPlan",
-        })
-    }
-}
+const FIRST_PLAN: u64 = 1;
 
-/// One line.
-#[derive(Clone, Copy, Debug, PartialEq, Eq)]
-struct Line {
-    stage: Stage,
-    // Since the start, where the clock tells.
-    seconds: Option<u64>,
-    // Of the best plan, if one is known.
-    cost: Option<u64>,
-    // No plan costs less, where that is known.
-    bound: Option<u64>,
-    done: u64,
-    pieces: u64,
-    looked: u64,
-}
+const PRICES: u64 = 2;
 
-impl fmt::Display for Line {
-    ghost output = { λ _. None };
-
-    fn fmt<W: fmt::Write>(&self, f: &mut fmt::Formatter<W>) -> fmt::Result {
-        if let Some(seconds) = self.seconds {
-            write!(f, "{seconds} s, ")?;
-        }
-        write!(f, "{}", self.stage)?;
-        if let Some(cost) = self.cost {
-            write!(f, ", cost {cost}")?;
-        }
-        if let Some(bound) = self.bound {
-            write!(f, ", lower bound {bound}")?;
-        }
-        if let (Some(cost), Some(bound)) = (self.cost, self.bound) {
-            let gap = hundredths(cost, bound);
-            write!(f, ", gap {}.{:02}%", gap / 100, gap % 100)?;
-        }
-        if self.pieces > 0 {
-            write!(
-                f,
-                ", {} of {} pieces, {} partial plans",
-                self.done, self.pieces, self.looked
-            )?;
-        }
-        Ok(())
-    }
-}
-
-// By how many hundredths of a percent a cost is above a bound.
-fn hundredths(cost: u64, bound: u64) -> u64 {
-    let above = u128::from(cost.saturating_sub(bound)) * 10_000;
-    (above / u128::from(cost.max(1))) as u64
-}
-
-// What stands for no cost and no time.
-const NONE: u64 = u64::MAX;
+const SEARCH: u64 = 3;
 
 /// A gate that tells of a run on standard error, if that is asked for, and passes on to another gate all that it is told: a line when
 /// something is new, and one about every second. Where a line can't be written the run goes on. What the lines say no clause says.
@@ -118,8 +50,8 @@ impl<'a, T: Clock + Eprint, G: Gate> Progress<'a, T, G> {
             tells,
             start: Instant::now(rt).ok(),
             gate,
-            stage: AtomicU64::new(0),
-            cost: AtomicU64::new(NONE),
+            stage: AtomicU64::new(FIRST_LOOK),
+            cost: AtomicU64::new(NO_PLAN),
             bound: AtomicU64::new(0),
             pieces: AtomicU64::new(0),
             done: AtomicU64::new(0),
@@ -128,11 +60,16 @@ impl<'a, T: Clock + Eprint, G: Gate> Progress<'a, T, G> {
         }
     }
 
-    /// The last line, where the run has come to a verdict.
+    /// The last line, where the run has come to a verdict. No plan costs less than one that is proven.
     pub(crate) fn tell_end(&self, outcome: &Result<Status, RunError>) {
-        if let Ok(status) = outcome {
-            self.tell(Stage::Ended(*status));
+        let Ok(status) = outcome else {
+            return;
+        };
+        if *status == Status::Proven {
+            self.bound
+                .store(self.cost.load(Ordering::Relaxed), Ordering::Relaxed);
         }
+        self.tell(Stage::Ended(*status));
     }
 
     // How many seconds have passed, if the clock tells.
@@ -150,7 +87,7 @@ impl<'a, T: Clock + Eprint, G: Gate> Progress<'a, T, G> {
         let line = Line {
             stage,
             seconds: self.seconds(),
-            cost: if cost == NONE { None } else { Some(cost) },
+            cost: if cost == NO_PLAN { None } else { Some(cost) },
             bound: if bound == 0 { None } else { Some(bound) },
             done: self.done.load(Ordering::Relaxed),
             pieces: self.pieces.load(Ordering::Relaxed),
@@ -162,6 +99,9 @@ impl<'a, T: Clock + Eprint, G: Gate> Progress<'a, T, G> {
 
     // Writes a line where none was written in this second.
     fn tell_when_due(&self) {
+        if !self.tells {
+            return;
+        }
         let Some(seconds) = self.seconds() else {
             return;
         };
@@ -184,9 +124,9 @@ impl<'a, T: Clock + Eprint, G: Gate> Progress<'a, T, G> {
     // What the run is at.
     fn stage(&self) -> Stage {
         match self.stage.load(Ordering::Relaxed) {
-            0 => Stage::Look,
-            1 => Stage::FirstPlan,
-            2 => Stage::Prices,
+            FIRST_LOOK => Stage::Look,
+            FIRST_PLAN => Stage::FirstPlan,
+            PRICES => Stage::Prices,
             _ => Stage::Search,
         }
     }
@@ -208,11 +148,11 @@ impl<'a, T: Clock + Eprint, G: Gate> Gate for Progress<'a, T, G> {
     fn hears(&self, news: News) {
         self.gate.hears(news);
         match news {
-            News::FirstPlan => self.comes_to(1),
-            News::Prices => self.comes_to(2),
+            News::FirstPlan => self.comes_to(FIRST_PLAN),
+            News::Prices => self.comes_to(PRICES),
             News::Pieces(pieces) => {
                 self.pieces.store(u64::from(pieces), Ordering::Relaxed);
-                self.comes_to(3);
+                self.comes_to(SEARCH);
             }
             News::Bound(bound) => {
                 self.bound.fetch_max(bound, Ordering::Relaxed);
@@ -238,6 +178,3 @@ impl<'a, T: Clock + Eprint, G: Gate> Gate for Progress<'a, T, G> {
         self.gate.goes_on()
     }
 }
-
-#[cfg(test)]
-mod tests;

@@ -40,12 +40,13 @@ const FIRST_LOOK: u64 = 20_000;
 /// They draw the pieces from one pile and offer their plans to one register, which opens with the plan of one truck for each
 /// customer, where there are this many trucks. The search bounds by tables over all customers. A piece that it leaves unfinished is
 /// bounded once more at the end, where that may count, by tables over the customers that the piece leaves unserved; where each plan
-/// under it then costs more than the best one, it is finished. A gate is told before each piece. The cutting is given up.
+/// under it then costs more than the best one, it is finished. A gate is told before each piece, hears what is new, and is asked now
+/// and then whether to go on. The cutting is given up.
 ///
 /// Where the budget is no less than 1,000, there is more before. One worker looks at the whole tree, at no more than 20,000 partial
-/// plans and no more than the budget: where that is enough, nothing else is done, and the gate is told nothing. Else a first plan is
-/// offered, if one is found: by savings, and with no less than 100,000 partial plans for all pieces also by ruin and recreate. And
-/// prices are made, if there is such a plan and prices are found: then the search of a piece prunes by them.
+/// plans and no more than the budget: where that is enough, nothing else is done, and the gate hears of the plan alone. Else a first
+/// plan is offered, if one is found: by savings, and with no less than 100,000 partial plans for all pieces also by ruin and
+/// recreate. And prices are made, if there is such a plan and prices are found: then the search of a piece prunes by them.
 pub fn solve<'a, R: Threads + Wait + Sync, G: Gate + Sync>(
     rt: &'a R,
     alloc: Global,

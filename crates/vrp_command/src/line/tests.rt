@@ -1,7 +1,6 @@
 //! What the lines say.
 use super::*;
 use std::process::Abort;
-use vrp_pool::NoGate;
 
 const NOTHING: Line = Line {
     stage: Stage::FirstPlan,

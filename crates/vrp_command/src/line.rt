@@ -1,0 +1,85 @@
+//! One line that tells how a run goes.
+ghost use Rattle.std.specs.Prelude.{None};
+
+use crate::options::Status;
+use std::fmt;
+
+/// What a run is at.
+#[derive(Clone, Copy, Debug, PartialEq, Eq)]
+pub(crate) enum Stage {
+    Look,
+    FirstPlan,
+    Prices,
+    Search,
+    Ended(Status),
+}
+
+impl fmt::Display for Stage {
+    // What is printed no clause says.
+    ghost output = { λ _. None };
+
+    fn fmt<W: fmt::Write>(&self, f: &mut fmt::Formatter<W>) -> fmt::Result {
+        f.write_str(match self {
+            Stage::Look => "first look",
+            Stage::FirstPlan => "first plan",
+            Stage::Prices => "prices",
+            Stage::Search => "search",
+            Stage::Ended(Status::Proven) => "Proven",
+            Stage::Ended(Status::Open) => "Open",
+            Stage::Ended(Status::NoPlan) => "NoPlan",
+        })
+    }
+}
+
+/// What is known of a run.
+#[derive(Clone, Copy, Debug, PartialEq, Eq)]
+pub(crate) struct Line {
+    pub(crate) stage: Stage,
+    // Since the start, where the clock tells.
+    pub(crate) seconds: Option<u64>,
+    // Of the best plan, if one is known.
+    pub(crate) cost: Option<u64>,
+    // No plan costs less, where that is known.
+    pub(crate) bound: Option<u64>,
+    pub(crate) done: u64,
+    pub(crate) pieces: u64,
+    pub(crate) looked: u64,
+}
+
+impl fmt::Display for Line {
+    ghost output = { λ _. None };
+
+    fn fmt<W: fmt::Write>(&self, f: &mut fmt::Formatter<W>) -> fmt::Result {
+        if let Some(seconds) = self.seconds {
+            write!(f, "{seconds} s, ")?;
+        }
+        write!(f, "{}", self.stage)?;
+        if let Some(cost) = self.cost {
+            write!(f, ", cost {cost}")?;
+        }
+        if let Some(bound) = self.bound {
+            write!(f, ", lower bound {bound}")?;
+        }
+        if let (Some(cost), Some(bound)) = (self.cost, self.bound) {
+            let gap = hundredths(cost, bound);
+            write!(f, ", gap {}.{:02}%", gap / 100, gap % 100)?;
+        }
+        if self.pieces > 0 {
+            write!(
+                f,
+                ", {} of {} pieces, {} partial plans",
+                self.done, self.pieces, self.looked
+            )?;
+        }
+        Ok(())
+    }
+}
+
+// By how many hundredths of a percent a cost is above a bound.
+fn hundredths(cost: u64, bound: u64) -> u64 {
+    let above = u128::from(cost.saturating_sub(bound)) * 10_000;
+    (above / u128::from(cost.max(1))) as u64
+}
+
+#[cfg(test)]
+mod tests;
