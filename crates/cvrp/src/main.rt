@@ -4,6 +4,7 @@
 use std::env::{self, Env};
 use std::io::{self, Eprint, Write};
 use std::process::ExitCode;
+use std::rt::Files;
 use std::sync::Wait;
 use std::thread::Threads;
 use std::time::Clock;
@@ -19,7 +20,7 @@ fn main(rt: HostRuntime) -> ExitCode {
 
 // The exit status of what the words behind the program's name ask for, if they can be had.
 fn run_args<
-    R: Env + AllocGlobal + Input + Print + Eprint + Clock + Threads + Wait + Sync,
+    R: Env + AllocGlobal + Files + Input + Print + Eprint + Clock + Threads + Wait + Sync,
     E: Write,
 >(rt: &R, errors: &mut E) -> Result<u8, LineFault> {
     let args = match env::args(rt) {

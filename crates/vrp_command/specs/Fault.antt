@@ -7,6 +7,8 @@ use Rattle.vrp_command.specs.declared.options.Status.{Status}
 use Rattle.vrp_command.specs.declared.options.Status.TheVariants as status
 use Rattle.vrp_command.specs.declared.fault.RunError.{RunError}
 use Rattle.vrp_command.specs.declared.fault.RunError.TheVariants as fault
+use Rattle.vrp_command.specs.declared.start.StartError.{StartError}
+use Rattle.vrp_command.specs.declared.start.StartError.TheVariants as start
 
 abbrev pub fault_text : RunError → List ℕ
 fault_text (fault.Text refusal) = refusal_text refusal
@@ -38,3 +40,10 @@ refusal_fault (text.WrongCount key) = fault.Text (text.WrongCount key)
 refusal_fault (text.BadNode key node) = fault.Text (text.BadNode key node)
 refusal_fault (text.Instance refusal) = fault.Text (text.Instance refusal)
 refusal_fault text.TooLong = fault.Text text.TooLong
+
+-- the exit status where there is no plan to begin with
+abbrev pub start_code : StartError → ℕ
+start_code (start.Refused _) = 3
+start_code start.TooLong = 3
+start_code start.OutOfMemory = 4
+start_code start.Read = 5

@@ -35,3 +35,7 @@ plan_lines p (Some plan) = route_lines p 1 plan.routes ++ cost_line plan.cost
 
 abbrev pub report_of : Problem → Answer → List ℕ
 report_of p answer = plan_lines p (known_plan answer) ++ verdict_line answer
+
+-- the report of a plan that is lawful and was not searched for
+abbrev pub lawful_report : Problem → PricedPlan → List ℕ
+lawful_report p plan = plan_lines p (Some plan) ++ codes "Lawful\n"

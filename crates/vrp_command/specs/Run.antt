@@ -41,6 +41,27 @@ pub record AnswersBytes (options : Options) (may_stop : Bool) (bytes report : Li
   pub meant : MeansProblem bytes options.depot problem
   pub reported : ReportsAnswer options may_stop (limited options.trucks problem) report ended
 
+-- what was read means a problem, and this is it with the trucks that were asked for
+pub record ReadsProblem (options : Options) (unread_old unread_new : Option (List ℕ)) (problem : Problem) : Type 0 where
+  pub bytes : List ℕ
+  pub input : IsInput unread_old unread_new bytes
+  pub meant : Problem
+  pub means : MeansProblem bytes options.depot meant
+  pub with_trucks : problem ≡ limited options.trucks meant
+
+-- what was written is the report of an answer to the problem, and nothing else
+pub record WritesAnswer (options : Options) (may_stop : Bool) (problem : Problem) (written_old written_new : Option (List ℕ)) (ended : Status) : Type 0 where
+  pub report : List ℕ
+  pub reported : ReportsAnswer options may_stop problem report ended
+  pub output : Appends written_old written_new report
+
+-- what was written is a part of the report of an answer to the problem, from its first byte on
+pub record WritesPart (options : Options) (may_stop : Bool) (problem : Problem) (written_old written_new : Option (List ℕ)) : Type 0 where
+  pub report : List ℕ
+  pub ended : Status
+  pub reported : ReportsAnswer options may_stop problem report ended
+  pub output : AppendsPart written_old written_new report
+
 -- What was written is the report of an answer to what was read, and nothing else. What is known of a reader's bytes, and of a
 -- writer's, comes before the call and after it.
 pub record PrintsAnswer (options : Options) (may_stop : Bool) (unread_old unread_new written_old written_new : Option (List ℕ)) (ended : Status) : Type 0 where

@@ -1,7 +1,7 @@
 //! The command line's options, their ranges and their help, as `clap` is told them.
 use crate::options::{MAX_BUDGET, MAX_SECONDS};
 use clap::{Arg, ArgAction, Command, Error, value_parser};
-use std::alloc::Global;
+use std::alloc::{AllocError, Global};
 use vrp_model::MAX_NODES;
 use vrp_pool::MAX_WORKERS;
 use vrp_search::MAX_PIECES;
@@ -34,6 +34,12 @@ const DEPOT: &str =
 const TRUCKS: &str =
     "How many trucks there are: a plan has no more routes.\nFrom 1 to 1200; default is as many as are wanted.";
 
+const START: &str =
+    "A file with a plan to begin with, as CVRPLIB writes it: a line\nRoute #1: 5 2 for each route. Its customers are numbered from 1,\nby rising node and without the depot: not as a report has them.";
+
+const CHECK: &str =
+    "Tell whether the plan of --start is lawful and what it costs, and\nsearch for no other.";
+
 const VERDICTS_AND_STATUSES: &str =
     "The last line of the report is the verdict:\n  Proven  no plan costs less than the printed one\n  Open L  a piece was left open: no plan costs less than L, but one may\n          cost less than the printed one\n  NoPlan  so few trucks can't serve all customers\n\nExit statuses:\n  0  Proven, NoPlan, or this help\n  1  Open\n  2  the command line is refused\n  3  the file is refused\n  4  no memory\n  5  a read or a write failed\n\nExample, with four threads, for ten minutes at most:\n  cvrp --workers 4 --seconds 600 < examples/E-n51-k5.vrp";
 
@@ -52,7 +58,9 @@ pub(crate) fn grammar<'a>(alloc: Global) -> Result<Command<'a>, Error> {
         .arg(seconds(alloc))?
         .arg(progress(alloc))?
         .arg(node(alloc, "depot").value_name("NODE").help(DEPOT))?
-        .arg(node(alloc, "trucks").value_name("TRUCKS").help(TRUCKS))?;
+        .arg(node(alloc, "trucks").value_name("TRUCKS").help(TRUCKS))?
+        .arg(start(alloc))?
+        .arg(check(alloc)?)?;
     Ok(command)
 }
 
@@ -93,6 +101,22 @@ fn progress<'a>(alloc: Global) -> Arg<'a> {
         .long("progress")
         .help(PROGRESS)
         .action(ArgAction::SetTrue)
+}
+
+fn start<'a>(alloc: Global) -> Arg<'a> {
+    Arg::new(alloc, "start")
+        .long("start")
+        .value_name("FILE")
+        .help(START)
+}
+
+// To check a plan there must be one.
+fn check<'a>(alloc: Global) -> Result<Arg<'a>, AllocError> {
+    Arg::new(alloc, "check")
+        .long("check")
+        .help(CHECK)
+        .action(ArgAction::SetTrue)
+        .requires_arg("start")
 }
 
 // An option whose value is a number of nodes, or one of them.

@@ -10,11 +10,14 @@ mod input;
 mod law;
 mod line;
 mod options;
+mod outcome;
 mod output;
+mod problem;
 mod program;
 mod progress;
 mod refusal;
 mod report;
+mod start;
 #[cfg(test)]
 mod tests;
 mod words;

@@ -40,13 +40,17 @@ impl Default for Options {
 
 /// What the words of a command line ask for.
 #[derive(Clone, Copy, Debug, PartialEq, Eq)]
-pub struct Request {
+pub struct Request<'a> {
     /// How the run is asked for.
     pub options: Options,
     /// After how many seconds the search ends, from 1 to `MAX_SECONDS`, or else no limit.
     pub seconds: Option<u32>,
     /// Whether standard error is told how the run goes.
     pub progress: bool,
+    /// The file of a plan to begin with, if there is one.
+    pub start: Option<&'a str>,
+    /// Whether that plan is only to be checked.
+    pub check: bool,
 }
 
 /// The verdict on the plan that was printed.

@@ -1,28 +1,37 @@
 //! The program over given words and streams: from a command line to an exit status.
-ghost use Rattle.std.specs.Prelude.{◌≡◌, ◌≤◌, ◌⊎◌};
+ghost use Rattle.std.specs.Option.{ForSome, option_map};
+ghost use Rattle.std.specs.Prelude.{◌≡◌, ◌≢◌, ◌≤◌, ◌⊎◌, IsTrue, codes};
 ghost use Rattle.std.specs.Io.KnownBytes.{Keeps};
-ghost use Rattle.vrp_command.specs.Fault.{exit_code};
-ghost use Rattle.vrp_command.specs.Options.{line_code};
-ghost use Rattle.vrp_command.specs.Program.{PrintsReport};
+ghost use Rattle.vrp_command.specs.Fault.{exit_code, start_code};
+ghost use Rattle.vrp_command.specs.Options.{AreInRange, line_code};
+ghost use Rattle.vrp_command.specs.Program.{ChecksPlan, HasWord, PrintsReport, WritesLawful, WritesStatus};
+ghost use Rattle.vrp_model.specs.Route.{IsPlanOf};
 
-use crate::command::run_gated;
 use crate::deadline::Deadline;
 use crate::fault::{RunError, exit_status, fault_line};
-use crate::options::Status;
+use crate::options::{Request, Status};
+use crate::outcome::print_answer;
+use crate::output::write_report;
+use crate::problem::read_problem;
 use crate::progress::Progress;
+use crate::report::lawful_report;
+use crate::start::{StartError, start_plan};
 use crate::words::{LineFault, line_status, parse_request};
 use std::alloc::Global;
 use std::io::{Eprint, Read, Write};
+use std::rt::Files;
 use std::sync::Wait;
 use std::thread::Threads;
 use std::time::Clock;
+use vrp_model::{Instance, Plan};
 use vrp_pool::Gate;
 
 /// Does what the words behind the program's name ask for, and answers the exit status. The report goes to `output`, and so do the
-/// help and the version; why there is no report goes to `errors`, and how the run goes, where that is asked for, to `rt`. A gate is told before each piece is searched, and may stop the
-/// search, as a limit of seconds does. What the words ask for no clause says.
+/// help and the version; why there is no report goes to `errors`, and how the run goes, where that is asked for, to `rt`. A gate is told
+/// before each piece is searched, and may stop the search, as a limit of seconds does. What the words ask for no clause says, but
+/// that without the word `--check` a plan is searched for.
 pub fn run_words<
-    T: Threads + Wait + Clock + Eprint + Sync,
+    T: Threads + Wait + Clock + Eprint + Files + Sync,
     R: Read,
     W: Write,
     E: Write,
@@ -38,20 +47,141 @@ pub fn run_words<
 ) -> u8
     ensures known { result ≤ 5 }
     ensures done { result ≡ 0 → Keeps (R.remaining input.old) (R.remaining input.new)
-        ⊎ PrintsReport (G.may_stop gate.now) (R.remaining input.old) (R.remaining input.new) (W.contents output.old) (W.contents output.new) result }
+        ⊎ PrintsReport (G.may_stop gate.now) (R.remaining input.old) (R.remaining input.new) (W.contents output.old) (W.contents output.new) result
+        ⊎ (HasWord words.now (codes "--check") × ChecksPlan (R.remaining input.old) (R.remaining input.new) (W.contents output.old) (W.contents output.new)) }
     ensures open { result ≡ 1 → PrintsReport (G.may_stop gate.now) (R.remaining input.old) (R.remaining input.new) (W.contents output.old) (W.contents output.new) result }
     ensures refused { result ≡ 2 → Keeps (R.remaining input.old) (R.remaining input.new) }
     ensures silent { 2 ≤ result → result ≤ 4 → Keeps (W.contents output.old) (W.contents output.new) }
 {
     match parse_request(alloc, words) {
-        Ok(request) => {
-            let deadline = Deadline::new(rt, request.seconds, gate);
-            let progress = Progress::new(rt, request.progress, &deadline);
-            let outcome = run_gated(rt, alloc, request.options, input, output, &progress);
-            progress.tell_end(&outcome);
-            end(alloc, &outcome, errors)
-        }
+        Ok(request) => run_request(rt, alloc, request, input, output, errors, gate),
         Err(fault) => end_without_run(&fault, output, errors),
+    }
+}
+
+// Does what a request asks for, and answers the exit status.
+fn run_request<
+    T: Threads + Wait + Clock + Eprint + Files + Sync,
+    R: Read,
+    W: Write,
+    E: Write,
+    G: Gate + Sync,
+>(
+    rt: &T,
+    alloc: Global,
+    request: Request<'_>,
+    input: &mut R,
+    output: &mut W,
+    errors: &mut E,
+    gate: &G,
+) -> u8
+    requires { AreInRange request.options }
+    ensures known { result ≤ 5 }
+    ensures not_refused { result ≢ 2 }
+    ensures done { result ≡ 0 →
+        PrintsReport (G.may_stop gate.now) (R.remaining input.old) (R.remaining input.new) (W.contents output.old) (W.contents output.new) result
+        ⊎ (IsTrue request.entry.check × ChecksPlan (R.remaining input.old) (R.remaining input.new) (W.contents output.old) (W.contents output.new)) }
+    ensures open { result ≡ 1 → PrintsReport (G.may_stop gate.now) (R.remaining input.old) (R.remaining input.new) (W.contents output.old) (W.contents output.new) result }
+    ensures silent { 2 ≤ result → result ≤ 4 → Keeps (W.contents output.old) (W.contents output.new) }
+{
+    let deadline = Deadline::new(rt, request.seconds, gate);
+    match read_problem(alloc, request.options, input) {
+        Ok(problem) => run_on(rt, alloc, &problem, request, output, errors, &deadline),
+        Err(fault) => end(alloc, &Err(fault), errors),
+    }
+}
+
+// The same, once the problem is read.
+fn run_on<T: Threads + Wait + Clock + Eprint + Files + Sync, W: Write, E: Write, G: Gate + Sync>(
+    rt: &T,
+    alloc: Global,
+    problem: &Instance,
+    request: Request<'_>,
+    output: &mut W,
+    errors: &mut E,
+    gate: &G,
+) -> u8
+    requires { AreInRange request.options }
+    ensures known { result ≤ 5 }
+    ensures not_refused { result ≢ 2 }
+    ensures done { result ≡ 0 →
+        WritesStatus request.entry.options (G.may_stop gate.now) problem.now (W.contents output.old) (W.contents output.new) result
+        ⊎ (IsTrue request.entry.check × WritesLawful problem.now (W.contents output.old) (W.contents output.new)) }
+    ensures open { result ≡ 1 → WritesStatus request.entry.options (G.may_stop gate.now) problem.now (W.contents output.old) (W.contents output.new) result }
+    ensures silent { 2 ≤ result → result ≤ 4 → Keeps (W.contents output.old) (W.contents output.new) }
+{
+    let Some(path) = request.start else {
+        return search(rt, alloc, problem, None, request, output, errors, gate);
+    };
+    match start_plan(rt, alloc, problem, path, errors) {
+        Ok(plan) if request.check => print_lawful(alloc, problem, &plan, output, errors),
+        Ok(plan) => search(
+            rt,
+            alloc,
+            problem,
+            Some(&plan),
+            request,
+            output,
+            errors,
+            gate,
+        ),
+        Err(error) => end_without_start(&error, errors),
+    }
+}
+
+// Searches for a plan, and answers the exit status.
+fn search<T: Threads + Wait + Clock + Eprint + Sync, W: Write, E: Write, G: Gate + Sync>(
+    rt: &T,
+    alloc: Global,
+    problem: &Instance,
+    start: Option<&Plan>,
+    request: Request<'_>,
+    output: &mut W,
+    errors: &mut E,
+    gate: &G,
+) -> u8
+    requires options { AreInRange request.options }
+    requires start { ForSome (option_map (λ plan. plan.now) start) (IsPlanOf problem.now) }
+    ensures known { result ≤ 5 }
+    ensures not_refused { result ≢ 2 }
+    ensures printed { result ≤ 1 → WritesStatus request.entry.options (G.may_stop gate.now) problem.now (W.contents output.old) (W.contents output.new) result }
+    ensures silent { 2 ≤ result → result ≤ 4 → Keeps (W.contents output.old) (W.contents output.new) }
+{
+    let progress = Progress::new(rt, request.progress, gate);
+    let outcome = print_answer(
+        rt,
+        alloc,
+        problem,
+        start,
+        request.options,
+        output,
+        &progress,
+    );
+    progress.tell_end(&outcome);
+    end(alloc, &outcome, errors)
+}
+
+// Prints that a plan is lawful and what it costs, and answers the exit status.
+fn print_lawful<W: Write, E: Write>(
+    alloc: Global,
+    problem: &Instance,
+    plan: &Plan,
+    output: &mut W,
+    errors: &mut E,
+) -> u8
+    requires { IsPlanOf problem.now plan.now }
+    ensures known { result ≤ 5 }
+    ensures not_refused { result ≢ 2 }
+    ensures not_open { result ≢ 1 }
+    ensures printed { result ≡ 0 → WritesLawful problem.now (W.contents output.old) (W.contents output.new) }
+    ensures silent { 2 ≤ result → result ≤ 4 → Keeps (W.contents output.old) (W.contents output.new) }
+{
+    let Ok(report) = lawful_report(alloc, problem, plan) else {
+        return end(alloc, &Err(RunError::OutOfMemory), errors);
+    };
+    match write_report(output, report.as_bytes()) {
+        Ok(()) => 0,
+        Err(fault) => end(alloc, &Err(fault), errors),
     }
 }
 
@@ -79,4 +209,17 @@ pub(crate) fn end<E: Write>(alloc: Global, outcome: &Result<Status, RunError>, e
         }
     }
     exit_status(outcome)
+}
+
+// The exit status where there is no plan to begin with, which goes to `errors` as one line. Where that can't be written nothing more is
+// done.
+fn end_without_start<E: Write>(error: &StartError, errors: &mut E) -> u8
+    ensures { result ≡ start_code error.now }
+{
+    let _ = writeln!(errors, "cvrp: {error}");
+    match error {
+        StartError::Refused(_) | StartError::TooLong => 3,
+        StartError::OutOfMemory => 4,
+        StartError::Read => 5,
+    }
 }

@@ -1,9 +1,9 @@
 //! The report: a line for each route and the cost, where there is a plan, and the verdict.
-ghost use Rattle.std.specs.Prelude.{◌≡◌, ◌+◌, ◌<◌, OnOk, IfOk, ◌++◌, decimal, string_bytes, All};
+ghost use Rattle.std.specs.Prelude.{◌≡◌, ◌+◌, ◌<◌, Some, OnOk, IfOk, ◌++◌, decimal, string_bytes, All};
 ghost use Rattle.std.specs.Option.{ForSome};
 ghost use Rattle.vrp_model.specs.Problem.{place_count};
 ghost use Rattle.vrp_pool.specs.Answer.{known_plan};
-ghost use Rattle.vrp_command.specs.Report.{route_line, route_lines, stops_text, cost_line, verdict_line, report_of};
+ghost use Rattle.vrp_command.specs.Report.{route_line, route_lines, stops_text, cost_line, verdict_line, plan_lines, report_of, lawful_report};
 
 use itoa::Buffer;
 use std::alloc::{AllocError, Global};
@@ -21,11 +21,34 @@ pub(crate) fn report(
 {
     let mut text = String::new(alloc);
     if let Some(plan) = answer.plan() {
-        push_routes(&mut text, instance, plan)?;
-        push_cost(&mut text, plan.cost())?;
+        push_plan(&mut text, instance, plan)?;
     }
     push_verdict(&mut text, answer)?;
     Ok(text)
+}
+
+/// The report of a plan of the instance that is lawful, and was not searched for.
+pub(crate) fn lawful_report(
+    alloc: Global,
+    instance: &Instance,
+    plan: &Plan,
+) -> Result<String, AllocError>
+    requires { All (λ route. All (λ place. place < place_count instance.now) route) plan.now.routes }
+    ensures { IfOk result (λ text. string_bytes text ≡ lawful_report instance.now plan.now) }
+{
+    let mut text = String::new(alloc);
+    push_plan(&mut text, instance, plan)?;
+    text.push_str("Lawful\n")?;
+    Ok(text)
+}
+
+// Appends the lines of a plan.
+fn push_plan(text: &mut String, instance: &Instance, plan: &Plan) -> Result<(), AllocError>
+    requires { All (λ route. All (λ place. place < place_count instance.now) route) plan.now.routes }
+    ensures { OnOk result (string_bytes text.new ≡ string_bytes text.old ++ plan_lines instance.now (Some plan.now)) }
+{
+    push_routes(text, instance, plan)?;
+    push_cost(text, plan.cost())
 }
 
 // Appends a line for each route.

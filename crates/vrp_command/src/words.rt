@@ -1,9 +1,10 @@
 //! Reads the words of a command line: how a run is asked for.
-ghost use Rattle.std.specs.Prelude.{◌≡◌, ◌≢◌, ◌≤◌, IfOk};
+ghost use Rattle.std.specs.Prelude.{◌≡◌, ◌≢◌, ◌≤◌, IfOk, IsTrue, codes};
 ghost use Rattle.std.specs.Option.{ForSome};
 ghost use Rattle.clap.specs.Words.{kind_of};
 ghost use Rattle.vrp_model.specs.declared.limits.TheConstants.{MAX_NODES};
 ghost use Rattle.vrp_command.specs.Options.{AreInRange, line_code};
+ghost use Rattle.vrp_command.specs.Program.{HasWord};
 ghost use Rattle.vrp_command.specs.declared.options.TheConstants.{MAX_SECONDS};
 
 use crate::grammar::grammar;
@@ -39,10 +40,11 @@ impl From<AllocError> for LineFault {
 
 /// Reads the words behind the program's name. An option that they leave out has its default, and with a limit of seconds the default
 /// of the budget is the largest. Which words give which options, and which are refused, no clause says.
-pub fn parse_request(alloc: Global, words: &[&str]) -> Result<Request, LineFault>
+pub fn parse_request<'a>(alloc: Global, words: &'a [&'a str]) -> Result<Request<'a>, LineFault>
     ensures in_range { IfOk result (λ request. AreInRange request.options) }
     ensures some_depot { IfOk result (λ request. ForSome request.options.depot (λ node. 1 ≤ node)) }
     ensures few_depot { IfOk result (λ request. ForSome request.options.depot (λ node. node ≤ MAX_NODES)) }
+    ensures check { IfOk result (λ request. IsTrue request.check → HasWord words.now (codes "--check")) }
 {
     match asked_for(alloc, words) {
         Ok(request) => Ok(request),
@@ -92,13 +94,21 @@ pub fn line_status(fault: &LineFault) -> u8
 }
 
 // The options, as `clap` reads the words.
-fn asked_for(alloc: Global, words: &[&str]) -> Result<Request, Error>
+fn asked_for<'a>(alloc: Global, words: &'a [&'a str]) -> Result<Request<'a>, Error>
     ensures in_range { IfOk result (λ request. AreInRange request.options) }
     ensures some_depot { IfOk result (λ request. ForSome request.options.depot (λ node. 1 ≤ node)) }
     ensures few_depot { IfOk result (λ request. ForSome request.options.depot (λ node. node ≤ MAX_NODES)) }
+    ensures check { IfOk result (λ request. IsTrue request.check → HasWord words.now (codes "--check")) }
 {
     let matches = grammar(alloc)?.try_get_matches_from(words)?;
-    Ok(chosen(&matches))
+    Ok(chosen(&matches, has_word(words, "--check")))
+}
+
+// Whether one of the words is this one.
+fn has_word(words: &[&str], word: &str) -> bool
+    ensures { IsTrue result → HasWord words.now word.now }
+{
+    words.contains(&word)
 }
 
 /// The fault of words that `clap` doesn't take.
@@ -116,7 +126,8 @@ pub(crate) fn line_fault(alloc: Global, error: &Error) -> LineFault
 }
 
 // The values that stand in the words, and else the defaults.
-fn chosen(matches: &ArgMatches<'_>) -> Request
+fn chosen<'a>(matches: &ArgMatches<'a>, check: bool) -> Request<'a>
+    ensures check { result.check ≡ check }
     ensures in_range { AreInRange result.options }
     ensures some_depot { ForSome result.options.depot (λ node. 1 ≤ node) }
     ensures few_depot { ForSome result.options.depot (λ node. node ≤ MAX_NODES) }
@@ -139,6 +150,8 @@ fn chosen(matches: &ArgMatches<'_>) -> Request
         options,
         seconds,
         progress: matches.get_flag("progress"),
+        start: matches.get_str("start"),
+        check,
     }
 }
 

@@ -22,5 +22,5 @@ pub use gates::{Gate, News, NoGate};
 pub use gatherer::{GatherError, Gatherer};
 pub use outcome::Finished;
 pub use seat_board::SeatBoard;
-pub use solver::{MAX_WORKERS, solve};
+pub use solver::{MAX_WORKERS, solve, solve_from};
 pub use vrp_pile::{Drawn, Owner, Pile, Thief, settle};

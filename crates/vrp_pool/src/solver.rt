@@ -1,7 +1,8 @@
 //! The search of an instance by several workers.
-ghost use Rattle.std.specs.Prelude.{◌≡◌, ◌+◌, ◌*◌, ◌≤◌, IfOk, IfSome, length, vec_len};
-ghost use Rattle.std.specs.Option.{option_map};
+ghost use Rattle.std.specs.Prelude.{◌≡◌, ◌+◌, ◌*◌, ◌≤◌, ◌⊎◌, IfOk, IfSome, length, vec_len};
+ghost use Rattle.std.specs.Option.{ForSome, option_map};
 ghost use Rattle.vrp_model.specs.Problem.{customers};
+ghost use Rattle.vrp_model.specs.Route.{IsPlanOf};
 ghost use Rattle.vrp_pile.specs.Pile.{IsNewPile};
 ghost use Rattle.vrp_search.specs.Cutting.{IsCutting};
 ghost use Rattle.vrp_search.specs.declared.cutting.TheConstants.{MAX_REFINED};
@@ -36,17 +37,7 @@ pub const MAX_WORKERS: u32 = 64;
 // How many partial plans of the whole tree are looked at before anything else is done: small trees end there.
 const FIRST_LOOK: u64 = 20_000;
 
-/// Searches all pieces of a cutting, each with this budget, by this many workers, each in a thread of its own where one can be made.
-/// They draw the pieces from one pile and offer their plans to one register, which opens with the plan of one truck for each
-/// customer, where there are this many trucks. The search bounds by tables over all customers. A piece that it leaves unfinished is
-/// bounded once more at the end, where that may count, by tables over the customers that the piece leaves unserved; where each plan
-/// under it then costs more than the best one, it is finished. A gate is told before each piece, hears what is new, and is asked now
-/// and then whether to go on. The cutting is given up.
-///
-/// Where the budget is no less than 1,000, there is more before. One worker looks at the whole tree, at no more than 20,000 partial
-/// plans and no more than the budget: where that is enough, nothing else is done, and the gate hears of the plan alone. Else a first
-/// plan is offered, if one is found: by savings, and with no less than 100,000 partial plans for all pieces also by ruin and
-/// recreate. And prices are made, if there is such a plan and prices are found: then the search of a piece prunes by them.
+/// Searches all pieces of a cutting, each with this budget, by this many workers: `solve_from` without a plan to begin with.
 pub fn solve<'a, R: Threads + Wait + Sync, G: Gate + Sync>(
     rt: &'a R,
     alloc: Global,
@@ -63,14 +54,51 @@ pub fn solve<'a, R: Threads + Wait + Sync, G: Gate + Sync>(
     requires budget { 1 ≤ budget }
     ensures { IfOk result (IsAnswer instance.now cutting budget (G.may_stop gate.now)) }
 {
+    solve_from(rt, alloc, instance, None, cutting, workers, budget, gate)
+}
+
+/// Searches all pieces of a cutting, each with this budget, by this many workers, each in a thread of its own where one can be made.
+/// They draw the pieces from one pile and offer their plans to one register, which opens with the plan of one truck for each
+/// customer, where there are this many trucks. The search bounds by tables over all customers. A piece that it leaves unfinished is
+/// bounded once more at the end, where that may count, by tables over the customers that the piece leaves unserved; where each plan
+/// under it then costs more than the best one, it is finished. A gate is told before each piece, hears what is new, and is asked now
+/// and then whether to go on. The cutting is given up.
+///
+/// Where the budget is no less than 1,000, there is more before. One worker looks at the whole tree, at no more than 20,000 partial
+/// plans and no more than the budget: where that is enough, nothing else is done, and the gate hears of the plan alone. Else a first
+/// plan is looked for: by savings, and with no less than 100,000 partial plans for all pieces also by ruin and recreate. And prices
+/// are made, if there is a plan and prices are found: then the search of a piece prunes by them.
+///
+/// Before the pieces are searched the plan to begin with is offered, if one is given, or the first plan where that is before it. That
+/// the answer's plan costs no more than the plan to begin with is left open.
+pub fn solve_from<'a, R: Threads + Wait + Sync, G: Gate + Sync>(
+    rt: &'a R,
+    alloc: Global,
+    instance: &'a Instance,
+    start: Option<&'a Plan>,
+    cutting: Cutting,
+    workers: u32,
+    budget: u64,
+    gate: &'a G,
+) -> Result<Answer, SolveError>
+    requires start { ForSome (option_map (λ plan. plan.now) start) (IsPlanOf instance.now) }
+    requires cutting { IsCutting instance.now cutting }
+    requires few { length cutting ≤ 2 * MAX_REFINED }
+    requires some_worker { 1 ≤ workers }
+    requires few_workers { workers ≤ MAX_WORKERS }
+    requires budget { 1 ≤ budget }
+    ensures { IfOk result (IsAnswer instance.now cutting budget (G.may_stop gate.now)) }
+{
     let tables = Tables::over_all(alloc, instance)?;
-    if let Some(answer) = looked_at(rt, alloc, instance, &tables, budget)? {
+    hear_plan(gate, start);
+    if let Some(answer) = looked_at(rt, alloc, instance, &tables, start, budget)? {
         hear_plan(gate, answer.plan());
         return Ok(answer);
     }
     let pieces = cutting.pieces().len() as u32;
     let in_all = budget.saturating_mul(u64::from(pieces));
-    let first = first_plan(alloc, instance, budget, in_all, gate)?;
+    let made = first_plan(alloc, instance, budget, in_all, gate)?;
+    let first = first_of(instance, copied(alloc, start)?, made);
     let Some(found) = prices_found(alloc, instance, first.as_ref(), in_all, gate)? else {
         let shared = Shared {
             rt,
@@ -102,14 +130,30 @@ pub fn solve<'a, R: Threads + Wait + Sync, G: Gate + Sync>(
     Ok(solve_pieces(&shared, cutting, workers)?)
 }
 
+// The plan that is before the other, where both are there.
+fn first_of(_instance: &Instance, one: Option<Plan>, other: Option<Plan>) -> Option<Plan>
+    requires one { IfSome one (IsPlanOf _instance.now) }
+    requires other { IfSome other (IsPlanOf _instance.now) }
+    ensures { IfSome result (IsPlanOf _instance.now) }
+{
+    let is_first = match (&one, &other) {
+        (Some(plan), Some(than)) => plan.is_before(than),
+        (Some(_), None) => true,
+        (None, _) => false,
+    };
+    if is_first { one } else { other }
+}
+
 // What a look at the whole tree by one worker answers. `None` where there is none with so small a budget, or it is not enough.
 fn looked_at<'a, R: Threads + Wait + Sync>(
     rt: &'a R,
     alloc: Global,
     instance: &'a Instance,
     tables: &'a Tables<'a>,
+    first: Option<&'a Plan>,
     budget: u64,
 ) -> Result<Option<Answer>, NoMemory>
+    requires first { ForSome (option_map (λ plan. plan.now) first) (IsPlanOf instance.now) }
     requires tables { tables.now ≡ record { problem = instance.now; among = customers instance.now } }
     ensures { IfOk result (λ found. IfSome found (AnswersAll instance.now)) }
 {
@@ -122,7 +166,7 @@ fn looked_at<'a, R: Threads + Wait + Sync>(
         alloc,
         instance,
         tables,
-        first: None,
+        first,
         prices: None,
         pieces: whole.pieces().len() as u32,
         budget: budget.min(FIRST_LOOK),

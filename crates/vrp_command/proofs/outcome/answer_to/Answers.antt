@@ -1,5 +1,5 @@
 use Rattle.vrp_command.proofs.PlaceLemmas.{answer_lawful, stops_within}
-use Rattle.vrp_command.proofs.command.answer_to.Goals as goal
+use Rattle.vrp_command.proofs.outcome.answer_to.Goals as goal
 
 pub report-requires : goal.report-requires
 report-requires g c =

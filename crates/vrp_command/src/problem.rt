@@ -1,0 +1,46 @@
+//! The problem of a run: what the bytes of its input mean.
+ghost use Rattle.std.specs.Prelude.{◌≡◌, ◌≢◌, ◌+◌, ◌≤◌, IfOk, IfErr};
+ghost use Rattle.std.specs.Option.{ForSome};
+ghost use Rattle.vrp_command.specs.Input.{TakesAtMost};
+ghost use Rattle.vrp_command.specs.Options.{AreInRange};
+ghost use Rattle.vrp_command.specs.Run.{OnRefusedFile, ReadsProblem, RefusesInput, limited};
+ghost use Rattle.vrp_model.specs.declared.limits.TheConstants.{MAX_NODES};
+
+use crate::fault::RunError;
+use crate::input::read_input;
+use crate::options::Options;
+use std::alloc::Global;
+use std::io::Read;
+use vrp_model::Instance;
+use vrp_text::MAX_BYTES;
+
+/// The problem that the input means, with the chosen node as its depot and the trucks that were asked for. Reading ends at the end of
+/// the input or after one byte more than a file may have.
+pub(crate) fn read_problem<R: Read>(
+    alloc: Global,
+    options: Options,
+    input: &mut R,
+) -> Result<Instance, RunError>
+    requires { AreInRange options }
+    ensures read { IfOk result (ReadsProblem options (R.remaining input.old) (R.remaining input.new)) }
+    ensures refused { IfErr result (λ fault. OnRefusedFile fault (RefusesInput options.depot (R.remaining input.old) (R.remaining input.new))) }
+    ensures failed { IfErr result (λ fault. fault ≡ RunError.Read → TakesAtMost MAX_BYTES (R.remaining input.old) (R.remaining input.new)) }
+    ensures taken { TakesAtMost (MAX_BYTES + 1) (R.remaining input.old) (R.remaining input.new) }
+    ensures unwritten { IfErr result (λ fault. fault ≢ RunError.Write) }
+{
+    let bytes = read_input(alloc, input)?;
+    let instance = vrp_text::read(alloc, &bytes, options.depot)?;
+    Ok(limited(instance, options.trucks))
+}
+
+// The instance with this many trucks, if a number was asked for.
+fn limited(instance: Instance, trucks: Option<u16>) -> Instance
+    requires some { ForSome trucks (λ most. 1 ≤ most) }
+    requires few { ForSome trucks (λ most. most ≤ MAX_NODES) }
+    ensures { result ≡ limited trucks instance }
+{
+    match trucks {
+        Some(trucks) => instance.with_trucks(trucks),
+        None => instance,
+    }
+}

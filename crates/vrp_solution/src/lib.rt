@@ -1,0 +1,14 @@
+//! Plans as CVRPLIB writes them in its files `.sol`: routes of customers and a cost, read from a text and asked whether they are
+//! lawful.
+#![tactic(auto)]
+
+mod error;
+mod lawful;
+mod line;
+mod route;
+mod solution;
+#[cfg(test)]
+mod tests;
+
+pub use error::SolutionError;
+pub use solution::Solution;
