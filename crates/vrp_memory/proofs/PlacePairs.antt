@@ -3,7 +3,7 @@ use Rattle.std.proofs.Common.{◌≡◌, ℕ, zero, suc, ◌+◌, ◌*◌, ◌/�
 use Rattle.std.proofs.Math.Nat.{pow-le-pow_right}
 use Rattle.std.proofs.lemmas.Nat.{div-mul-add, div_below, mod-mul-add, mod_below, mul-add-lt}
 use Rattle.vrp_memory.proofs.PushedCells.{each_push}
-use Rattle.vrp_memory.specs.Inner.Before.{AreBefore}
+use Rattle.vrp_memory.specs.Inner.Before.{AreBeforeBy}
 use Rattle.vrp_memory.specs.Memory.{memory_before}
 
 -- there are few memories
@@ -28,16 +28,16 @@ pair_of places masks index some inside =
 
 pub before_more : (near : ℕ → List ℕ) (masks places : ℕ) (before new : List ℕ) (index memory : ℕ) → new ≡ before ++ memory ∷ [] → length before ≡ index
     → memory ≡ memory_before (near (index / masks / places)) (near (index / masks % places)) masks (index / masks / places) (index / masks % places) (index % masks)
-    → AreBefore near masks places before → AreBefore near masks places new
+    → AreBeforeBy near masks places before → AreBeforeBy near masks places new
 before_more near masks places before new index memory is next value are =
     let Is : ℕ → ℕ → Type 0 = λ k n. n ≡ memory_before (near (k / masks / places)) (near (k / masks % places)) masks (k / masks / places) (k / masks % places) (k % masks) in
-    subst (AreBefore near masks places) (sym is) (each_push Is before memory are (subst (λ k. Is k memory) (sym next) value))
+    subst (AreBeforeBy near masks places) (sym is) (each_push Is before memory are (subst (λ k. Is k memory) (sym next) value))
 
 -- a part of a list, read
 pub part_value : (xs : List ℕ) (start count m : ℕ) → m < count → get_or (take (start + count - start) (drop start xs)) m 0 ≡ get_or xs (start + m) 0
 part_value xs start count m inside = get_or-take (start + count - start) (drop start xs) m 0 (omega (arith, inside)) ∙ get_or-drop start xs m 0
 
-pub before_at : (near : ℕ → List ℕ) (masks places : ℕ) (before : List ℕ) (at stop m : ℕ) → at < places → stop < places → m < masks → length before ≡ places * places * masks → AreBefore near masks places before → get_or before ((at * places + stop) * masks + m) 0 ≡ memory_before (near at) (near stop) masks at stop m
+pub before_at : (near : ℕ → List ℕ) (masks places : ℕ) (before : List ℕ) (at stop m : ℕ) → at < places → stop < places → m < masks → length before ≡ places * places * masks → AreBeforeBy near masks places before → get_or before ((at * places + stop) * masks + m) 0 ≡ memory_before (near at) (near stop) masks at stop m
 before_at near masks places before at stop m inside stop_inside small all are =
     let pair = at * places + stop in
     let k = pair * masks + m in

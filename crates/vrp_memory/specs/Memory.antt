@@ -1,6 +1,7 @@
 -- A memory: which of the customers near a place a walk remembers, as the bits of a number.
-use Rattle.std.specs.Prelude.{ℕ, ◌+◌, ◌*◌, ◌/◌, ◌%◌, ◌==◌, ◌&&◌, ◌||◌, if◌then◌else◌, Bool, false, List, [], ◌∷◌}
+use Rattle.std.specs.Prelude.{◌≡◌, ℕ, ◌+◌, ◌*◌, ◌/◌, ◌%◌, ◌^◌, ◌<◌, ◌==◌, ◌&&◌, ◌||◌, if◌then◌else◌, Bool, false, List, [], ◌∷◌, slice_index}
 use Rattle.vrp_model.specs.Word.{stands_in}
+use Rattle.vrp_memory.specs.Near.{NearOf, near_in}
 use Rattle.vrp_memory.specs.Remembering.{remembered}
 
 -- a bit for each customer, set where it passes the test: the lowest is the first customer's
@@ -11,6 +12,10 @@ bits_of test (customer ∷ customers) = (if test customer then 1 else 0) + 2 * b
 -- which of the customers near this place a walk from there along these stops remembers
 abbrev pub memory_of : (ℕ → List ℕ) → ℕ → List ℕ → ℕ
 memory_of near at stops = bits_of (stands_in (remembered near stops)) (near at)
+
+-- the same, or `masks` where the walk remembers the place itself
+abbrev pub memory_or_masks : (ℕ → List ℕ) → ℕ → ℕ → List ℕ → ℕ
+memory_or_masks near masks at stops = if stands_in (remembered near stops) at then masks else memory_of near at stops
 
 -- whether a customer is one of these, and its bit is set
 abbrev pub has_bit : List ℕ → ℕ → ℕ → Bool
@@ -26,3 +31,8 @@ recalls near stop memory customer = (stop == customer) || has_bit near memory cu
 abbrev pub memory_before : List ℕ → List ℕ → ℕ → ℕ → ℕ → ℕ → ℕ
 memory_before near_at near_stop masks at stop memory =
     if recalls near_stop stop memory at then masks else bits_of (recalls near_stop stop memory) near_at
+
+-- the memories at a place, by the memory at the stop to which the walk goes on
+abbrev pub AreMemoriesBefore : NearOf → ℕ → ℕ → List ℕ → Type 0
+AreMemoriesBefore near at stop memories = (m : ℕ) → m < 2 ^ near.size
+    → slice_index memories m ≡ memory_before (near_in near at) (near_in near stop) (2 ^ near.size) at stop m

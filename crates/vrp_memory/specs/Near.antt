@@ -7,5 +7,10 @@ pub record NearOf : Type 0 where
   pub size : ℕ
   pub listed : List ℕ
 
+-- these customers, listed so
+abbrev pub listing : ℕ → ℕ → List ℕ → NearOf
+listing places size listed = record { places = places; size = size; listed = listed }
+
+-- those near a place
 abbrev pub near_in : NearOf → ℕ → List ℕ
 near_in near place = slice_range near.listed (place * near.size) (place * near.size + near.size)

@@ -1,9 +1,9 @@
 //! What walks remember: the customers near each place, and how a memory follows from that at the next stop.
-ghost use Rattle.std.specs.Prelude.{◌≡◌, ℕ, ◌*◌, ◌^◌, ◌<◌, ◌≤◌, IfOk, length, slice_index, vec_len};
+ghost use Rattle.std.specs.Prelude.{◌≡◌, ◌*◌, ◌^◌, ◌<◌, ◌≤◌, IfOk, length, vec_len};
 ghost use Rattle.vrp_model.specs.Problem.{place_count};
 ghost use Rattle.vrp_memory.specs.Inner.Before.{AreBefore};
-ghost use Rattle.vrp_memory.specs.Memory.{memory_before, recalls};
-ghost use Rattle.vrp_memory.specs.Near.{NearOf, near_in};
+ghost use Rattle.vrp_memory.specs.Memory.{AreMemoriesBefore, memory_before, recalls};
+ghost use Rattle.vrp_memory.specs.Near.{near_in, listing};
 
 use crate::near::nearest_customers;
 use std::alloc::Global;
@@ -28,14 +28,14 @@ pub struct Memory {
 }
 
 impl Model for Memory {
-    ghost use Rattle.vrp_memory.specs.Near.{NearOf};
+    ghost use Rattle.vrp_memory.specs.Near.{NearOf, listing};
     ghost use Rattle.vrp_memory.specs.Inner.Before.{IsKept};
 
     ghost Value = { NearOf };
 
-    ghost view = { λ a. record { places = a.places; size = a.size; listed = a.near.items } };
+    ghost view = { λ a. listing a.places a.size a.near.items };
 
-    ghost invariant = { λ a. IsKept (record { places = a.places; size = a.size; listed = a.near.items }) a.masks a.before.items };
+    ghost invariant = { λ a. IsKept (listing a.places a.size a.near.items) a.masks a.before.items };
 }
 
 impl Memory {
@@ -49,7 +49,7 @@ impl Memory {
         requires few_places { places ≤ 1200 }
         requires few { size ≤ MOST_NEAR }
         requires listed { vec_len near ≡ places * size }
-        ensures { IfOk result (λ memory. memory ≡ record { places = places; size = size; listed = near.items }) }
+        ensures { IfOk result (λ memory. memory ≡ listing places size near.items) }
     {
         let masks = 1 << size;
         let before = memories_before(alloc, places, size, masks, &near)?;
@@ -95,7 +95,7 @@ impl Memory {
         requires at { at < self.now.places }
         requires stop { stop < self.now.places }
         ensures len { length result.now ≡ 2 ^ self.entry.now.size }
-        ensures value { (m : ℕ) → m < 2 ^ self.entry.now.size → slice_index result.now m ≡ memory_before (near_in self.entry.now at) (near_in self.entry.now stop) (2 ^ self.entry.now.size) at stop m }
+        ensures value { AreMemoriesBefore self.entry.now at stop result.now }
     {
         let start = (usize::from(at) * self.places + usize::from(stop)) * self.masks;
         &self.before[start..start + self.masks]
@@ -116,7 +116,7 @@ fn memories_before(
     requires few_masks { masks ≤ 16 }
     requires listed { length near.now ≡ places * size }
     ensures len { IfOk result (λ before. vec_len before ≡ places * places * masks) }
-    ensures known { IfOk result (λ before. AreBefore (near_in (record { places = places; size = size; listed = near.now })) masks places before.items) }
+    ensures known { IfOk result (λ all. AreBefore (listing places size near.now) masks all.items) }
 {
     let count = places * places * masks;
     let mut before = Vec::with_capacity(alloc, count)?;
@@ -144,7 +144,7 @@ fn near_of(near: &[u16], size: usize, places: usize, place: usize) -> &[u16]
     requires few { size ≤ 4 }
     requires listed { length near.now ≡ places * size }
     requires place { place < places }
-    ensures value { result.now ≡ near_in (record { places = places; size = size; listed = near.entry.now }) place }
+    ensures value { result.now ≡ near_in (listing places size near.entry.now) place }
     ensures len { length result.now ≡ size }
 {
     let start = place * size;

@@ -4,11 +4,15 @@ use Rattle.vrp_memory.specs.Memory.{memory_before}
 use Rattle.vrp_memory.specs.Near.{NearOf, near_in}
 
 -- by place, of each place by stop, and of each stop by the memory there
-abbrev pub AreBefore : (ℕ → List ℕ) → ℕ → ℕ → List ℕ → Type 0
-AreBefore near masks places before = (k : ℕ) → k < length before →
+abbrev pub AreBeforeBy : (ℕ → List ℕ) → ℕ → ℕ → List ℕ → Type 0
+AreBeforeBy near masks places before = (k : ℕ) → k < length before →
     let at = k / masks / places in
     let stop = k / masks % places in
     slice_index before k ≡ memory_before (near at) (near stop) masks at stop (k % masks)
+
+-- the same of customers near each place that are listed
+abbrev pub AreBefore : NearOf → ℕ → List ℕ → Type 0
+AreBefore near masks before = AreBeforeBy (near_in near) masks near.places before
 
 -- what is kept beside the customers near each place
 pub record IsKept (near : NearOf) (masks : ℕ) (before : List ℕ) : Type 0 where
@@ -18,4 +22,4 @@ pub record IsKept (near : NearOf) (masks : ℕ) (before : List ℕ) : Type 0 whe
   pub some : 1 ≤ masks
   pub listed : length near.listed ≡ near.places * near.size
   pub all : length before ≡ near.places * near.places * masks
-  pub known : AreBefore (near_in near) masks near.places before
+  pub known : AreBefore near masks before

@@ -1,12 +1,12 @@
 use Rattle.std.proofs.Common.{◌≡◌, ◌≤◌, length}
 use Rattle.std.specs.Vec.{vec_capacity}
 use Rattle.vrp_memory.specs.Inner.Before.{AreBefore}
-use Rattle.vrp_memory.specs.Near.{near_in}
+use Rattle.vrp_memory.specs.Near.{listing}
 use Rattle.vrp_memory.proofs.memory.memories_before.Given as goal
 
 abbrev pub invariant-loop-index : goal.invariant-loop-index
 invariant-loop-index l = record {
   len : length l.before.items ≡ l.index;
   capacity : l.count ≤ vec_capacity l.before;
-  known : AreBefore (near_in (record { places = l.places; size = l.size; listed = l.near })) l.masks l.places l.before.items;
+  known : AreBefore (listing l.places l.size l.near) l.masks l.before.items;
 }
