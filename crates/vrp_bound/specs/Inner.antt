@@ -2,6 +2,7 @@
 pub mod Cells
 pub mod Filled
 pub mod MemoryCells
+pub mod MemoryScaled
 pub mod Scaled
 pub mod Scope
 pub mod Units

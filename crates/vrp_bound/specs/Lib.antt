@@ -1,3 +1,4 @@
+pub mod AtFront
 pub mod Bound
 pub mod Capacity
 pub mod Inner

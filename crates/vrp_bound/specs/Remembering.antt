@@ -2,10 +2,11 @@
 -- whom it remembers.
 use Rattle.std.specs.Prelude.{◌≡◌, ◌≢◌, ℕ, ◌+◌, ◌≤◌, Option, Some, MatchOption, List, []}
 use Rattle.std.specs.List.{All, Contains, sum_by}
-use Rattle.vrp_model.specs.Problem.{Problem}
+use Rattle.vrp_model.specs.Problem.{Problem, customers}
 use Rattle.vrp_model.specs.Route.{load_of}
+use Rattle.vrp_memory.specs.Near.{near_in}
 use Rattle.vrp_memory.specs.Remembering.{NoneRemembered}
-use Rattle.vrp_bound.specs.Tables.{AreMade}
+use Rattle.vrp_bound.specs.Tables.{AreMade, MemoryTablesOf}
 use Rattle.vrp_bound.specs.Walk.{relaxed_cost}
 
 -- nobody is near any place: so a walk remembers its next stop alone
@@ -45,3 +46,8 @@ NoneRemembering p near among at load rest = (home : List ℕ) (tours : List (Lis
 pub record IsRememberingBound (p : Problem) (near : ℕ → List ℕ) (among : List ℕ) (at load rest : ℕ) (answer : Option ℕ) : Type 0 where
   pub made : AreMade p among → MatchOption answer (NoneRemembering p near among at load rest) (IsLeastRemembering p near among at load rest)
   pub none_made : (AreMade p among → ⊥) → answer ≡ Some 0
+
+-- what such tables answer, over all customers
+abbrev pub IsMemoryBound : MemoryTablesOf → ℕ → ℕ → ℕ → Option ℕ → Type 0
+IsMemoryBound tables at load rest answer =
+    IsRememberingBound tables.problem (near_in tables.near) (customers tables.problem) at load rest answer

@@ -10,6 +10,9 @@ pub record TablesOf : Type 0 where
   pub problem : Problem
   pub among : List ℕ
 
+abbrev pub tables_over : Problem → List ℕ → TablesOf
+tables_over problem among = record { problem = problem; among = among }
+
 -- of walks that remember, over all customers
 pub record MemoryTablesOf : Type 0 where
   pub problem : Problem
@@ -19,9 +22,13 @@ pub record MemoryTablesOf : Type 0 where
 abbrev pub room_of : Problem → List ℕ → ℕ
 room_of p among = min p.capacity (load_of p among)
 
+-- each of these customers has a demand
+abbrev pub AllDemand : Problem → List ℕ → Type 0
+AllDemand p among = All (λ customer. 1 ≤ demand_of p customer) among
+
 -- whether tables are made: each customer has a demand, and the tables are of a moderate size
 pub record AreMade (p : Problem) (among : List ℕ) : Type 0 where
-  pub demands : All (λ customer. 1 ≤ demand_of p customer) among
+  pub demands : AllDemand p among
   pub walks : (room_of p among + 1) * length among * length among ≤ 200000000
   pub tours : load_of p among * room_of p among ≤ 200000000
 

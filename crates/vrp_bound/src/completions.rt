@@ -1,14 +1,11 @@
 //! What completes partial plans at the least cost, over some customers of an instance: filled once, and then looked up.
 ghost use Rattle.std.specs.Prelude.{◌≡◌, ◌≤◌, ◌<◌, All, Contains, IfOk, IfSome};
 ghost use Rattle.std.specs.List.Sorted.{IsStrictlyIncreasing};
-ghost use Rattle.std.specs.Option.{ForSome};
 ghost use Rattle.vrp_model.specs.Problem.{customers as customers_of, place_count};
 ghost use Rattle.vrp_model.specs.Route.{load_of};
-ghost use Rattle.vrp_bound.specs.Inner.Cells.{HasRelaxed, IsLeastCell};
-ghost use Rattle.vrp_bound.specs.Inner.Filled.{AreCells, AreHeld};
-ghost use Rattle.vrp_bound.specs.Inner.Scaled.{near_with};
+ghost use Rattle.vrp_bound.specs.Inner.Filled.{AreCellsOver, AreHeld, IsHeldBound, IsLeastOver};
+ghost use Rattle.vrp_bound.specs.Inner.Scaled.{IsOfPlaces, near_with};
 ghost use Rattle.vrp_bound.specs.Inner.Scope.{IsScope};
-ghost use Rattle.vrp_bound.specs.Remembering.{IsRememberingBound};
 ghost use Rattle.vrp_bound.specs.Tables.{AreMade};
 
 use crate::homes::{Looks, homes_for, least_way_home, looked_up};
@@ -58,7 +55,7 @@ impl<'a> Completions<'a> {
     ) -> Result<Completions<'a>, NoMemory>
         requires rising { IsStrictlyIncreasing customers.now }
         requires customers { All (Contains (customers_of instance.now)) customers.now }
-        requires places { ForSome memory (λ memory. memory.now.places ≡ place_count instance.now) }
+        requires places { IsOfPlaces memory (place_count instance.now) }
         ensures held { IfOk result (λ held. AreHeld (near_with memory.entry) held) }
         ensures instance { IfOk result (λ held. held.instance.now ≡ instance.now) }
         ensures customers { IfOk result (λ held. held.customers.items ≡ customers.now) }
@@ -87,12 +84,12 @@ impl<'a> Completions<'a> {
         rest: u64,
     ) -> Option<u64>
         requires held { AreHeld (near_with memory) self.now }
-        requires places { ForSome memory (λ memory. memory.now.places ≡ place_count self.now.instance.now) }
+        requires places { IsOfPlaces memory (place_count self.now.instance.now) }
         requires place { at < place_count self.now.instance.now }
         requires load { load ≤ self.now.instance.now.capacity }
         requires depot { at ≡ 0 → load ≡ 0 }
         requires rest { rest ≤ load_of self.now.instance.now self.now.customers.items }
-        ensures bound { IsRememberingBound self.now.instance.now (near_with memory.entry) self.now.customers.items at load rest result }
+        ensures bound { IsHeldBound (near_with memory.entry) self.now at load rest result }
         ensures small { IfSome result (λ least. least < 4000000000000000000) }
     {
         let Some(cells) = &self.cells else {
@@ -114,8 +111,8 @@ impl Cells {
     ) -> Result<Cells, NoMemory>
         requires made { AreMade scope.instance.now scope.customers.now }
         requires scope { IsScope scope.instance.now scope.customers.now }
-        requires places { ForSome memory (λ memory. memory.now.places ≡ scope.places) }
-        ensures { IfOk result (λ cells. AreCells scope.entry.instance.now (near_with memory.entry) scope.entry.customers.now cells) }
+        requires places { IsOfPlaces memory scope.places }
+        ensures { IfOk result (λ cells. AreCellsOver scope.entry (near_with memory.entry) cells) }
     {
         let units = UnitScope::new(scope, memory, unit_of(scope));
         let demand = units.whole_units(demand_of_all(scope));
@@ -139,13 +136,13 @@ impl Cells {
     // number of units: so nothing carries a rest that is none, and what the open truck can still take is floored.
     #[inline(always)]
     fn least(&self, scope: Scope<'_>, memory: Option<&Memory>, at: u16, load: u64, rest: u64) -> u64
-        requires cells { AreCells scope.instance.now (near_with memory) scope.customers.now self.now }
-        requires places { ForSome memory (λ memory. memory.now.places ≡ scope.places) }
+        requires cells { AreCellsOver scope (near_with memory) self.now }
+        requires places { IsOfPlaces memory scope.places }
         requires place { at < place_count scope.instance.now }
         requires load { load ≤ scope.instance.now.capacity }
         requires depot { at ≡ 0 → load ≡ 0 }
         requires rest { rest ≤ load_of scope.instance.now scope.customers.now }
-        ensures { IsLeastCell (HasRelaxed scope.entry.instance.now (near_with memory.entry) scope.entry.customers.now at load rest) result }
+        ensures { IsLeastOver scope.entry (near_with memory.entry) at load rest result }
     {
         let units = UnitScope::new(scope, memory, self.unit);
         let carried = self.quotients.whole_units(rest);

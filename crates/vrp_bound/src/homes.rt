@@ -1,10 +1,9 @@
 //! The ways home: the least cost of the open truck's walk home and of tours, by place, room and rest.
-ghost use Rattle.std.specs.Prelude.{◌≡◌, ◌≢◌, ◌+◌, ◌-◌, ◌*◌, ◌≤◌, ◌<◌, min, length, IfOk, IfSome, IsTrue, vec_len, vec_capacity};
+ghost use Rattle.std.specs.Prelude.{◌≡◌, ◌≢◌, ◌+◌, ◌*◌, ◌≤◌, ◌<◌, min, length, IfOk, IfSome, IsTrue, vec_len, vec_capacity};
 ghost use Rattle.vrp_model.specs.Problem.{place_count};
 ghost use Rattle.vrp_model.specs.Route.{load_of};
-ghost use Rattle.vrp_bound.specs.Inner.Cells.{AreHomes, AreHomesSoFar, AreTours, AreWalks, HasRelaxed, IsLeastCell, mark, small_mark};
-ghost use Rattle.vrp_bound.specs.Tables.{room_of};
-ghost use Rattle.vrp_bound.specs.Inner.Scaled.{near_by, scaled};
+ghost use Rattle.vrp_bound.specs.Inner.Cells.{mark, small_mark};
+ghost use Rattle.vrp_bound.specs.Inner.Scaled.{AreHomesOver, AreHomesOverSoFar, AreToursOver, AreWalksOver, IsLeastWayHome, room_over, scaled};
 
 use crate::units::UnitScope;
 use crate::walks::MARK;
@@ -34,11 +33,10 @@ pub(crate) fn homes_for(
     tours: &[u64],
     room: u64,
 ) -> Result<Option<Vec<u32>>, NoMemory>
-    requires walks { AreWalks (scaled scope) (near_by scope) scope.customers.now walks.now }
-    requires tours { AreTours (scaled scope) (near_by scope) scope.customers.now tours.now }
-    requires room { room ≡ room_of (scaled scope) scope.customers.now }
-    ensures { IfOk result (λ cells. IfSome cells
-        (λ homes. AreHomes (scaled scope.entry) (near_by scope.entry) scope.entry.customers.now homes.items)) }
+    requires walks { AreWalksOver scope walks.now }
+    requires tours { AreToursOver scope tours.now }
+    requires room { room ≡ room_over scope }
+    ensures { IfOk result (λ cells. IfSome cells (λ homes. AreHomesOver scope.entry homes.items)) }
 {
     match looks {
         Looks::Many => homes(alloc, scope, walks, tours, room),
@@ -55,11 +53,10 @@ fn homes(
     tours: &[u64],
     room: u64,
 ) -> Result<Option<Vec<u32>>, NoMemory>
-    requires walks { AreWalks (scaled scope) (near_by scope) scope.customers.now walks.now }
-    requires tours { AreTours (scaled scope) (near_by scope) scope.customers.now tours.now }
-    requires room { room ≡ room_of (scaled scope) scope.customers.now }
-    ensures { IfOk result (λ cells. IfSome cells
-        (λ homes. AreHomes (scaled scope.entry) (near_by scope.entry) scope.entry.customers.now homes.items)) }
+    requires walks { AreWalksOver scope walks.now }
+    requires tours { AreToursOver scope tours.now }
+    requires room { room ≡ room_over scope }
+    ensures { IfOk result (λ cells. IfSome cells (λ homes. AreHomesOver scope.entry homes.items)) }
 {
     let rooms = room as usize + 1;
     let rows = scope.places * rooms;
@@ -85,16 +82,16 @@ fn push_row(
     at: u16,
     room: usize,
 ) -> bool
-    requires walks { AreWalks (scaled scope) (near_by scope) scope.customers.now walks.now }
-    requires tours { AreTours (scaled scope) (near_by scope) scope.customers.now tours.now }
+    requires walks { AreWalksOver scope walks.now }
+    requires tours { AreToursOver scope tours.now }
     requires place { at < place_count scope.instance.now }
-    requires room { room ≤ room_of (scaled scope) scope.customers.now }
-    requires so_far { AreHomesSoFar (scaled scope) (near_by scope) scope.customers.now cells.old.items }
-    requires next { vec_len cells.old ≡ (at * (room_of (scaled scope) scope.customers.now + 1) + room) * length tours.now }
+    requires room { room ≤ room_over scope }
+    requires so_far { AreHomesOverSoFar scope cells.old.items }
+    requires next { vec_len cells.old ≡ (at * (room_over scope + 1) + room) * length tours.now }
     requires fits { vec_len cells.old + length tours.now ≤ vec_capacity cells.old }
     ensures len { IsTrue result → vec_len cells.new ≡ vec_len cells.old + length tours.now }
     ensures capacity { vec_capacity cells.new ≡ vec_capacity cells.old }
-    ensures so_far { IsTrue result → AreHomesSoFar (scaled scope.entry) (near_by scope.entry) scope.entry.customers.now cells.new.items }
+    ensures so_far { IsTrue result → AreHomesOverSoFar scope.entry cells.new.items }
 {
     let walk = walks[room * scope.places + usize::from(at)];
     for rest in 0..tours.len() {
@@ -120,7 +117,8 @@ fn push_row(
 // cell.
 fn lesser(less: u32, whole: u64) -> Option<u32>
     ensures none { IfSome result (λ cell. mark ≤ whole → cell ≡ less) }
-    ensures some { IfSome result (λ cell. whole < mark → (cell ≡ min less whole) × (whole < small_mark)) }
+    ensures some { IfSome result (λ cell. whole < mark → cell ≡ min less whole) }
+    ensures small { IfSome result (λ cell. whole < mark → whole < small_mark) }
 {
     if whole >= MARK {
         return Some(less);
@@ -142,14 +140,14 @@ pub(crate) fn looked_up(
     free: u64,
     rest: u64,
 ) -> u64
-    requires homes { AreHomes (scaled scope) (near_by scope) scope.customers.now cells.now }
-    requires tours { AreTours (scaled scope) (near_by scope) scope.customers.now tours.now }
-    requires room { room ≡ room_of (scaled scope) scope.customers.now }
+    requires homes { AreHomesOver scope cells.now }
+    requires tours { AreToursOver scope tours.now }
+    requires room { room ≡ room_over scope }
     requires customer { at ≢ 0 }
     requires place { at < place_count scope.instance.now }
     requires free { free ≤ (scaled scope).capacity }
     requires rest { rest ≤ load_of (scaled scope) scope.customers.now }
-    ensures { let p = scaled scope.entry in IsLeastCell (HasRelaxed p (near_by scope.entry) scope.entry.customers.now at (p.capacity - free) rest) result }
+    ensures { IsLeastWayHome scope.entry at free rest result }
 {
     let left = free.min(room) as usize;
     let row = usize::from(at) * (room as usize + 1) + left;
@@ -171,13 +169,13 @@ pub(crate) fn least_way_home(
     free: u64,
     rest: u64,
 ) -> u64
-    requires walks { AreWalks (scaled scope) (near_by scope) scope.customers.now walks.now }
-    requires tours { AreTours (scaled scope) (near_by scope) scope.customers.now tours.now }
+    requires walks { AreWalksOver scope walks.now }
+    requires tours { AreToursOver scope tours.now }
     requires customer { at ≢ 0 }
     requires place { at < place_count scope.instance.now }
     requires free { free ≤ (scaled scope).capacity }
     requires rest { rest ≤ load_of (scaled scope) scope.customers.now }
-    ensures least { let p = scaled scope.entry in IsLeastCell (HasRelaxed p (near_by scope.entry) scope.entry.customers.now at (p.capacity - free) rest) result }
+    ensures least { IsLeastWayHome scope.entry at free rest result }
 {
     let rest = rest as usize;
     let room = free as usize;

@@ -15,6 +15,7 @@ mod homes;
 mod instances;
 mod law;
 mod least_homes;
+mod memory_scope;
 mod memory_tables;
 mod memory_walks;
 mod quotients;

@@ -2,8 +2,7 @@
 ghost use Rattle.std.specs.Prelude.{◌≡◌, ◌≤◌, ◌<◌, IfOk, IfSome};
 ghost use Rattle.vrp_model.specs.Problem.{customers, place_count};
 ghost use Rattle.vrp_model.specs.Route.{load_of};
-ghost use Rattle.vrp_memory.specs.Near.{near_in};
-ghost use Rattle.vrp_bound.specs.Remembering.{IsRememberingBound};
+ghost use Rattle.vrp_bound.specs.Remembering.{IsMemoryBound};
 
 use crate::completions::Completions;
 use crate::homes::Looks;
@@ -48,7 +47,7 @@ impl<'a> MemoryTables<'a> {
         memory: Memory,
     ) -> Result<MemoryTables<'a>, NoMemory>
         requires places { memory.places ≡ place_count instance.now }
-        ensures { IfOk result (λ tables. tables ≡ record { problem = instance.now; near = memory }) }
+        ensures { IfOk result (λ made. made ≡ record { problem = instance.now; near = memory }) }
     {
         let customers = all_customers(alloc, instance)?;
         let completions = Completions::new(
@@ -72,7 +71,7 @@ impl<'a> MemoryTables<'a> {
         requires load { load ≤ self.now.problem.capacity }
         requires depot { at ≡ 0 → load ≡ 0 }
         requires rest { rest ≤ load_of self.now.problem (customers self.now.problem) }
-        ensures bound { IsRememberingBound self.now.problem (near_in self.now.near) (customers self.now.problem) at load rest result }
+        ensures bound { IsMemoryBound self.now at load rest result }
         ensures small { IfSome result (λ least. least < 4000000000000000000) }
     {
         self.completions.bound(Some(&self.memory), at, load, rest)

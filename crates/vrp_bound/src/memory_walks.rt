@@ -1,54 +1,14 @@
 //! The table of the walks that remember: the least cost of a walk from each place to the depot, by the load that it takes up.
-ghost use Rattle.std.specs.Prelude.{◌≡◌, ℕ, ◌+◌, ◌*◌, ◌^◌, ◌≤◌, ◌<◌, ◌++◌, IfOk, length, slice_index, vec_len, vec_capacity};
-ghost use Rattle.vrp_model.specs.Problem.{place_count};
-ghost use Rattle.vrp_memory.specs.Near.{near_in};
-ghost use Rattle.vrp_bound.specs.Inner.Cells.{AreWalks, IsLeastCell, mark};
-ghost use Rattle.vrp_bound.specs.Inner.MemoryCells.{AreMemoryWalks, AreMemoryWalksSoFar, ArePulled, HasMemoryWalk};
-ghost use Rattle.vrp_bound.specs.Inner.Scaled.{scaled};
-ghost use Rattle.vrp_bound.specs.Tables.{room_of};
+ghost use Rattle.std.specs.Prelude.{◌≡◌, ℕ, ◌+◌, ◌*◌, ◌≤◌, ◌<◌, ◌++◌, IfOk, SomeIndex, length, slice_index, vec_len, vec_capacity};
+ghost use Rattle.vrp_bound.specs.Inner.Cells.{mark};
+ghost use Rattle.vrp_bound.specs.Inner.MemoryCells.{ArePulled, IsRow};
+ghost use Rattle.vrp_bound.specs.Inner.MemoryScaled.{AreLeastMemoryWalks, AreMemoryWalksOver, AreMemoryWalksOverSoFar, AreRememberingWalks, load_cells, place_count_of};
+ghost use Rattle.vrp_bound.specs.Inner.Scaled.{room_over};
 
-use crate::units::UnitScope;
+use crate::memory_scope::MemoryScope;
 use crate::walks::MARK;
 use std::alloc::Global;
-use vrp_memory::Memory;
 use vrp_model::NoMemory;
-
-/// Some customers of an instance, and what walks through them remember.
-#[derive(Clone, Copy)]
-pub(crate) struct MemoryScope<'a> {
-    pub(crate) units: UnitScope<'a>,
-    pub(crate) memory: &'a Memory,
-    // In units, by place.
-    pub(crate) demands: &'a [u64],
-    // How many memories there are at a place.
-    pub(crate) masks: usize,
-    ghost of_places: { memory.now.places ≡ units.places },
-    ghost amounts: { demands.now ≡ (scaled units).demands },
-    ghost bits: { masks ≡ 2 ^ memory.now.size },
-    ghost some: { 1 ≤ masks },
-    ghost few: { masks ≤ 16 },
-}
-
-impl<'a> MemoryScope<'a> {
-    /// These customers, whose demands are by place.
-    pub(crate) fn new(
-        units: UnitScope<'a>,
-        memory: &'a Memory,
-        demands: &'a [u64],
-    ) -> MemoryScope<'a>
-        requires places { memory.now.places ≡ units.places }
-        requires demands { demands.now ≡ (scaled units).demands }
-        ensures units { result.units ≡ units.entry }
-        ensures memory { result.memory.now ≡ memory.entry.now }
-    {
-        MemoryScope {
-            units,
-            memory,
-            demands,
-            masks: memory.masks(),
-        }
-    }
-}
 
 /// The cells, by load and of each load by place, for loads up to what one truck can carry: the least over what is remembered.
 pub(crate) fn walks_by_memory(
@@ -56,8 +16,8 @@ pub(crate) fn walks_by_memory(
     scope: MemoryScope<'_>,
     room: u64,
 ) -> Result<Vec<u64>, NoMemory>
-    requires room { room ≡ room_of (scaled scope.units) scope.units.customers.now }
-    ensures { IfOk result (λ cells. AreWalks (scaled scope.entry.units) (near_in scope.entry.memory.now) scope.entry.units.customers.now cells.items) }
+    requires room { room ≡ room_over scope.units }
+    ensures { IfOk result (λ cells. AreRememberingWalks scope.entry cells.items) }
 {
     let cells = memory_walks(alloc, scope, room)?;
     least_walks(alloc, scope, &cells)
@@ -65,8 +25,8 @@ pub(crate) fn walks_by_memory(
 
 // The cells by load, of each load by place, and of each place by memory.
 fn memory_walks(alloc: Global, scope: MemoryScope<'_>, room: u64) -> Result<Vec<u64>, NoMemory>
-    requires room { room ≡ room_of (scaled scope.units) scope.units.customers.now }
-    ensures { IfOk result (λ cells. AreMemoryWalks (scaled scope.entry.units) (near_in scope.entry.memory.now) scope.entry.units.customers.now scope.entry.masks cells.items) }
+    requires room { room ≡ room_over scope.units }
+    ensures { IfOk result (λ cells. AreMemoryWalksOver scope.entry cells.items) }
 {
     let loads = room as usize + 1;
     let mut cells = Vec::with_capacity(alloc, loads * scope.units.places * scope.masks)?;
@@ -79,8 +39,8 @@ fn memory_walks(alloc: Global, scope: MemoryScope<'_>, room: u64) -> Result<Vec<
 
 // The least of the cells of each load and place, whatever is remembered.
 fn least_walks(alloc: Global, scope: MemoryScope<'_>, cells: &[u64]) -> Result<Vec<u64>, NoMemory>
-    requires cells { AreMemoryWalks (scaled scope.units) (near_in scope.memory.now) scope.units.customers.now scope.masks cells.now }
-    ensures { IfOk result (λ walks. AreWalks (scaled scope.entry.units) (near_in scope.entry.memory.now) scope.entry.units.customers.now walks.items) }
+    requires cells { AreMemoryWalksOver scope cells.now }
+    ensures { IfOk result (λ walks. AreRememberingWalks scope.entry walks.items) }
 {
     let count = cells.len() / scope.masks;
     let mut walks = Vec::with_capacity(alloc, count)?;
@@ -95,7 +55,7 @@ fn least_walks(alloc: Global, scope: MemoryScope<'_>, cells: &[u64]) -> Result<V
 fn least_of(row: &[u64]) -> u64
     ensures within { result ≤ mark }
     ensures low { (m : ℕ) → m < length row.now → result ≤ slice_index row.now m }
-    ensures met { result < mark → (m : ℕ) × (m < length row.now) × (slice_index row.now m ≡ result) }
+    ensures met { result < mark → SomeIndex row.now (λ m. slice_index row.now m ≡ result) }
 {
     let mut least = MARK;
     for cell in row {
@@ -108,12 +68,12 @@ fn least_of(row: &[u64]) -> u64
 fn push_load(cells: &mut Vec<u64>, row: &mut [u64], scope: MemoryScope<'_>, load: usize)
     requires row { length row.old ≡ scope.masks }
     requires light { load ≤ 200000000 }
-    requires so_far { AreMemoryWalksSoFar (scaled scope.units) (near_in scope.memory.now) scope.units.customers.now scope.masks cells.old.items }
-    requires next { vec_len cells.old ≡ load * place_count scope.units.instance.now * scope.masks }
-    requires fits { vec_len cells.old + place_count scope.units.instance.now * scope.masks ≤ vec_capacity cells.old }
-    ensures len { vec_len cells.new ≡ vec_len cells.old + place_count scope.entry.units.instance.now * scope.entry.masks }
+    requires so_far { AreMemoryWalksOverSoFar scope cells.old.items }
+    requires next { vec_len cells.old ≡ load * place_count_of scope * scope.masks }
+    requires fits { vec_len cells.old + load_cells scope ≤ vec_capacity cells.old }
+    ensures len { vec_len cells.new ≡ vec_len cells.old + load_cells scope.entry }
     ensures capacity { vec_capacity cells.new ≡ vec_capacity cells.old }
-    ensures so_far { AreMemoryWalksSoFar (scaled scope.entry.units) (near_in scope.entry.memory.now) scope.entry.units.customers.now scope.entry.masks cells.new.items }
+    ensures so_far { AreMemoryWalksOverSoFar scope.entry cells.new.items }
 {
     for at in 0..scope.units.places as u16 {
         fill_row(row, scope, cells, load, at);
@@ -135,12 +95,12 @@ fn append(cells: &mut Vec<u64>, row: &[u64])
 
 // The cells of a load and a place, by memory: pulled from those of each stop for which the load has room.
 fn fill_row(row: &mut [u64], scope: MemoryScope<'_>, cells: &[u64], load: usize, at: u16)
-    requires place { at < place_count scope.units.instance.now }
+    requires place { at < place_count_of scope }
     requires row { length row.old ≡ scope.masks }
     requires light { load ≤ 200000000 }
-    requires so_far { AreMemoryWalksSoFar (scaled scope.units) (near_in scope.memory.now) scope.units.customers.now scope.masks cells.now }
-    requires next { length cells.now ≡ (load * place_count scope.units.instance.now + at) * scope.masks }
-    ensures least { (m : ℕ) → m < scope.entry.masks → IsLeastCell (HasMemoryWalk (scaled scope.entry.units) (near_in scope.entry.memory.now) scope.entry.units.customers.now at load m) (slice_index row.new m) }
+    requires so_far { AreMemoryWalksOverSoFar scope cells.now }
+    requires next { length cells.now ≡ (load * place_count_of scope + at) * scope.masks }
+    ensures least { AreLeastMemoryWalks scope.entry at load row.new }
     ensures within { (m : ℕ) → slice_index row.new m ≤ mark }
 {
     clear(row);
@@ -175,7 +135,7 @@ fn clear(row: &mut [u64])
 fn cells_of(cells: &[u64], place: usize, masks: usize) -> &[u64]
     requires fits { place * masks + masks ≤ length cells.now }
     ensures len { length result.now ≡ masks }
-    ensures value { (m : ℕ) → m < masks → slice_index result.now m ≡ slice_index cells.entry.now (place * masks + m) }
+    ensures value { IsRow masks place cells.entry.now result.now }
 {
     let start = place * masks;
     &cells[start..start + masks]

@@ -1,9 +1,9 @@
 //! What tables are over: some customers of an instance.
 ghost use Rattle.std.specs.Prelude.{◌≡◌, ◌+◌, ◌*◌, ◌≤◌, ◌<◌, ◌↔◌, All, Contains, IsTrue, length};
 ghost use Rattle.std.specs.List.Sorted.{IsStrictlyIncreasing};
-ghost use Rattle.vrp_model.specs.Problem.{customers as customers_of, demand_of, place_count, IsProblem};
+ghost use Rattle.vrp_model.specs.Problem.{customers as customers_of, place_count, IsProblem};
 ghost use Rattle.vrp_model.specs.Route.{load_of};
-ghost use Rattle.vrp_bound.specs.Tables.{AreMade};
+ghost use Rattle.vrp_bound.specs.Tables.{AllDemand, AreMade};
 ghost use Rattle.vrp_model.specs.declared.limits.TheConstants.{MAX_CAPACITY, MAX_NODES};
 
 use vrp_model::Instance;
@@ -54,7 +54,7 @@ pub(crate) fn are_made(scope: Scope<'_>) -> bool
 
 // Whether each of them has a demand.
 fn all_demand(scope: Scope<'_>) -> bool
-    ensures { IsTrue result ↔ All (λ customer. 1 ≤ demand_of scope.entry.instance.now customer) scope.entry.customers.now }
+    ensures { IsTrue result ↔ AllDemand scope.entry.instance.now scope.entry.customers.now }
 {
     for customer in scope.customers {
         if scope.instance.demand(*customer) == 0 {

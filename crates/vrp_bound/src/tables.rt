@@ -3,7 +3,7 @@ ghost use Rattle.std.specs.Prelude.{◌≡◌, ◌≤◌, ◌<◌, All, Contains
 ghost use Rattle.std.specs.List.Sorted.{IsStrictlyIncreasing};
 ghost use Rattle.vrp_model.specs.Problem.{customers, place_count};
 ghost use Rattle.vrp_model.specs.Route.{load_of};
-ghost use Rattle.vrp_bound.specs.Tables.{IsBound, TablesOf};
+ghost use Rattle.vrp_bound.specs.Tables.{IsBound, tables_over};
 
 use crate::completions::Completions;
 use crate::homes::Looks;
@@ -19,12 +19,12 @@ pub struct Tables<'a> {
 
 impl<'a> Model for Tables<'a> {
     ghost use Rattle.vrp_bound.specs.Tables.{TablesOf};
-    ghost use Rattle.vrp_bound.specs.Inner.Filled.{AreHeld};
+    ghost use Rattle.vrp_bound.specs.Inner.Filled.{AreHeld, tables_held};
     ghost use Rattle.vrp_bound.specs.Remembering.{nothing_near};
 
     ghost Value = { TablesOf };
 
-    ghost view = { λ a. record { problem = a.completions.instance.now; among = a.completions.customers.items } };
+    ghost view = { λ a. tables_held a.completions };
 
     ghost invariant = { λ a. AreHeld nothing_near a.completions };
 }
@@ -38,7 +38,7 @@ impl<'a> Tables<'a> {
     ) -> Result<Tables<'a>, NoMemory>
         requires rising { IsStrictlyIncreasing unserved.now }
         requires customers { All (Contains (customers instance.now)) unserved.now }
-        ensures { IfOk result (λ tables. tables ≡ record { problem = instance.now; among = unserved.now }) }
+        ensures { IfOk result (λ made. made ≡ tables_over instance.now unserved.now) }
     {
         let completions = Completions::new(alloc, instance, unserved, None, Looks::Many)?;
         Ok(Tables { completions })
@@ -52,7 +52,7 @@ impl<'a> Tables<'a> {
     ) -> Result<Tables<'a>, NoMemory>
         requires rising { IsStrictlyIncreasing unserved.now }
         requires customers { All (Contains (customers instance.now)) unserved.now }
-        ensures { IfOk result (λ tables. tables ≡ record { problem = instance.now; among = unserved.now }) }
+        ensures { IfOk result (λ made. made ≡ tables_over instance.now unserved.now) }
     {
         let completions = Completions::new(alloc, instance, unserved, None, Looks::Few)?;
         Ok(Tables { completions })
@@ -60,7 +60,7 @@ impl<'a> Tables<'a> {
 
     /// Tables over all customers.
     pub fn over_all(alloc: Global, instance: &'a Instance) -> Result<Tables<'a>, NoMemory>
-        ensures { IfOk result (λ tables. tables ≡ record { problem = instance.now; among = customers instance.now }) }
+        ensures { IfOk result (λ made. made ≡ tables_over instance.now (customers instance.now)) }
     {
         let customers = all_customers(alloc, instance)?;
         Tables::build(alloc, instance, &customers)

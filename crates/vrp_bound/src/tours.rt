@@ -1,9 +1,8 @@
 //! The table of the tours: the least cost of closed walks of one truck each, by what they carry together.
 ghost use Rattle.std.specs.Prelude.{◌≡◌, ◌≤◌, IfOk, length};
 ghost use Rattle.vrp_model.specs.Route.{load_of};
-ghost use Rattle.vrp_bound.specs.Inner.Cells.{AreTours, AreToursSoFar, AreWalks, HasTours, IsLeastCell, mark};
-ghost use Rattle.vrp_bound.specs.Tables.{room_of};
-ghost use Rattle.vrp_bound.specs.Inner.Scaled.{near_by, scaled};
+ghost use Rattle.vrp_bound.specs.Inner.Cells.{mark};
+ghost use Rattle.vrp_bound.specs.Inner.Scaled.{AreToursOver, AreToursOverSoFar, AreWalksOver, IsLeastTours, room_over, scaled};
 
 use crate::units::UnitScope;
 use crate::walks::MARK;
@@ -18,10 +17,10 @@ pub(crate) fn tours(
     room: u64,
     demand: u64,
 ) -> Result<Vec<u64>, NoMemory>
-    requires walks { AreWalks (scaled scope) (near_by scope) scope.customers.now walks.now }
-    requires room { room ≡ room_of (scaled scope) scope.customers.now }
+    requires walks { AreWalksOver scope walks.now }
+    requires room { room ≡ room_over scope }
     requires demand { demand ≡ load_of (scaled scope) scope.customers.now }
-    ensures { IfOk result (λ cells. AreTours (scaled scope.entry) (near_by scope.entry) scope.entry.customers.now cells.items) }
+    ensures { IfOk result (λ cells. AreToursOver scope.entry cells.items) }
 {
     let count = demand as usize + 1;
     let mut cells = Vec::with_capacity(alloc, count)?;
@@ -34,11 +33,11 @@ pub(crate) fn tours(
 
 // The least cost of tours that carry as much as there are cells: by the load of the first tour, and the tours behind it.
 fn least_tours(scope: UnitScope<'_>, walks: &[u64], cells: &[u64], room: usize) -> u64
-    requires walks { AreWalks (scaled scope) (near_by scope) scope.customers.now walks.now }
-    requires so_far { AreToursSoFar (scaled scope) (near_by scope) scope.customers.now cells.now }
-    requires room { room ≡ room_of (scaled scope) scope.customers.now }
+    requires walks { AreWalksOver scope walks.now }
+    requires so_far { AreToursOverSoFar scope cells.now }
+    requires room { room ≡ room_over scope }
     requires rest { length cells.now ≤ load_of (scaled scope) scope.customers.now }
-    ensures least { IsLeastCell (HasTours (scaled scope.entry) (near_by scope.entry) scope.entry.customers.now (length cells.now)) result }
+    ensures least { IsLeastTours scope.entry (length cells.now) result }
     ensures within { result ≤ mark }
 {
     let rest = cells.len();

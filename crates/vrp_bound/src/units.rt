@@ -69,7 +69,8 @@ pub(crate) fn unit_of(scope: Scope<'_>) -> u64
 
 /// The demands in units, by place.
 pub(crate) fn demands_in_units(alloc: Global, scope: UnitScope<'_>) -> Result<Vec<u64>, NoMemory>
-    ensures { IfOk result (λ demands. demands.items ≡ (in_units scope.entry.unit scope.entry.instance.now).demands) }
+    ensures { let p = in_units scope.entry.unit scope.entry.instance.now in
+        IfOk result (λ demands. demands.items ≡ p.demands) }
 {
     let mut demands = Vec::with_capacity(alloc, scope.places)?;
     for place in 0..scope.places as u16 {

@@ -1,12 +1,11 @@
 //! The table of the walks: the least cost of a walk from each place to the depot, by the load that it takes up.
 ghost use Rattle.std.specs.Prelude.{◌≡◌, ◌+◌, ◌*◌, ◌≤◌, ◌<◌, IfOk, length, vec_len, vec_capacity};
 ghost use Rattle.vrp_model.specs.Problem.{place_count};
-ghost use Rattle.vrp_bound.specs.Remembering.{nothing_near};
-ghost use Rattle.vrp_bound.specs.Inner.Cells.{AreWalks, AreWalksSoFar, HasWalk, IsLeastCell, mark};
-ghost use Rattle.vrp_bound.specs.Tables.{room_of};
-ghost use Rattle.vrp_bound.specs.Inner.Scaled.{near_by, scaled};
+ghost use Rattle.vrp_bound.specs.Inner.Cells.{mark};
+ghost use Rattle.vrp_bound.specs.Inner.Scaled.{ArePlainWalks, ArePlainWalksSoFar, AreWalksOver, IsLeastPlainWalk, room_over, scaled};
 
-use crate::memory_walks::{MemoryScope, walks_by_memory};
+use crate::memory_scope::MemoryScope;
+use crate::memory_walks::walks_by_memory;
 use crate::units::UnitScope;
 use std::alloc::Global;
 use vrp_model::NoMemory;
@@ -22,8 +21,8 @@ pub(crate) fn walks(
     room: u64,
 ) -> Result<Vec<u64>, NoMemory>
     requires demands { demands.now ≡ (scaled scope).demands }
-    requires room { room ≡ room_of (scaled scope) scope.customers.now }
-    ensures { IfOk result (λ cells. AreWalks (scaled scope.entry) (near_by scope.entry) scope.entry.customers.now cells.items) }
+    requires room { room ≡ room_over scope }
+    ensures { IfOk result (λ cells. AreWalksOver scope.entry cells.items) }
 {
     match scope.memory {
         Some(memory) => {
@@ -42,8 +41,8 @@ fn plain_walks(
     room: u64,
 ) -> Result<Vec<u64>, NoMemory>
     requires demands { demands.now ≡ (scaled scope).demands }
-    requires room { room ≡ room_of (scaled scope) scope.customers.now }
-    ensures { IfOk result (λ cells. AreWalks (scaled scope.entry) nothing_near scope.entry.customers.now cells.items) }
+    requires room { room ≡ room_over scope }
+    ensures { IfOk result (λ cells. ArePlainWalks scope.entry cells.items) }
 {
     let loads = room as usize + 1;
     let mut cells = Vec::with_capacity(alloc, loads * scope.places)?;
@@ -56,12 +55,12 @@ fn plain_walks(
 // Adds the cells of a load, after those of less.
 fn push_row(cells: &mut Vec<u64>, scope: UnitScope<'_>, demands: &[u64], load: usize)
     requires demands { demands.now ≡ (scaled scope).demands }
-    requires so_far { AreWalksSoFar (scaled scope) nothing_near scope.customers.now cells.old.items }
+    requires so_far { ArePlainWalksSoFar scope cells.old.items }
     requires next { vec_len cells.old ≡ load * place_count scope.instance.now }
     requires fits { vec_len cells.old + place_count scope.instance.now ≤ vec_capacity cells.old }
     ensures len { vec_len cells.new ≡ vec_len cells.old + place_count scope.entry.instance.now }
     ensures capacity { vec_capacity cells.new ≡ vec_capacity cells.old }
-    ensures so_far { AreWalksSoFar (scaled scope.entry) nothing_near scope.entry.customers.now cells.new.items }
+    ensures so_far { ArePlainWalksSoFar scope.entry cells.new.items }
 {
     for at in 0..scope.places as u16 {
         let cell = least_walk(scope, demands, cells, load, at);
@@ -72,10 +71,10 @@ fn push_row(cells: &mut Vec<u64>, scope: UnitScope<'_>, demands: &[u64], load: u
 // The least cost of a walk from a place that takes up this load: by its first stop, and the walk from there.
 fn least_walk(scope: UnitScope<'_>, demands: &[u64], cells: &[u64], load: usize, at: u16) -> u64
     requires demands { demands.now ≡ (scaled scope).demands }
-    requires so_far { AreWalksSoFar (scaled scope) nothing_near scope.customers.now cells.now }
+    requires so_far { ArePlainWalksSoFar scope cells.now }
     requires place { at < place_count scope.instance.now }
     requires next { length cells.now ≡ load * place_count scope.instance.now + at }
-    ensures least { IsLeastCell (HasWalk (scaled scope.entry) nothing_near scope.entry.customers.now at load) result }
+    ensures least { IsLeastPlainWalk scope.entry at load result }
     ensures within { result ≤ mark }
 {
     if load == 0 {

@@ -5,10 +5,12 @@ use Rattle.std.specs.List.Sorted.{IsStrictlyIncreasing}
 use Rattle.vrp_model.specs.Problem.{Problem, customers}
 use Rattle.vrp_bound.specs.declared.completions.Cells.{Cells}
 use Rattle.vrp_bound.specs.declared.completions.Completions.{Completions}
-use Rattle.vrp_bound.specs.Inner.Cells.{AreHomes, AreTours, AreWalks}
+use Rattle.vrp_bound.specs.declared.scope.Scope.{Scope}
+use Rattle.vrp_bound.specs.Inner.Cells.{AreHomes, AreTours, AreWalks, HasRelaxed, IsLeastCell}
 use Rattle.vrp_bound.specs.Inner.Scope.{IsScope}
-use Rattle.vrp_bound.specs.Tables.{AreMade, room_of}
 use Rattle.vrp_bound.specs.Inner.Units.{IsUnit, in_units}
+use Rattle.vrp_bound.specs.Remembering.{IsRememberingBound}
+use Rattle.vrp_bound.specs.Tables.{AreMade, TablesOf, room_of, tables_over}
 
 pub record AreCells (p : Problem) (near : ℕ → List ℕ) (among : List ℕ) (cells : Cells) : Type 0 where
   pub made : AreMade p among
@@ -21,6 +23,15 @@ pub record AreCells (p : Problem) (near : ℕ → List ℕ) (among : List ℕ) (
   pub room : cells.room ≡ room_of (in_units cells.unit p) among
   pub homes : IfSome cells.homes (λ homes. AreHomes (in_units cells.unit p) near among homes.items)
 
+-- the cells over the customers of a scope
+abbrev pub AreCellsOver : Scope → (ℕ → List ℕ) → Cells → Type 0
+AreCellsOver scope near cells = AreCells scope.instance.now near scope.customers.now cells
+
+-- the least cost of what carries the rest, over the customers of a scope
+abbrev pub IsLeastOver : Scope → (ℕ → List ℕ) → ℕ → ℕ → ℕ → ℕ → Type 0
+IsLeastOver scope near at load rest cell =
+    IsLeastCell (HasRelaxed scope.instance.now near scope.customers.now at load rest) cell
+
 pub record AreFilled (p : Problem) (near : ℕ → List ℕ) (among : List ℕ) (cells : Option Cells) : Type 0 where
   pub rising : IsStrictlyIncreasing among
   pub known : All (Contains (customers p)) among
@@ -30,3 +41,12 @@ pub record AreFilled (p : Problem) (near : ℕ → List ℕ) (among : List ℕ) 
 -- what completions hold, where the walks remember those who are near
 abbrev pub AreHeld : (ℕ → List ℕ) → Completions → Type 0
 AreHeld near held = AreFilled held.instance.now near held.customers.items held.cells
+
+-- what completions answer
+abbrev pub IsHeldBound : (ℕ → List ℕ) → Completions → ℕ → ℕ → ℕ → Option ℕ → Type 0
+IsHeldBound near held at load rest answer =
+    IsRememberingBound held.instance.now near held.customers.items at load rest answer
+
+-- the tables that completions are, where nobody is near any place
+abbrev pub tables_held : Completions → TablesOf
+tables_held held = tables_over held.instance.now held.customers.items

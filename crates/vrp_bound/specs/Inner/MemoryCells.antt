@@ -25,6 +25,10 @@ pub record AreMemoryWalks (p : Problem) (near : ℕ → List ℕ) (among : List 
   pub so_far : AreMemoryWalksSoFar p near among masks cells
   pub all : length cells ≡ (room_of p among + 1) * place_count p * masks
 
+-- the row of a load and a place, by memory; `place` counts the rows before it
+abbrev pub IsRow : ℕ → ℕ → List ℕ → List ℕ → Type 0
+IsRow masks place cells row = (m : ℕ) → m < masks → slice_index row m ≡ slice_index cells (place * masks + m)
+
 -- Of a row by memory: each cell is the least of what it was before, and of what the first of the cells behind cost with this weight,
 -- where this cell's memory is the one before them
 pub record ArePulled (weight count : ℕ) (behind before old new : List ℕ) : Type 0 where

@@ -1,12 +1,14 @@
--- The problem of some customers, in their unit, and whom its walks remember.
-use Rattle.std.specs.Prelude.{ℕ, List, Option, None, Some}
+-- The problem of some customers, in their unit, whom its walks remember, and what stands in the tables over them.
+use Rattle.std.specs.Prelude.{◌≡◌, ℕ, ◌-◌, List, Option, None, Some}
 use Rattle.std.specs.Borrow.{Bor}
-use Rattle.std.specs.Option.{option_map}
+use Rattle.std.specs.Option.{ForSome, option_map}
 use Rattle.vrp_memory.specs.Near.{NearOf, near_in}
 use Rattle.vrp_model.specs.Problem.{Problem}
 use Rattle.vrp_bound.specs.declared.units.UnitScope.{UnitScope}
+use Rattle.vrp_bound.specs.Inner.Cells.{AreHomes, AreHomesSoFar, AreTours, AreToursSoFar, AreWalks, AreWalksSoFar, HasRelaxed, HasTours, HasWalk, IsLeastCell}
 use Rattle.vrp_bound.specs.Inner.Units.{in_units}
 use Rattle.vrp_bound.specs.Remembering.{nothing_near}
+use Rattle.vrp_bound.specs.Tables.{room_of}
 
 -- with its demands counted in the unit
 abbrev pub scaled : UnitScope → Problem
@@ -20,5 +22,52 @@ near_of (Some near) = near_in near
 abbrev pub near_with : Option (Bor NearOf) → ℕ → List ℕ
 near_with memory = near_of (option_map (λ m. m.now) memory)
 
+-- the memory of walks, where they have one, is of this many places
+abbrev pub IsOfPlaces : Option (Bor NearOf) → ℕ → Type 0
+IsOfPlaces memory places = ForSome memory (λ memory. memory.now.places ≡ places)
+
 abbrev pub near_by : UnitScope → ℕ → List ℕ
 near_by scope = near_with scope.memory
+
+-- how much of what they demand one truck can carry
+abbrev pub room_over : UnitScope → ℕ
+room_over scope = room_of (scaled scope) scope.customers.now
+
+-- the cells of the walks
+abbrev pub AreWalksOver : UnitScope → List ℕ → Type 0
+AreWalksOver scope cells = AreWalks (scaled scope) (near_by scope) scope.customers.now cells
+
+-- the same where a walk remembers its next stop alone
+abbrev pub ArePlainWalks : UnitScope → List ℕ → Type 0
+ArePlainWalks scope cells = AreWalks (scaled scope) nothing_near scope.customers.now cells
+
+abbrev pub ArePlainWalksSoFar : UnitScope → List ℕ → Type 0
+ArePlainWalksSoFar scope cells = AreWalksSoFar (scaled scope) nothing_near scope.customers.now cells
+
+-- the least of such a walk from a place that takes up this load
+abbrev pub IsLeastPlainWalk : UnitScope → ℕ → ℕ → ℕ → Type 0
+IsLeastPlainWalk scope at load cell = IsLeastCell (HasWalk (scaled scope) nothing_near scope.customers.now at load) cell
+
+-- the cells of the tours
+abbrev pub AreToursOver : UnitScope → List ℕ → Type 0
+AreToursOver scope cells = AreTours (scaled scope) (near_by scope) scope.customers.now cells
+
+abbrev pub AreToursOverSoFar : UnitScope → List ℕ → Type 0
+AreToursOverSoFar scope cells = AreToursSoFar (scaled scope) (near_by scope) scope.customers.now cells
+
+-- the least of tours that carry the rest
+abbrev pub IsLeastTours : UnitScope → ℕ → ℕ → Type 0
+IsLeastTours scope rest cell = IsLeastCell (HasTours (scaled scope) (near_by scope) scope.customers.now rest) cell
+
+-- the cells of the ways home
+abbrev pub AreHomesOver : UnitScope → List ℕ → Type 0
+AreHomesOver scope cells = AreHomes (scaled scope) (near_by scope) scope.customers.now cells
+
+abbrev pub AreHomesOverSoFar : UnitScope → List ℕ → Type 0
+AreHomesOverSoFar scope cells = AreHomesSoFar (scaled scope) (near_by scope) scope.customers.now cells
+
+-- the least of what carries the rest from a place, where the open truck can still take up as much as is free
+abbrev pub IsLeastWayHome : UnitScope → ℕ → ℕ → ℕ → ℕ → Type 0
+IsLeastWayHome scope at free rest cell =
+    let p = scaled scope in
+    IsLeastCell (HasRelaxed p (near_by scope) scope.customers.now at (p.capacity - free) rest) cell

@@ -54,7 +54,7 @@ loop-rest-preserved c =
       | then-room-rest w ↦ absurd (omega (arith, more, w.if-room-rest.true))
       | else-room-rest w ↦ w.whole-is
     ] in
-    let cell = next_home p (near_by c.args.scope) among at room rest less whole c.in-Some.cell c.args.scope.scope (omega (arith, rest_within)) none some fits_whole no_whole c.in-Some.ensures.none c.in-Some.ensures.some in
+    let cell = next_home p (near_by c.args.scope) among at room rest less whole c.in-Some.cell c.args.scope.scope (omega (arith, rest_within)) none some fits_whole no_whole c.in-Some.ensures.none (λ is. (c.in-Some.ensures.some is, c.in-Some.ensures.small is)) in
     record {
       len = omega (arith, c.push_reserved.ensures.len, c.loop-rest.invariant.len);
       capacity = omega (arith, c.push_reserved.ensures.capacity, c.loop-rest.invariant.capacity);
