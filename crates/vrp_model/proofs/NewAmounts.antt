@@ -1,5 +1,5 @@
 -- The same places and trucks with other weights, demands and capacity are a problem again.
-use Rattle.std.proofs.Common.{◌≡◌, ℕ, ◌*◌, ◌≤◌, List, length, refl, sym}
+use Rattle.std.proofs.Common.{◌≡◌, ℕ, ◌*◌, ◌≤◌, List, length, refl}
 use Rattle.std.specs.Prelude.{slice_index}
 use Rattle.vrp_model.specs.declared.limits.TheConstants.{MAX_CAPACITY, MAX_WEIGHT}
 use Rattle.vrp_model.specs.Problem.{IsProblem, Problem, place_count}

@@ -9,6 +9,9 @@ pub record Grid : Type 0 where
   pub nodes : ℕ
   pub entries : List ℕ
 
+abbrev pub grid_of : ℕ → List ℕ → Grid
+grid_of nodes entries = record { nodes = nodes; entries = entries }
+
 abbrev pub entry_at : Grid → ℕ → ℕ → ℕ
 entry_at grid from to = slice_index grid.entries ((from - 1) * grid.nodes + (to - 1))
 

@@ -35,6 +35,14 @@ weight_of p from to = slice_index p.weights (from * place_count p + to)
 abbrev pub HasTrucks : Problem → ℕ → Type 0
 HasTrucks p routes = ForSome p.trucks (λ trucks. routes ≤ trucks)
 
+-- there is a truck for each customer
+abbrev pub HasTruckForEach : Problem → Type 0
+HasTruckForEach p = HasTrucks p (length (customers p))
+
+-- the same places and trucks with these weights, demands and capacity
+abbrev pub with_amounts : Problem → List ℕ → List ℕ → ℕ → Problem
+with_amounts p weights demands capacity = record p { weights = weights; demands = demands; capacity = capacity }
+
 -- between any two places there and back cost the same
 abbrev pub IsSymmetric : Problem → Type 0
 IsSymmetric p = (from to : ℕ) → from < place_count p → to < place_count p → weight_of p from to ≡ weight_of p to from

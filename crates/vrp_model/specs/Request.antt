@@ -1,7 +1,7 @@
 -- What an instance is made from: demands by node number, listed depots, and the node that is chosen as the depot.
 -- (TSPLIB 95, section 1.2, DEMAND_SECTION and DEPOT_SECTION. That one of several depots is chosen, and the others are
 -- neither depot nor customers, is this project's rule.)
-use Rattle.std.specs.Prelude.{◌≡◌, ℕ, Option, None, unwrap_or, ◌-◌, ◌≤◌, ◌<◌, Bool, true, false, not, ◌==◌, List, ◌∷◌, length, map, filter, slice_index}
+use Rattle.std.specs.Prelude.{◌≡◌, ℕ, Option, None, unwrap_or, ◌-◌, ◌≤◌, ◌<◌, Bool, true, false, not, ◌==◌, List, ◌∷◌, EachIndex, length, map, filter, slice_index}
 use Rattle.std.specs.List.{range_with_len, flat_map, list_any}
 use Rattle.vrp_model.specs.Grid.{Grid, entry_at}
 use Rattle.vrp_model.specs.Problem.{Problem}
@@ -16,9 +16,19 @@ pub record Request : Type 0 where
   -- the one that is to be the depot
   pub chosen : ℕ
 
+-- a request whose depot is this one
+abbrev pub request_at : Grid → List ℕ → ℕ → List ℕ → ℕ → Request
+request_at grid demands capacity depots depot =
+    record { grid = grid; demands = demands; capacity = capacity; depots = depots; chosen = depot }
+
 -- the first listed depot is the depot, where none is chosen
 abbrev pub request_of : Grid → List ℕ → ℕ → List ℕ → Option ℕ → Request
-request_of grid demands capacity depots chosen = record { grid = grid; demands = demands; capacity = capacity; depots = depots; chosen = unwrap_or chosen (slice_index depots 0) }
+request_of grid demands capacity depots chosen =
+    request_at grid demands capacity depots (unwrap_or chosen (slice_index depots 0))
+
+-- no node's number is above this one
+abbrev pub NoneAbove : ℕ → List ℕ → Type 0
+NoneAbove most nodes = EachIndex nodes (λ k. slice_index nodes k ≤ most)
 
 abbrev pub is_listed : List ℕ → ℕ → Bool
 is_listed depots node = list_any (λ depot. depot == node) depots
@@ -30,12 +40,16 @@ node_demand demands node = slice_index demands (node - 1)
 abbrev pub places_of : Request → List ℕ
 places_of request = request.chosen ∷ filter (λ node. not (is_listed request.depots node)) (range_with_len 1 request.grid.nodes)
 
+-- the weights between these nodes: from each, to each
+abbrev pub weights_among : Grid → List ℕ → List ℕ
+weights_among grid nodes = flat_map (λ from. map (entry_at grid from) nodes) nodes
+
 -- the problem that a request means
 abbrev pub problem_of : Request → Problem
 problem_of request = record {
   nodes = places_of request;
   demands = map (node_demand request.demands) (places_of request);
-  weights = flat_map (λ from. map (entry_at request.grid from) (places_of request)) (places_of request);
+  weights = weights_among request.grid (places_of request);
   capacity = request.capacity;
   trucks = None;
 }

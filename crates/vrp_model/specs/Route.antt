@@ -1,5 +1,5 @@
 -- Routes and plans of the capacitated vehicle routing problem (TSPLIB 95, section 1, type CVRP).
-use Rattle.std.specs.Prelude.{◌≡◌, ◌≢◌, ◌⊎◌, ℕ, ◌+◌, ◌≤◌, List, [], ◌∷◌, ◌++◌, length, reverse}
+use Rattle.std.specs.Prelude.{◌≡◌, ◌≢◌, ◌⊎◌, ℕ, ◌+◌, ◌≤◌, List, [], ◌∷◌, ◌++◌, length, map, reverse}
 use Rattle.std.specs.List.{All, concat, sum_by}
 use Rattle.std.specs.List.Sorted.{IsPermutation}
 use Rattle.vrp_model.specs.Problem.{HasTrucks, Problem, customers, demand_of, weight_of}
@@ -19,12 +19,18 @@ route_cost p stops = cost_along p 0 (stops ++ 0 ∷ [])
 abbrev pub plan_cost : Problem → List (List ℕ) → ℕ
 plan_cost p routes = sum_by (route_cost p) routes
 
+-- each customer stands in one route, once, and nothing else stands in any
+abbrev pub ServesEachOnce : Problem → List (List ℕ) → Type 0
+ServesEachOnce p routes = IsPermutation (concat routes) (customers p)
+
+abbrev pub OverloadsNoTruck : Problem → List (List ℕ) → Type 0
+OverloadsNoTruck p routes = All (λ r. load_of p r ≤ p.capacity) routes
+
 -- each customer is served once, no truck is overloaded, and there are trucks for all routes
 pub record IsLawful (p : Problem) (routes : List (List ℕ)) : Type 0 where
-  -- each customer stands in one route, once, and nothing else stands in any
-  pub served : IsPermutation (concat routes) (customers p)
+  pub served : ServesEachOnce p routes
   pub stops : All (λ r. r ≢ []) routes
-  pub fits : All (λ r. load_of p r ≤ p.capacity) routes
+  pub fits : OverloadsNoTruck p routes
   pub few : HasTrucks p (length routes)
 
 -- routes, and what they are said to cost
@@ -36,6 +42,10 @@ pub record PricedPlan : Type 0 where
 pub record IsPlanOf (p : Problem) (plan : PricedPlan) : Type 0 where
   pub lawful : IsLawful p plan.routes
   pub priced : plan.cost ≡ plan_cost p plan.routes
+
+-- one truck to each customer, by rising place
+abbrev pub SendsOneToEach : Problem → PricedPlan → Type 0
+SendsOneToEach p plan = plan.routes ≡ map (λ customer. customer ∷ []) (customers p)
 
 -- each route as it is, or turned round: from its last stop to its first
 abbrev pub AreTurned : List (List ℕ) → List (List ℕ) → Type 0

@@ -4,7 +4,7 @@ use Rattle.std.specs.Prelude.{◌≡◌, ◌≢◌, ◌⊎◌, ℕ, ◌+◌, ◌
 use Rattle.std.specs.List.{All, AllPairs, Contains, filter, flat_map, list_any, slice_split}
 use Rattle.std.specs.List.Sorted.{IsStrictlyIncreasing}
 use Rattle.vrp_model.specs.Problem.{HasTrucks, IsSymmetric, Problem, customers, demand_of}
-use Rattle.vrp_model.specs.Route.{load_of, cost_along}
+use Rattle.vrp_model.specs.Route.{PricedPlan, load_of, cost_along}
 
 abbrev pub word_of : List (List ℕ) → List ℕ
 word_of routes = flat_map (λ r. r ++ 0 ∷ []) routes
@@ -32,6 +32,10 @@ last_symbol word = slice_index word (length word - 1)
 abbrev pub RunsForward : List ℕ → Type 0
 RunsForward route = slice_index route 0 ≤ last_symbol route
 
+-- where both directions of a route cost the same, each of these runs forward
+abbrev pub AllRunForward : Problem → List (List ℕ) → Type 0
+AllRunForward p routes = IsSymmetric p → All RunsForward routes
+
 -- a customer stands last: its route isn't closed by a 0 yet
 abbrev pub IsOpen : List ℕ → Type 0
 IsOpen word = 0 < last_symbol word
@@ -50,14 +54,16 @@ pub record IsFront (p : Problem) (word : List ℕ) : Type 0 where
   pub rising : IsStrictlyIncreasing (first_stops (routes_of word))
   -- an open route has a truck too
   pub few : HasTrucks p (length (routes_of word))
-  -- where both directions of a route cost the same, a closed one runs forward
-  pub forward : IsSymmetric p → All RunsForward (closed_routes word)
+  pub forward : AllRunForward p (closed_routes word)
 
 -- a front that has every customer and no open route
 pub record IsLawfulWord (p : Problem) (word : List ℕ) : Type 0 where
   pub front : IsFront p word
   pub every : All (Contains (served_in word)) (customers p)
   pub closed : last_symbol word ≡ 0
+
+abbrev pub HasLawfulWord : Problem → PricedPlan → Type 0
+HasLawfulWord p plan = IsLawfulWord p (word_of plan.routes)
 
 -- what is paid along the word, from the depot
 abbrev pub word_cost : Problem → List ℕ → ℕ

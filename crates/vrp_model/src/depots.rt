@@ -1,5 +1,5 @@
 //! The listed depots of a file, and the nodes that are at fault under them.
-ghost use Rattle.std.specs.Prelude.{◌≡◌, ℕ, ◌+◌, ◌-◌, ◌≤◌, ◌<◌, MatchOption, List, length, slice_index, false};
+ghost use Rattle.std.specs.Prelude.{◌≡◌, ℕ, ◌+◌, ◌-◌, ◌≤◌, ◌<◌, IfNone, IfSome, List, length, slice_index, false};
 ghost use Rattle.vrp_model.specs.Request.{is_listed, NoDepotHasDemand, NoneIsTooHeavy, IsLowestDepotWithDemand, IsLowestTooHeavy};
 
 use crate::limits::MAX_NODES;
@@ -51,7 +51,8 @@ impl<'a> Depots<'a> {
     pub(crate) fn lowest_with_demand(&self, demands: &[u64]) -> Option<u16>
         requires few { length demands.now ≤ MAX_NODES }
         requires from_one { is_listed self.now 0 ≡ false }
-        ensures { MatchOption result (NoDepotHasDemand self.now demands.now) (IsLowestDepotWithDemand self.now demands.now) }
+        ensures none { IfNone result (NoDepotHasDemand self.now demands.now) }
+        ensures lowest { IfSome result (IsLowestDepotWithDemand self.now demands.now) }
     {
         let count = demands.len() as u16;
         for index in 0..count {
@@ -66,7 +67,8 @@ impl<'a> Depots<'a> {
     /// The lowest node that is not listed and has a demand above the capacity.
     pub(crate) fn lowest_too_heavy(&self, demands: &[u64], capacity: u64) -> Option<u16>
         requires few { length demands.now ≤ MAX_NODES }
-        ensures { MatchOption result (NoneIsTooHeavy self.now demands.now capacity) (IsLowestTooHeavy self.now demands.now capacity) }
+        ensures none { IfNone result (NoneIsTooHeavy self.now demands.now capacity) }
+        ensures lowest { IfSome result (IsLowestTooHeavy self.now demands.now capacity) }
     {
         let count = demands.len() as u16;
         for index in 0..count {

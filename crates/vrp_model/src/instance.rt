@@ -1,8 +1,8 @@
 //! An instance of the problem: the depot is place 0, and the customers are places 1 to m by rising node number.
-ghost use Rattle.std.specs.Prelude.{◌≡◌, ◌↔◌, ℕ, ◌+◌, ◌*◌, ◌-◌, ◌≤◌, ◌<◌, IsTrue, Option, Some, IfOk, IfErr, OnOk, not, length, slice_index, vec_len};
+ghost use Rattle.std.specs.Prelude.{◌≡◌, ◌↔◌, ℕ, ◌+◌, ◌*◌, ◌-◌, ◌≤◌, ◌<◌, IsTrue, Option, Some, EachIndex, IfOk, IfErr, OnOk, not, length, slice_index, vec_len};
 ghost use Rattle.std.specs.Option.{ForSome};
 ghost use Rattle.vrp_model.specs.LeastWay.{IsLeastHome, IsLeastIn};
-ghost use Rattle.vrp_model.specs.Problem.{place_count, customers, node_of, demand_of, weight_of, IsProblem, IsSymmetric};
+ghost use Rattle.vrp_model.specs.Problem.{place_count, customers, node_of, demand_of, weight_of, with_amounts, IsProblem, IsSymmetric};
 ghost use Rattle.vrp_model.specs.Route.{load_of};
 ghost use Rattle.vrp_model.specs.Request.{IsAcceptable, problem_of};
 
@@ -52,17 +52,20 @@ pub struct Instance {
 
 impl Model for Instance {
     ghost use Rattle.vrp_model.specs.Problem.{Problem};
-    ghost use Rattle.vrp_model.specs.Inner.Kept.{IsKeptProblem};
+    ghost use Rattle.vrp_model.specs.Inner.Kept.{IsKeptProblem, problem_with};
 
     ghost Value = { Problem };
 
-    ghost view = { λ a. record { nodes = a.nodes.items; demands = a.demands.items; weights = a.weights.items; capacity = a.capacity; trucks = a.trucks } };
+    ghost view = { λ a.
+        problem_with a.nodes.items a.demands.items a.weights.items a.capacity a.trucks };
 
-    ghost invariant = { λ a. IsKeptProblem (record { nodes = a.nodes.items; demands = a.demands.items; weights = a.weights.items; capacity = a.capacity; trucks = a.trucks }) a.least_in.items a.symmetric };
+    ghost invariant = { λ a.
+        let p = problem_with a.nodes.items a.demands.items a.weights.items a.capacity a.trucks in
+        IsKeptProblem p a.least_in.items a.symmetric };
 }
 
 impl Instance {
-    ghost use Rattle.vrp_model.specs.Request.{request_of};
+    ghost use Rattle.vrp_model.specs.Request.{NoneAbove, request_at, request_of};
     ghost use Rattle.vrp_model.specs.Refusal.{IsRefusal};
 
     /// The instance of a file's weights, its demands by node number, what a truck can carry, and its listed depots.
@@ -78,12 +81,15 @@ impl Instance {
     ) -> Result<Instance, InstanceError>
         requires one_demand_each { length demands.now ≡ weights.nodes }
         requires some_depot { 0 < length depots.now }
-        requires depots_from_one { (k : ℕ) → k < length depots.now → 1 ≤ slice_index depots.now k }
-        requires depots_within { (k : ℕ) → k < length depots.now → slice_index depots.now k ≤ weights.nodes }
+        requires depots_from_one { EachIndex depots.now (λ k. 1 ≤ slice_index depots.now k) }
+        requires depots_within { NoneAbove weights.nodes depots.now }
         requires small_capacity { capacity ≤ MAX_CAPACITY }
-        ensures acceptable { OnOk result (IsAcceptable (request_of weights demands.now capacity depots.now chosen)) }
-        ensures value { IfOk result (λ instance. instance ≡ problem_of (request_of weights demands.now capacity depots.now chosen)) }
-        ensures refused { IfErr result (IsRefusal (request_of weights demands.now capacity depots.now chosen)) }
+        ensures acceptable { OnOk result (IsAcceptable
+            (request_of weights demands.now capacity depots.now chosen)) }
+        ensures value { IfOk result (λ instance. instance ≡ problem_of
+            (request_of weights demands.now capacity depots.now chosen)) }
+        ensures refused { IfErr result (IsRefusal
+            (request_of weights demands.now capacity depots.now chosen)) }
     {
         let depot = chosen.unwrap_or(depots[0]);
         let listed = Depots::new(depots);
@@ -116,9 +122,10 @@ impl Instance {
         requires from_one { 1 ≤ depot }
         requires within { depot ≤ weights.now.nodes }
         requires small_capacity { capacity ≤ MAX_CAPACITY }
-        requires acceptable { IsAcceptable (record { grid = weights.now; demands = demands.now; capacity = capacity; depots = depots.now; chosen = depot }) }
+        requires acceptable { IsAcceptable
+            (request_at weights.now demands.now capacity depots.now depot) }
         ensures { IfOk result (λ instance. instance ≡ problem_of
-            (record { grid = weights.now; demands = demands.now; capacity = capacity; depots = depots.now; chosen = depot })) }
+            (request_at weights.now demands.now capacity depots.now depot)) }
     {
         let nodes = places(alloc, weights.nodes(), depots, depot)?;
         let weights = weights_between(alloc, weights, &nodes)?;
@@ -177,7 +184,8 @@ impl Instance {
         requires empty_depot { slice_index demands.items 0 ≡ 0 }
         requires fitting_demands { (place : ℕ) → slice_index demands.items place ≤ capacity }
         requires small_capacity { capacity ≤ MAX_CAPACITY }
-        ensures { IfOk result (λ instance. instance ≡ record self.now { weights = weights.items; demands = demands.items; capacity = capacity }) }
+        ensures { IfOk result (λ made.
+            made ≡ with_amounts self.now weights.items demands.items capacity) }
     {
         let nodes = Vec::from_slice(alloc, &self.nodes)?;
         let least_in = least_ways(alloc, &weights, nodes.len())?;

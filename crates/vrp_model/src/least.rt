@@ -1,6 +1,6 @@
 //! The least weight of a way into each place.
-ghost use Rattle.std.specs.Prelude.{◌≡◌, ◌*◌, ◌≤◌, ◌<◌, ◌+◌, ℕ, IfOk, length, slice_index, vec_len};
-ghost use Rattle.vrp_model.specs.Inner.LeastWays.{IsLeastWay};
+ghost use Rattle.std.specs.Prelude.{◌≡◌, ◌*◌, ◌≤◌, ◌<◌, IfOk, length, vec_len};
+ghost use Rattle.vrp_model.specs.Inner.LeastWays.{AreLeastIn, IsLeastWay};
 
 use crate::limits::MAX_NODES;
 use std::alloc::{AllocError, Global};
@@ -14,7 +14,7 @@ pub(crate) fn least_ways(
     requires square { length weights.now ≡ places * places }
     requires few { places ≤ MAX_NODES }
     ensures all { IfOk result (λ least. vec_len least ≡ places) }
-    ensures each { IfOk result (λ least. (to : ℕ) → to < places → IsLeastWay weights.now places to (slice_index least.items to)) }
+    ensures each { IfOk result (λ least. AreLeastIn weights.now places least.items) }
 {
     let mut least = Vec::with_capacity(alloc, places)?;
     for to in 0..places {

@@ -1,5 +1,6 @@
 //! The square of weights that a matrix in a file means.
 ghost use Rattle.std.specs.Prelude.{◌≡◌, ℕ, ◌+◌, ◌-◌, ◌*◌, ◌≤◌, IfOk, length, slice_index, vec_len};
+ghost use Rattle.vrp_model.specs.Grid.{grid_of};
 ghost use Rattle.vrp_model.specs.Layout.{cells, HasEntries};
 ghost use Rattle.vrp_model.specs.Inner.Listing.{IsListed, IsWritten, IsFilled};
 
@@ -19,7 +20,7 @@ pub(crate) fn square(
     requires count { length entries.now ≡ length (cells layout nodes) }
     requires small { (k : ℕ) → slice_index entries.now k ≤ MAX_WEIGHT }
     ensures len { IfOk result (λ square. vec_len square ≡ nodes * nodes) }
-    ensures entries { IfOk result (λ square. HasEntries layout entries.now (record { nodes = nodes; entries = square.items })) }
+    ensures entries { IfOk result (λ all. HasEntries layout entries.now (grid_of nodes all.items)) }
     ensures small { IfOk result (λ square. (k : ℕ) → slice_index square.items k ≤ MAX_WEIGHT) }
 {
     let side = usize::from(nodes);

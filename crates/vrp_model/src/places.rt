@@ -1,8 +1,7 @@
 //! The places of an instance: which nodes they are, their demands, and the weights between them.
-ghost use Rattle.std.specs.Prelude.{◌≡◌, ℕ, ◌*◌, ◌≤◌, ◌<◌, true, IfOk, OnOk, ◌++◌, length, map, slice_index, vec_len};
-ghost use Rattle.std.specs.List.{flat_map};
+ghost use Rattle.std.specs.Prelude.{◌≡◌, ℕ, ◌*◌, ◌≤◌, true, EachIndex, IfOk, OnOk, ◌++◌, length, map, slice_index, vec_len};
 ghost use Rattle.vrp_model.specs.Grid.{entry_at};
-ghost use Rattle.vrp_model.specs.Request.{is_listed, node_demand};
+ghost use Rattle.vrp_model.specs.Request.{NoneAbove, is_listed, node_demand, weights_among};
 ghost use Rattle.vrp_model.specs.Inner.Places.{ArePlaces};
 
 use crate::depots::Depots;
@@ -39,8 +38,8 @@ pub(crate) fn demands_of(
     places: &[u16],
     demands: &[u64],
 ) -> Result<Vec<u64>, AllocError>
-    requires from_one { (k : ℕ) → k < length places.now → 1 ≤ slice_index places.now k }
-    requires within { (k : ℕ) → k < length places.now → slice_index places.now k ≤ length demands.now }
+    requires from_one { EachIndex places.now (λ k. 1 ≤ slice_index places.now k) }
+    requires within { NoneAbove (length demands.now) places.now }
     ensures { IfOk result (λ found. found.items ≡ map (node_demand demands.now) places.now) }
 {
     let mut found = Vec::with_capacity(alloc, places.len())?;
@@ -57,10 +56,10 @@ pub(crate) fn weights_between(
     places: &[u16],
 ) -> Result<Vec<u32>, AllocError>
     requires few { length places.now ≤ MAX_NODES }
-    requires from_one { (k : ℕ) → k < length places.now → 1 ≤ slice_index places.now k }
-    requires within { (k : ℕ) → k < length places.now → slice_index places.now k ≤ weights.now.nodes }
-    ensures value { IfOk result (λ entries. entries.items ≡ flat_map (λ from. map (entry_at weights.now from) places.now) places.now) }
-    ensures square { IfOk result (λ entries. vec_len entries ≡ length places.now * length places.now) }
+    requires from_one { EachIndex places.now (λ k. 1 ≤ slice_index places.now k) }
+    requires within { NoneAbove weights.now.nodes places.now }
+    ensures value { IfOk result (λ entries. entries.items ≡ weights_among weights.now places.now) }
+    ensures square { IfOk result (λ made. vec_len made ≡ length places.now * length places.now) }
     ensures small { IfOk result (λ entries. (k : ℕ) → slice_index entries.items k ≤ MAX_WEIGHT) }
 {
     let mut entries = Vec::with_capacity(alloc, places.len() * places.len())?;
@@ -79,10 +78,11 @@ fn push_row(
 ) -> Result<(), AllocError>
     requires from_one { 1 ≤ from }
     requires from_within { from ≤ weights.now.nodes }
-    requires to_one { (k : ℕ) → k < length places.now → 1 ≤ slice_index places.now k }
-    requires to_within { (k : ℕ) → k < length places.now → slice_index places.now k ≤ weights.now.nodes }
+    requires to_one { EachIndex places.now (λ k. 1 ≤ slice_index places.now k) }
+    requires to_within { NoneAbove weights.now.nodes places.now }
     requires small { (k : ℕ) → slice_index entries.old.items k ≤ MAX_WEIGHT }
-    ensures row { OnOk result (entries.new.items ≡ entries.old.items ++ map (entry_at weights.now from) places.now) }
+    ensures row { OnOk result
+        (entries.new.items ≡ entries.old.items ++ map (entry_at weights.now from) places.now) }
     ensures still_small { (k : ℕ) → slice_index entries.new.items k ≤ MAX_WEIGHT }
 {
     for to in places {

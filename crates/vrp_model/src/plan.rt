@@ -3,10 +3,10 @@ ghost use Rattle.std.specs.Prelude.{◌≡◌, ◌+◌, ◌*◌, ◌<◌, ◌≤
 ghost use Rattle.std.specs.List.{All, position_or_len};
 ghost use Rattle.std.specs.List.Sorted.{IsStrictlyIncreasing};
 ghost use Rattle.vrp_model.specs.Order.{IsBefore};
-ghost use Rattle.vrp_model.specs.Problem.{HasTrucks, IsProblem, IsSymmetric, Problem, customers, place_count};
-ghost use Rattle.vrp_model.specs.Route.{IsPlanOf, route_cost};
+ghost use Rattle.vrp_model.specs.Problem.{HasTruckForEach, IsProblem, Problem, place_count};
+ghost use Rattle.vrp_model.specs.Route.{IsPlanOf, SendsOneToEach, route_cost};
 ghost use Rattle.vrp_model.specs.Inner.Stops.{routes_in, IsWordEnd};
-ghost use Rattle.vrp_model.specs.Word.{IsLawfulWord, RunsForward, first_stops, word_cost, word_of};
+ghost use Rattle.vrp_model.specs.Word.{AllRunForward, HasLawfulWord, IsLawfulWord, first_stops, word_cost, word_of};
 
 use crate::instance::Instance;
 use crate::limits::{MAX_NODES, MAX_WEIGHT};
@@ -48,10 +48,10 @@ impl Model for Plan {
 impl Plan {
     /// The plan that sends one truck to each customer, by rising place. `None` where there are more customers than trucks.
     pub fn singles(alloc: Global, instance: &Instance) -> Result<Option<Plan>, NoMemory>
-        ensures some { IfOk result (λ plan. IsTrue (is_some plan) ↔ HasTrucks instance.now (length (customers instance.now))) }
-        ensures routes { IfOk result (λ found. IfSome found (λ plan. plan.routes ≡ map (λ customer. customer ∷ []) (customers instance.now))) }
+        ensures some { IfOk result (λ plan. IsTrue (is_some plan) ↔ HasTruckForEach instance.now) }
+        ensures routes { IfOk result (λ found. IfSome found (SendsOneToEach instance.now)) }
         ensures lawful { IfOk result (λ found. IfSome found (IsPlanOf instance.now)) }
-        ensures word { IfOk result (λ found. IfSome found (λ plan. IsLawfulWord instance.now (word_of plan.routes))) }
+        ensures word { IfOk result (λ found. IfSome found (HasLawfulWord instance.now)) }
         // What is known of every instance.
         ensures problem { IsProblem instance.now }
     {
@@ -63,10 +63,10 @@ impl Plan {
 
     // The plan that sends one truck to each customer, where there are this many.
     fn one_each(alloc: Global, instance: &Instance) -> Result<Plan, NoMemory>
-        requires { HasTrucks instance.now (length (customers instance.now)) }
-        ensures routes { IfOk result (λ plan. plan.routes ≡ map (λ customer. customer ∷ []) (customers instance.now)) }
+        requires { HasTruckForEach instance.now }
+        ensures routes { IfOk result (SendsOneToEach instance.now) }
         ensures lawful { IfOk result (IsPlanOf instance.now) }
-        ensures word { IfOk result (λ plan. IsLawfulWord instance.now (word_of plan.routes)) }
+        ensures word { IfOk result (HasLawfulWord instance.now) }
     {
         let customers = instance.customers();
         let mut plan = Plan::with_room(alloc, usize::from(customers))?;
@@ -152,7 +152,7 @@ impl Plan {
         ensures value { result.now ≡ word_of self.now.routes }
         // What is known of every plan.
         ensures rising { IsStrictlyIncreasing (first_stops self.now.routes) }
-        ensures lawful { (p : Problem) → IsPlanOf p self.now → (IsSymmetric p → All RunsForward self.now.routes)
+        ensures lawful { (p : Problem) → IsPlanOf p self.now → AllRunForward p self.now.routes
             → IsLawfulWord p result.now × (word_cost p result.now ≡ self.now.cost) }
     {
         self.word.as_slice()

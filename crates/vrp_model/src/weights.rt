@@ -19,13 +19,13 @@ pub struct Weights {
 }
 
 impl Model for Weights {
-    ghost use Rattle.vrp_model.specs.Grid.{Grid, IsGrid};
+    ghost use Rattle.vrp_model.specs.Grid.{Grid, IsGrid, grid_of};
 
     ghost Value = { Grid };
 
-    ghost view = { λ w. record { nodes = w.nodes; entries = w.entries.items } };
+    ghost view = { λ w. grid_of w.nodes w.entries.items };
 
-    ghost invariant = { λ w. IsGrid (record { nodes = w.nodes; entries = w.entries.items }) };
+    ghost invariant = { λ w. IsGrid (grid_of w.nodes w.entries.items) };
 }
 
 impl Weights {

@@ -29,9 +29,12 @@ abbrev pub AreMemoryWalksOverSoFar : MemoryScope → List ℕ → Type 0
 AreMemoryWalksOverSoFar scope cells =
     AreMemoryWalksSoFar (scaled scope.units) (near_in scope.memory.now) scope.units.customers.now scope.masks cells
 
+-- a walk from the place that takes up this load, and has this memory there, costs this
+abbrev pub HasMemoryWalkOver : MemoryScope → ℕ → ℕ → ℕ → ℕ → Type 0
+HasMemoryWalkOver scope at load memory cost =
+    HasMemoryWalk (scaled scope.units) (near_in scope.memory.now) scope.units.customers.now at load memory cost
+
 -- the least walks from a place that take up this load, by the memory there
 abbrev pub AreLeastMemoryWalks : MemoryScope → ℕ → ℕ → List ℕ → Type 0
 AreLeastMemoryWalks scope at load row =
-    let HasWalk : ℕ → ℕ → Type 0 =
-    HasMemoryWalk (scaled scope.units) (near_in scope.memory.now) scope.units.customers.now at load in
-    (m : ℕ) → m < scope.masks → IsLeastCell (HasWalk m) (slice_index row m)
+    (m : ℕ) → m < scope.masks → IsLeastCell (HasMemoryWalkOver scope at load m) (slice_index row m)

@@ -1,7 +1,12 @@
 -- What an instance keeps: a problem, the least ways into its places, and whether it is symmetric.
-use Rattle.std.specs.Prelude.{◌↔◌, ℕ, Bool, IsTrue, List}
+use Rattle.std.specs.Prelude.{◌↔◌, ℕ, Bool, IsTrue, Option, List}
 use Rattle.vrp_model.specs.Inner.LeastWays.{AreLeastWays}
 use Rattle.vrp_model.specs.Problem.{IsProblem, IsSymmetric, Problem}
+
+-- the problem that an instance is
+abbrev pub problem_with : List ℕ → List ℕ → List ℕ → ℕ → Option ℕ → Problem
+problem_with nodes demands weights capacity trucks =
+    record { nodes = nodes; demands = demands; weights = weights; capacity = capacity; trucks = trucks }
 
 pub record IsKeptProblem (p : Problem) (least_in : List ℕ) (symmetric : Bool) : Type 0 where
   pub problem : IsProblem p

@@ -16,6 +16,10 @@ pub record IsLeastWay (weights : List ℕ) (places to weight : ℕ) : Type 0 whe
   pub some : 1 < places → IsLeastBefore weights places to places weight
   pub none : places ≡ 1 → weight ≡ 0
 
+-- the same of each place
+abbrev pub AreLeastIn : List ℕ → ℕ → List ℕ → Type 0
+AreLeastIn weights places least = (to : ℕ) → to < places → IsLeastWay weights places to (slice_index least to)
+
 -- of each place, the depot's being the way home
 pub record AreLeastWays (p : Problem) (least : List ℕ) : Type 0 where
   pub one_each : length least ≡ place_count p

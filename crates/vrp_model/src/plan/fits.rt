@@ -1,9 +1,8 @@
 //! Whether a plan is lawful for an instance, and has its true cost there.
 ghost use Rattle.std.specs.Prelude.{◌≡◌, ◌≢◌, ◌≤◌, ◌<◌, IsTrue, ◌↔◌, [], length};
-ghost use Rattle.std.specs.List.{All, concat};
-ghost use Rattle.std.specs.List.Sorted.{IsPermutation};
-ghost use Rattle.vrp_model.specs.Problem.{HasTrucks, IsProblem, customers, place_count};
-ghost use Rattle.vrp_model.specs.Route.{IsPlanOf, load_of, plan_cost};
+ghost use Rattle.std.specs.List.{All};
+ghost use Rattle.vrp_model.specs.Problem.{HasTrucks, IsProblem, place_count};
+ghost use Rattle.vrp_model.specs.Route.{IsPlanOf, OverloadsNoTruck, ServesEachOnce, load_of, plan_cost};
 
 use super::{Plan, route_cost};
 use crate::instance::Instance;
@@ -27,7 +26,7 @@ impl Plan {
     // Whether each customer stands in one route, once, and nothing else stands in any: there are as many stops as customers, and
     // each customer is one of them.
     fn serves_each_once(&self, instance: &Instance) -> bool
-        ensures served { IsTrue result ↔ IsPermutation (concat self.now.routes) (customers instance.now) }
+        ensures served { IsTrue result ↔ ServesEachOnce instance.now self.now.routes }
         // What is known of every instance.
         ensures problem { IsProblem instance.now }
     {
@@ -58,8 +57,8 @@ impl Plan {
 
     // Whether each truck can carry its load.
     fn overloads_no_truck(&self, instance: &Instance) -> bool
-        requires { IsPermutation (concat self.now.routes) (customers instance.now) }
-        ensures { IsTrue result ↔ All (λ r. load_of instance.now r ≤ instance.now.capacity) self.now.routes }
+        requires { ServesEachOnce instance.now self.now.routes }
+        ensures { IsTrue result ↔ OverloadsNoTruck instance.now self.now.routes }
     {
         for index in 0..self.routes() {
             if !is_carried(instance, self.route(index)) {
@@ -82,7 +81,7 @@ impl Plan {
     // Whether the routes cost together what the plan says. What is left of that is counted down, so no sum grows too large.
     fn has_its_cost(&self, instance: &Instance) -> bool
         requires problem { IsProblem instance.now }
-        requires served { IsPermutation (concat self.now.routes) (customers instance.now) }
+        requires served { ServesEachOnce instance.now self.now.routes }
         ensures { IsTrue result ↔ self.now.cost ≡ plan_cost instance.now self.now.routes }
     {
         let mut left = self.cost;
