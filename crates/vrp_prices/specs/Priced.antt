@@ -7,6 +7,7 @@ use Rattle.vrp_model.specs.declared.limits.TheConstants.{MAX_WEIGHT}
 use Rattle.vrp_prices.specs.Cut.{Cut, IsCut, tolls_of}
 use Rattle.vrp_prices.specs.Relaxation.{RelaxationOf}
 use Rattle.vrp_prices.specs.Units.{IsRounded}
+use Rattle.vrp_prices.specs.declared.limits.TheConstants.{MAX_SCALE}
 
 -- Each way between two places costs `scale` times as much, more by the prices of its two ends, and less by their rebates and by
 -- the tolls of the cuts that it crosses. The depot has no price and no rebate.
@@ -66,6 +67,10 @@ pub record AreLawfulPrices (p : Problem) (scale : ℕ) (prices : List ℤ) (cuts
       → taken_off prices cuts from to ≤ dear_way p scale prices from to
   pub no_more : (from to : ℕ) → from < place_count p → to < place_count p → from ≢ to
       → dear_way p scale prices from to ≤ MAX_WEIGHT + taken_off prices cuts from to
+
+-- at no scale that is small enough are the prices lawful
+abbrev pub NoneAreLawful : Problem → List ℤ → List Cut → Type 0
+NoneAreLawful p prices cuts = (scale : ℕ) → scale ≤ MAX_SCALE → AreLawfulPrices p scale prices cuts → ⊥
 
 -- a relaxation by these prices, and by the tolls of these cuts
 pub record IsByPrices (p : Problem) (unit scale : ℕ) (prices : List ℤ) (cuts : List Cut) (r : RelaxationOf) : Type 0 where

@@ -20,6 +20,11 @@ pub record RelaxationOf : Type 0 where
   pub charges : ℕ
   pub rewards : ℕ
 
+-- a problem, and one that bounds it so
+abbrev pub relaxation_of : Problem → Problem → ℕ → ℕ → ℕ → RelaxationOf
+relaxation_of problem relaxed scale charges rewards =
+    record { problem = problem; relaxed = relaxed; scale = scale; charges = charges; rewards = rewards }
+
 -- what is known of every relaxation that is made
 abbrev pub Bounds : RelaxationOf → Type 0
 Bounds r = IsRelaxation r.problem r.relaxed r.scale r.charges r.rewards

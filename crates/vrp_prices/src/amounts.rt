@@ -18,7 +18,8 @@ pub(crate) fn demands_in_units(
     ensures empty_depot { IfOk result (λ demands. slice_index demands.items 0 ≡ 0) }
     ensures units { IfOk result (λ demands.
         All (λ customer. slice_index demands.items customer ≡ units_of unit (demand_of instance.now customer)) (customers instance.now)) }
-    ensures fitting { IfOk result (λ demands. (place : ℕ) → slice_index demands.items place ≤ rounded_capacity instance.now unit) }
+    ensures fitting { IfOk result (λ demands.
+        (place : ℕ) → slice_index demands.items place ≤ rounded_capacity instance.now unit) }
 {
     let mut demands = Vec::with_capacity(alloc, usize::from(instance.customers()) + 1)?;
     demands.push_reserved(0);

@@ -25,12 +25,12 @@ pub struct Cut {
 impl Model for Cut {
     ghost use Rattle.std.specs.Prelude.{◌≤◌};
     ghost use Rattle.vrp_model.specs.declared.limits.TheConstants.{MAX_NODES};
-    ghost use Rattle.vrp_prices.specs.Cut.{Cut, marked};
+    ghost use Rattle.vrp_prices.specs.Cut.{Cut, cut_of};
     ghost use Rattle.vrp_prices.specs.declared.limits.TheConstants.{MAX_TOLL};
 
     ghost Value = { Cut };
 
-    ghost view = { λ a. record { inside = marked a.inside.items; trucks = a.trucks; toll = a.toll } };
+    ghost view = { λ a. cut_of a.inside.items a.trucks a.toll };
 
     ghost invariant = { λ a. (a.trucks ≤ MAX_NODES) × (a.toll ≤ MAX_TOLL) };
 }
@@ -90,7 +90,8 @@ impl Cut {
 // How many trucks are needed to carry what the marked customers demand.
 fn trucks_for(instance: &Instance, inside: &[bool]) -> u64
     requires one_each { length inside.now ≡ place_count instance.now }
-    ensures carry { IsTrucks instance.now.capacity (load_of instance.now (marked inside.now)) result }
+    ensures carry { let load = load_of instance.now (marked inside.now) in
+        IsTrucks instance.now.capacity load result }
     ensures few { result ≤ MAX_NODES }
 {
     let mut load = 0;

@@ -1,10 +1,10 @@
 //! Prices of places: what they add to a way, or take off, and together to or off a plan.
-ghost use Rattle.std.specs.Prelude.{◌≡◌, ℕ, ◌*◌, ◌≤◌, ◌<◌, IsTrue, false, length};
+ghost use Rattle.std.specs.Prelude.{◌≡◌, ◌*◌, ◌≤◌, ◌<◌, IsTrue, false, length};
 ghost use Rattle.std.specs.List.{sum_by};
 ghost use Rattle.vrp_model.specs.Problem.{IsProblem, customers, place_count};
 ghost use Rattle.vrp_prices.specs.Inner.Ways.{AreModerate};
-ghost use Rattle.vrp_prices.specs.Priced.{AreLawfulPrices, price_in, rebate_in};
-ghost use Rattle.vrp_prices.specs.declared.limits.TheConstants.{MAX_CHARGES, MAX_CUTS, MAX_REBATE_REWARDS, MAX_SCALE};
+ghost use Rattle.vrp_prices.specs.Priced.{NoneAreLawful, price_in, rebate_in};
+ghost use Rattle.vrp_prices.specs.declared.limits.TheConstants.{MAX_CHARGES, MAX_CUTS, MAX_REBATE_REWARDS};
 
 use crate::cut::Cut;
 use crate::limits::MAX_REBATE;
@@ -43,7 +43,7 @@ pub(crate) fn are_moderate(instance: &Instance, prices: &[i64], cuts: &[Cut]) ->
     requires one_each { length prices.now ≡ place_count instance.now }
     requires few { length cuts.now ≤ MAX_CUTS }
     ensures moderate { IsTrue result → AreModerate prices.now }
-    ensures unlawful { result ≡ false → (scale : ℕ) → scale ≤ MAX_SCALE → AreLawfulPrices instance.now scale prices.now cuts.now → ⊥ }
+    ensures unlawful { result ≡ false → NoneAreLawful instance.now prices.now cuts.now }
     // What is known of every instance.
     ensures problem { IsProblem instance.now }
 {

@@ -28,14 +28,15 @@ pub struct Relaxation<'a> {
 }
 
 impl<'a> Model for Relaxation<'a> {
-    ghost use Rattle.vrp_prices.specs.Relaxation.{RelaxationOf};
+    ghost use Rattle.vrp_prices.specs.Relaxation.{RelaxationOf, relaxation_of};
     ghost use Rattle.vrp_prices.specs.Inner.Kept.{IsSmallRelaxation};
 
     ghost Value = { RelaxationOf };
 
-    ghost view = { λ a. record { problem = a.problem.now; relaxed = a.relaxed; scale = a.scale; charges = a.charges; rewards = a.rewards } };
+    ghost view = { λ a. relaxation_of a.problem.now a.relaxed a.scale a.charges a.rewards };
 
-    ghost invariant = { λ a. IsSmallRelaxation (record { problem = a.problem.now; relaxed = a.relaxed; scale = a.scale; charges = a.charges; rewards = a.rewards }) };
+    ghost invariant = { λ a.
+        IsSmallRelaxation (relaxation_of a.problem.now a.relaxed a.scale a.charges a.rewards) };
 }
 
 impl<'a> Relaxation<'a> {
@@ -58,9 +59,11 @@ impl<'a> Relaxation<'a> {
         requires one_each { length prices.now ≡ place_count instance.now }
         requires few_cuts { length cuts.now ≤ MAX_CUTS }
         requires cuts { All (IsCut instance.now) cuts.now }
-        ensures priced { IfOk result (λ made. IfSome made (λ relaxation. IsByPrices instance.now unit scale prices.now cuts.now relaxation)) }
+        ensures priced { IfOk result (λ made.
+            IfSome made (IsByPrices instance.now unit scale prices.now cuts.now)) }
         ensures none { IfOk result (λ made. IfNone made
-            (AreLawfulPrices instance.now scale prices.now cuts.now → rounded_capacity instance.now unit ≤ MAX_CAPACITY → ⊥)) }
+            (AreLawfulPrices instance.now scale prices.now cuts.now
+            → rounded_capacity instance.now unit ≤ MAX_CAPACITY → ⊥)) }
     {
         if !are_moderate(instance, prices, cuts) {
             return Ok(None);

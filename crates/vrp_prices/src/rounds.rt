@@ -49,8 +49,10 @@ pub fn find_prices<'a, F: Fn() -> bool>(
 ) -> Result<Option<FoundPrices<'a>>, NoMemory>
     requires near { near ≤ MOST_NEAR }
     requires goes_on { F.IsAlwaysCallable goes_on.now }
-    ensures relaxation { IfOk result (λ found. IfSome found (λ prices. prices.relaxation.problem ≡ instance.now)) }
-    ensures memory { IfOk result (λ found. IfSome found (λ prices. prices.memory.places ≡ place_count instance.now)) }
+    ensures relaxation { IfOk result (λ found.
+        IfSome found (λ prices. prices.relaxation.problem ≡ instance.now)) }
+    ensures memory { IfOk result (λ found.
+        IfSome found (λ prices. prices.memory.places ≡ place_count instance.now)) }
 {
     let Some(unit) = unit_for(instance) else {
         return Ok(None);

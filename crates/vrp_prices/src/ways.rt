@@ -23,9 +23,11 @@ pub(crate) fn priced_weights(
     requires few_cuts { length cuts.now ≤ MAX_CUTS }
     requires one_each { length prices.now ≡ place_count instance.now }
     requires moderate { AreModerate prices.now }
-    ensures square { IfOk result (λ made. MatchOption made (AreLawfulPrices instance.now scale prices.now cuts.now → ⊥)
+    ensures square { IfOk result (λ made. MatchOption made
+        (AreLawfulPrices instance.now scale prices.now cuts.now → ⊥)
         (λ weights. vec_len weights ≡ place_count instance.now * place_count instance.now)) }
-    ensures ways { IfOk result (λ made. IfSome made (λ weights. ArePricedWays instance.now scale prices.now cuts.now weights.items)) }
+    ensures ways { IfOk result (λ made. IfSome made (λ weights.
+        ArePricedWays instance.now scale prices.now cuts.now weights.items)) }
 {
     let places = instance.customers() + 1;
     let cells = usize::from(places) * usize::from(places);
@@ -56,8 +58,10 @@ fn push_row(
     requires room { vec_len weights.old + place_count instance.now ≤ vec_capacity weights.old }
     requires so_far { ArePricedWays instance.now scale prices.now cuts.now weights.old.items }
     ensures capacity { vec_capacity weights.new ≡ vec_capacity weights.old }
-    ensures len { IsTrue result → vec_len weights.new ≡ vec_len weights.old + place_count instance.now }
-    ensures so_far { IsTrue result → ArePricedWays instance.now scale prices.now cuts.now weights.new.items }
+    ensures len { IsTrue result →
+        vec_len weights.new ≡ vec_len weights.old + place_count instance.now }
+    ensures so_far { IsTrue result →
+        ArePricedWays instance.now scale prices.now cuts.now weights.new.items }
     ensures unlawful { result ≡ false → AreLawfulPrices instance.now scale prices.now cuts.now → ⊥ }
 {
     for to in 0..instance.customers() + 1 {
