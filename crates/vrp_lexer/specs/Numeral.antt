@@ -1,6 +1,6 @@
 -- Numerals: whole numbers and decimal fractions with a power of ten (TSPLIB 95, section 1: integer and real), and their
 -- exact values.
-use Rattle.std.specs.Prelude.{ℕ, ◌+◌, ◌*◌, ◌/◌, ◌%◌, ◌^◌, ℤ, pos, neg_ℤ, Bool, ◌&&◌, ◌||◌, ◌==◌, nat_le, if◌then◌else◌, Option, Some, None, Result, Ok, Err, List, [], ◌∷◌, ◌++◌, length, drop, slice_index}
+use Rattle.std.specs.Prelude.{ℕ, ◌+◌, ◌*◌, ◌/◌, ◌%◌, ◌^◌, ℤ, pos, neg_ℤ, Bool, ◌&&◌, ◌||◌, ◌==◌, nat_le, if◌then◌else◌, Option, Some, None, Result, Ok, Err, List, [], ◌∷◌, ◌++◌, EachIndex, IsTrue, length, drop, slice_index}
 use Rattle.std.specs.Option.{option_and_then}
 use Rattle.std.specs.List.{take_while}
 use Rattle.std.specs.Char.{is_ascii_digit}
@@ -10,6 +10,9 @@ use Rattle.vrp_lexer.specs.Bytes.{skip_while}
 use Rattle.vrp_lexer.specs.declared.fault.FaultyLine.{FaultyLine}
 use Rattle.vrp_lexer.specs.declared.fault.FaultyLine.TheVariants.{BadNumber, NotWhole}
 use Rattle.vrp_lexer.specs.declared.limits.TheConstants.{MAX_DIGITS, MAX_POWER, MAX_POWER_DIGITS}
+
+abbrev pub AreDigits : List ℕ → Type 0
+AreDigits text = EachIndex text (λ k. IsTrue (is_ascii_digit (slice_index text k)))
 
 abbrev pub is_minus : List ℕ → Bool
 is_minus text = slice_index text 0 == 45

@@ -6,7 +6,7 @@ ghost use Rattle.vrp_lexer.specs.Line as spec;
 ghost use Rattle.vrp_lexer.specs.declared.limits.TheConstants.{MAX_BYTES};
 ghost use Rattle.vrp_lexer.specs.Line.{Data, line_of, lines_of, tokens_of, without_colon};
 ghost use Rattle.vrp_lexer.specs.Part.{before_end};
-ghost use Rattle.vrp_lexer.specs.Inner.LinesLeft.{LinesLeft, parts_left, data_left, line_before};
+ghost use Rattle.vrp_lexer.specs.Inner.LinesLeft.{LinesLeft, parts_left, data_left, line_before, lines_left};
 
 use crate::keyword::{Keyword, keyword_of};
 use crate::limits::MAX_BYTES;
@@ -98,10 +98,11 @@ pub struct DataLine<'a> {
 impl<'a> Model for Lines<'a> {
     ghost Value = { LinesLeft };
 
-    ghost view = { λ l. record { number = l.number; lines = if l.ended then [] else before_end (lines_of l.rest.now) } };
+    ghost view = { λ l. lines_left l.number (lines_of l.rest.now) l.ended };
 
     // A line feed is passed for each line but the last.
-    ghost invariant = { λ l. l.number + length l.rest.now + (if l.ended then 0 else 1) ≤ MAX_BYTES + 2 };
+    ghost invariant = { λ l.
+        l.number + length l.rest.now + (if l.ended then 0 else 1) ≤ MAX_BYTES + 2 };
 }
 
 impl<'a> Lines<'a> {

@@ -1,10 +1,10 @@
 //! Numerals: whole numbers and decimal fractions with a power of ten, and their exact values.
-ghost use Rattle.std.specs.Prelude.{◌≡◌, ℕ, ◌+◌, ◌*◌, ◌/◌, ◌%◌, ◌^◌, ◌≤◌, ◌<◌, ◌≤ℤ◌, ◌==◌, if◌then◌else◌, Some, None, IfOk, IfSome, IsTrue, option_map, length, slice_index};
+ghost use Rattle.std.specs.Prelude.{◌≡◌, ◌+◌, ◌*◌, ◌/◌, ◌%◌, ◌^◌, ◌≤◌, ◌<◌, ◌≤ℤ◌, ◌==◌, if◌then◌else◌, Some, None, IfOk, IfSome, option_map, length};
 ghost use Rattle.std.specs.Char.{is_ascii_digit};
 ghost use Rattle.std.specs.List.{prefix_len, take_while};
 ghost use Rattle.std.specs.Str.Parse.{digits_value_after};
 ghost use Rattle.vrp_lexer.specs.Bytes.{skip_while};
-ghost use Rattle.vrp_lexer.specs.Numeral.{number_of, in_range, is_minus, without_sign, numeral_of, numeral_with, power_of, power_of_digits};
+ghost use Rattle.vrp_lexer.specs.Numeral.{AreDigits, number_of, in_range, is_minus, without_sign, numeral_of, numeral_with, power_of, power_of_digits};
 ghost use Rattle.vrp_lexer.specs.Inner.KeptNumeral.{IsSmallPower, IsSmallNumeral, written_power, read_numeral, read_value};
 
 use crate::fault::FaultyLine;
@@ -64,7 +64,7 @@ fn leading_digits(text: &[u8]) -> usize
 fn split_digits(text: &[u8]) -> (&[u8], &[u8])
     ensures digits { result.0.now ≡ take_while is_ascii_digit text.now }
     ensures behind { result.1.now ≡ skip_while is_ascii_digit text.now }
-    ensures all_digits { (k : ℕ) → k < length result.0.now → IsTrue (is_ascii_digit (slice_index result.0.now k)) }
+    ensures all_digits { AreDigits result.0.now }
 {
     text.split_at(leading_digits(text))
 }
@@ -72,7 +72,7 @@ fn split_digits(text: &[u8]) -> (&[u8], &[u8])
 // The number that digits write when they follow those of `value`.
 fn value_after(value: u64, digits: &[u8]) -> u64
     requires small { (value + 1) * 10 ^ length digits.now ≤ 10 ^ MAX_DIGITS }
-    requires all_digits { (k : ℕ) → k < length digits.now → IsTrue (is_ascii_digit (slice_index digits.now k)) }
+    requires all_digits { AreDigits digits.now }
     ensures value { result ≡ digits_value_after 10 value digits.now }
     ensures small { result + 1 ≤ (value + 1) * 10 ^ length digits.now }
 {
@@ -137,10 +137,11 @@ fn numeral_of(text: &[u8]) -> Option<Numeral>
 
 // The numeral of these digits.
 fn numeral_with(negative: bool, whole: &[u8], fraction: &[u8], power: Power) -> Option<Numeral>
-    requires whole { (k : ℕ) → k < length whole.now → IsTrue (is_ascii_digit (slice_index whole.now k)) }
-    requires fraction { (k : ℕ) → k < length fraction.now → IsTrue (is_ascii_digit (slice_index fraction.now k)) }
+    requires whole { AreDigits whole.now }
+    requires fraction { AreDigits fraction.now }
     requires power { IsSmallPower power }
-    ensures value { result ≡ option_map read_numeral (numeral_with negative whole.now fraction.now (written_power power)) }
+    ensures value { result ≡ option_map read_numeral
+        (numeral_with negative whole.now fraction.now (written_power power)) }
     ensures small { IfSome result IsSmallNumeral }
 {
     let count = whole.len() + fraction.len();
