@@ -41,7 +41,8 @@ fn read_keyword(
 ) -> Result<(), FaultyLine>
     ensures sound { OnOk result (keyword_line_fault explicit keys.old keyword behind.now ≡ None) }
     ensures marked { OnOk result (AddsKeyOf keys.old keyword keys.new) }
-    ensures read { OnOk result (statements.new ≡ with_keyword explicit keyword (tokens_of behind.now) statements.old) }
+    ensures read { OnOk result
+        (statements.new ≡ with_keyword explicit keyword (tokens_of behind.now) statements.old) }
     ensures refused { FailsWith result (keyword_line_fault explicit keys.old keyword behind.now) }
 {
     match keyword {
@@ -88,7 +89,8 @@ fn read_part(
 ) -> Result<(), TextError>
     ensures sound { OnOk result (open_part_fault explicit keys.old heading.now lines.old ≡ None) }
     ensures marked { OnOk result (AddsKeyOf keys.old heading.now.keyword keys.new) }
-    ensures read { OnOk result (statements.new ≡ with_open_part explicit heading.now lines.old statements.old) }
+    ensures read { OnOk result
+        (statements.new ≡ with_open_part explicit heading.now lines.old statements.old) }
     ensures passed { OnOk result (parts_left lines.new ≡ parts_left lines.old) }
     ensures refused { RefusesFor result (open_part_fault explicit keys.old heading.now lines.old) }
 {

@@ -91,7 +91,8 @@ impl Statements {
         behind: &[u8],
     ) -> Result<(), FaultyLine>
         ensures sound { OnOk result (value_fault explicit key (tokens_of behind.now) ≡ None) }
-        ensures read { OnOk result (self.new ≡ with_value explicit key (tokens_of behind.now) self.old) }
+        ensures read { OnOk result
+            (self.new ≡ with_value explicit key (tokens_of behind.now) self.old) }
         ensures refused { FailsWith result (value_fault explicit key (tokens_of behind.now)) }
     {
         match key {
