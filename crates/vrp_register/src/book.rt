@@ -26,7 +26,9 @@ impl Model for Book {
 
     ghost view = { λ b. record { opening = b.opening; plan = b.plan; entries = b.entries.items } };
 
-    ghost invariant = { λ b. IsKeptOf (plans_of b.opening b.entries.items) b.plan × AreAnswers b.opening b.entries.items };
+    ghost invariant = { λ b.
+        IsKeptOf (plans_of b.opening b.entries.items) b.plan
+        × AreAnswers b.opening b.entries.items };
 }
 
 impl Book {

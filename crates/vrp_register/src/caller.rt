@@ -22,7 +22,10 @@ impl<L: Ledger> Model for Caller<L> {
 
     ghost view = { λ c. record { table = c.seat.table; known = c.seat.known } };
 
-    ghost invariant = { λ c. (c.share.parts ≡ 1) × (c.seat.known.number ≡ c.number) × (c.share.amount ≡ length c.seat.known.mine) };
+    ghost invariant = { λ c.
+        (c.share.parts ≡ 1)
+        × (c.seat.known.number ≡ c.number)
+        × (c.share.amount ≡ length c.seat.known.mine) };
 }
 
 impl<L: Ledger> Caller<L> {

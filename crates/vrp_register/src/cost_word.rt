@@ -1,7 +1,7 @@
 //! The cost word: the least cost that any caller has offered, read and lowered without a lock.
 ghost use Rattle.std.specs.Prelude.{◌≡◌, ◌<◌, IfOk, [], ◌∷◌, length};
 ghost use Rattle.vrp_register.specs.Costs.{HaveHistory, IsOffered, IsSeen, offer_count};
-ghost use Rattle.vrp_register.specs.Inner.Seats.{maker_after, new_maker, seat_made, with_caller};
+ghost use Rattle.vrp_register.specs.Inner.Seats.{gathered_at, maker_after, new_maker, seat_made, with_caller};
 
 use crate::view::View;
 use atomic_table::{Join, Play, Seat, Split, Table, TableRule};
@@ -64,14 +64,13 @@ pub(crate) struct CostWord {
 }
 
 impl Model for CostWord {
-    ghost use Rattle.std.specs.Prelude.{◌≡◌};
-    ghost use Rattle.vrp_register.specs.Inner.Seats.{WordState};
+    ghost use Rattle.vrp_register.specs.Inner.Seats.{IsOneWord, WordState, word_of};
 
     ghost Value = { WordState };
 
-    ghost view = { λ w. record { table = w.table.shared.table_id; opening = w.table.shared.key.0; count = w.table.shared.key.1 } };
+    ghost view = { λ w. word_of w.table.shared.table_id w.table.shared.key };
 
-    ghost invariant = { λ w. (w.table.shared.table_id.words ≡ 1) × (w.table.shared.table_id.slots ≡ 0) };
+    ghost invariant = { λ w. IsOneWord w.table.shared.table_id };
 }
 
 /// A caller's seat at the word.
@@ -99,11 +98,11 @@ pub(crate) struct Maker {
 
 impl Model for Maker {
     ghost use Rattle.std.specs.Prelude.{◌≡◌, []};
-    ghost use Rattle.vrp_register.specs.Inner.Seats.{MakerState, maker};
+    ghost use Rattle.vrp_register.specs.Inner.Seats.{MakerState, maker, maker_at};
 
     ghost Value = { MakerState };
 
-    ghost view = { λ s. record { table = s.seat.table_id; opening = s.seat.me.0.opening; next = s.seat.me.0.next } };
+    ghost view = { λ s. maker_at s.seat.table_id s.seat.me.0 };
 
     ghost invariant = { λ s. s.seat.me ≡ (maker s.seat.me.0.opening s.seat.me.0.next, []) };
 }
@@ -116,11 +115,11 @@ pub(crate) struct Gathered {
 
 impl Model for Gathered {
     ghost use Rattle.std.specs.Prelude.{◌≡◌, []};
-    ghost use Rattle.vrp_register.specs.Inner.Seats.{GatheredState, seat_with};
+    ghost use Rattle.vrp_register.specs.Inner.Seats.{GatheredState, gathered_at, seat_with};
 
     ghost Value = { GatheredState };
 
-    ghost view = { λ s. record { table = s.seat.table_id; callers = s.seat.me.0.callers } };
+    ghost view = { λ s. gathered_at s.seat.table_id s.seat.me.0.callers };
 
     ghost invariant = { λ s. s.seat.me ≡ (seat_with s.seat.me.0.callers, []) };
 }
@@ -128,7 +127,7 @@ impl Model for Gathered {
 impl CostSeat {
     /// The seat, to take in others.
     pub(crate) fn gather(self) -> Gathered
-        ensures { result ≡ record { table = self.table; callers = self.known ∷ [] } }
+        ensures { result ≡ gathered_at self.table (self.known ∷ []) }
     {
         Gathered { seat: self.seat }
     }

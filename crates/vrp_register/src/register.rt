@@ -5,6 +5,7 @@ ghost use Rattle.std.specs.Option.{option_map};
 ghost use Rattle.vrp_model.specs.Cheapest.{cost_of};
 ghost use Rattle.vrp_register.specs.Caller.{newcomers, IsCallerOf, AreCallersOf, accepted_of, known_of};
 ghost use Rattle.vrp_register.specs.Costs.{HaveHistory, IsOffered, IsSeen};
+ghost use Rattle.vrp_register.specs.Inner.Seats.{gathered_at};
 
 use crate::book::{Book, copied};
 use crate::caller::Caller;
@@ -30,10 +31,11 @@ pub struct Register<L: Ledger> {
 impl<L: Ledger> Model for Register<L> {
     ghost use Rattle.std.specs.Prelude.{◌≡◌, ◌≤◌};
     ghost use Rattle.vrp_register.specs.Caller.{RegisterState};
+    ghost use Rattle.vrp_register.specs.Inner.Seats.{register_with};
 
     ghost Value = { RegisterState };
 
-    ghost view = { λ r. record { callers = r.least.count; opening = r.least.opening; table = r.least.table } };
+    ghost view = { λ r. register_with r.least };
 
     ghost invariant = { λ r. (1 ≤ r.least.count) × (r.least.count ≡ L.parts) };
 }
@@ -69,7 +71,8 @@ impl<L: Ledger> Register<L> {
         requires callers { callers ≡ L.parts }
         requires some { 1 ≤ callers }
         requires few { callers ≤ 64 }
-        ensures callers { IfOk result (λ made. made.1.items ≡ newcomers made.0.table (cost_of plan) callers) }
+        ensures callers { IfOk result (λ made.
+            made.1.items ≡ newcomers made.0.table (cost_of plan) callers) }
         ensures all { IfOk result (λ made. made.0.callers ≡ callers) }
         ensures opening { IfOk result (λ made. made.0.opening ≡ cost_of plan) }
     {
@@ -100,7 +103,8 @@ impl<L: Ledger> Register<L> {
     ) -> Result<Reply, NoMemory>
         requires { IsCallerOf self.now caller.old }
         ensures caller { IsCallerOf self.now caller.new }
-        ensures offered { IfOk result (λ reply. IsOffered caller.old.known plan.now.cost reply.before caller.new.known) }
+        ensures offered { IfOk result (λ reply.
+            IsOffered caller.old.known plan.now.cost reply.before caller.new.known) }
         ensures err { OnErr result (caller.new ≡ caller.old) }
     {
         let kept = self
@@ -159,7 +163,7 @@ fn merged<L: Ledger>(least: &CostWord, mut callers: Vec<Caller<L>>) -> (Share<L>
     requires table { All (λ c. c.table ≡ least.now.table) callers.items }
     ensures parts { result.0.parts ≡ vec_len callers }
     ensures amount { result.0.amount ≡ accepted_of callers.items }
-    ensures seats { result.1 ≡ record { table = least.now.table; callers = known_of callers.items } }
+    ensures seats { result.1 ≡ gathered_at least.now.table (known_of callers.items) }
 {
     let Some(last) = callers.pop() else {
         unreachable!()

@@ -2,6 +2,7 @@
 use Rattle.std.specs.Prelude.{◌≡◌, ℕ, ◌+◌, List, [], ◌∷◌, ◌++◌, true, false}
 use Rattle.atomic_table.specs.Seated.{TableId}
 use Rattle.atomic_table.specs.Table.{Step, Me}
+use Rattle.vrp_register.specs.Caller.{RegisterState}
 use Rattle.vrp_register.specs.Costs.{IsOffered, IsSeen, newcomer}
 use Rattle.vrp_register.specs.declared.view.Known.{Known}
 use Rattle.vrp_register.specs.declared.view.View.{View}
@@ -11,6 +12,18 @@ pub record WordState : Type 0 where
   pub opening : ℕ
   -- how many callers there may be
   pub count : ℕ
+
+-- the word of a table: the key is the opening cost, and how many callers there may be
+abbrev pub word_of : TableId → ℕ × ℕ → WordState
+word_of table key = record { table = table; opening = key.0; count = key.1 }
+
+-- the table is one word, without a lock
+abbrev pub IsOneWord : TableId → Type 0
+IsOneWord table = (table.words ≡ 1) × (table.slots ≡ 0)
+
+-- what a register with this word shows
+abbrev pub register_with : WordState → RegisterState
+register_with word = record { callers = word.count; opening = word.opening; table = word.table }
 
 pub record SeatState : Type 0 where
   pub table : TableId
@@ -26,6 +39,14 @@ pub record GatheredState : Type 0 where
   pub table : TableId
   pub callers : List Known
 
+-- a seat that has taken in these callers
+abbrev pub gathered_at : TableId → List Known → GatheredState
+gathered_at table callers = record { table = table; callers = callers }
+
+-- the first seat, by the view that it holds
+abbrev pub maker_at : TableId → View → MakerState
+maker_at table view = record { table = table; opening = view.opening; next = view.next }
+
 -- the first seat of a word, which has made no caller yet
 abbrev pub new_maker : TableId → ℕ → MakerState
 new_maker table opening = record { table = table; opening = opening; next = 0 }
@@ -40,7 +61,7 @@ seat_made table maker = record { table = table; known = newcomer maker.next make
 
 -- with one caller more, before the others
 abbrev pub with_caller : Known → GatheredState → GatheredState
-with_caller known gathered = record { table = gathered.table; callers = known ∷ gathered.callers }
+with_caller known gathered = gathered_at gathered.table (known ∷ gathered.callers)
 
 -- the view of a seat that has taken in these callers
 abbrev pub seat_with : List Known → View
