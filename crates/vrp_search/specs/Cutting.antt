@@ -1,5 +1,5 @@
 -- A cutting: fronts among which all lawful words are shared out.
-use Rattle.std.specs.Prelude.{◌≡◌, ℕ, ◌+◌, ◌<◌, ◌==◌, if◌then◌else◌, Bool, true, false, List, [], ◌∷◌, ◌++◌, count_by, drop, length, slice_index_or, take}
+use Rattle.std.specs.Prelude.{◌≡◌, ◌⊎◌, ℕ, ◌+◌, ◌≤◌, ◌<◌, ◌==◌, if◌then◌else◌, Bool, true, false, List, [], ◌∷◌, ◌++◌, count_by, drop, length, slice_index_or, take}
 use Rattle.std.specs.List.{All, Contains}
 use Rattle.vrp_model.specs.Problem.{Problem}
 use Rattle.vrp_model.specs.Word.{BeginsWith, IsFront, IsLawfulWord}
@@ -22,6 +22,10 @@ BeginsAmong fronts word = (front : List ℕ) × Contains fronts front × BeginsW
 
 abbrev pub HasNoChild : Problem → List ℕ → Type 0
 HasNoChild p front = NoChildFrom p front 0
+
+-- there are this many, or none has a child
+abbrev pub AreEnough : Problem → ℕ → List (List ℕ) → Type 0
+AreEnough p pieces fronts = (pieces ≤ length fronts) ⊎ All (HasNoChild p) fronts
 
 -- the i-th front is replaced by its children, by rising symbol, where it has any: then the answer is true
 abbrev pub IsRefined : Problem → ℕ → List (List ℕ) → Bool → List (List ℕ) → Type 0

@@ -2,13 +2,12 @@
 use Rattle.std.specs.Prelude.{◌≡◌, ◌⊎◌, ℕ, ◌+◌, ◌≤◌, ◌<◌, Bool, IsTrue, MatchOption, Option, Some, List}
 use Rattle.std.specs.List.{All, Contains}
 use Rattle.std.specs.Option.{ForSome, option_map}
-use Rattle.vrp_bound.specs.Bound.{IsLowerBound}
+use Rattle.vrp_bound.specs.AtFront.{IsLowerBoundAt}
 use Rattle.vrp_bound.specs.Capacity.{IsInsOf}
-use Rattle.vrp_model.specs.Front.{open_load, routes_left}
 use Rattle.vrp_model.specs.Problem.{Problem}
 use Rattle.vrp_model.specs.Order.{ComesBefore}
-use Rattle.vrp_model.specs.Route.{IsPlanOf, PricedPlan, load_of}
-use Rattle.vrp_model.specs.Word.{BeginsWith, IsLawfulWord, NoneCheaperUnder, TreeHasAtLeast, last_symbol, unserved_in, word_cost, word_of}
+use Rattle.vrp_model.specs.Route.{IsPlanOf, PricedPlan}
+use Rattle.vrp_model.specs.Word.{BeginsWith, IsLawfulWord, NoneCheaperUnder, TreeHasAtLeast, unserved_in, word_cost, word_of}
 use Rattle.vrp_search.specs.declared.depth_first.Ended.{Ended}
 use Rattle.vrp_search.specs.declared.depth_first.Ended.TheVariants.{Finished, Unfinished}
 
@@ -22,7 +21,7 @@ pub record IsLow (p : Problem) (among front : List ℕ) (low : Option ℕ) : Typ
   pub ins : ℕ
   pub is_ins : IsInsOf p front ins
   pub bound : Option ℕ
-  pub is_bound : IsLowerBound p among (last_symbol front) (open_load p front) ins (load_of p (unserved_in p front)) (routes_left p front) bound
+  pub is_bound : IsLowerBoundAt p among front ins bound
   pub whole : low ≡ option_map (λ more. word_cost p front + more) bound
 
 -- a lawful plan with its true cost, whose word is a lawful one under the front

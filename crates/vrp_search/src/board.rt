@@ -32,7 +32,8 @@ pub trait Board {
     /// Takes note of a lawful plan. Where memory is refused the floor has not risen.
     fn offer(&mut self, alloc: Global, plan: &Plan) -> Result<(), NoMemory>
         requires { (p : Problem) × serves self.old p × IsPlanOf p plan.now }
-        ensures serves { (p : Problem) → serves self.old p → IsPlanOf p plan.now → serves self.new p }
+        ensures serves { (p : Problem) →
+            serves self.old p → IsPlanOf p plan.now → serves self.new p }
         ensures keeps { (earlier : Self) → keeps earlier self.old → keeps earlier self.new }
         ensures falls { floor self.new ≤ floor self.old }
         ensures taken { OnOk result (floor self.new ≤ plan.now.cost) };

@@ -38,7 +38,9 @@ impl<'a> Bounds<'a> {
 impl<'a> Pruning for Bounds<'a> {
     type Counted = Tally;
 
-    ghost in_step = { λ bounds root at. AreBoundsUnder bounds.tables.now.problem bounds.tables.now.among bounds.trees.instance.now root at };
+    ghost in_step = { λ bounds root at.
+        let tables = bounds.tables.now in
+        AreBoundsUnder tables.problem tables.among bounds.trees.instance.now root at };
 
     ghost is_counted = { λ _ at tally. IsTally at.problem at.word tally };
 
@@ -49,7 +51,9 @@ impl<'a> Pruning for Bounds<'a> {
         requires child { IsFront partial.now.problem (partial.now.word ++ symbol ∷ []) }
         ensures of_use { let child = with_symbol partial.now symbol
             in MatchOption result (NoneOfUse child.problem child.word least own) (IsTally child.problem child.word) }
-        ensures exact { IsTrue (is_some result) ↔ MayBeOfUse partial.now.problem self.now.tables.now.among (partial.now.word ++ symbol ∷ []) least own }
+        ensures exact { let child = with_symbol partial.now symbol
+            in IsTrue (is_some result)
+            ↔ MayBeOfUse child.problem self.now.tables.now.among child.word least own }
     {
         partial.promising(self.tables, symbol, least, own)
     }

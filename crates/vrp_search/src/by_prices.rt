@@ -37,7 +37,8 @@ impl<'a> ByPrices<'a> {
         partial: &Partial<'_>,
     ) -> Result<ByPrices<'a>, NoMemory>
         requires problem { prices.now.problem ≡ partial.now.problem }
-        ensures { IfOk result (λ by. IsInStep by.prices.now by.paid by.before.items (vec_capacity by.before) partial.now.word partial.now) }
+        ensures { IfOk result (λ by. IsInStep by.prices.now by.paid
+            by.before.items (vec_capacity by.before) partial.now.word partial.now) }
     {
         let relaxed = prices.relaxed();
         let room = 2 * usize::from(relaxed.customers());
@@ -61,7 +62,8 @@ impl<'a> ByPrices<'a> {
     #[inline(always)]
     fn are_of_no_use(&self, at: u16, paid: Paid, least: u64, own: u64) -> bool
         requires { (front : List ℕ) × IsPaidAt self.now.prices.now.relaxed front at paid }
-        ensures { IsTrue result → (front : List ℕ) → IsPaidAt self.now.prices.now.relaxed front at paid
+        ensures { IsTrue result → (front : List ℕ)
+            → IsPaidAt self.now.prices.now.relaxed front at paid
             → NoneOfUse self.now.prices.now.problem front least own }
     {
         let Some(most) = own.checked_sub(1) else {
@@ -75,9 +77,12 @@ impl<'a> ByPrices<'a> {
 impl<'a> Pruning for ByPrices<'a> {
     type Counted = Counted;
 
-    ghost in_step = { λ by root at. IsInStep by.prices.now by.paid by.before.items (vec_capacity by.before) root at };
+    ghost in_step = { λ by root at.
+        IsInStep by.prices.now by.paid by.before.items (vec_capacity by.before) root at };
 
-    ghost is_counted = { λ by at counted. IsTally at.problem at.word counted.tally × IsPaid by.prices.now.relaxed at.word counted.paid };
+    ghost is_counted = { λ by at counted.
+        IsTally at.problem at.word counted.tally
+        × IsPaid by.prices.now.relaxed at.word counted.paid };
 
     #[inline(always)]
     fn promising(

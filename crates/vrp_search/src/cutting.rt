@@ -4,7 +4,7 @@ ghost use Rattle.std.specs.List.{All};
 ghost use Rattle.vrp_model.specs.Word.{IsFront};
 ghost use Rattle.vrp_model.specs.declared.limits.TheConstants.{MAX_NODES};
 ghost use Rattle.vrp_search.specs.declared.cutting.TheConstants.{MAX_PIECES, MAX_REFINED};
-ghost use Rattle.vrp_search.specs.Cutting.{AreNumbered, BeginsAmong, HasNoChild, IsCutting, IsRefined};
+ghost use Rattle.vrp_search.specs.Cutting.{AreEnough, AreNumbered, BeginsAmong, HasNoChild, IsCutting, IsRefined};
 ghost use Rattle.vrp_search.specs.Inner.Pass.{AreAdded, IsPass, IsStep};
 
 use crate::partial::Partial;
@@ -79,7 +79,8 @@ impl Cutting {
         requires cutting { IsCutting instance.now self.old }
         requires piece { piece < length self.old }
         requires few { length self.old ≤ MAX_REFINED }
-        ensures refined { IfOk result (λ refined. IsRefined instance.now piece self.old refined self.new) }
+        ensures refined { IfOk result (λ refined.
+            IsRefined instance.now piece self.old refined self.new) }
         ensures cutting { IsCutting instance.now self.new }
         ensures few { length self.new ≤ length self.old + (MAX_NODES - 1) }
         ensures err { OnErr result (self.new ≡ self.old) }
@@ -107,7 +108,7 @@ impl Cutting {
         requires cutting { IsCutting instance.now self.old }
         requires pieces { pieces ≤ MAX_PIECES }
         ensures cutting { IsCutting instance.now self.new }
-        ensures enough { OnOk result ((pieces ≤ length self.new) ⊎ All (HasNoChild instance.now) self.new) }
+        ensures enough { OnOk result (AreEnough instance.now pieces self.new) }
         ensures few { length self.new ≤ max (pieces + (MAX_NODES - 1)) (length self.old) }
         ensures begins { All (BeginsAmong self.old) self.new }
     {
@@ -217,7 +218,8 @@ impl Cutting {
     ) -> Result<bool, NoMemory>
         requires front { IsFront instance.now front.now }
         requires room { length self.old ≤ MAX_REFINED }
-        ensures { IfOk result (λ refined. IsStep instance.now front.now refine self.old refined self.new) }
+        ensures { IfOk result (λ refined.
+            IsStep instance.now front.now refine self.old refined self.new) }
     {
         if refine && self.push_children(alloc, instance, front)? {
             return Ok(true);

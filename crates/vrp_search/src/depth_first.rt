@@ -52,7 +52,8 @@ pub fn search<B: Board>(
     ensures serves { B.serves board.new instance.now }
     ensures keeps { (earlier : B) → B.keeps earlier board.old → B.keeps earlier board.new }
     ensures falls { B.floor board.new ≤ B.floor board.old }
-    ensures ended { IfOk result (EndsSearch instance.now tables.now.among piece.now.word budget (B.may_stop board.new) (B.floor board.new)) }
+    ensures ended { IfOk result (EndsSearch instance.now tables.now.among piece.now.word
+        budget (B.may_stop board.new) (B.floor board.new)) }
 {
     let Some(Root { partial, low }) = opened(alloc, instance, tables, piece, board)? else {
         return Ok(Ended::Finished {
@@ -85,7 +86,8 @@ pub fn search_by_prices<B: Board>(
     ensures serves { B.serves board.new instance.now }
     ensures keeps { (earlier : B) → B.keeps earlier board.old → B.keeps earlier board.new }
     ensures falls { B.floor board.new ≤ B.floor board.old }
-    ensures ended { IfOk result (EndsSearch instance.now tables.now.among piece.now.word budget (B.may_stop board.new) (B.floor board.new)) }
+    ensures ended { IfOk result (EndsSearch instance.now tables.now.among piece.now.word
+        budget (B.may_stop board.new) (B.floor board.new)) }
 {
     let Some(Root { partial, low }) = opened(alloc, instance, tables, piece, board)? else {
         return Ok(Ended::Finished {
@@ -119,10 +121,14 @@ fn opened<'a, B: Board>(
     ensures serves { B.serves board.new instance.now }
     ensures keeps { (earlier : B) → B.keeps earlier board.old → B.keeps earlier board.new }
     ensures falls { B.floor board.new ≤ B.floor board.old }
-    ensures none { IfOk result (λ root. IfNone root (AllCostMore instance.now piece.now.word (B.floor board.new))) }
-    ensures at { IfOk result (λ root. IfSome root (λ root. root.partial ≡ record { problem = instance.now; word = piece.now.word })) }
-    ensures low { IfOk result (λ root. IfSome root (λ root. IsLow instance.now tables.now.among piece.now.word (Some root.low))) }
-    ensures none_cheaper { IfOk result (λ root. IfSome root (λ root. NoneCheaperUnder instance.now piece.now.word root.low)) }
+    ensures none { IfOk result (λ root.
+        IfNone root (AllCostMore instance.now piece.now.word (B.floor board.new))) }
+    ensures at { IfOk result (λ root. IfSome root (λ root.
+        root.partial ≡ record { problem = instance.now; word = piece.now.word })) }
+    ensures low { IfOk result (λ root. IfSome root (λ root.
+        IsLow instance.now tables.now.among piece.now.word (Some root.low))) }
+    ensures none_cheaper { IfOk result (λ root. IfSome root (λ root.
+        NoneCheaperUnder instance.now piece.now.word root.low)) }
 {
     let partial = Partial::at_front(alloc, instance, piece.word())?;
     // Below no front is anything cheaper than its cost and bound, and below a dead one there is nothing.
@@ -157,7 +163,8 @@ pub(crate) fn search_under<B: Board, P: Pruning + Drop>(
     ensures serves { B.serves board.new partial.entry.problem }
     ensures keeps { (earlier : B) → B.keeps earlier board.old → B.keeps earlier board.new }
     ensures falls { B.floor board.new ≤ B.floor board.old }
-    ensures ended { IfOk result (EndsUnder partial.entry.problem partial.entry.word low budget (B.may_stop board.new) (B.floor board.new)) }
+    ensures ended { IfOk result (EndsUnder partial.entry.problem partial.entry.word low
+        budget (B.may_stop board.new) (B.floor board.new)) }
 {
     // All plans cost less than `NO_COST`.
     words_are_plans();

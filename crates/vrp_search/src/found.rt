@@ -56,7 +56,8 @@ impl Found {
         ensures serves { B.serves board.new partial.now.problem }
         ensures keeps { (earlier : B) → B.keeps earlier board.old → B.keeps earlier board.new }
         ensures falls { B.floor board.new ≤ B.floor board.old }
-        ensures kept { OnOk result (IsLastOffer partial.now.problem partial.now.word (B.floor board.new) self.old.plan self.new.plan) }
+        ensures kept { OnOk result (IsLastOffer partial.now.problem partial.now.word
+            (B.floor board.new) self.old.plan self.new.plan) }
     {
         if partial.complete() && partial.cost() < self.cost {
             let plan = partial.plan(alloc)?;

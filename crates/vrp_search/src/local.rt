@@ -1,10 +1,10 @@
 //! The board of one thread: it keeps the first plan by cost and then by word, if there is one.
 ghost use Rattle.std.specs.Prelude.{◌≡◌, ◌↔◌, ◌≤◌, IsTrue, Option, Some, IfOk, OnOk, OnErr, ⊤};
-ghost use Rattle.std.specs.Option.{ForSome, option_map};
+ghost use Rattle.std.specs.Option.{option_map};
 ghost use Rattle.vrp_model.specs.Problem.{Problem};
 ghost use Rattle.vrp_model.specs.Route.{IsPlanOf, PricedPlan};
 ghost use Rattle.vrp_model.specs.Cheapest.{cost_of};
-ghost use Rattle.vrp_search.specs.Board.{IsBeforeKept};
+ghost use Rattle.vrp_search.specs.Board.{IsBeforeKept, KeepsPlanOf};
 
 use crate::board::Board;
 use std::alloc::Global;
@@ -61,14 +61,14 @@ impl Local {
 }
 
 impl Board for Local {
-    ghost serves = { λ local p. ForSome local (IsPlanOf p) };
+    ghost serves = { λ local p. KeepsPlanOf p local };
 
     ghost floor = { λ local. cost_of local };
 
     ghost keeps = { λ earlier later. ⊤ };
 
     fn least(&mut self) -> u64
-        ensures serves { (p : Problem) → ForSome self.old (IsPlanOf p) → ForSome self.new (IsPlanOf p) }
+        ensures serves { (p : Problem) → KeepsPlanOf p self.old → KeepsPlanOf p self.new }
         ensures keeps { (earlier : Option PricedPlan) → ⊤ → ⊤ }
         ensures falls { cost_of self.new ≤ cost_of self.old }
         ensures answered { cost_of self.new ≤ result }
@@ -82,8 +82,9 @@ impl Board for Local {
     }
 
     fn offer(&mut self, alloc: Global, plan: &Plan) -> Result<(), NoMemory>
-        requires { (p : Problem) × ForSome self.old (IsPlanOf p) × IsPlanOf p plan.now }
-        ensures serves { (p : Problem) → ForSome self.old (IsPlanOf p) → IsPlanOf p plan.now → ForSome self.new (IsPlanOf p) }
+        requires { (p : Problem) × KeepsPlanOf p self.old × IsPlanOf p plan.now }
+        ensures serves { (p : Problem) →
+            KeepsPlanOf p self.old → IsPlanOf p plan.now → KeepsPlanOf p self.new }
         ensures keeps { (earlier : Option PricedPlan) → ⊤ → ⊤ }
         ensures falls { cost_of self.new ≤ cost_of self.old }
         ensures taken { OnOk result (cost_of self.new ≤ plan.now.cost) }

@@ -31,8 +31,10 @@ impl Paid {
     /// That of a child's word, where the word ends at this place.
     #[inline(always)]
     pub(crate) fn after(self, instance: &Instance, at: u16, symbol: u16) -> Paid
-        requires { (front : List ℕ) × IsPaidAt instance.now front at self × IsFront instance.now (front ++ symbol ∷ []) }
-        ensures { (front : List ℕ) → IsPaidAt instance.now front at self → IsFront instance.now (front ++ symbol ∷ [])
+        requires { (front : List ℕ) × IsPaidAt instance.now front at self
+            × IsFront instance.now (front ++ symbol ∷ []) }
+        ensures { (front : List ℕ) → IsPaidAt instance.now front at self
+            → IsFront instance.now (front ++ symbol ∷ [])
             → IsPaidAt instance.now (front ++ symbol ∷ []) symbol result }
     {
         let cost = self.cost + instance.weight(at, symbol);

@@ -49,7 +49,7 @@ impl Piece {
     /// The customers that the piece leaves unserved, by rising place.
     pub fn unserved(&self, alloc: Global, instance: &Instance) -> Result<Vec<u16>, NoMemory>
         requires { IsFront instance.now self.now.word }
-        ensures { IfOk result (λ unserved. unserved.items ≡ unserved_in instance.now self.now.word) }
+        ensures { IfOk result (λ found. found.items ≡ unserved_in instance.now self.now.word) }
     {
         let partial = Partial::at_front(alloc, instance, self.word())?;
         let mut unserved = Vec::with_capacity(alloc, usize::from(instance.customers()))?;
@@ -69,7 +69,8 @@ impl Piece {
         requires tables { tables.now.problem ≡ instance.now }
         requires covered { AreCovered instance.now tables.now.among self.now.word }
         ensures low { IfOk result (IsLow instance.now tables.now.among self.now.word) }
-        ensures none_cheaper { IfOk result (λ low. ForSome low (NoneCheaperUnder instance.now self.now.word)) }
+        ensures none_cheaper { IfOk result (λ low.
+            ForSome low (NoneCheaperUnder instance.now self.now.word)) }
     {
         bounds_hold();
         let partial = Partial::at_front(alloc, instance, self.word())?;

@@ -82,7 +82,8 @@ impl<'a> Prices<'a> {
     pub(crate) fn is_dear(&self, at: u16, paid: Paid, cost: u64) -> bool
         requires front { (front : List ℕ) × IsPaidAt self.now.relaxed front at paid }
         requires cost { cost ≤ NO_COST }
-        ensures { IsTrue result → (front : List ℕ) → IsPaidAt self.now.relaxed front at paid → AllCostMore self.now.problem front cost }
+        ensures { IsTrue result → (front : List ℕ) → IsPaidAt self.now.relaxed front at paid
+            → AllCostMore self.now.problem front cost }
     {
         dear_fronts();
         let Some(limit) = self.relaxation.limit(cost) else {

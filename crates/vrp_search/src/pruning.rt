@@ -39,13 +39,15 @@ pub(crate) trait Pruning {
         requires child { IsFront partial.old.problem (partial.old.word ++ symbol ∷ []) }
         requires counted { is_counted self.old (with_symbol partial.old symbol) counted }
         ensures partial { partial.new ≡ with_symbol partial.old symbol }
-        ensures step { (root : List ℕ) → in_step self.old root partial.old → in_step self.new root partial.new };
+        ensures step { (root : List ℕ)
+            → in_step self.old root partial.old → in_step self.new root partial.new };
 
     /// Whether a child is pruned that was pushed: a second look, which may take longer.
     fn prunes(&mut self, partial: &Partial<'_>, least: u64, own: u64) -> bool
         requires step { (root : List ℕ) × in_step self.old root partial.now }
         ensures none { IsTrue result → NoneOfUse partial.now.problem partial.now.word least own }
-        ensures step { (root : List ℕ) → in_step self.old root partial.now → in_step self.new root partial.now };
+        ensures step { (root : List ℕ)
+            → in_step self.old root partial.now → in_step self.new root partial.now };
 
     /// Takes off the partial plan's last symbol, and answers it.
     fn pop(&mut self, partial: &mut Partial<'_>) -> u16
@@ -54,5 +56,7 @@ pub(crate) trait Pruning {
         ensures problem { partial.new.problem ≡ partial.old.problem }
         ensures word { partial.old.word ≡ partial.new.word ++ result ∷ [] }
         ensures small { result < MAX_NODES }
-        ensures step { (root : List ℕ) → in_step self.old root partial.old → BeginsWith partial.new.word root → in_step self.new root partial.new };
+        ensures step { (root : List ℕ)
+            → in_step self.old root partial.old → BeginsWith partial.new.word root
+            → in_step self.new root partial.new };
 }

@@ -35,7 +35,8 @@ impl Spending {
     pub(crate) fn is_over<B: Board>(&mut self, board: &B) -> bool
         ensures spent { self.new.spent ≡ self.old.spent }
         ensures budget { self.new.budget ≡ self.old.budget }
-        ensures over { IsTrue result → (self.new.spent ≡ self.new.budget) ⊎ IsTrue (B.may_stop board.now) }
+        ensures over { IsTrue result
+            → (self.new.spent ≡ self.new.budget) ⊎ IsTrue (B.may_stop board.now) }
         ensures more { result ≡ false → self.new.spent < self.new.pause }
     {
         if self.spent < self.pause {

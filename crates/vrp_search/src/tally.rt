@@ -1,11 +1,10 @@
 //! What is counted along a word, and what a plan under it costs at least.
 ghost use Rattle.std.specs.Prelude.{◌≡◌, ◌↔◌, ◌⊎◌, ◌-◌, ◌*◌, ◌≤◌, ◌<◌, [], IsTrue};
-ghost use Rattle.std.specs.Option.{option_map};
 ghost use Rattle.vrp_bound.specs.Capacity.{CanCarry, IsInsOf};
 ghost use Rattle.vrp_model.specs.Problem.{HasTrucks, customers, place_count};
 ghost use Rattle.vrp_model.specs.Route.{load_of};
 ghost use Rattle.vrp_model.specs.declared.limits.TheConstants.{MAX_WAYS};
-ghost use Rattle.vrp_search.specs.Inner.Tallied.{IsLowOf, IsTally};
+ghost use Rattle.vrp_search.specs.Inner.Tallied.{IsLowOf, IsTally, routes_by};
 
 use vrp_bound::{Tables, bound, can_carry};
 use vrp_model::Instance;
@@ -52,7 +51,8 @@ impl Tally {
     /// the first one of the last route, and one is left, or the open route ends below its first.
     #[inline(always)]
     pub(crate) fn is_dead(self, at: u16) -> bool
-        ensures { IsTrue result ↔ (self.greatest < self.first) × ((0 < self.greatest) ⊎ ((0 < at) × (at < self.first))) }
+        ensures { IsTrue result ↔ (self.greatest < self.first)
+            × ((0 < self.greatest) ⊎ ((0 < at) × (at < self.first))) }
     {
         self.greatest < self.first && (self.greatest > 0 || (at > 0 && at < self.first))
     }
@@ -83,7 +83,8 @@ impl Tally {
     pub(crate) fn can_carry(self, instance: &Instance, at: u16) -> bool
         requires load { self.load ≤ instance.now.capacity }
         requires trucks { HasTrucks instance.now self.routes }
-        ensures { IsTrue result ↔ CanCarry instance.now at self.load self.rest (option_map (λ trucks. trucks - self.routes) instance.now.trucks) }
+        ensures { IsTrue result
+            ↔ CanCarry instance.now at self.load self.rest (routes_by instance.now self) }
     {
         let left = self.routes_left(instance);
         can_carry(instance, at, self.load, self.rest, left)
@@ -93,7 +94,7 @@ impl Tally {
     #[inline(always)]
     fn routes_left(self, instance: &Instance) -> Option<u16>
         requires { HasTrucks instance.now self.routes }
-        ensures { result ≡ option_map (λ trucks. trucks - self.routes) instance.now.trucks }
+        ensures { result ≡ routes_by instance.now self }
     {
         Some(instance.trucks()? - self.routes)
     }

@@ -35,10 +35,14 @@ pub record IsTally (p : Problem) (word : List ℕ) (tally : Tally) : Type 0 wher
   pub greatest : IsGreatestUnserved p word tally.greatest
   pub routes : tally.routes ≡ length (routes_of word)
 
+-- how many routes may still be opened, by the tally
+abbrev pub routes_by : Problem → Tally → Option ℕ
+routes_by p tally = option_map (λ trucks. trucks - tally.routes) p.trucks
+
 -- what is paid, and the bound on what is still to pay from this place, with tables over these customers
 pub record IsLowOf (p : Problem) (among : List ℕ) (at : ℕ) (tally : Tally) (low : Option ℕ) : Type 0 where
   pub bound : Option ℕ
-  pub is_bound : IsLowerBound p among at tally.load tally.ins tally.rest (option_map (λ trucks. trucks - tally.routes) p.trucks) bound
+  pub is_bound : IsLowerBound p among at tally.load tally.ins tally.rest (routes_by p tally) bound
   pub whole : low ≡ option_map (λ more. tally.cost + more) bound
 
 -- a flag for each place: what stands at 0 is of no account

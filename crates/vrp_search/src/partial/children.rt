@@ -1,9 +1,9 @@
 //! The children of a partial plan: which symbols make one, and what is counted along its word.
 ghost use Rattle.std.specs.Prelude.{◌≡◌, ◌<◌, ◌≤◌, ◌+◌, ◌*◌, ◌↔◌, [], ◌∷◌, ◌++◌, length, IsTrue, IfSome, MatchOption};
-ghost use Rattle.vrp_model.specs.Problem.{HasTrucks, place_count};
-ghost use Rattle.vrp_model.specs.Word.{IsFront, last_symbol, routes_of};
+ghost use Rattle.vrp_model.specs.Problem.{place_count};
+ghost use Rattle.vrp_model.specs.Word.{IsFront, last_symbol};
 ghost use Rattle.vrp_model.specs.declared.limits.TheConstants.{MAX_NODES};
-ghost use Rattle.vrp_search.specs.Child.{IsNextChild, NoChildFrom};
+ghost use Rattle.vrp_search.specs.Child.{HasTruckForOneMore, TellsNextChild};
 ghost use Rattle.vrp_search.specs.Inner.Tallied.{IsGreatestBelow, IsTally};
 
 use crate::partial::Partial;
@@ -31,7 +31,7 @@ impl<'a> Partial<'a> {
     // Whether one more route may be opened.
     #[inline(always)]
     fn has_truck(&self) -> bool
-        ensures { IsTrue result ↔ HasTrucks self.now.problem (length (routes_of self.now.word) + 1) }
+        ensures { IsTrue result ↔ HasTruckForOneMore self.now }
     {
         match self.instance.trucks() {
             None => true,
@@ -41,7 +41,7 @@ impl<'a> Partial<'a> {
 
     /// The first symbol from this one on that makes a child.
     pub(crate) fn next_child(&self, from: u16) -> Option<u16>
-        ensures next { MatchOption result (NoChildFrom self.now.problem self.now.word from) (IsNextChild self.now.problem self.now.word from) }
+        ensures next { TellsNextChild self.now from result }
         ensures small { IfSome result (λ symbol. symbol < MAX_NODES) }
     {
         if self.at() == 0 {
@@ -57,7 +57,7 @@ impl<'a> Partial<'a> {
     #[inline(always)]
     fn next_opening(&self, from: u16) -> Option<u16>
         requires { last_symbol self.now.word ≡ 0 }
-        ensures next { MatchOption result (NoChildFrom self.now.problem self.now.word from) (IsNextChild self.now.problem self.now.word from) }
+        ensures next { TellsNextChild self.now from result }
         ensures small { IfSome result (λ symbol. symbol < MAX_NODES) }
     {
         let first = self.tally.first;
@@ -77,7 +77,7 @@ impl<'a> Partial<'a> {
     fn next_stop(&self, from: u16) -> Option<u16>
         requires open { 0 < last_symbol self.now.word }
         requires depot { from ≡ 0 → IsFront self.now.problem (self.now.word ++ 0 ∷ []) → ⊥ }
-        ensures next { MatchOption result (NoChildFrom self.now.problem self.now.word from) (IsNextChild self.now.problem self.now.word from) }
+        ensures next { TellsNextChild self.now from result }
         ensures small { IfSome result (λ symbol. symbol < MAX_NODES) }
     {
         let room = self.instance.capacity() - self.tally.load;

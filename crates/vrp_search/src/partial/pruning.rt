@@ -3,7 +3,7 @@ ghost use Rattle.std.specs.Prelude.{◌≡◌, ◌↔◌, [], ◌∷◌, ◌++�
 ghost use Rattle.vrp_model.specs.Problem.{IsProblem};
 ghost use Rattle.vrp_model.specs.Word.{IsDead, IsFront};
 ghost use Rattle.vrp_search.specs.Search.{AreCovered, IsLow};
-ghost use Rattle.vrp_search.specs.Inner.Pruned.{IsPromising, MayBeOfUse, NoPlanUnder, NoneOfUse};
+ghost use Rattle.vrp_search.specs.Inner.Pruned.{IsPromising, MayBeOfUse, NoPlanUnder, NoneOfUse, with_symbol};
 ghost use Rattle.vrp_search.specs.Inner.Tallied.{IsTally};
 
 use crate::partial::Partial;
@@ -47,9 +47,12 @@ impl<'a> Partial<'a> {
         requires tables { tables.now.problem ≡ self.now.problem }
         requires covered { AreCovered self.now.problem tables.now.among self.now.word }
         requires child { IsFront self.now.problem (self.now.word ++ symbol ∷ []) }
-        ensures of_use { MatchOption result (NoneOfUse self.now.problem (self.now.word ++ symbol ∷ []) least own)
-            (IsPromising self.now.problem (self.now.word ++ symbol ∷ []) own) }
-        ensures exact { IsTrue (is_some result) ↔ MayBeOfUse self.now.problem tables.now.among (self.now.word ++ symbol ∷ []) least own }
+        ensures of_use { let child = with_symbol self.now symbol
+            in MatchOption result (NoneOfUse child.problem child.word least own)
+            (IsPromising child.problem child.word own) }
+        ensures exact { let child = with_symbol self.now symbol
+            in IsTrue (is_some result)
+            ↔ MayBeOfUse child.problem tables.now.among child.word least own }
     {
         // Below no front is anything cheaper than its cost and bound, and below a dead one there is nothing.
         bounds_hold();
@@ -73,7 +76,9 @@ impl<'a> Partial<'a> {
     #[inline(always)]
     pub(crate) fn alive_after(&self, symbol: u16) -> Option<Tally>
         requires { IsFront self.now.problem (self.now.word ++ symbol ∷ []) }
-        ensures { MatchOption result (NoPlanUnder self.now.problem (self.now.word ++ symbol ∷ [])) (IsTally self.now.problem (self.now.word ++ symbol ∷ [])) }
+        ensures { let child = with_symbol self.now symbol
+            in MatchOption result (NoPlanUnder child.problem child.word)
+            (IsTally child.problem child.word) }
     {
         dead_fronts();
         trucks_left_carry();
