@@ -1,6 +1,6 @@
 -- What contracts see of a pile of pieces, and of those who draw from it.
-use Rattle.std.specs.Prelude.{◌≡◌, ℕ, ◌+◌, ◌≤◌, List, [], ◌∷◌, ◌++◌, length, map}
-use Rattle.std.specs.List.{All, Contains}
+use Rattle.std.specs.Prelude.{◌≡◌, ℕ, ◌+◌, ◌-◌, ◌≤◌, Option, MatchOption, List, [], ◌∷◌, ◌++◌, length, map}
+use Rattle.std.specs.List.{All, Contains, flat_map}
 use Rattle.std.specs.List.Sorted.{IsPermutation}
 use Rattle.std.specs.declared.alloc.Global.{Global}
 use Rattle.atomic_blocks.specs.Lent.{RowsId}
@@ -26,6 +26,22 @@ pub record DrawerState : Type 0 where
 -- the pieces that were drawn and those that are left are those that were put on the pile, each once
 abbrev pub AreShared : List NumberedWord → List NumberedWord → List NumberedWord → Type 0
 AreShared drawn left put = IsPermutation put (drawn ++ left)
+
+-- this many are left of the pieces that were put on the pile, and these were drawn
+abbrev pub LeavesSoMany : List NumberedWord → List NumberedWord → ℕ → Type 0
+LeavesSoMany drawn put count = (left : List NumberedWord) × (length left ≡ count) × AreShared drawn left put
+
+-- what these drew
+abbrev pub drawn_by : List DrawerState → List NumberedWord
+drawn_by thieves = flat_map (λ thief. thief.drawn) thieves
+
+-- the drawer drew all pieces that were put on the pile
+abbrev pub DrewAll : DrawerState → Type 0
+DrewAll drawer = AreShared drawer.drawn [] drawer.put
+
+-- the same drawer, which stands for one drawer less
+abbrev pub one_part_less : DrawerState → DrawerState
+one_part_less old = record { pile = old.pile; parts = old.parts - 1; put = old.put; drawn = old.drawn }
 
 -- a thief of the owner's pile that has drawn nothing
 abbrev pub IsNewThief : DrawerState → DrawerState → Type 0
@@ -59,6 +75,10 @@ pub record IsDrawn (old : DrawerState) (piece : NumberedWord) (new : DrawerState
   pub among : Contains old.put piece
   pub oldest : IsOldest old.parts old.put old.drawn piece
   pub few : length new.drawn ≤ length old.put
+
+-- an owner that is answered a piece drew it, and one that is answered nothing stays as it was
+abbrev pub DrawsOrStays : DrawerState → Option NumberedWord → DrawerState → Type 0
+DrawsOrStays old answer new = MatchOption answer (new ≡ old) (λ piece. IsDrawn old piece new)
 
 -- an owner took a thief in: what the thief drew counts as drawn by the owner
 pub record IsTakenIn (old thief new : DrawerState) : Type 0 where

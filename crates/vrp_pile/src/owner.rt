@@ -1,7 +1,7 @@
 //! The owner of a pile: it puts all pieces on it, draws from it, and takes thieves in.
-ghost use Rattle.std.specs.Prelude.{◌≡◌, ◌-◌, ◌<◌, IfOk, MatchOption, None, List, [], length};
+ghost use Rattle.std.specs.Prelude.{◌≡◌, ◌<◌, IfOk, None, []};
 ghost use Rattle.vrp_pile.specs.declared.limits.TheConstants.{MAX_DRAWERS};
-ghost use Rattle.vrp_pile.specs.Pile.{AreShared, IsDrawn, IsNewThief, IsTakenIn};
+ghost use Rattle.vrp_pile.specs.Pile.{DrawsOrStays, DrewAll, IsNewThief, IsTakenIn, LeavesSoMany, one_part_less};
 
 use crate::draws::{Counting, Drawing, Draws, Parting, Pieces, Putting};
 use crate::thief::Thief;
@@ -48,7 +48,7 @@ impl Owner {
     /// One more thief.
     pub(crate) fn make_thief(&mut self) -> Result<Thief, AllocError>
         requires { 1 < self.old.parts }
-        ensures owner { IfOk result (λ _. self.new ≡ record { pile = self.old.pile; parts = self.old.parts - 1; put = self.old.put; drawn = self.old.drawn }) }
+        ensures owner { IfOk result (λ _. self.new ≡ one_part_less self.old) }
         ensures thief { IfOk result (IsNewThief self.old) }
     {
         let deque = self.deque.stealer()?;
@@ -61,8 +61,8 @@ impl Owner {
     /// The oldest piece that is left. `None` means that at one moment of the call none was left: where the owner stands for all
     /// drawers, all pieces are then drawn. While thieves are out no clause says what `None` means.
     pub fn take(&mut self) -> Option<Piece>
-        ensures drawn { MatchOption result (self.new ≡ self.old) (λ piece. IsDrawn self.old piece self.new) }
-        ensures all { result ≡ None → self.old.parts ≡ MAX_DRAWERS → AreShared self.old.drawn [] self.old.put }
+        ensures drawn { DrawsOrStays self.old result self.new }
+        ensures all { result ≡ None → self.old.parts ≡ MAX_DRAWERS → DrewAll self.old }
     {
         self.deque.pop_as::<Drawing>()
     }
@@ -79,7 +79,7 @@ impl Owner {
     /// How many pieces are left, where the owner stands for all drawers.
     pub(crate) fn count_left(&mut self) -> usize
         requires { self.old.parts ≡ MAX_DRAWERS }
-        ensures { (left : List _) × (length left ≡ result) × AreShared self.old.drawn left self.old.put }
+        ensures { LeavesSoMany self.old.drawn self.old.put result }
     {
         self.deque.len_as::<Counting>()
     }

@@ -1,8 +1,8 @@
 //! A pile from its making to its end.
-ghost use Rattle.std.specs.Prelude.{◌≡◌, ◌+◌, ◌≤◌, ◌++◌, IfOk, List, length};
-ghost use Rattle.std.specs.List.{All, flat_map};
+ghost use Rattle.std.specs.Prelude.{◌≡◌, ◌+◌, ◌≤◌, ◌++◌, IfOk, length};
+ghost use Rattle.std.specs.List.{All};
 ghost use Rattle.vrp_pile.specs.declared.limits.TheConstants.{MAX_DRAWERS, MAX_THIEVES};
-ghost use Rattle.vrp_pile.specs.Pile.{AreShared, IsNewPile};
+ghost use Rattle.vrp_pile.specs.Pile.{IsNewPile, LeavesSoMany, drawn_by};
 
 use crate::owner::Owner;
 use crate::thief::Thief;
@@ -41,7 +41,7 @@ impl Pile {
 pub fn settle(mut owner: Owner, thieves: Vec<Thief>) -> usize
     requires pile { All (λ thief. thief.pile ≡ owner.pile) thieves.items }
     requires all { owner.parts + length thieves.items ≡ MAX_DRAWERS }
-    ensures { (left : List _) × (length left ≡ result) × AreShared (owner.drawn ++ flat_map (λ thief. thief.drawn) thieves.items) left owner.put }
+    ensures { LeavesSoMany (owner.drawn ++ drawn_by thieves.items) owner.put result }
 {
     for thief in thieves {
         owner.take_in(thief);

@@ -1,7 +1,5 @@
 //! The thieves of a pile, who draw from it in threads of their own.
-ghost use Rattle.std.specs.Prelude.{◌≡◌};
-ghost use Rattle.vrp_pile.specs.Drawn.{MatchDrawn};
-ghost use Rattle.vrp_pile.specs.Pile.{IsDrawn};
+ghost use Rattle.vrp_pile.specs.Drawn.{StealsOrStays};
 
 use crate::draws::{Drawing, Draws, Pieces};
 use crossbeam_deque::{Pass, Steal, Stealer};
@@ -29,7 +27,10 @@ impl Model for Thief {
 
     ghost view = { λ t. drawer (stealer_deque t.deque) (known t.pass) };
 
-    ghost invariant = { λ t. (stealer_flavor t.deque ≡ 0) × IsPassOf (stealer_deque t.deque) t.pass × ((known t.pass).parts ≡ 1) };
+    ghost invariant = { λ t.
+        (stealer_flavor t.deque ≡ 0)
+        × IsPassOf (stealer_deque t.deque) t.pass
+        × ((known t.pass).parts ≡ 1) };
 }
 
 /// What a thief is answered.
@@ -46,7 +47,7 @@ pub enum Drawn {
 impl Thief {
     /// The oldest piece that is left. When the answer is `Empty` or `Busy`, no clause says.
     pub fn take(&mut self) -> Drawn
-        ensures { MatchDrawn result (self.new ≡ self.old) (λ piece. IsDrawn self.old piece self.new) }
+        ensures { StealsOrStays self.old result self.new }
     {
         for _ in 0..MAX_STEALS {
             match self.deque.steal_as::<Drawing>(&mut self.pass) {
