@@ -34,7 +34,9 @@ impl Model for Near {
 
     ghost view = { λ a. a.places };
 
-    ghost invariant = { λ a. IsSquare a.places (length a.order.items) × All (IsPlace a.places) a.order.items };
+    ghost invariant = { λ a.
+        IsSquare a.places (length a.order.items)
+        × All (IsPlace a.places) a.order.items };
 }
 
 impl Near {

@@ -66,7 +66,8 @@ impl Model for Routes {
 
     ghost view = { λ a. length a.stops.items };
 
-    ghost invariant = { λ a. AreRoutes (length a.stops.items) a.stops.items a.routes.items a.highest };
+    ghost invariant = { λ a.
+        AreRoutes (length a.stops.items) a.stops.items a.routes.items a.highest };
 }
 
 impl Routes {

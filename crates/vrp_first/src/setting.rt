@@ -24,7 +24,9 @@ impl<'a> Model for Setting<'a> {
 
     ghost view = { λ a. a.instance.now };
 
-    ghost invariant = { λ a. (a.ways ≡ place_count a.instance.now) × (a.near ≡ place_count a.instance.now) };
+    ghost invariant = { λ a.
+        (a.ways ≡ place_count a.instance.now)
+        × (a.near ≡ place_count a.instance.now) };
 }
 
 impl<'a> Setting<'a> {

@@ -25,7 +25,9 @@ impl Model for Ways {
 
     ghost view = { λ a. a.places };
 
-    ghost invariant = { λ a. IsSquare a.places (length a.from.items) × IsSquare a.places (length a.into.items) };
+    ghost invariant = { λ a.
+        IsSquare a.places (length a.from.items)
+        × IsSquare a.places (length a.into.items) };
 }
 
 impl Ways {

@@ -6,5 +6,6 @@ ghost use Rattle.vrp_text.specs.Meaning.{MeansProblem};
 
 /// A plain file, which is spelled without any freedom but in its numbers and remarks, means just what stands in it.
 pub fn plain_files()
-    ensures { (bytes : List ℕ) (problem : Problem) → MeansPlainly bytes problem → MeansProblem bytes None problem }
+    ensures { (bytes : List ℕ) (problem : Problem)
+        → MeansPlainly bytes problem → MeansProblem bytes None problem }
 {}
