@@ -7,6 +7,7 @@ ghost use Rattle.std.specs.Prelude.{◌≡◌, ◌≤◌, IfOk};
 ghost use Rattle.std.specs.Option.{ForSome};
 ghost use Rattle.vrp_memory.specs.declared.memory.TheConstants.{MOST_NEAR};
 ghost use Rattle.vrp_model.specs.Problem.{customers, place_count};
+ghost use Rattle.vrp_bound.specs.Tables.{tables_over};
 ghost use Rattle.vrp_model.specs.Route.{IsPlanOf};
 
 use anyhow::{Context, Result, ensure};
@@ -161,7 +162,7 @@ fn search_whole(
     budget: u64,
     board: &mut Local,
 ) -> Result<Ended>
-    requires tables { tables.now ≡ record { problem = instance.now; among = customers instance.now } }
+    requires tables { tables.now ≡ tables_over instance.now (customers instance.now) }
     requires prices { prices.now.problem ≡ instance.now }
     requires board { ForSome board.old (IsPlanOf instance.now) }
     requires budget { 1 ≤ budget }

@@ -7,6 +7,7 @@
 ghost use Rattle.std.specs.Prelude.{◌≡◌, ◌≤◌, IfOk};
 ghost use Rattle.std.specs.Option.{ForSome};
 ghost use Rattle.vrp_model.specs.Problem.{customers};
+ghost use Rattle.vrp_bound.specs.Tables.{tables_over};
 ghost use Rattle.vrp_model.specs.Route.{IsPlanOf};
 ghost use Rattle.vrp_search.specs.declared.cutting.TheConstants.{MAX_PIECES};
 
@@ -110,7 +111,7 @@ fn search_all(
     way: Way,
     board: &mut Local,
 ) -> Result<u64, NoMemory>
-    requires tables { tables.now ≡ record { problem = instance.now; among = customers instance.now } }
+    requires tables { tables.now ≡ tables_over instance.now (customers instance.now) }
     requires board { ForSome board.old (IsPlanOf instance.now) }
     requires budget { 1 ≤ way.budget }
     requires pieces { way.pieces ≤ MAX_PIECES }

@@ -2,6 +2,7 @@
 ghost use Rattle.std.specs.Prelude.{◌≡◌, ◌≤◌, IfOk};
 ghost use Rattle.std.specs.Option.{ForSome};
 ghost use Rattle.vrp_model.specs.Problem.{customers};
+ghost use Rattle.vrp_bound.specs.Tables.{tables_over};
 ghost use Rattle.vrp_model.specs.Route.{IsPlanOf};
 ghost use Rattle.vrp_model.specs.Word.{IsFront, unserved_in};
 ghost use Rattle.vrp_search.specs.Cutting.{IsCutting};
@@ -33,7 +34,7 @@ pub(crate) fn search_pieces(
     budget: u64,
     board: &mut Local,
 ) -> Result<u64, NoMemory>
-    requires tables { tables.now ≡ record { problem = instance.now; among = customers instance.now } }
+    requires tables { tables.now ≡ tables_over instance.now (customers instance.now) }
     requires cutting { IsCutting instance.now cutting.now }
     requires board { ForSome board.old (IsPlanOf instance.now) }
     requires budget { 1 ≤ budget }
@@ -56,7 +57,7 @@ fn search_piece(
     budget: u64,
     board: &mut Local,
 ) -> Result<u64, NoMemory>
-    requires tables { tables.now ≡ record { problem = instance.now; among = customers instance.now } }
+    requires tables { tables.now ≡ tables_over instance.now (customers instance.now) }
     requires front { IsFront instance.now piece.now.word }
     requires board { ForSome board.old (IsPlanOf instance.now) }
     requires budget { 1 ≤ budget }
@@ -85,7 +86,8 @@ fn own_tables<'a>(
     piece: &Piece,
 ) -> Result<Tables<'a>, NoMemory>
     requires { IsFront instance.now piece.now.word }
-    ensures { IfOk result (λ tables. tables ≡ record { problem = instance.now; among = unserved_in instance.now piece.now.word }) }
+    ensures { IfOk result (λ made.
+        made ≡ tables_over instance.now (unserved_in instance.now piece.now.word)) }
 {
     let unserved = piece.unserved(alloc, instance)?;
     Tables::build(alloc, instance, &unserved)
