@@ -96,37 +96,70 @@ fn nodes(rt: HostRuntime) {
     );
 }
 
+// Words, and what they ask for beside the options: the seconds, the budget, and whether to tell of progress.
+const LIMITS: &[(&[&str], Option<u32>, u64, bool)] = &[
+    (&[], None, 10_000_000, false),
+    (&["--seconds", "1"], Some(1), MAX_BUDGET, false),
+    (
+        &["--seconds", "1000000"],
+        Some(MAX_SECONDS),
+        MAX_BUDGET,
+        false,
+    ),
+    (&["--seconds", "5", "--budget", "3"], Some(5), 3, false),
+    (&["--progress"], None, 10_000_000, true),
+    (&["--progress", "--seconds", "5"], Some(5), MAX_BUDGET, true),
+];
+
+// Asserts that these words make this request.
+fn assert_request(rt: &impl Abort, alloc: Global, words: &[&str], wanted: Request<'_>) {
+    match parse_request(alloc, words) {
+        Ok(request) => assert!(rt; request == wanted, "{words:?}: {request:?}"),
+        Err(_) => assert!(rt; false, "{words:?} is refused"),
+    }
+}
+
 // A limit of seconds is the only one, unless a budget is named.
 #[test]
 fn seconds(rt: HostRuntime) {
-    let table: [(&[&str], Option<u32>, u64, bool); 6] = [
-        (&[], None, DEFAULT.budget, false),
-        (&["--seconds", "1"], Some(1), MAX_BUDGET, false),
-        (
-            &["--seconds", "1000000"],
-            Some(MAX_SECONDS),
-            MAX_BUDGET,
-            false,
-        ),
-        (&["--seconds", "5", "--budget", "3"], Some(5), 3, false),
-        (&["--progress"], None, DEFAULT.budget, true),
-        (&["--progress", "--seconds", "5"], Some(5), MAX_BUDGET, true),
-    ];
-    for (words, seconds, budget, progress) in table {
-        let options = Options { budget, ..DEFAULT };
-        match parse_request(rt.alloc(), words) {
-            Ok(request) => assert_eq!(rt;
-                request,
-                Request {
-                    options,
-                    seconds,
-                    progress
-                },
-                "{words:?}"
-            ),
-            Err(_) => assert!(rt; false, "{words:?} is refused"),
-        }
+    for (words, seconds, budget, progress) in LIMITS {
+        let wanted = Request {
+            options: Options {
+                budget: *budget,
+                ..DEFAULT
+            },
+            seconds: *seconds,
+            progress: *progress,
+            start: None,
+            check: false,
+        };
+        assert_request(&rt, rt.alloc(), words, wanted);
     }
+}
+
+// Words that name a plan to begin with, and whether it is only checked.
+const STARTS: &[(&[&str], bool)] = &[
+    (&["--start", "a.sol"], false),
+    (&["--start=a.sol"], false),
+    (&["--start", "a.sol", "--check"], true),
+    (&["--check", "--start", "a.sol"], true),
+];
+
+#[test]
+fn starts(rt: HostRuntime) {
+    for (words, check) in STARTS {
+        let wanted = Request {
+            options: DEFAULT,
+            seconds: None,
+            progress: false,
+            start: Some("a.sol"),
+            check: *check,
+        };
+        assert_request(&rt, rt.alloc(), words, wanted);
+    }
+    let alone = "error: the following required arguments were not provided:\n  --start <FILE>\n";
+    assert_refused(&rt, rt.alloc(), &["--check"], alone);
+    assert_refused(&rt, rt.alloc(), &["--start"], "error: a value is required");
 }
 
 #[test]
@@ -327,7 +360,7 @@ fn helps_tell_ranges_and_defaults(rt: HostRuntime) -> Result<(), Fail> {
 fn helps_tell_statuses(rt: HostRuntime) -> Result<(), Fail> {
     let help = help(rt.alloc(), &["--help"])?;
     let told =
-        "\nExit statuses:\n  0  Proven, NoPlan, or this help\n  1  Open\n  2  the command line is refused\n  3  the file is refused\n  4  no memory\n  5  a read or a write failed\n";
+        "\nExit statuses:\n  0  Proven, NoPlan, Lawful, or this help\n  1  Open\n  2  the command line is refused\n  3  the file is refused, or the plan of --start\n  4  no memory\n  5  a read or a write failed\n";
     assert!(rt; help.as_str().contains(told));
     assert!(rt; help.as_str().ends_with("< examples/E-n51-k5.vrp\n"));
     Ok(())
