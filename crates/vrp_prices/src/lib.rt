@@ -3,11 +3,15 @@
 #![tactic(auto)]
 
 mod amounts;
+#[cfg(test)]
+mod assertion;
 mod cells;
 mod cut;
 mod entered;
 mod flow;
 mod growth;
+#[cfg(test)]
+mod instances;
 mod law;
 mod lift;
 mod limits;
