@@ -241,68 +241,76 @@ fn child_word(alloc: Global, front: &[u16], symbol: u16) -> Result<Vec<u16>, NoM
 #[cfg(test)]
 mod tests {
     use super::*;
+    use crate::assertion::assert_same;
+    use crate::fixture::{cut_into, three_on_a_line};
     use std::process::Abort;
-    use std::test::Fail;
-    use vrp_model::{Metric, Weights};
+
+    // What a truck carries, into how many pieces the tree is cut, and their words.
+    const CUTTINGS: &[(u64, u32, &[&[u16]])] = &[
+        // The last two have no child and are no plans: a customer is left, and the depot would end a route that runs back.
+        (
+            2,
+            MAX_PIECES,
+            &[&[1, 0, 2, 0], &[1, 2, 0], &[2, 0], &[2, 1]],
+        ),
+        // The second has every customer but one, and no child.
+        (1, MAX_PIECES, &[&[1, 0, 2, 0], &[2, 0]]),
+        (2, 2, &[&[1], &[2]]),
+        (2, 3, &[&[1, 0], &[1, 2], &[2]]),
+    ];
 
     #[test]
-    fn cut_into_so_many(rt: HostRuntime) -> Result<(), Fail> {
-        // The last two have no child and are no plans: a customer is left, and the depot would end a route that runs back.
-        let finest: [&[u16]; 4] = [&[1, 0, 2, 0], &[1, 2, 0], &[2, 0], &[2, 1]];
-        // The second has every customer but one, and no child.
-        let singles: [&[u16]; 2] = [&[1, 0, 2, 0], &[2, 0]];
-        let starts: [&[u16]; 2] = [&[1], &[2]];
-        let thirds: [&[u16]; 3] = [&[1, 0], &[1, 2], &[2]];
-        let table = [
-            (2, MAX_PIECES, finest.as_slice()),
-            (1, MAX_PIECES, singles.as_slice()),
-            (2, 2, starts.as_slice()),
-            (2, 3, thirds.as_slice()),
-        ];
-        for (capacity, count, words) in table {
-            assert!(rt; capacity <= 2);
-            assert!(rt; count <= MAX_PIECES);
-            let points = [(0, 0), (3, 4), (6, 8)];
-            let weights = Weights::points(rt.alloc(), Metric::Euc2d, &points)?;
-            let instance = Instance::new(rt.alloc(), weights, &[0, 1, 1], capacity, &[1], None)?;
-            let mut cutting = Cutting::whole(rt.alloc(), &instance)?;
-            cutting.at_least(rt.alloc(), &instance, count)?;
-            assert_words(&rt, &cutting, words);
+    fn cut_into_so_many(rt: HostRuntime) {
+        for &(capacity, count, words) in CUTTINGS {
+            let instance = three_on_a_line(&rt, rt.alloc(), capacity);
+            let cutting = cut_into(&rt, rt.alloc(), &instance, count);
+            assert_words(&rt, cutting.pieces(), words);
         }
-        Ok(())
     }
 
+    // A piece that is refined, whether it has children, and the words of the pieces then.
+    const REFINEMENTS: &[(u32, bool, &[&[u16]])] = &[
+        (0, true, &[&[1], &[2]]),
+        (1, true, &[&[1], &[2, 0], &[2, 1]]),
+        (1, false, &[&[1], &[2, 0], &[2, 1]]),
+    ];
+
     #[test]
-    fn refined_one_by_one(rt: HostRuntime) -> Result<(), Fail> {
-        let points = [(0, 0), (3, 4), (6, 8)];
-        let weights = Weights::points(rt.alloc(), Metric::Euc2d, &points)?;
-        let instance = Instance::new(rt.alloc(), weights, &[0, 1, 1], 2, &[1], None)?;
-        let mut cutting = Cutting::whole(rt.alloc(), &instance)?;
-        assert_words(&rt, &cutting, &[&[]]);
-        assert!(rt; cutting.refine(rt.alloc(), &instance, 0)?);
-        assert_words(&rt, &cutting, &[&[1], &[2]]);
-        assert_eq!(rt; cutting.pieces().len(), 2);
-        assert!(rt; cutting.refine(rt.alloc(), &instance, 1)?);
-        assert_words(&rt, &cutting, &[&[1], &[2, 0], &[2, 1]]);
-        assert_eq!(rt; cutting.pieces().len(), 3);
-        assert!(rt; !cutting.refine(rt.alloc(), &instance, 1)?);
-        assert_words(&rt, &cutting, &[&[1], &[2, 0], &[2, 1]]);
+    fn refined_one_by_one(rt: HostRuntime) {
+        let instance = three_on_a_line(&rt, rt.alloc(), 2);
+        let mut cutting = cut_into(&rt, rt.alloc(), &instance, 0);
+        assert_words(&rt, cutting.pieces(), &[&[]]);
+        assert_refinements(&rt, rt.alloc(), &instance, &mut cutting);
         // more pieces than are asked for stay as they are
-        cutting.at_least(rt.alloc(), &instance, 1)?;
-        assert_words(&rt, &cutting, &[&[1], &[2, 0], &[2, 1]]);
-        let pieces = cutting.into_pieces();
-        assert_eq!(rt; pieces.len(), 3);
-        assert_eq!(rt; pieces[1].word(), [2, 0].as_slice());
-        Ok(())
+        let cut = cutting.at_least(rt.alloc(), &instance, 1);
+        cut.expect(&rt, "memory");
+        assert_words(&rt, &cutting.into_pieces(), &[&[1], &[2, 0], &[2, 1]]);
+    }
+
+    fn assert_refinements(
+        rt: &impl Abort,
+        alloc: Global,
+        instance: &Instance,
+        cutting: &mut Cutting,
+    )
+        requires { IsCutting instance.now cutting.old }
+        ensures { IsCutting instance.now cutting.new }
+    {
+        for &(piece, is_refined, words) in REFINEMENTS {
+            let pieces = cutting.pieces().len();
+            assert!(rt; (piece as usize) < pieces && pieces <= 9);
+            let refined = cutting.refine(alloc, instance, piece);
+            assert_same(rt, refined.expect(rt, "memory"), is_refined, piece);
+            assert_words(rt, cutting.pieces(), words);
+        }
     }
 
     // Whether these are the words, by number.
-    fn assert_words(rt: &impl Abort, cutting: &Cutting, words: &[&[u16]]) {
-        let pieces = cutting.pieces();
-        assert_eq!(rt; pieces.len(), words.len());
+    fn assert_words(rt: &impl Abort, pieces: &[Piece], words: &[&[u16]]) {
+        assert!(rt; pieces.len() == words.len());
         for (number, piece) in pieces.iter().enumerate() {
-            assert_eq!(rt; piece.number() as usize, number);
-            assert_eq!(rt; piece.word(), words[number]);
+            assert_same(rt, u64::from(piece.number()), number as u64, number);
+            assert_same(rt, piece.word(), words[number], number);
         }
     }
 }

@@ -1,11 +1,15 @@
 //! Partial plans, cuttings of the tree of plans, and the search of a piece.
 #![tactic(auto)]
 
+#[cfg(test)]
+mod assertion;
 mod board;
 mod bounds;
 mod by_prices;
 mod cutting;
 mod depth_first;
+#[cfg(test)]
+mod fixture;
 mod found;
 mod law;
 mod local;

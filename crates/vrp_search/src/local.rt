@@ -102,43 +102,69 @@ impl Board for Local {
 #[cfg(test)]
 mod tests {
     use super::*;
-    use crate::partial::Partial;
+    use crate::assertion::assert_same;
+    use crate::fixture::{board_with, one_each, plan_of, three_on_a_line, with_ways};
     use std::process::Abort;
-    use std::test::Fail;
-    use vrp_model::{Instance, Layout, Metric, Weights};
+    use vrp_model::Instance;
 
+    // Opened with the plan of one truck each and offered it again.
     #[test]
-    fn keeps_its_plan(rt: HostRuntime) -> Result<(), Fail> {
-        let instance = three_nodes(rt.alloc())?;
-        let singles = Plan::singles(rt.alloc(), &instance)?.expect(&rt, "a truck for each");
-        check_offer(&rt, rt.alloc(), &instance, &singles)
+    fn keeps_its_plan(rt: HostRuntime) {
+        let instance = three_on_a_line(&rt, rt.alloc(), 2);
+        let singles = one_each(&rt, rt.alloc(), &instance);
+        let mut board = opened(&rt, rt.alloc(), &instance, &singles);
+        assert_least(&rt, &instance, &mut board, 30);
+        offer(&rt, rt.alloc(), &instance, &mut board, &singles);
+        assert_least(&rt, &instance, &mut board, 30);
+        assert_same(&rt, board.plan().map(Plan::routes), Some(2), "routes");
     }
 
     #[test]
-    fn takes_a_plan_where_it_has_none(rt: HostRuntime) -> Result<(), Fail> {
-        let instance = three_nodes(rt.alloc())?;
-        let mut board = Local::open(None);
-        assert_eq!(rt; board.least(), NO_COST);
+    fn takes_a_plan_where_it_has_none(rt: HostRuntime) {
+        let instance = three_on_a_line(&rt, rt.alloc(), 2);
+        let mut board = board_with(&instance, None);
+        assert_least(&rt, &instance, &mut board, NO_COST);
         assert!(rt; board.plan().is_none());
-        let singles = Plan::singles(rt.alloc(), &instance)?.expect(&rt, "a truck for each");
-        board.offer(rt.alloc(), &singles)?;
-        assert_eq!(rt; board.least(), 30);
-        Ok(())
+        let singles = one_each(&rt, rt.alloc(), &instance);
+        offer(&rt, rt.alloc(), &instance, &mut board, &singles);
+        assert_least(&rt, &instance, &mut board, 30);
     }
 
     // Both ways round the two customers cost the same: the earlier word is kept, and the later one is not taken again.
     #[test]
-    fn keeps_the_earlier_word(rt: HostRuntime) -> Result<(), Fail> {
-        let instance = either_way_round(&rt, rt.alloc())?;
-        let earlier = plan_of(&rt, rt.alloc(), &instance, [1, 2, 0])?;
-        let later = plan_of(&rt, rt.alloc(), &instance, [2, 1, 0])?;
-        assert_eq!(rt; earlier.cost(), 6);
-        assert_eq!(rt; later.cost(), 6);
-        let mut board = Local::open(Some(later.copy(rt.alloc())?));
-        assert_kept(&rt, rt.alloc(), &instance, &mut board, &earlier)?;
-        board.offer(rt.alloc(), &later)?;
-        assert_kept(&rt, rt.alloc(), &instance, &mut board, &earlier)?;
-        Ok(())
+    fn keeps_the_earlier_word(rt: HostRuntime) {
+        let ways = [0, 1, 2, 2, 0, 1, 4, 2, 0];
+        let instance = with_ways(&rt, rt.alloc(), &ways, &[0, 1, 1], 2);
+        let earlier = plan_of(&rt, rt.alloc(), &instance, &[1, 2, 0]);
+        let later = plan_of(&rt, rt.alloc(), &instance, &[2, 1, 0]);
+        assert_same(&rt, (earlier.cost(), later.cost()), (6, 6), "costs");
+        let mut board = opened(&rt, rt.alloc(), &instance, &later);
+        assert_kept(&rt, rt.alloc(), &instance, &mut board, &earlier);
+        offer(&rt, rt.alloc(), &instance, &mut board, &later);
+        assert_kept(&rt, rt.alloc(), &instance, &mut board, &earlier);
+    }
+
+    // A board that has a plan of the instance.
+    fn opened(rt: &impl Abort, alloc: Global, instance: &Instance, plan: &Plan) -> Local
+        requires { IsPlanOf instance.now plan.now }
+        ensures { ForSome result (IsPlanOf instance.now) }
+    {
+        Local::open(Some(plan.copy(alloc).expect(rt, "memory")))
+    }
+
+    fn offer(rt: &impl Abort, alloc: Global, instance: &Instance, board: &mut Local, plan: &Plan)
+        requires plan { IsPlanOf instance.now plan.now }
+        requires board { ForSome board.old (IsPlanOf instance.now) }
+        ensures { ForSome board.new (IsPlanOf instance.now) }
+    {
+        board.offer(alloc, plan).expect(rt, "memory");
+    }
+
+    fn assert_least(rt: &impl Abort, instance: &Instance, board: &mut Local, cost: u64)
+        requires { ForSome board.old (IsPlanOf instance.now) }
+        ensures { ForSome board.new (IsPlanOf instance.now) }
+    {
+        assert_same(rt, board.least(), cost, "the least cost");
     }
 
     // Offers a plan, which the board has then.
@@ -148,69 +174,18 @@ mod tests {
         instance: &Instance,
         board: &mut Local,
         plan: &Plan,
-    ) -> Result<(), NoMemory>
+    )
         requires plan { IsPlanOf instance.now plan.now }
         requires board { ForSome board.old (IsPlanOf instance.now) }
         ensures { ForSome board.new (IsPlanOf instance.now) }
     {
-        board.offer(alloc, plan)?;
-        assert_eq!(rt; board.least(), plan.cost());
-        assert_eq!(rt; board.plan().map(Plan::word), Some(plan.word()));
-        Ok(())
-    }
-
-    fn either_way_round(rt: &impl Abort, alloc: Global) -> Result<Instance, Fail> {
-        let ways = [0, 1, 2, 2, 0, 1, 4, 2, 0];
-        assert!(rt; ways.len() == Layout::FullMatrix.entries(3));
-        assert!(rt; ways.iter().all(|&way| way <= 4));
-        let weights = Weights::matrix(alloc, Layout::FullMatrix, &ways, 3)?;
-        Ok(Instance::new(alloc, weights, &[0, 1, 1], 2, &[1], None)?)
-    }
-
-    // The plan of a word of three symbols.
-    fn plan_of(
-        rt: &impl Abort,
-        alloc: Global,
-        instance: &Instance,
-        word: [u16; 3],
-    ) -> Result<Plan, NoMemory>
-        ensures { IfOk result (IsPlanOf instance.now) }
-    {
-        let mut partial = Partial::root(alloc, instance)?;
-        let [first, second, third] = word;
-        push(rt, &mut partial, first);
-        push(rt, &mut partial, second);
-        push(rt, &mut partial, third);
-        assert!(rt; partial.complete());
-        partial.plan(alloc)
-    }
-
-    fn push(rt: &impl Abort, partial: &mut Partial<'_>, symbol: u16)
-        ensures { partial.new.problem ≡ partial.old.problem }
-    {
-        assert!(rt; partial.child(symbol));
-        partial.push(symbol);
-    }
-
-    fn three_nodes(alloc: Global) -> Result<Instance, Fail> {
-        let weights = Weights::points(alloc, Metric::Euc2d, &[(0, 0), (3, 4), (6, 8)])?;
-        Ok(Instance::new(alloc, weights, &[0, 1, 1], 2, &[1], None)?)
-    }
-
-    // Opened with the singles plan and offered it again.
-    fn check_offer(
-        rt: &impl Abort,
-        alloc: Global,
-        instance: &Instance,
-        singles: &Plan,
-    ) -> Result<(), Fail>
-        requires { IsPlanOf instance.now singles.now }
-    {
-        let mut board = Local::open(Some(singles.copy(alloc)?));
-        assert_eq!(rt; board.least(), 30);
-        board.offer(alloc, singles)?;
-        assert_eq!(rt; board.least(), 30);
-        assert_eq!(rt; board.plan().map(Plan::routes), Some(2));
-        Ok(())
+        offer(rt, alloc, instance, board, plan);
+        assert_same(
+            rt,
+            board.plan().map(Plan::word),
+            Some(plan.word()),
+            "the plan",
+        );
+        assert_least(rt, instance, board, plan.cost());
     }
 }

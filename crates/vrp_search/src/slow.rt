@@ -1,9 +1,8 @@
 //! A plain slow program beside the fast bodies: it judges each short list of symbols as a whole, and so finds all fronts of a
 //! small instance, their children, and what is counted along them.
 
-use std::alloc::{AllocError, Global};
+use std::alloc::Global;
 use std::process::Abort;
-use std::test::Fail;
 use vrp_model::{Instance, Layout, Weights};
 
 mod tests;
@@ -11,9 +10,9 @@ mod tests;
 const NODES: u16 = 4;
 
 // Weights from each node to each: there and back differ, and there and back are the same.
-const ONE_WAY: [u64; 16] = [0, 5, 9, 14, 3, 0, 7, 2, 8, 1, 0, 6, 11, 4, 10, 0];
+const ONE_WAY: &[u64] = &[0, 5, 9, 14, 3, 0, 7, 2, 8, 1, 0, 6, 11, 4, 10, 0];
 
-const BOTH_WAYS: [u64; 16] = [0, 5, 9, 14, 5, 0, 7, 2, 9, 7, 0, 6, 14, 2, 6, 0];
+const BOTH_WAYS: &[u64] = &[0, 5, 9, 14, 5, 0, 7, 2, 9, 7, 0, 6, 14, 2, 6, 0];
 
 type Case = (u16, [u64; 4], u64);
 
@@ -27,15 +26,13 @@ struct Small {
 }
 
 impl Small {
-    // The instances of a case: of both kinds, and with few trucks.
-    fn kinds(case: Case) -> [Small; 4] {
+    // Adds the instances of a case: of both kinds, and with few trucks.
+    fn push_kinds(rt: &impl Abort, smalls: &mut Vec<Small>, case: Case) {
         let symmetric = Small::new(case, true);
-        [
-            Small::new(case, false),
-            symmetric,
-            symmetric.with_trucks(1),
-            symmetric.with_trucks(2),
-        ]
+        smalls.push(Small::new(case, false)).expect(rt, "memory");
+        smalls.push(symmetric).expect(rt, "memory");
+        smalls.push(symmetric.with_trucks(1)).expect(rt, "memory");
+        smalls.push(symmetric.with_trucks(2)).expect(rt, "memory");
     }
 
     fn with_trucks(self, trucks: u16) -> Small {
@@ -56,7 +53,7 @@ impl Small {
         }
     }
 
-    fn weights(&self) -> [u64; 16] {
+    fn weights(&self) -> &'static [u64] {
         if self.is_symmetric {
             BOTH_WAYS
         } else {
@@ -65,51 +62,56 @@ impl Small {
     }
 
     // The instance. The nodes behind its customers are listed as depots too, and have no part.
-    fn instance(&self, rt: &impl Abort, alloc: Global) -> Result<Instance, Fail> {
-        let depots: &[u16] = match self.customers {
-            0 => &[1, 2, 3, 4],
-            1 => &[1, 3, 4],
-            2 => &[1, 4],
-            _ => &[1],
-        };
+    fn instance(&self, rt: &impl Abort, alloc: Global) -> Instance {
+        let depots = self.depots();
         assert!(rt; !depots.is_empty() && depots.iter().all(|&depot| 1 <= depot && depot <= NODES));
         let ways = self.weights();
         assert!(rt; ways.len() == Layout::FullMatrix.entries(NODES));
         assert!(rt; ways.iter().all(|&way| way <= 100) && self.capacity <= 100);
-        let weights = Weights::matrix(alloc, Layout::FullMatrix, &ways, NODES)?;
-        let instance = Instance::new(alloc, weights, &self.demands, self.capacity, depots, None)?;
+        let weights = Weights::matrix(alloc, Layout::FullMatrix, ways, NODES).expect(rt, "memory");
+        let made = Instance::new(alloc, weights, &self.demands, self.capacity, depots, None);
+        let instance = made.expect(rt, "an instance");
         match self.trucks {
-            Some(1) => Ok(instance.with_trucks(1)),
-            Some(_) => Ok(instance.with_trucks(2)),
-            None => Ok(instance),
+            Some(1) => instance.with_trucks(1),
+            Some(_) => instance.with_trucks(2),
+            None => instance,
+        }
+    }
+
+    fn depots(&self) -> &'static [u16] {
+        match self.customers {
+            0 => &[1, 2, 3, 4],
+            1 => &[1, 3, 4],
+            2 => &[1, 4],
+            _ => &[1],
         }
     }
 
     // All fronts, by the order of their symbols: each list of at most two symbols for each customer is judged.
-    fn fronts(&self, alloc: Global) -> Result<Vec<Vec<u16>>, AllocError> {
+    fn fronts(&self, rt: &impl Abort, alloc: Global) -> Vec<Vec<u16>> {
         let mut fronts = Vec::new(alloc);
-        self.push_fronts(alloc, &mut fronts, &[], 2 * self.customers.min(3))?;
-        Ok(fronts)
+        self.push_fronts(rt, alloc, &mut fronts, &[], 2 * self.customers.min(3));
+        fronts
     }
 
     // Adds those lists that are fronts: the word, and behind it all that have up to this many symbols more.
     fn push_fronts(
         &self,
+        rt: &impl Abort,
         alloc: Global,
         fronts: &mut Vec<Vec<u16>>,
         word: &[u16],
         more: u16,
-    ) -> Result<(), AllocError> {
+    ) {
         if self.is_front(word) {
-            fronts.push(Vec::from_slice(alloc, word)?)?;
+            push_copy(rt, alloc, fronts, word);
         }
         if more > 0 {
             for symbol in 0..=self.customers {
-                let longer = with(alloc, word, symbol)?;
-                self.push_fronts(alloc, fronts, &longer, more - 1)?;
+                let longer = with(rt, alloc, word, symbol);
+                self.push_fronts(rt, alloc, fronts, &longer, more - 1);
             }
         }
-        Ok(())
     }
 
     fn is_front(&self, word: &[u16]) -> bool {
@@ -222,65 +224,66 @@ impl Small {
     }
 
     // The lawful word of least cost, and of those the one that is listed first; and what it costs.
-    fn first(&self, alloc: Global) -> Result<Option<(u64, Vec<u16>)>, AllocError> {
+    fn first(&self, rt: &impl Abort, alloc: Global) -> Option<(u64, Vec<u16>)> {
         let mut first: Option<(u64, Vec<u16>)> = None;
-        for word in self.fronts(alloc)? {
+        for word in self.fronts(rt, alloc) {
             let cost = self.cost(&word);
             let is_cheaper = first.as_ref().is_none_or(|(least, _)| cost < *least);
             if self.is_complete(&word) && is_cheaper {
                 first = Some((cost, word));
             }
         }
-        Ok(first)
+        first
     }
 
     // Adds the fronts that have one symbol more, and tells whether there are any.
     fn push_children(
         &self,
+        rt: &impl Abort,
         alloc: Global,
         fronts: &mut Vec<Vec<u16>>,
         word: &[u16],
-    ) -> Result<bool, AllocError> {
-        let mut has_any = false;
+    ) -> bool {
+        let before = fronts.len();
         for symbol in 0..=self.customers {
-            let child = with(alloc, word, symbol)?;
+            let child = with(rt, alloc, word, symbol);
             if self.is_front(&child) {
-                fronts.push(child)?;
-                has_any = true;
+                push_copy(rt, alloc, fronts, &child);
             }
         }
-        Ok(has_any)
+        fronts.len() > before
     }
 
     // The words with one word's children in its stead, and whether it has any.
     fn refined(
         &self,
+        rt: &impl Abort,
         alloc: Global,
         words: &[Vec<u16>],
         number: usize,
-    ) -> Result<(Vec<Vec<u16>>, bool), AllocError> {
+    ) -> (Vec<Vec<u16>>, bool) {
         let mut refined = Vec::new(alloc);
         let mut has_children = false;
         for (index, word) in words.iter().enumerate() {
-            if index == number && self.push_children(alloc, &mut refined, word)? {
+            if index == number && self.push_children(rt, alloc, &mut refined, word) {
                 has_children = true;
             } else {
-                refined.push(Vec::from_slice(alloc, word)?)?;
+                push_copy(rt, alloc, &mut refined, word);
             }
         }
-        Ok((refined, has_children))
+        (refined, has_children)
     }
 
     // The fronts that have no child.
-    fn leaves(&self, alloc: Global) -> Result<Vec<Vec<u16>>, AllocError> {
+    fn leaves(&self, rt: &impl Abort, alloc: Global) -> Vec<Vec<u16>> {
         let mut leaves = Vec::new(alloc);
-        for front in self.fronts(alloc)? {
+        for front in &self.fronts(rt, alloc) {
             let mut children = Vec::new(alloc);
-            if !self.push_children(alloc, &mut children, &front)? {
-                leaves.push(front)?;
+            if !self.push_children(rt, alloc, &mut children, front) {
+                push_copy(rt, alloc, &mut leaves, front);
             }
         }
-        Ok(leaves)
+        leaves
     }
 }
 
@@ -352,8 +355,13 @@ fn begins_with(word: &[u16], front: &[u16]) -> bool {
 }
 
 // The word with one symbol more.
-fn with(alloc: Global, word: &[u16], symbol: u16) -> Result<Vec<u16>, AllocError> {
-    let mut longer = Vec::from_slice(alloc, word)?;
-    longer.push(symbol)?;
-    Ok(longer)
+fn with(rt: &impl Abort, alloc: Global, word: &[u16], symbol: u16) -> Vec<u16> {
+    let mut longer = Vec::from_slice(alloc, word).expect(rt, "memory");
+    longer.push(symbol).expect(rt, "memory");
+    longer
+}
+
+fn push_copy(rt: &impl Abort, alloc: Global, words: &mut Vec<Vec<u16>>, word: &[u16]) {
+    let copy = Vec::from_slice(alloc, word).expect(rt, "memory");
+    words.push(copy).ok().expect(rt, "memory");
 }

@@ -1,8 +1,8 @@
 //! Partial plans beside counts and costs that were worked out by hand.
 use super::*;
+use crate::assertion::assert_same;
+use crate::fixture::{at_points, partial_at, three_on_a_line};
 use std::process::Abort;
-use std::test::Fail;
-use vrp_model::{Metric, Weights};
 
 // What a walk through the tree of the empty word has seen.
 #[derive(Clone, Copy, Debug, PartialEq, Eq)]
@@ -12,118 +12,121 @@ struct Seen {
     least: u64,
 }
 
-#[test]
-fn trees_of_three_nodes(rt: HostRuntime) -> Result<(), Fail> {
-    let table = [(2, 10, 2, 20), (1, 7, 1, 30)];
-    for (capacity, fronts, plans, least) in table {
-        assert!(rt; capacity <= 2);
-        let points = [(0, 0), (3, 4), (6, 8)];
-        let weights = Weights::points(rt.alloc(), Metric::Euc2d, &points)?;
-        let instance = Instance::new(rt.alloc(), weights, &[0, 1, 1], capacity, &[1], None)?;
-        let seen = walk(&rt, rt.alloc(), &instance)?;
-        let wanted = Seen {
-            fronts,
-            plans,
-            least,
-        };
-        assert_eq!(rt; seen, wanted, "capacity {capacity}");
-    }
-    Ok(())
-}
+// What a truck carries, and what a walk through the tree sees.
+const TREES: &[(u64, Seen)] = &[
+    (
+        2,
+        Seen {
+            fronts: 10,
+            plans: 2,
+            least: 20,
+        },
+    ),
+    (
+        1,
+        Seen {
+            fronts: 7,
+            plans: 1,
+            least: 30,
+        },
+    ),
+];
 
 #[test]
-fn counters_along_a_word(rt: HostRuntime) -> Result<(), Fail> {
-    let points = [(0, 0), (3, 4), (6, 8)];
-    let weights = Weights::points(rt.alloc(), Metric::Euc2d, &points)?;
-    let instance = Instance::new(rt.alloc(), weights, &[0, 3, 4], 7, &[1], None)?;
-    let mut partial = Partial::root(rt.alloc(), &instance)?;
-    assert_eq!(rt; partial.rest(), 7);
-    let table = [(1, 5, 3, 4, 1), (2, 10, 7, 0, 1), (0, 20, 0, 0, 1)];
-    for (symbol, cost, load, rest, routes) in table {
-        let wanted = Counters {
-            cost,
-            load,
-            rest,
-            routes,
-        };
-        assert_pushed(&rt, &mut partial, symbol, wanted);
+fn trees_of_three_nodes(rt: HostRuntime) {
+    for &(capacity, seen) in TREES {
+        let instance = three_on_a_line(&rt, rt.alloc(), capacity);
+        let found = walk(&rt, rt.alloc(), &instance);
+        assert_same(&rt, found, seen, capacity);
     }
-    assert!(rt; partial.complete());
-    assert_eq!(rt; partial.plan(rt.alloc())?.word(), [1, 2, 0].as_slice());
-    Ok(())
 }
 
-// A front has at most two symbols for each customer. The first 64 symbols lie in the partial plan itself.
+// A symbol that is pushed, and then the cost, the load, the rest and how many routes there are.
+type Counted = (u16, u64, u64, u64, u16);
+
+const COUNTED: &[Counted] = &[(1, 5, 3, 4, 1), (2, 10, 7, 0, 1), (0, 20, 0, 0, 1)];
+
 #[test]
-fn room_for_the_longest_front(rt: HostRuntime) -> Result<(), Fail> {
-    for (customers, word, before) in [
-        (1, 64, 2),
-        (32, 64, 64),
-        (40, 80, 80),
-        (1_199, 2_398, 2_398),
-    ] {
-        let points = Vec::from_elem(rt.alloc(), (0, 0), customers + 1)?;
-        let demands = Vec::from_elem(rt.alloc(), 0, customers + 1)?;
-        let weights = Weights::points(rt.alloc(), Metric::Euc2d, &points)?;
-        let instance = Instance::new(rt.alloc(), weights, &demands, 1, &[1], None)?;
-        let partial = Partial::root(rt.alloc(), &instance)?;
-        assert_eq!(rt; partial.word.capacity(), word, "{customers}");
-        assert_eq!(rt; partial.before.capacity(), before, "{customers}");
+fn counters_along_a_word(rt: HostRuntime) {
+    let instance = at_points(&rt, rt.alloc(), &[(0, 0), (3, 4), (6, 8)], &[0, 3, 4], 7);
+    let mut partial = Partial::root(rt.alloc(), &instance).expect(&rt, "memory");
+    assert_same(&rt, partial.rest(), 7, "the rest");
+    for &counted in COUNTED {
+        assert_pushed(&rt, &mut partial, counted);
     }
-    Ok(())
+    assert_word(&rt, rt.alloc(), &partial, &[1, 2, 0]);
 }
 
-// What is counted along a word.
-#[derive(Clone, Copy)]
-struct Counters {
-    cost: u64,
-    load: u64,
-    rest: u64,
-    routes: u16,
-}
-
-// Pushes a symbol onto a word that isn't complete.
-fn assert_pushed(rt: &impl Abort, partial: &mut Partial<'_>, symbol: u16, wanted: Counters) {
+// Pushes a symbol onto a word that isn't complete. There is no third customer.
+fn assert_pushed(rt: &impl Abort, partial: &mut Partial<'_>, counted: Counted) {
+    let (symbol, cost, load, rest, routes) = counted;
     assert!(rt; partial.child(symbol));
     assert!(rt; !partial.complete());
     partial.push(symbol);
-    assert_eq!(rt; partial.at(), symbol);
-    assert_eq!(rt; partial.cost(), wanted.cost);
-    assert_eq!(rt; partial.load(), wanted.load);
-    assert_eq!(rt; partial.rest(), wanted.rest);
-    assert_eq!(rt; partial.routes(), wanted.routes);
+    let places = (partial.at(), partial.routes());
+    assert_same(rt, places, (symbol, routes), symbol);
+    let amounts = (partial.cost(), partial.load(), partial.rest());
+    assert_same(rt, amounts, (cost, load, rest), symbol);
     assert!(rt; !partial.child(3));
 }
 
+// The partial plan is complete, and its plan has this word.
+fn assert_word(rt: &impl Abort, alloc: Global, partial: &Partial<'_>, word: &[u16]) {
+    assert!(rt; partial.complete());
+    let plan = partial.plan(alloc).expect(rt, "memory");
+    assert_same(rt, plan.word(), word, "the word");
+}
+
+// How many customers there are, and for how many symbols and tallies there is room.
+const ROOMS: &[(usize, usize, usize)] = &[
+    (1, 64, 2),
+    (32, 64, 64),
+    (40, 80, 80),
+    (1_199, 2_398, 2_398),
+];
+
+// A front has at most two symbols for each customer. The first 64 symbols lie in the partial plan itself.
 #[test]
-fn dead_words_of_three_nodes(rt: HostRuntime) -> Result<(), Fail> {
-    let points = [(0, 0), (3, 4), (6, 8)];
-    let weights = Weights::points(rt.alloc(), Metric::Euc2d, &points)?;
-    let instance = Instance::new(rt.alloc(), weights, &[0, 1, 1], 2, &[1], None)?;
-    let table: [(&[u16], bool); 8] = [
-        (&[], false),
-        (&[1], false),
-        (&[1, 0], false),
-        (&[1, 2], false),
-        (&[1, 2, 0], false),
-        (&[2], true),
-        (&[2, 0], true),
-        (&[2, 1], true),
-    ];
-    for (word, is_dead) in table {
-        let mut partial = Partial::root(rt.alloc(), &instance)?;
-        for symbol in word {
-            assert!(rt; partial.child(*symbol), "{symbol} of {word:?}");
-            partial.push(*symbol);
-        }
-        assert_eq!(rt; partial.is_dead(), is_dead, "{word:?}");
+fn room_for_the_longest_front(rt: HostRuntime) {
+    for &(customers, word, before) in ROOMS {
+        let instance = in_one_place(&rt, rt.alloc(), customers);
+        let partial = Partial::root(rt.alloc(), &instance).expect(&rt, "memory");
+        let rooms = (partial.word.capacity(), partial.before.capacity());
+        assert_same(&rt, rooms, (word, before), customers);
     }
-    Ok(())
+}
+
+// So many customers who demand nothing.
+fn in_one_place(rt: &impl Abort, alloc: Global, customers: usize) -> Instance {
+    assert!(rt; customers <= 1_199);
+    let points = Vec::from_elem(alloc, (0, 0), customers + 1).expect(rt, "memory");
+    let demands = Vec::from_elem(alloc, 0, customers + 1).expect(rt, "memory");
+    at_points(rt, alloc, &points, &demands, 1)
+}
+
+const DEAD_WORDS: &[(&[u16], bool)] = &[
+    (&[], false),
+    (&[1], false),
+    (&[1, 0], false),
+    (&[1, 2], false),
+    (&[1, 2, 0], false),
+    (&[2], true),
+    (&[2, 0], true),
+    (&[2, 1], true),
+];
+
+#[test]
+fn dead_words_of_three_nodes(rt: HostRuntime) {
+    let instance = three_on_a_line(&rt, rt.alloc(), 2);
+    for &(word, is_dead) in DEAD_WORDS {
+        let partial = partial_at(&rt, rt.alloc(), &instance, word);
+        assert_same(&rt, partial.is_dead(), is_dead, word);
+    }
 }
 
 // Walks by the symbols 0, 1 and 2.
-fn walk(rt: &impl Abort, alloc: Global, instance: &Instance) -> Result<Seen, NoMemory> {
-    let mut partial = Partial::root(alloc, instance)?;
+fn walk(rt: &impl Abort, alloc: Global, instance: &Instance) -> Seen {
+    let mut partial = Partial::root(alloc, instance).expect(rt, "memory");
     let mut seen = Seen {
         fronts: 1,
         plans: 0,
@@ -134,20 +137,31 @@ fn walk(rt: &impl Abort, alloc: Global, instance: &Instance) -> Result<Seen, NoM
         if partial.child(next) {
             partial.push(next);
             next = 0;
-            seen.fronts = seen.fronts.saturating_add(1);
-            if partial.complete() {
-                seen.plans = seen.plans.saturating_add(1);
-                seen.least = seen.least.min(partial.cost());
-                let plan = partial.plan(alloc)?;
-                assert_eq!(rt; plan.cost(), partial.cost());
-            }
+            seen = seen.with(rt, alloc, &partial);
         } else if next < 2 {
             next += 1;
         } else if partial.word().is_empty() {
-            return Ok(seen);
+            return seen;
         } else {
             next = partial.pop().saturating_add(1);
         }
     }
     panic!(rt; "the walk has no end");
+}
+
+impl Seen {
+    // The same, and one more front.
+    fn with(self, rt: &impl Abort, alloc: Global, partial: &Partial<'_>) -> Seen {
+        let fronts = self.fronts.saturating_add(1);
+        if !partial.complete() {
+            return Seen { fronts, ..self };
+        }
+        let plan = partial.plan(alloc).expect(rt, "memory");
+        assert_same(rt, plan.cost(), partial.cost(), fronts);
+        Seen {
+            fronts,
+            plans: self.plans.saturating_add(1),
+            least: self.least.min(partial.cost()),
+        }
+    }
 }

@@ -3,65 +3,48 @@ ghost use Rattle.std.specs.Prelude.{◌≡◌, IfOk};
 ghost use Rattle.vrp_model.specs.Word.{IsFront, unserved_in};
 
 use super::*;
+use crate::assertion::assert_same;
+use crate::fixture::{at_points, piece_at};
 use std::process::Abort;
-use std::test::Fail;
 use vrp_bound::Tables;
-use vrp_model::{Metric, Weights};
+
+// The word of a piece, and whom it leaves unserved.
+const UNSERVED: &[(&[u16], &[u16])] = &[
+    (&[], &[1, 2, 3]),
+    (&[2], &[1, 3]),
+    (&[1, 0, 3, 0], &[2]),
+    (&[1, 0, 2, 3, 0], &[]),
+];
 
 #[test]
-fn customers_left_unserved(rt: HostRuntime) -> Result<(), Fail> {
-    let instance = four_nodes(&rt, rt.alloc(), 2)?;
-    let table: [(&[u16], &[u16]); 4] = [
-        (&[], &[1, 2, 3]),
-        (&[2], &[1, 3]),
-        (&[1, 0, 3, 0], &[2]),
-        (&[1, 0, 2, 3, 0], &[]),
-    ];
-    for (word, unserved) in table {
-        let piece = piece_at(&rt, rt.alloc(), &instance, word)?;
-        let listed = piece.unserved(rt.alloc(), &instance)?;
-        assert_eq!(rt; listed.as_slice(), unserved, "{word:?}");
+fn customers_left_unserved(rt: HostRuntime) {
+    let instance = four_nodes(&rt, rt.alloc(), 2);
+    for &(word, unserved) in UNSERVED {
+        let piece = piece_at(&rt, rt.alloc(), &instance, word);
+        let listed = piece.unserved(rt.alloc(), &instance).expect(&rt, "memory");
+        assert_same(&rt, listed.as_slice(), unserved, word);
     }
-    Ok(())
 }
+
+// The word of a piece, and the bound on what is still to pay at the third customer where nothing more is to be carried.
+const AT_THE_THIRD: &[(&[u16], u64)] = &[(&[], 0), (&[3], 15)];
 
 // No tables are made over all customers, of whom one demands nothing. It is served by the piece, and over the others they are.
 #[test]
-fn tables_where_no_demand_is_served(rt: HostRuntime) -> Result<(), Fail> {
-    let instance = four_nodes(&rt, rt.alloc(), 1)?;
+fn tables_where_no_demand_is_served(rt: HostRuntime) {
+    let instance = four_nodes(&rt, rt.alloc(), 1);
     assert!(rt; instance.customers() == 3);
-    let table: [(&[u16], u64); 2] = [(&[], 0), (&[3], 15)];
-    for (word, home) in table {
-        let piece = piece_at(&rt, rt.alloc(), &instance, word)?;
-        let tables = own_tables(rt.alloc(), &instance, &piece)?;
-        assert_eq!(rt; tables.q_bound(3, 0, 0), Some(home), "{word:?}");
+    for &(word, home) in AT_THE_THIRD {
+        let piece = piece_at(&rt, rt.alloc(), &instance, word);
+        let tables = own_tables(rt.alloc(), &instance, &piece).expect(&rt, "memory");
+        assert_same(&rt, tables.q_bound(3, 0, 0), Some(home), word);
     }
-    Ok(())
 }
 
 // The depot and three customers on a line, five apart, the last of whom demands nothing.
-fn four_nodes(rt: &impl Abort, alloc: Global, capacity: u64) -> Result<Instance, Fail> {
-    assert!(rt; capacity <= 2);
+fn four_nodes(rt: &impl Abort, alloc: Global, capacity: u64) -> Instance {
     let points = [(0, 0), (3, 4), (6, 8), (9, 12)];
-    let weights = Weights::points(alloc, Metric::Euc2d, &points)?;
-    Ok(Instance::new(alloc, weights, &[0, 1, 1, 0], capacity, &[1], None)?)
-}
-
-/// The piece of this word, which must be a front.
-pub(crate) fn piece_at(
-    rt: &impl Abort,
-    alloc: Global,
-    instance: &Instance,
-    word: &[u16],
-) -> Result<Piece, NoMemory>
-    ensures { IfOk result (λ piece. IsFront instance.now piece.word) }
-{
-    let mut partial = Partial::root(alloc, instance)?;
-    for symbol in word {
-        assert!(rt; partial.child(*symbol), "{symbol} of {word:?}");
-        partial.push(*symbol);
-    }
-    Ok(Piece::new(0, Vec::from_slice(alloc, partial.word())?))
+    at_points(rt, alloc, &points, &[0, 1, 1, 0], capacity)
 }
 
 /// Tables over the customers that a piece leaves unserved.

@@ -1,13 +1,14 @@
 //! Searches that their board stops.
 ghost use Rattle.std.specs.Prelude.{true, ⊤};
 
+use crate::assertion::assert_same;
 use crate::board::Board;
 use crate::depth_first::Ended;
 use crate::depth_first::tests::search_all;
+use crate::fixture::at_points;
 use std::alloc::Global;
 use std::process::Abort;
-use std::test::Fail;
-use vrp_model::{Instance, Metric, NO_COST, NoMemory, Plan, Weights};
+use vrp_model::{Instance, NO_COST, NoMemory, Plan};
 
 // Keeps the least cost alone.
 #[derive(Drop)]
@@ -51,12 +52,11 @@ const STOPS: &[(bool, u64, u64)] = &[
 ];
 
 #[test]
-fn stops_where_the_board_says_so(rt: HostRuntime) -> Result<(), Fail> {
-    let instance = scattered(rt.alloc())?;
+fn stops_where_the_board_says_so(rt: HostRuntime) {
+    let instance = at_points(&rt, rt.alloc(), SCATTERED, ONE_EACH, 4);
     for &(goes_on, budget, looked) in STOPS {
         assert_looked(&rt, rt.alloc(), &instance, (goes_on, budget), looked);
     }
-    Ok(())
 }
 
 // Asserts how many partial plans are looked at before the search is left unfinished.
@@ -76,40 +76,34 @@ fn assert_looked(
     let Ended::Unfinished { spent, .. } = ended else {
         panic!(rt; "{ended:?}")
     };
-    assert!(rt;
-        spent == looked,
-        "{spent} is not {looked}, at {goes_on} {budget}"
-    );
+    assert_same(rt, spent, looked, (goes_on, budget));
 }
 
 // Twenty scattered customers, four to a truck.
-fn scattered(alloc: Global) -> Result<Instance, Fail> {
-    let points = [
-        (50, 50),
-        (17, 72),
-        (97, 8),
-        (32, 15),
-        (63, 97),
-        (57, 60),
-        (83, 48),
-        (26, 12),
-        (62, 3),
-        (49, 55),
-        (77, 97),
-        (12, 34),
-        (88, 71),
-        (5, 90),
-        (41, 81),
-        (93, 29),
-        (70, 22),
-        (36, 39),
-        (2, 5),
-        (60, 35),
-        (80, 85),
-    ];
-    let demands = [
-        0, 1, 1, 1, 1, 1, 1, 1, 1, 1, 1, 1, 1, 1, 1, 1, 1, 1, 1, 1, 1,
-    ];
-    let weights = Weights::points(alloc, Metric::Euc2d, &points)?;
-    Ok(Instance::new(alloc, weights, &demands, 4, &[1], None)?)
-}
+const SCATTERED: &[(i64, i64)] = &[
+    (50, 50),
+    (17, 72),
+    (97, 8),
+    (32, 15),
+    (63, 97),
+    (57, 60),
+    (83, 48),
+    (26, 12),
+    (62, 3),
+    (49, 55),
+    (77, 97),
+    (12, 34),
+    (88, 71),
+    (5, 90),
+    (41, 81),
+    (93, 29),
+    (70, 22),
+    (36, 39),
+    (2, 5),
+    (60, 35),
+    (80, 85),
+];
+
+const ONE_EACH: &[u64] = &[
+    0, 1, 1, 1, 1, 1, 1, 1, 1, 1, 1, 1, 1, 1, 1, 1, 1, 1, 1, 1, 1,
+];
