@@ -45,6 +45,7 @@ mod tests {
     use super::*;
     use crate::assertion::assert_same;
     use crate::instances::{LINE, at_points};
+    use std::process::Abort;
 
     // A place, a load, the sum of the least ways in, a rest, and the bound.
     type Asked = (u16, u64, u64, u64, u64);
@@ -65,12 +66,17 @@ mod tests {
 
     #[test]
     fn bounds_of_two_customers(rt: HostRuntime) {
-        for &(demands, (at, load, ins, rest, bound)) in TWO_CUSTOMERS {
-            let instance = at_points(&rt, rt.alloc(), LINE, &demands, 2);
-            assert!(rt; at <= instance.customers() && load <= instance.capacity());
-            assert!(rt; (at != 0 || load == 0) && ins <= 10 && rest <= instance.whole_demand());
-            let found = cap_bound(&instance, at, load, ins, rest);
-            assert_same(&rt, found, bound, (demands, at, load, rest));
+        for (demands, asked) in TWO_CUSTOMERS {
+            let instance = at_points(&rt, rt.alloc(), LINE, demands, 2);
+            assert_bound(&rt, &instance, *asked);
         }
+    }
+
+    fn assert_bound(rt: &impl Abort, instance: &Instance, asked: Asked) {
+        let (at, load, ins, rest, bound) = asked;
+        assert!(rt; at <= instance.customers() && load <= instance.capacity());
+        assert!(rt; (at != 0 || load == 0) && ins <= 10 && rest <= instance.whole_demand());
+        let found = cap_bound(instance, at, load, ins, rest);
+        assert_same(rt, found, bound, (at, load, rest));
     }
 }

@@ -121,18 +121,30 @@ mod tests {
         demands: [u64; 3],
         asked: Asked,
     ) {
-        let (at, load, ins, rest, left, answer) = asked;
         let instance = at_points(rt, alloc, points, &demands, 2);
         let customers = [1, 2];
         assert!(rt; are_customers(&instance, &customers));
-        assert!(rt; rest <= demand_of_all(Scope::new(&instance, &customers)));
+        let demand = demand_of_all(Scope::new(&instance, &customers));
         let tables = Tables::build(alloc, &instance, &customers).expect(rt, "memory");
-        assert!(rt; at <= instance.customers());
-        assert!(rt; load <= instance.capacity());
-        assert!(rt; at != 0 || load == 0);
-        assert!(rt; ins <= 50);
-        assert!(rt; rest <= instance.whole_demand());
-        let found = bound(&tables, &instance, at, load, ins, rest, left);
-        assert_same(rt, found, answer, (demands, asked));
+        assert_bound(rt, &tables, &instance, demand, asked);
+    }
+
+    // The tables are over customers who demand this.
+    fn assert_bound(
+        rt: &impl Abort,
+        tables: &Tables<'_>,
+        instance: &Instance,
+        demand: u64,
+        asked: Asked,
+    )
+        requires problem { tables.now.problem ≡ instance.now }
+        requires demand { demand ≤ load_of instance.now tables.now.among }
+    {
+        let (at, load, ins, rest, left, answer) = asked;
+        assert!(rt; at <= instance.customers() && load <= instance.capacity());
+        assert!(rt; (at != 0 || load == 0) && ins <= 50);
+        assert!(rt; rest <= demand && rest <= instance.whole_demand());
+        let found = bound(tables, instance, at, load, ins, rest, left);
+        assert_same(rt, found, answer, (at, load, rest, left));
     }
 }

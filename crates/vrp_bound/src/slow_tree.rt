@@ -1,6 +1,7 @@
 //! A plain slow program beside the tree bound: it tries every tree, every choice of ways home and every completion.
 
-use std::alloc::{AllocError, Global};
+use std::alloc::Global;
+use std::process::Abort;
 use vrp_model::Instance;
 
 /// A place, a load, and the customers that are unserved, each with its bit.
@@ -31,23 +32,19 @@ impl Situation {
     }
 
     /// The unserved customers by rising place.
-    pub(crate) fn customers(
-        self,
-        alloc: Global,
-        instance: &Instance,
-    ) -> Result<Vec<u16>, AllocError> {
+    pub(crate) fn customers(self, rt: &impl Abort, alloc: Global, instance: &Instance) -> Vec<u16> {
         let mut customers = Vec::new(alloc);
         for place in 1..instance.customers() + 1 {
             if self.leaves(place) {
-                customers.push(place)?;
+                customers.push(place).expect(rt, "memory");
             }
         }
-        Ok(customers)
+        customers
     }
 }
 
 /// Every situation in an instance of at most six customers: each place, each choice of the other customers, and each load.
-pub(crate) fn situations(alloc: Global, instance: &Instance) -> Result<Vec<Situation>, AllocError> {
+pub(crate) fn situations(rt: &impl Abort, alloc: Global, instance: &Instance) -> Vec<Situation> {
     let mut listed = Vec::new(alloc);
     let choices = 1u32 << instance.customers().min(6);
     for at in 0..instance.customers() + 1 {
@@ -58,59 +55,70 @@ pub(crate) fn situations(alloc: Global, instance: &Instance) -> Result<Vec<Situa
                 unserved: 2 * choice,
             };
             if !unloaded.leaves(at) {
-                push_loads(&mut listed, instance, unloaded)?;
+                push_loads(rt, &mut listed, instance, unloaded);
             }
         }
     }
-    Ok(listed)
+    listed
 }
 
 // A situation with each load; at the depot there is none.
 fn push_loads(
+    rt: &impl Abort,
     listed: &mut Vec<Situation>,
     instance: &Instance,
     unloaded: Situation,
-) -> Result<(), AllocError> {
+) {
     let loads = if unloaded.at == 0 {
         1
     } else {
         instance.capacity() + 1
     };
     for load in 0..loads {
-        listed.push(Situation { load, ..unloaded })?;
+        let loaded = Situation { load, ..unloaded };
+        listed.push(loaded).expect(rt, "memory");
     }
-    Ok(())
 }
 
 /// The tree bound by its definition; `None` where there are more than five places to join.
 pub(crate) fn slow_bound(
+    rt: &impl Abort,
     alloc: Global,
     instance: &Instance,
     situation: Situation,
-) -> Result<Option<u64>, AllocError> {
-    let customers = situation.customers(alloc, instance)?;
-    let mut places = Vec::new(alloc);
-    places.push(0)?;
-    if situation.at != 0 {
-        places.push(situation.at)?;
-    }
-    let mut rest = 0u64;
-    for customer in &customers {
-        places.push(*customer)?;
-        rest = rest.saturating_add(demand(instance, *customer));
-    }
+) -> Option<u64> {
+    let places = places_to_join(rt, alloc, instance, situation);
     if places.len() > 5 {
-        return Ok(None);
+        return None;
     }
-    let later = later_routes(instance, situation, &customers, rest);
     let tree = least_of_trees(instance, &places);
+    let customers = situation.customers(rt, alloc, instance);
+    let later = later_routes(instance, situation, &customers);
     let homes = least_of_homes(instance, &customers, later.min(customers.len() as u64));
-    Ok(Some(tree.saturating_add(homes)))
+    Some(tree.saturating_add(homes))
+}
+
+// The depot, the place, and the unserved customers.
+fn places_to_join(
+    rt: &impl Abort,
+    alloc: Global,
+    instance: &Instance,
+    situation: Situation,
+) -> Vec<u16> {
+    let mut places = Vec::new(alloc);
+    places.push(0).expect(rt, "memory");
+    for place in 1..instance.customers() + 1 {
+        if place == situation.at || situation.leaves(place) {
+            places.push(place).expect(rt, "memory");
+        }
+    }
+    places
 }
 
 // The first number of routes that is enough.
-fn later_routes(instance: &Instance, situation: Situation, customers: &[u16], rest: u64) -> u64 {
+fn later_routes(instance: &Instance, situation: Situation, customers: &[u16]) -> u64 {
     let capacity = instance.capacity();
+    let rest = demand_of_all(instance, customers);
     let room = if situation.at == 0 {
         0
     } else {
@@ -223,6 +231,14 @@ pub(crate) fn least_completion(instance: &Instance, situation: Situation, steps:
         }
     }
     least
+}
+
+fn demand_of_all(instance: &Instance, customers: &[u16]) -> u64 {
+    let mut rest = 0u64;
+    for customer in customers {
+        rest = rest.saturating_add(demand(instance, *customer));
+    }
+    rest
 }
 
 fn demand(instance: &Instance, place: u16) -> u64 {

@@ -134,18 +134,20 @@ const DEMANDS: &[(u64, u64, bool)] = &[(1, 2, true), (2_308, 2_309, true), (2_30
 #[test]
 fn the_largest_table_of_homes(rt: HostRuntime) {
     for &(first, second, made) in DEMANDS {
-        assert!(rt; first <= 2_311 && second <= 2_311);
         let instance = at_points(&rt, rt.alloc(), LINE, &[0, first, second], 4_618);
         let tables = Tables::over_all(rt.alloc(), &instance).expect(&rt, "memory");
         assert_same(&rt, has_homes(&tables), Some(made), (first, second));
-        let asked = [
-            (1, first, second, Some(15)),
-            (2, second, first, Some(10)),
-            (1, first, 0, Some(5)),
-            (0, 0, first + second, Some(20)),
-        ];
-        assert_answers(&rt, &tables, &asked);
+        assert_of_two(&rt, &tables, first, second);
     }
+}
+
+// What two customers on a line demand, over whom the tables are.
+fn assert_of_two(rt: &impl Abort, tables: &Tables<'_>, first: u64, second: u64) {
+    assert_answer(rt, tables, (1, first, second, Some(15)));
+    assert_answer(rt, tables, (2, second, first, Some(10)));
+    assert_answer(rt, tables, (1, first, 0, Some(5)));
+    let both = first.saturating_add(second);
+    assert_answer(rt, tables, (0, 0, both, Some(20)));
 }
 
 const IN_HUNDREDS: &[Asked] = &[
@@ -168,11 +170,17 @@ fn demands_in_hundreds(rt: HostRuntime) {
     let instance = at_points(&rt, rt.alloc(), &points, &demands, 6_000);
     assert!(rt; are_customers(&instance, &[1, 2, 3, 4]));
     let tables = Tables::build(rt.alloc(), &instance, &[1, 2, 3, 4]).expect(&rt, "memory");
-    let cells = tables.completions.cells.as_ref().expect(&rt, "tables");
-    let units = (cells.unit, cells.quotients.count());
-    assert_same(&rt, units, (100, 22_501), "the units");
+    assert_same(&rt, units(&tables), Some((100, 22_501)), "the units");
     assert_same(&rt, has_homes(&tables), Some(true), "the ways home");
     assert_answers(&rt, &tables, IN_HUNDREDS);
+}
+
+// The unit of tables, and how many quotients by it they have, where they are made.
+fn units(tables: &Tables<'_>) -> Option<(u64, usize)> {
+    match &tables.completions.cells {
+        Some(cells) => Some((cells.unit, cells.quotients.count())),
+        None => None,
+    }
 }
 
 // What the places demand, and what a truck carries.

@@ -141,7 +141,7 @@ fn assert_scattered(rt: &impl Abort, alloc: Global, cases: &[Loaded<'_>], seeds:
 // At every place, load and choice of unserved customers.
 fn assert_bounds(rt: &impl Abort, alloc: Global, instance: &Instance) {
     let mut room = TreeRoom::new(alloc, instance).expect(rt, "memory");
-    let listed = situations(alloc, instance).expect(rt, "memory");
+    let listed = situations(rt, alloc, instance);
     for situation in &listed {
         assert_situation(rt, alloc, &mut room, instance, *situation);
     }
@@ -159,19 +159,31 @@ fn assert_situation(
     requires { place_count instance.now ≤ room.old }
     ensures { room.new ≡ room.old }
 {
-    let listed = situation.customers(alloc, instance).expect(rt, "memory");
-    let customers = listed.as_slice();
+    let customers = situation.customers(rt, alloc, instance);
+    let bound = bound_of(rt, room, instance, situation, &customers);
+    let slow = slow_bound(rt, alloc, instance, situation).unwrap_or(bound);
+    assert_same(rt, bound, slow, situation);
+    let least = least_completion(instance, situation, 12);
+    assert_same(rt, bound <= least, true, situation);
+}
+
+// The tree bound in a situation that leaves these customers.
+fn bound_of(
+    rt: &impl Abort,
+    room: &mut TreeRoom,
+    instance: &Instance,
+    situation: Situation,
+    customers: &[u16],
+) -> u64
+    requires { place_count instance.now ≤ room.old }
+    ensures { room.new ≡ room.old }
+{
     let rest = demand_of(rt, instance, customers);
     let Situation { at, load, .. } = situation;
     assert!(rt; are_customers(instance, customers));
     assert!(rt; at <= instance.customers() && load <= instance.capacity());
     assert!(rt; rest <= instance.whole_demand());
-    let bound = room.tree_bound(instance, at, load, customers, rest);
-    if let Some(slow) = slow_bound(alloc, instance, situation).expect(rt, "memory") {
-        assert_same(rt, bound, slow, situation);
-    }
-    let least = least_completion(instance, situation, 12);
-    assert!(rt; bound <= least, "{situation:?}");
+    room.tree_bound(instance, at, load, customers, rest)
 }
 
 fn demand_of(rt: &impl Abort, instance: &Instance, customers: &[u16]) -> u64 {
