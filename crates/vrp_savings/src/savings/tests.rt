@@ -2,8 +2,8 @@
 ghost use Rattle.std.specs.Prelude.{◌≡◌, ◌≤◌};
 
 use super::*;
+use crate::assertion::assert_same;
 use std::process::Abort;
-use std::test::Fail;
 use vrp_model::{Layout, MAX_CAPACITY, MAX_NODES, Metric, Weights};
 
 // What nodes demand, of which the first is the depot, and what a truck carries.
@@ -104,205 +104,193 @@ const ASYM_9: Told<'_> = Told {
 };
 
 // What the plan of an instance costs with this many trucks, 0 standing for as many as are wanted; `None` where there is no plan.
+type Planned = (u16, Option<u64>);
+
 fn assert_cost(
     rt: &impl Abort,
     alloc: Global,
     weights: Weights,
     told: Told<'_>,
-    trucks: u16,
-    wanted: Option<u64>,
-) -> Result<(), Fail> {
+    (trucks, wanted): Planned,
+) {
     assert!(rt; told.demands.len() == usize::from(weights.nodes()));
     assert!(rt; told.capacity <= MAX_CAPACITY);
-    let instance = Instance::new(alloc, weights, told.demands, told.capacity, &[1], None)?;
-    let instance = if 1 <= trucks && trucks <= MAX_NODES {
+    let made = Instance::new(alloc, weights, told.demands, told.capacity, &[1], None);
+    let instance = with_trucks(made.expect(rt, "an instance"), trucks);
+    let plan = savings_plan(alloc, &instance).expect(rt, "memory");
+    assert_same(rt, plan.as_ref().map(Plan::cost), wanted, trucks);
+}
+
+fn with_trucks(instance: Instance, trucks: u16) -> Instance {
+    if 1 <= trucks && trucks <= MAX_NODES {
         instance.with_trucks(trucks)
     } else {
         instance
-    };
-    let plan = savings_plan(alloc, &instance)?;
-    assert_eq!(rt; plan.as_ref().map(Plan::cost), wanted, "{trucks} trucks");
-    Ok(())
+    }
 }
 
-fn assert_points(
-    rt: &impl Abort,
-    alloc: Global,
-    metric: Metric,
-    points: &[(i64, i64)],
-    told: Told<'_>,
-    trucks: u16,
-    wanted: Option<u64>,
-) -> Result<(), Fail> {
+// Published instances, and one of which two customers demand nothing. Joining end to end needs nine trucks where eight would do.
+const FILES: &[(Metric, &[(i64, i64)], Told<'_>, Planned)] = &[
+    (Metric::Euc2d, E_N22_K4_POINTS, E_N22_K4, (0, Some(387))),
+    (Metric::Euc2d, E_N22_K4_POINTS, E_N22_K4, (4, Some(387))),
+    (Metric::Euc2d, E_N22_K4_POINTS, E_N22_K4, (3, None)),
+    (Metric::Euc2d, P_N16_K8_POINTS, P_N16_K8, (9, Some(472))),
+    (Metric::Euc2d, P_N16_K8_POINTS, P_N16_K8, (8, None)),
+    (
+        Metric::Ceil2d,
+        CEIL_11_ZERO_POINTS,
+        CEIL_11_ZERO,
+        (0, Some(511)),
+    ),
+];
+
+#[test]
+fn files_of_points(rt: HostRuntime) {
+    for &(metric, points, told, planned) in FILES {
+        let weights = of_points(&rt, rt.alloc(), metric, points);
+        assert_cost(&rt, rt.alloc(), weights, told, planned);
+    }
+}
+
+fn of_points(rt: &impl Abort, alloc: Global, metric: Metric, points: &[(i64, i64)]) -> Weights {
     assert!(rt; 1 <= points.len() && points.len() <= 100);
     assert!(rt;
         points
             .iter()
             .all(|&(x, y)| 0 <= x && x <= 1_000 && 0 <= y && y <= 1_000)
     );
-    let weights = Weights::points(alloc, metric, points)?;
-    assert_cost(rt, alloc, weights, told, trucks, wanted)
+    Weights::points(alloc, metric, points).expect(rt, "memory")
 }
 
-fn assert_ways(
-    rt: &impl Abort,
-    alloc: Global,
-    ways: &[u64],
-    told: Told<'_>,
-    trucks: u16,
-    wanted: Option<u64>,
-) -> Result<(), Fail> {
+// The weights of a full matrix.
+type Square<'a> = (&'a [u64], Told<'a>, Planned);
+
+const ASYMMETRIC: &[Square<'_>] = &[
+    (ASYM_9_WAYS, ASYM_9, (0, Some(291))),
+    (ASYM_9_WAYS, ASYM_9, (4, Some(291))),
+    (ASYM_9_WAYS, ASYM_9, (3, None)),
+];
+
+#[test]
+fn asymmetric(rt: HostRuntime) {
+    for &square in ASYMMETRIC {
+        assert_square(&rt, rt.alloc(), square);
+    }
+}
+
+fn assert_square(rt: &impl Abort, alloc: Global, square: Square<'_>) {
+    let (ways, told, planned) = square;
     let nodes = told.demands.len();
     assert!(rt; 1 <= nodes && nodes <= usize::from(MAX_NODES));
     assert!(rt; ways.len() == Layout::FullMatrix.entries(nodes as u16));
     assert!(rt; ways.iter().all(|&way| way <= 10_000));
-    let weights = Weights::matrix(alloc, Layout::FullMatrix, ways, nodes as u16)?;
-    assert_cost(rt, alloc, weights, told, trucks, wanted)
+    let weights = Weights::matrix(alloc, Layout::FullMatrix, ways, nodes as u16);
+    assert_cost(rt, alloc, weights.expect(rt, "memory"), told, planned);
 }
 
-// Published instances, and one of which two customers demand nothing. Joining end to end needs nine trucks where eight would do.
-#[test]
-fn files_of_points(rt: HostRuntime) -> Result<(), Fail> {
-    let euclid = Metric::Euc2d;
-    assert_points(
-        &rt,
-        rt.alloc(),
-        euclid,
-        E_N22_K4_POINTS,
-        E_N22_K4,
-        0,
-        Some(387),
-    )?;
-    assert_points(
-        &rt,
-        rt.alloc(),
-        euclid,
-        E_N22_K4_POINTS,
-        E_N22_K4,
-        4,
-        Some(387),
-    )?;
-    assert_points(&rt, rt.alloc(), euclid, E_N22_K4_POINTS, E_N22_K4, 3, None)?;
-    assert_points(
-        &rt,
-        rt.alloc(),
-        euclid,
-        P_N16_K8_POINTS,
-        P_N16_K8,
-        9,
-        Some(472),
-    )?;
-    assert_points(&rt, rt.alloc(), euclid, P_N16_K8_POINTS, P_N16_K8, 8, None)?;
-    assert_points(
-        &rt,
-        rt.alloc(),
-        Metric::Ceil2d,
-        CEIL_11_ZERO_POINTS,
-        CEIL_11_ZERO,
-        0,
-        Some(511),
-    )
-}
+// Two customers to a truck.
+const TWO: Told<'_> = Told {
+    demands: &[0, 1, 1],
+    capacity: 2,
+};
+
+const HEAVY: Told<'_> = Told {
+    demands: &[0, 2, 2],
+    capacity: 2,
+};
+
+const ALONE: Told<'_> = Told {
+    demands: &[0],
+    capacity: 2,
+};
+
+const LINE: &[u64] = &[0, 1, 2, 1, 0, 1, 2, 1, 0];
+
+const SIDES: &[u64] = &[0, 1, 1, 1, 0, 9, 1, 9, 0];
+
+// On a line one truck costs less than two; where the customers lie on either side of the depot it costs more, and is sent only where
+// there is no other; all at one point cost nothing; and no customer needs no truck.
+const BY_HAND: &[Square<'_>] = &[
+    (LINE, TWO, (0, Some(4))),
+    (SIDES, TWO, (0, Some(4))),
+    (SIDES, TWO, (1, Some(11))),
+    (LINE, HEAVY, (0, Some(6))),
+    (LINE, HEAVY, (1, None)),
+    (&[0, 0, 0, 0, 0, 0, 0, 0, 0], TWO, (0, Some(0))),
+    (&[0], ALONE, (0, Some(0))),
+];
 
 #[test]
-fn asymmetric(rt: HostRuntime) -> Result<(), Fail> {
-    assert_ways(&rt, rt.alloc(), ASYM_9_WAYS, ASYM_9, 0, Some(291))?;
-    assert_ways(&rt, rt.alloc(), ASYM_9_WAYS, ASYM_9, 4, Some(291))?;
-    assert_ways(&rt, rt.alloc(), ASYM_9_WAYS, ASYM_9, 3, None)
+fn worked_by_hand(rt: HostRuntime) {
+    for &square in BY_HAND {
+        assert_square(&rt, rt.alloc(), square);
+    }
 }
 
-// Two customers to a truck. On a line one truck costs less than two; where the customers lie on either side of the depot it
-// costs more, and is sent only where there is no other; all at one point cost nothing; and no customer needs no truck.
-#[test]
-fn worked_by_hand(rt: HostRuntime) -> Result<(), Fail> {
-    let line: &[u64] = &[0, 1, 2, 1, 0, 1, 2, 1, 0];
-    let sides: &[u64] = &[0, 1, 1, 1, 0, 9, 1, 9, 0];
-    let two = Told {
-        demands: &[0, 1, 1],
-        capacity: 2,
-    };
-    assert_ways(&rt, rt.alloc(), line, two, 0, Some(4))?;
-    assert_ways(&rt, rt.alloc(), sides, two, 0, Some(4))?;
-    assert_ways(&rt, rt.alloc(), sides, two, 1, Some(11))?;
-    let heavy = Told {
-        demands: &[0, 2, 2],
-        capacity: 2,
-    };
-    assert_ways(&rt, rt.alloc(), line, heavy, 0, Some(6))?;
-    assert_ways(&rt, rt.alloc(), line, heavy, 1, None)?;
-    assert_ways(
-        &rt,
-        rt.alloc(),
-        &[0, 0, 0, 0, 0, 0, 0, 0, 0],
-        two,
-        0,
-        Some(0),
-    )?;
-    let alone = Told {
-        demands: &[0],
-        capacity: 2,
-    };
-    assert_ways(&rt, rt.alloc(), &[0], alone, 0, Some(0))
-}
+// What each customer demands, what a truck carries, and what the plan costs.
+const LARGE: &[(u64, u64, u64)] = &[
+    (4_000, 10_001, 100),
+    (400_000, 1_000_000, 100),
+    (500_001, 1_000_000, 120),
+    (400_000_000, MAX_CAPACITY, 100),
+    (MAX_CAPACITY, MAX_CAPACITY, 120),
+];
 
 // Three customers on a line, the first two 10 and 20 to one side of the depot and the third 30 to the other. Where a truck carries
 // two of them, one drives to each side: 40 and 60. Where it carries one alone, each is driven to: 20, 40 and 60.
 #[test]
-fn large_capacities(rt: HostRuntime) -> Result<(), Fail> {
-    let line: &[u64] = &[0, 10, 20, 30, 10, 0, 10, 40, 20, 10, 0, 50, 30, 40, 50, 0];
-    // what each customer demands, what a truck carries, and what the plan costs
-    let table = [
-        (4_000, 10_001, 100),
-        (400_000, 1_000_000, 100),
-        (500_001, 1_000_000, 120),
-        (400_000_000, MAX_CAPACITY, 100),
-        (MAX_CAPACITY, MAX_CAPACITY, 120),
-    ];
-    for (demand, capacity, cost) in table {
-        let told = Told {
-            demands: &[0, demand, demand, demand],
-            capacity,
-        };
-        assert_ways(&rt, rt.alloc(), line, told, 0, Some(cost))?;
+fn large_capacities(rt: HostRuntime) {
+    let line = [0, 10, 20, 30, 10, 0, 10, 40, 20, 10, 0, 50, 30, 40, 50, 0];
+    for &(demand, capacity, cost) in LARGE {
+        let demands = &[0, demand, demand, demand];
+        let told = Told { demands, capacity };
+        assert_square(&rt, rt.alloc(), (&line, told, (0, Some(cost))));
     }
-    Ok(())
 }
+
+const APART: &[u64] = &[0, 10, 10, 10, 10, 0, 2, 100, 10, 2, 0, 100, 10, 100, 100, 0];
+
+const ALL: Told<'_> = Told {
+    demands: &[0, 1, 1, 1],
+    capacity: 3,
+};
+
+const DEAR_JOINTS: &[Square<'_>] = &[
+    (APART, ALL, (0, Some(42))),
+    (APART, ALL, (3, Some(42))),
+    (APART, ALL, (2, Some(42))),
+    (APART, ALL, (1, Some(122))),
+];
 
 // Two customers beside each other, 2 apart, and a third that is 100 from both; each is 10 from the depot, and a truck carries all.
 // Joining the two spares 18: 22 and 20. Going on to the third costs 80 more, and is done only where there is one truck alone.
 #[test]
-fn dear_joints_only_for_want_of_trucks(rt: HostRuntime) -> Result<(), Fail> {
-    let apart: &[u64] = &[0, 10, 10, 10, 10, 0, 2, 100, 10, 2, 0, 100, 10, 100, 100, 0];
-    let all = Told {
-        demands: &[0, 1, 1, 1],
-        capacity: 3,
-    };
-    for (trucks, cost) in [(0, 42), (3, 42), (2, 42), (1, 122)] {
-        assert_ways(&rt, rt.alloc(), apart, all, trucks, Some(cost))?;
+fn dear_joints_only_for_want_of_trucks(rt: HostRuntime) {
+    for &square in DEAR_JOINTS {
+        assert_square(&rt, rt.alloc(), square);
     }
-    Ok(())
 }
 
 // A word has at most two symbols for each customer, and its list has room for this many.
 #[test]
-fn room_for_a_word(rt: HostRuntime) -> Result<(), Fail> {
-    for customers in [1, 2, 3] {
-        let points = [(0, 0), (0, 1), (0, 2), (0, 3)];
-        let demands = [0, 1, 1, 1];
-        let weights = Weights::points(rt.alloc(), Metric::Man2d, &points[..customers + 1])?;
-        let instance = Instance::new(
-            rt.alloc(),
-            weights,
-            &demands[..customers + 1],
-            3,
-            &[1],
-            None,
-        )?;
-        let word = Routes::one_each(rt.alloc(), &instance)?.word(rt.alloc(), &instance)?;
-        assert_eq!(rt; word.len(), 2 * customers);
-        assert_eq!(rt; word.capacity(), 2 * customers);
+fn room_for_a_word(rt: HostRuntime) {
+    for customers in 1..4 {
+        assert_room(&rt, rt.alloc(), customers);
     }
-    Ok(())
+}
+
+fn assert_room(rt: &impl Abort, alloc: Global, customers: usize) {
+    assert!(rt; customers <= 3);
+    let points = [(0, 0), (0, 1), (0, 2), (0, 3)];
+    let weights = Weights::points(alloc, Metric::Man2d, &points[..customers + 1]);
+    let weights = weights.expect(rt, "memory");
+    let demands = [0, 1, 1, 1];
+    let made = Instance::new(alloc, weights, &demands[..customers + 1], 3, &[1], None);
+    let instance = made.expect(rt, "an instance");
+    let routes = Routes::one_each(alloc, &instance).expect(rt, "memory");
+    let word = routes.word(alloc, &instance).expect(rt, "memory");
+    let room = 2 * customers;
+    assert_same(rt, (word.len(), word.capacity()), (room, room), customers);
 }
 
 // What a way costs among nodes that are scattered, and where back costs another amount than there, with a skew.
@@ -316,13 +304,7 @@ fn scattered(from: u64, to: u64, skew: u64) -> u64
     across + along + skew * ((from * 3 + to) % 7)
 }
 
-fn assert_scattered(
-    rt: &impl Abort,
-    alloc: Global,
-    nodes: u64,
-    skew: u64,
-    wanted: u64,
-) -> Result<(), Fail>
+fn assert_scattered(rt: &impl Abort, alloc: Global, nodes: u64, skew: u64, wanted: u64)
     requires nodes { nodes ≤ 1_200 }
     requires skew { skew ≤ 10 }
 {
@@ -330,19 +312,19 @@ fn assert_scattered(
     let mut demands = Vec::new(alloc);
     for from in 0..nodes {
         for to in 0..nodes {
-            ways.push(scattered(from, to, skew))?;
+            ways.push(scattered(from, to, skew)).expect(rt, "memory");
         }
-        demands.push(from % 9)?;
+        demands.push(from % 9).expect(rt, "memory");
     }
     let told = Told {
         demands: &demands,
         capacity: 100,
     };
-    assert_ways(rt, alloc, &ways, told, 0, Some(wanted))
+    assert_square(rt, alloc, (&ways, told, (0, Some(wanted))));
 }
 
 #[test]
-fn many_customers(rt: HostRuntime) -> Result<(), Fail> {
-    assert_scattered(&rt, rt.alloc(), 1_200, 0, 121_716)?;
-    assert_scattered(&rt, rt.alloc(), 1_200, 1, 124_175)
+fn many_customers(rt: HostRuntime) {
+    assert_scattered(&rt, rt.alloc(), 1_200, 0, 121_716);
+    assert_scattered(&rt, rt.alloc(), 1_200, 1, 124_175);
 }
