@@ -1,9 +1,9 @@
-//! The instances that tests are made on.
+//! The instances that tests are made on. What has no memory for them ends the test.
 ghost use Rattle.std.specs.Prelude.{◌≤◌};
+ghost use Rattle.vrp_model.specs.declared.limits.TheConstants.{MAX_NODES};
 
 use std::alloc::Global;
 use std::process::Abort;
-use std::test::Fail;
 use vrp_model::{Instance, Layout, MAX_CAPACITY, MAX_NODES, Weights};
 
 /// An instance by the full matrix of its weights, what its nodes demand, of which the first is the depot, what a truck carries, and
@@ -15,20 +15,27 @@ pub(crate) fn by_matrix(
     demands: &[u64],
     capacity: u64,
     trucks: u16,
-) -> Result<Instance, Fail> {
+) -> Instance {
     let nodes = demands.len();
     assert!(rt; 1 <= nodes && nodes <= usize::from(MAX_NODES));
     assert!(rt; ways.len() == Layout::FullMatrix.entries(nodes as u16));
     assert!(rt; ways.iter().all(|&way| way <= 10_000));
     assert!(rt; capacity <= MAX_CAPACITY);
-    let weights = Weights::matrix(alloc, Layout::FullMatrix, ways, nodes as u16)?;
-    assert!(rt; usize::from(weights.nodes()) == nodes);
-    let instance = Instance::new(alloc, weights, demands, capacity, &[1], None)?;
+    let weights = Weights::matrix(alloc, Layout::FullMatrix, ways, nodes as u16);
+    let weights = weights.expect(rt, "memory");
+    assert!(rt; usize::from(weights.nodes()) == nodes && trucks <= MAX_NODES);
+    let made = Instance::new(alloc, weights, demands, capacity, &[1], None);
+    with_trucks(made.expect(rt, "an instance"), trucks)
+}
+
+fn with_trucks(instance: Instance, trucks: u16) -> Instance
+    requires { trucks ≤ MAX_NODES }
+{
     if trucks == 0 {
-        return Ok(instance);
+        instance
+    } else {
+        instance.with_trucks(trucks)
     }
-    assert!(rt; trucks <= MAX_NODES);
-    Ok(instance.with_trucks(trucks))
 }
 
 /// Nodes that are scattered, some of which demand nothing, where back costs another amount than there, with a skew.
@@ -38,7 +45,7 @@ pub(crate) fn scattered(
     nodes: u64,
     skew: u64,
     trucks: u16,
-) -> Result<Instance, Fail>
+) -> Instance
     requires nodes { nodes ≤ 1_200 }
     requires skew { skew ≤ 10 }
 {
@@ -46,9 +53,9 @@ pub(crate) fn scattered(
     let mut demands = Vec::new(alloc);
     for from in 0..nodes {
         for to in 0..nodes {
-            ways.push(way(from, to, skew))?;
+            ways.push(way(from, to, skew)).expect(rt, "memory");
         }
-        demands.push(from % 9)?;
+        demands.push(from % 9).expect(rt, "memory");
     }
     by_matrix(rt, alloc, &ways, &demands, 100, trucks)
 }

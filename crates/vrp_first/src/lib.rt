@@ -1,6 +1,8 @@
 //! A first plan near the best: ruin and recreate, from a plan by savings.
 #![tactic(auto)]
 
+#[cfg(test)]
+mod assertion;
 mod first;
 #[cfg(test)]
 mod fixture;
