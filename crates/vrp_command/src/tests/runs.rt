@@ -6,6 +6,7 @@ use crate::{Gate, NoGate, run_words};
 use std::alloc::Global;
 use std::io::Eprint;
 use std::process::Abort;
+use std::rt::Files;
 use std::sync::Wait;
 use std::sync::atomic::{AtomicU64, Ordering};
 use std::test::*;
@@ -57,7 +58,7 @@ const SIX: &str =
 type End<'a> = (u8, &'a str, &'a str);
 
 // Asserts how the program ends that is asked for by these words over a text.
-fn assert_run_by<R: Abort + Threads + Wait + Clock + Eprint + Sync>(
+fn assert_run_by<R: Abort + Files + Threads + Wait + Clock + Eprint + Sync>(
     rt: &R,
     alloc: Global,
     words: &[&str],
