@@ -23,6 +23,14 @@ pub record AreInRange (options : Options) : Type 0 where
   pub some_truck : ForSome options.trucks (λ trucks. 1 ≤ trucks)
   pub few_trucks : ForSome options.trucks (λ trucks. trucks ≤ MAX_NODES)
 
+-- the chosen depot, if there is one, is from the first node on
+abbrev pub HasDepotFromOne : Options → Type 0
+HasDepotFromOne options = ForSome options.depot (λ node. 1 ≤ node)
+
+-- and no higher than the last that a file may have
+abbrev pub HasDepotWithin : Options → Type 0
+HasDepotWithin options = ForSome options.depot (λ node. node ≤ MAX_NODES)
+
 abbrev pub line_code : LineFault → ℕ
 line_code (line.Help text) = 0
 line_code (line.Refused text) = 2

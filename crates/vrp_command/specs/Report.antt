@@ -1,11 +1,15 @@
 -- What the program prints: a line for each route, the cost, and the verdict.
-use Rattle.std.specs.Prelude.{ℕ, ◌+◌, Option, None, Some, List, [], ◌∷◌, ◌++◌, codes, decimal}
+use Rattle.std.specs.Prelude.{ℕ, ◌+◌, ◌<◌, All, Option, None, Some, List, [], ◌∷◌, ◌++◌, codes, decimal}
 use Rattle.std.specs.List.{flat_map}
-use Rattle.vrp_model.specs.Problem.{Problem, node_of}
+use Rattle.vrp_model.specs.Problem.{Problem, node_of, place_count}
 use Rattle.vrp_model.specs.Route.{PricedPlan}
 use Rattle.vrp_pool.specs.Answer.{known_plan}
 use Rattle.vrp_pool.specs.declared.answers.Answer.{Answer}
 use Rattle.vrp_pool.specs.declared.answers.Answer.TheVariants.{Proven, Open, NoPlan}
+
+-- the stops of all these routes are places of the problem
+abbrev pub HasStopsIn : Problem → List (List ℕ) → Type 0
+HasStopsIn p routes = All (λ route. All (λ place. place < place_count p) route) routes
 
 -- the file's node numbers of a route's stops, with a space before each
 abbrev pub stops_text : Problem → List ℕ → List ℕ

@@ -28,13 +28,17 @@ pub fn run<T: Threads + Wait + Sync, R: Read, W: Write>(
     output: &mut W,
 ) -> Result<Status, RunError>
     requires { AreInRange options }
-    ensures printed { IfOk result (PrintsAnswer options false (R.remaining input.old) (R.remaining input.new) (W.contents output.old) (W.contents output.new)) }
-    ensures refused { IfErr result (λ fault. OnRefusedFile fault (RefusesInput options.depot (R.remaining input.old) (R.remaining input.new))) }
+    ensures printed { IfOk result (PrintsAnswer options false
+        (R.remaining input.old) (R.remaining input.new) (W.contents output.old) (W.contents output.new)) }
+    ensures refused { IfErr result (λ fault. OnRefusedFile fault (RefusesInput options.depot
+        (R.remaining input.old) (R.remaining input.new))) }
     ensures begun { IfErr result (λ fault. fault ≡ RunError.Write → PrintsPart options false
         (R.remaining input.old) (R.remaining input.new) (W.contents output.old) (W.contents output.new)) }
-    ensures failed { IfErr result (λ fault. fault ≡ RunError.Read → TakesAtMost MAX_BYTES (R.remaining input.old) (R.remaining input.new)) }
+    ensures failed { IfErr result (λ fault. fault ≡ RunError.Read → TakesAtMost MAX_BYTES
+        (R.remaining input.old) (R.remaining input.new)) }
     ensures taken { TakesAtMost (MAX_BYTES + 1) (R.remaining input.old) (R.remaining input.new) }
-    ensures silent { IfErr result (λ fault. fault ≢ RunError.Write → Keeps (W.contents output.old) (W.contents output.new)) }
+    ensures silent { IfErr result (λ fault. fault ≢ RunError.Write → Keeps
+        (W.contents output.old) (W.contents output.new)) }
 {
     let problem = read_problem(alloc, options, input)?;
     print_answer(rt, alloc, &problem, None, options, output, &NoGate)

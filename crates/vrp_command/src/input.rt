@@ -13,9 +13,11 @@ const BUFFER: usize = 65_536;
 
 /// Reads to the end of the input, or to one byte more than a file may have. Each error of a read is a fault at once.
 pub(crate) fn read_input<R: Read>(alloc: Global, input: &mut R) -> Result<Vec<u8>, RunError>
-    ensures read { IfOk result (λ bytes. IsInput (R.remaining input.old) (R.remaining input.new) bytes.items) }
+    ensures read { IfOk result (λ bytes. IsInput
+        (R.remaining input.old) (R.remaining input.new) bytes.items) }
     ensures taken { TakesAtMost (MAX_BYTES + 1) (R.remaining input.old) (R.remaining input.new) }
-    ensures failed { IfErr result (λ fault. fault ≡ RunError.Read → TakesAtMost MAX_BYTES (R.remaining input.old) (R.remaining input.new)) }
+    ensures failed { IfErr result (λ fault. fault ≡ RunError.Read → TakesAtMost MAX_BYTES
+        (R.remaining input.old) (R.remaining input.new)) }
     ensures faults { IfErr result (λ fault. (fault ≡ RunError.OutOfMemory) ⊎ (fault ≡ RunError.Read)) }
 {
     let mut bytes = Vec::new(alloc);
@@ -42,9 +44,11 @@ fn zeros(alloc: Global, room: usize) -> Result<Vec<u8>, AllocError>
 // Reads once into the buffer, and tells how much came. It can't want memory: a read that fails is answered as that.
 fn read_some<R: Read>(input: &mut R, buffer: &mut [u8]) -> Result<usize, RunError>
     ensures bounded { IfOk result (λ count. count ≤ length buffer.old) }
-    ensures read { IfOk result (λ count. Consumes (R.remaining input.old) (R.remaining input.new) (take count buffer.new)) }
+    ensures read { IfOk result (λ count. Consumes
+        (R.remaining input.old) (R.remaining input.new) (take count buffer.new)) }
     ensures end { IfOk result (λ count. count ≡ 0 → 0 < length buffer.old → IsAtEnd (R.remaining input.new)) }
-    ensures fault { IfErr result (λ fault. (fault ≡ RunError.Read) × Keeps (R.remaining input.old) (R.remaining input.new)) }
+    ensures fault { IfErr result (λ fault. (fault ≡ RunError.Read) × Keeps
+        (R.remaining input.old) (R.remaining input.new)) }
 {
     match input.read(buffer) {
         Ok(count) => Ok(count),

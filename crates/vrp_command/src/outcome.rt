@@ -35,7 +35,8 @@ pub(crate) fn print_answer<T: Threads + Wait + Sync, W: Write, G: Gate + Sync>(
         (WritesAnswer options (G.may_stop gate.now) instance.now (W.contents output.old) (W.contents output.new)) }
     ensures begun { IfErr result (λ fault. fault ≡ RunError.Write →
         WritesPart options (G.may_stop gate.now) instance.now (W.contents output.old) (W.contents output.new)) }
-    ensures silent { IfErr result (λ fault. fault ≢ RunError.Write → Keeps (W.contents output.old) (W.contents output.new)) }
+    ensures silent { IfErr result (λ fault. fault ≢ RunError.Write → Keeps
+        (W.contents output.old) (W.contents output.new)) }
     ensures faults { IfErr result (λ fault. (fault ≡ RunError.OutOfMemory) ⊎ (fault ≡ RunError.Write)) }
 {
     let outcome = answer_to(rt, alloc, instance, start, options, gate)?;
@@ -61,7 +62,8 @@ fn answer_to<T: Threads + Wait + Sync, G: Gate + Sync>(
 ) -> Result<Outcome, RunError>
     requires options { AreInRange options }
     requires start { ForSome (option_map (λ plan. plan.now) start) (IsPlanOf instance.now) }
-    ensures answer { IfOk result (λ outcome. ReportsAnswer options (G.may_stop gate.now) instance.now (string_bytes outcome.report) outcome.status) }
+    ensures answer { IfOk result (λ outcome. ReportsAnswer options (G.may_stop gate.now) instance.now
+        (string_bytes outcome.report) outcome.status) }
     ensures fault { IfErr result (λ fault. fault ≡ RunError.OutOfMemory) }
 {
     let answer = cut_and_solve(

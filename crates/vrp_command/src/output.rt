@@ -9,7 +9,8 @@ use std::io::Write;
 /// Writes the report, and flushes it. Each error is a fault at once, an interrupted write too, and so is a write that takes nothing:
 /// then a part of the report has gone out, from its first byte on. Where the flush fails all of it has.
 pub(crate) fn write_report<W: Write>(output: &mut W, report: &[u8]) -> Result<(), RunError>
-    ensures written { OnOk result (Appends (W.contents output.old) (W.contents output.new) report.now) }
+    ensures written { OnOk result (Appends
+        (W.contents output.old) (W.contents output.new) report.now) }
     ensures fault { IfErr result (λ fault. fault ≡ RunError.Write) }
     ensures begun { AppendsPart (W.contents output.old) (W.contents output.new) report.now }
 {
@@ -24,8 +25,10 @@ pub(crate) fn write_report<W: Write>(output: &mut W, report: &[u8]) -> Result<()
 fn write_some<W: Write>(output: &mut W, rest: &[u8]) -> Result<usize, RunError>
     ensures some { IfOk result (λ count. 0 < count) }
     ensures bounded { IfOk result (λ count. count ≤ length rest.now) }
-    ensures taken { IfOk result (λ count. Appends (W.contents output.old) (W.contents output.new) (take count rest.now)) }
-    ensures fault { IfErr result (λ fault. (fault ≡ RunError.Write) × Keeps (W.contents output.old) (W.contents output.new)) }
+    ensures taken { IfOk result (λ count. Appends
+        (W.contents output.old) (W.contents output.new) (take count rest.now)) }
+    ensures fault { IfErr result (λ fault. (fault ≡ RunError.Write) × Keeps
+        (W.contents output.old) (W.contents output.new)) }
 {
     match output.write(rest) {
         Ok(0) | Err(_) => Err(RunError::Write),

@@ -22,9 +22,12 @@ pub(crate) fn read_problem<R: Read>(
     input: &mut R,
 ) -> Result<Instance, RunError>
     requires { AreInRange options }
-    ensures read { IfOk result (ReadsProblem options (R.remaining input.old) (R.remaining input.new)) }
-    ensures refused { IfErr result (λ fault. OnRefusedFile fault (RefusesInput options.depot (R.remaining input.old) (R.remaining input.new))) }
-    ensures failed { IfErr result (λ fault. fault ≡ RunError.Read → TakesAtMost MAX_BYTES (R.remaining input.old) (R.remaining input.new)) }
+    ensures read { IfOk result (ReadsProblem options
+        (R.remaining input.old) (R.remaining input.new)) }
+    ensures refused { IfErr result (λ fault. OnRefusedFile fault (RefusesInput options.depot
+        (R.remaining input.old) (R.remaining input.new))) }
+    ensures failed { IfErr result (λ fault. fault ≡ RunError.Read → TakesAtMost MAX_BYTES
+        (R.remaining input.old) (R.remaining input.new)) }
     ensures taken { TakesAtMost (MAX_BYTES + 1) (R.remaining input.old) (R.remaining input.new) }
     ensures unwritten { IfErr result (λ fault. fault ≢ RunError.Write) }
 {

@@ -47,11 +47,15 @@ pub fn run_words<
 ) -> u8
     ensures known { result ≤ 5 }
     ensures done { result ≡ 0 → Keeps (R.remaining input.old) (R.remaining input.new)
-        ⊎ PrintsReport (G.may_stop gate.now) (R.remaining input.old) (R.remaining input.new) (W.contents output.old) (W.contents output.new) result
-        ⊎ (HasWord words.now (codes "--check") × ChecksPlan (R.remaining input.old) (R.remaining input.new) (W.contents output.old) (W.contents output.new)) }
-    ensures open { result ≡ 1 → PrintsReport (G.may_stop gate.now) (R.remaining input.old) (R.remaining input.new) (W.contents output.old) (W.contents output.new) result }
+        ⊎ PrintsReport (G.may_stop gate.now) (R.remaining input.old) (R.remaining input.new)
+        (W.contents output.old) (W.contents output.new) result
+        ⊎ (HasWord words.now (codes "--check") × ChecksPlan
+        (R.remaining input.old) (R.remaining input.new) (W.contents output.old) (W.contents output.new)) }
+    ensures open { result ≡ 1 → PrintsReport (G.may_stop gate.now)
+        (R.remaining input.old) (R.remaining input.new) (W.contents output.old) (W.contents output.new) result }
     ensures refused { result ≡ 2 → Keeps (R.remaining input.old) (R.remaining input.new) }
-    ensures silent { 2 ≤ result → result ≤ 4 → Keeps (W.contents output.old) (W.contents output.new) }
+    ensures silent { 2 ≤ result → result ≤ 4 → Keeps
+        (W.contents output.old) (W.contents output.new) }
 {
     match parse_request(alloc, words) {
         Ok(request) => run_request(rt, alloc, request, input, output, errors, gate),
@@ -80,9 +84,12 @@ fn run_request<
     ensures not_refused { result ≢ 2 }
     ensures done { result ≡ 0 →
         PrintsReport (G.may_stop gate.now) (R.remaining input.old) (R.remaining input.new) (W.contents output.old) (W.contents output.new) result
-        ⊎ (IsTrue request.entry.check × ChecksPlan (R.remaining input.old) (R.remaining input.new) (W.contents output.old) (W.contents output.new)) }
-    ensures open { result ≡ 1 → PrintsReport (G.may_stop gate.now) (R.remaining input.old) (R.remaining input.new) (W.contents output.old) (W.contents output.new) result }
-    ensures silent { 2 ≤ result → result ≤ 4 → Keeps (W.contents output.old) (W.contents output.new) }
+        ⊎ (IsTrue request.entry.check × ChecksPlan (R.remaining input.old) (R.remaining input.new)
+        (W.contents output.old) (W.contents output.new)) }
+    ensures open { result ≡ 1 → PrintsReport (G.may_stop gate.now)
+        (R.remaining input.old) (R.remaining input.new) (W.contents output.old) (W.contents output.new) result }
+    ensures silent { 2 ≤ result → result ≤ 4 → Keeps
+        (W.contents output.old) (W.contents output.new) }
 {
     let deadline = Deadline::new(rt, request.seconds, gate);
     match read_problem(alloc, request.options, input) {
@@ -106,9 +113,12 @@ fn run_on<T: Threads + Wait + Clock + Eprint + Files + Sync, W: Write, E: Write,
     ensures not_refused { result ≢ 2 }
     ensures done { result ≡ 0 →
         WritesStatus request.entry.options (G.may_stop gate.now) problem.now (W.contents output.old) (W.contents output.new) result
-        ⊎ (IsTrue request.entry.check × WritesLawful problem.now (W.contents output.old) (W.contents output.new)) }
-    ensures open { result ≡ 1 → WritesStatus request.entry.options (G.may_stop gate.now) problem.now (W.contents output.old) (W.contents output.new) result }
-    ensures silent { 2 ≤ result → result ≤ 4 → Keeps (W.contents output.old) (W.contents output.new) }
+        ⊎ (IsTrue request.entry.check × WritesLawful problem.now
+        (W.contents output.old) (W.contents output.new)) }
+    ensures open { result ≡ 1 → WritesStatus request.entry.options (G.may_stop gate.now) problem.now
+        (W.contents output.old) (W.contents output.new) result }
+    ensures silent { 2 ≤ result → result ≤ 4 → Keeps
+        (W.contents output.old) (W.contents output.new) }
 {
     let Some(path) = request.start else {
         return search(rt, alloc, problem, None, request, output, errors, gate);
@@ -144,8 +154,10 @@ fn search<T: Threads + Wait + Clock + Eprint + Sync, W: Write, E: Write, G: Gate
     requires start { ForSome (option_map (λ plan. plan.now) start) (IsPlanOf problem.now) }
     ensures known { result ≤ 5 }
     ensures not_refused { result ≢ 2 }
-    ensures printed { result ≤ 1 → WritesStatus request.entry.options (G.may_stop gate.now) problem.now (W.contents output.old) (W.contents output.new) result }
-    ensures silent { 2 ≤ result → result ≤ 4 → Keeps (W.contents output.old) (W.contents output.new) }
+    ensures printed { result ≤ 1 → WritesStatus request.entry.options (G.may_stop gate.now) problem.now
+        (W.contents output.old) (W.contents output.new) result }
+    ensures silent { 2 ≤ result → result ≤ 4 → Keeps
+        (W.contents output.old) (W.contents output.new) }
 {
     let progress = Progress::new(rt, request.progress, gate);
     let outcome = print_answer(
@@ -173,8 +185,10 @@ fn print_lawful<W: Write, E: Write>(
     ensures known { result ≤ 5 }
     ensures not_refused { result ≢ 2 }
     ensures not_open { result ≢ 1 }
-    ensures printed { result ≡ 0 → WritesLawful problem.now (W.contents output.old) (W.contents output.new) }
-    ensures silent { 2 ≤ result → result ≤ 4 → Keeps (W.contents output.old) (W.contents output.new) }
+    ensures printed { result ≡ 0 → WritesLawful problem.now
+        (W.contents output.old) (W.contents output.new) }
+    ensures silent { 2 ≤ result → result ≤ 4 → Keeps
+        (W.contents output.old) (W.contents output.new) }
 {
     let Ok(report) = lawful_report(alloc, problem, plan) else {
         return end(alloc, &Err(RunError::OutOfMemory), errors);

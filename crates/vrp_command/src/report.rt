@@ -3,7 +3,7 @@ ghost use Rattle.std.specs.Prelude.{◌≡◌, ◌+◌, ◌<◌, Some, OnOk, IfO
 ghost use Rattle.std.specs.Option.{ForSome};
 ghost use Rattle.vrp_model.specs.Problem.{place_count};
 ghost use Rattle.vrp_pool.specs.Answer.{known_plan};
-ghost use Rattle.vrp_command.specs.Report.{route_line, route_lines, stops_text, cost_line, verdict_line, plan_lines, report_of, lawful_report};
+ghost use Rattle.vrp_command.specs.Report.{route_line, route_lines, stops_text, cost_line, verdict_line, plan_lines, report_of, lawful_report, HasStopsIn};
 
 use itoa::Buffer;
 use std::alloc::{AllocError, Global};
@@ -16,7 +16,7 @@ pub(crate) fn report(
     instance: &Instance,
     answer: &Answer,
 ) -> Result<String, AllocError>
-    requires { ForSome (known_plan answer.now) (λ plan. All (λ route. All (λ place. place < place_count instance.now) route) plan.routes) }
+    requires { ForSome (known_plan answer.now) (λ plan. HasStopsIn instance.now plan.routes) }
     ensures { IfOk result (λ text. string_bytes text ≡ report_of instance.now answer.now) }
 {
     let mut text = String::new(alloc);
@@ -33,7 +33,7 @@ pub(crate) fn lawful_report(
     instance: &Instance,
     plan: &Plan,
 ) -> Result<String, AllocError>
-    requires { All (λ route. All (λ place. place < place_count instance.now) route) plan.now.routes }
+    requires { HasStopsIn instance.now plan.now.routes }
     ensures { IfOk result (λ text. string_bytes text ≡ lawful_report instance.now plan.now) }
 {
     let mut text = String::new(alloc);
@@ -44,7 +44,7 @@ pub(crate) fn lawful_report(
 
 // Appends the lines of a plan.
 fn push_plan(text: &mut String, instance: &Instance, plan: &Plan) -> Result<(), AllocError>
-    requires { All (λ route. All (λ place. place < place_count instance.now) route) plan.now.routes }
+    requires { HasStopsIn instance.now plan.now.routes }
     ensures { OnOk result (string_bytes text.new ≡ string_bytes text.old ++ plan_lines instance.now (Some plan.now)) }
 {
     push_routes(text, instance, plan)?;
@@ -53,7 +53,7 @@ fn push_plan(text: &mut String, instance: &Instance, plan: &Plan) -> Result<(), 
 
 // Appends a line for each route.
 fn push_routes(text: &mut String, instance: &Instance, plan: &Plan) -> Result<(), AllocError>
-    requires { All (λ route. All (λ place. place < place_count instance.now) route) plan.now.routes }
+    requires { HasStopsIn instance.now plan.now.routes }
     ensures { OnOk result (string_bytes text.new ≡ string_bytes text.old ++ route_lines instance.now 1 plan.now.routes) }
 {
     for index in 0..plan.routes() {

@@ -3,7 +3,7 @@ ghost use Rattle.std.specs.Prelude.{◌≡◌, ◌≢◌, ◌≤◌, IfOk, IsTru
 ghost use Rattle.std.specs.Option.{ForSome};
 ghost use Rattle.clap.specs.Words.{kind_of};
 ghost use Rattle.vrp_model.specs.declared.limits.TheConstants.{MAX_NODES};
-ghost use Rattle.vrp_command.specs.Options.{AreInRange, line_code};
+ghost use Rattle.vrp_command.specs.Options.{AreInRange, HasDepotFromOne, HasDepotWithin, line_code};
 ghost use Rattle.vrp_command.specs.Program.{HasWord};
 ghost use Rattle.vrp_command.specs.declared.options.TheConstants.{MAX_SECONDS};
 
@@ -42,8 +42,8 @@ impl From<AllocError> for LineFault {
 /// of the budget is the largest. Which words give which options, and which are refused, no clause says.
 pub fn parse_request<'a>(alloc: Global, words: &'a [&'a str]) -> Result<Request<'a>, LineFault>
     ensures in_range { IfOk result (λ request. AreInRange request.options) }
-    ensures some_depot { IfOk result (λ request. ForSome request.options.depot (λ node. 1 ≤ node)) }
-    ensures few_depot { IfOk result (λ request. ForSome request.options.depot (λ node. node ≤ MAX_NODES)) }
+    ensures some_depot { IfOk result (λ request. HasDepotFromOne request.options) }
+    ensures few_depot { IfOk result (λ request. HasDepotWithin request.options) }
     ensures check { IfOk result (λ request. IsTrue request.check → HasWord words.now (codes "--check")) }
 {
     match asked_for(alloc, words) {
@@ -55,8 +55,8 @@ pub fn parse_request<'a>(alloc: Global, words: &'a [&'a str]) -> Result<Request<
 /// The same, of the options of a run alone.
 pub fn parse_words(alloc: Global, words: &[&str]) -> Result<Options, LineFault>
     ensures in_range { IfOk result AreInRange }
-    ensures some_depot { IfOk result (λ options. ForSome options.depot (λ node. 1 ≤ node)) }
-    ensures few_depot { IfOk result (λ options. ForSome options.depot (λ node. node ≤ MAX_NODES)) }
+    ensures some_depot { IfOk result HasDepotFromOne }
+    ensures few_depot { IfOk result HasDepotWithin }
 {
     Ok(parse_request(alloc, words)?.options)
 }
@@ -96,8 +96,8 @@ pub fn line_status(fault: &LineFault) -> u8
 // The options, as `clap` reads the words.
 fn asked_for<'a>(alloc: Global, words: &'a [&'a str]) -> Result<Request<'a>, Error>
     ensures in_range { IfOk result (λ request. AreInRange request.options) }
-    ensures some_depot { IfOk result (λ request. ForSome request.options.depot (λ node. 1 ≤ node)) }
-    ensures few_depot { IfOk result (λ request. ForSome request.options.depot (λ node. node ≤ MAX_NODES)) }
+    ensures some_depot { IfOk result (λ request. HasDepotFromOne request.options) }
+    ensures few_depot { IfOk result (λ request. HasDepotWithin request.options) }
     ensures check { IfOk result (λ request. IsTrue request.check → HasWord words.now (codes "--check")) }
 {
     let matches = grammar(alloc)?.try_get_matches_from(words)?;
@@ -129,8 +129,8 @@ pub(crate) fn line_fault(alloc: Global, error: &Error) -> LineFault
 fn chosen<'a>(matches: &ArgMatches<'a>, check: bool) -> Request<'a>
     ensures check { result.check ≡ check }
     ensures in_range { AreInRange result.options }
-    ensures some_depot { ForSome result.options.depot (λ node. 1 ≤ node) }
-    ensures few_depot { ForSome result.options.depot (λ node. node ≤ MAX_NODES) }
+    ensures some_depot { HasDepotFromOne result.options }
+    ensures few_depot { HasDepotWithin result.options }
 {
     let default = Options::default();
     let seconds = seconds(matches);
