@@ -112,7 +112,7 @@ const LIMITS: &[(&[&str], Option<u32>, u64, bool)] = &[
 ];
 
 // Asserts that these words make this request.
-fn assert_request(rt: &impl Abort, alloc: Global, words: &[&str], wanted: Request<'_>) {
+fn assert_request<'a>(rt: &impl Abort, alloc: Global, words: &'a [&'a str], wanted: Request<'a>) {
     match parse_request(alloc, words) {
         Ok(request) => assert!(rt; request == wanted, "{words:?}: {request:?}"),
         Err(_) => assert!(rt; false, "{words:?} is refused"),
