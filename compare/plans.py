@@ -121,13 +121,14 @@ def wanted(problem, text, trucks):
 
 
 def some_plan(dice, problem):
-    """A plan in some spelling, lawful as a rule."""
+    """A plan in some spelling, lawful as a rule: now and then trucks carry too much."""
+    most = problem.capacity * dice.choice([1] * 9 + [2])
     stops = list(range(1, len(problem.customers) + 1))
     dice.shuffle(stops)
-    routes, load = [], problem.capacity + 1
+    routes, load = [], most + 1
     for stop in stops:
         demand = problem.demands[place_node(problem, stop)]
-        if load + demand > problem.capacity or dice.randrange(5) == 0:
+        if load + demand > most or dice.randrange(5) == 0:
             routes, load = routes + [[]], 0
         routes[-1].append(stop)
         load += demand
