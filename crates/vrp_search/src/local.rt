@@ -147,22 +147,22 @@ mod tests {
     // A board that has a plan of the instance.
     fn opened(rt: &impl Abort, alloc: Global, instance: &Instance, plan: &Plan) -> Local
         requires { IsPlanOf instance.now plan.now }
-        ensures { ForSome result (IsPlanOf instance.now) }
+        ensures { KeepsPlanOf instance.now result }
     {
         Local::open(Some(plan.copy(alloc).expect(rt, "memory")))
     }
 
     fn offer(rt: &impl Abort, alloc: Global, instance: &Instance, board: &mut Local, plan: &Plan)
         requires plan { IsPlanOf instance.now plan.now }
-        requires board { ForSome board.old (IsPlanOf instance.now) }
-        ensures { ForSome board.new (IsPlanOf instance.now) }
+        requires board { KeepsPlanOf instance.now board.old }
+        ensures { KeepsPlanOf instance.now board.new }
     {
         board.offer(alloc, plan).expect(rt, "memory");
     }
 
     fn assert_least(rt: &impl Abort, instance: &Instance, board: &mut Local, cost: u64)
-        requires { ForSome board.old (IsPlanOf instance.now) }
-        ensures { ForSome board.new (IsPlanOf instance.now) }
+        requires { KeepsPlanOf instance.now board.old }
+        ensures { KeepsPlanOf instance.now board.new }
     {
         assert_same(rt, board.least(), cost, "the least cost");
     }
@@ -176,8 +176,8 @@ mod tests {
         plan: &Plan,
     )
         requires plan { IsPlanOf instance.now plan.now }
-        requires board { ForSome board.old (IsPlanOf instance.now) }
-        ensures { ForSome board.new (IsPlanOf instance.now) }
+        requires board { KeepsPlanOf instance.now board.old }
+        ensures { KeepsPlanOf instance.now board.new }
     {
         offer(rt, alloc, instance, board, plan);
         assert_same(
