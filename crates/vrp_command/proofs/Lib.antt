@@ -1,5 +1,5 @@
+pub mod LawfulAnswers
 pub mod OneReport
-pub mod PlaceLemmas
 pub mod ReadProblems
 pub mod RefusalLemmas
 pub mod ReportLemmas

@@ -2,7 +2,7 @@
 use Rattle.std.proofs.Common.{◌⊎◌, inl, inr, ℕ, Bool, Option, List, Result, Ok, Err, IfOk, IfErr, subst}
 use Rattle.vrp_model.specs.Problem.{Problem}
 use Rattle.vrp_command.specs.Options.{AreInRange}
-use Rattle.vrp_command.specs.Program.{ChecksPlan, PrintsReport, WritesLawful, WritesStatus, may_stop_by}
+use Rattle.vrp_command.specs.Program.{EndsOn, EndsWell, FindsAnswer, FindsForBytes, PrintsReport, WritesStatus, may_stop_by}
 use Rattle.vrp_command.specs.Run.{AnswersBytes, PrintsAnswer, PrintsPart, ReadsProblem, ReportsAnswer, WritesAnswer, WritesPart}
 use Rattle.vrp_command.specs.declared.options.Options.{Options}
 use Rattle.vrp_command.specs.declared.options.Status.{Status}
@@ -60,11 +60,48 @@ prints_report options seconds gate unread_old unread_new written_old written_new
       code_is = status.code_is;
     }
 
-pub prints_or_checks : {Asked : Type 0} (options : Options) (seconds : Option ℕ) (gate : Bool) (unread_old unread_new written_old written_new : Option (List ℕ)) (problem : Problem) (code : ℕ)
+pub finds_for_bytes : (options : Options) (seconds : Option ℕ) (gate : Bool) (unread_old unread_new : Option (List ℕ)) (problem : Problem) (code : ℕ)
+    → AreInRange options → ReadsProblem options unread_old unread_new problem → FindsAnswer options (may_stop_by seconds gate) problem code
+    → FindsForBytes gate unread_old unread_new code
+finds_for_bytes options seconds gate unread_old unread_new problem code in_range read found =
+    record { options = options; seconds = seconds; in_range = in_range; problem = problem; read = read; found = found }
+
+pub ends_well : {Checks Exports : Type 0} (options : Options) (seconds : Option ℕ) (gate : Bool) (unread_old unread_new written_old written_new : Option (List ℕ)) (problem : Problem) (code : ℕ)
     → AreInRange options → ReadsProblem options unread_old unread_new problem
-    → (WritesStatus options (may_stop_by seconds gate) problem written_old written_new code ⊎ (Asked × WritesLawful problem written_old written_new))
-    → PrintsReport gate unread_old unread_new written_old written_new code ⊎ (Asked × ChecksPlan unread_old unread_new written_old written_new)
-prints_or_checks options seconds gate unread_old unread_new written_old written_new problem code in_range read (inl status) =
+    → EndsOn Checks Exports options (may_stop_by seconds gate) problem written_old written_new code
+    → EndsWell Checks Exports gate unread_old unread_new written_old written_new code
+ends_well options seconds gate unread_old unread_new written_old written_new problem code in_range read (inl status) =
     inl (prints_report options seconds gate unread_old unread_new written_old written_new problem code in_range read status)
-prints_or_checks options seconds gate unread_old unread_new written_old written_new problem code in_range read (inr (asked, written)) =
-    inr (asked, record { options = options; in_range = in_range; problem = problem; read = read; written = written })
+ends_well options seconds gate unread_old unread_new written_old written_new problem code in_range read (inr (inl (checks, written))) =
+    inr (inl (checks, record { options = options; in_range = in_range; problem = problem; read = read; written = written }))
+ends_well options seconds gate unread_old unread_new written_old written_new problem code in_range read (inr (inr (exports, inl found))) =
+    inr (inr (exports, inl (finds_for_bytes options seconds gate unread_old unread_new problem code in_range read found)))
+ends_well options seconds gate unread_old unread_new written_old written_new problem code in_range read (inr (inr (exports, inr (checks, has_plan)))) =
+    inr (inr (exports, inr (checks, record { options = options; in_range = in_range; problem = problem; read = read; has_plan = has_plan })))
+
+pub ends_open : {Exports : Type 0} (options : Options) (seconds : Option ℕ) (gate : Bool) (unread_old unread_new written_old written_new : Option (List ℕ)) (problem : Problem) (code : ℕ)
+    → AreInRange options → ReadsProblem options unread_old unread_new problem
+    → (WritesStatus options (may_stop_by seconds gate) problem written_old written_new code ⊎ (Exports × FindsAnswer options (may_stop_by seconds gate) problem code))
+    → PrintsReport gate unread_old unread_new written_old written_new code ⊎ (Exports × FindsForBytes gate unread_old unread_new code)
+ends_open options seconds gate unread_old unread_new written_old written_new problem code in_range read (inl status) =
+    inl (prints_report options seconds gate unread_old unread_new written_old written_new problem code in_range read status)
+ends_open options seconds gate unread_old unread_new written_old written_new problem code in_range read (inr (exports, found)) =
+    inr (exports, finds_for_bytes options seconds gate unread_old unread_new problem code in_range read found)
+
+-- what was asked for was asked for by the words
+pub ends_by_words : {Checks Exports Checked Exported : Type 0} (gate : Bool) (unread_old unread_new written_old written_new : Option (List ℕ)) (code : ℕ)
+    → (Checks → Checked) → (Exports → Exported)
+    → EndsWell Checks Exports gate unread_old unread_new written_old written_new code
+    → EndsWell Checked Exported gate unread_old unread_new written_old written_new code
+ends_by_words gate unread_old unread_new written_old written_new code checked exported (inl printed) = inl printed
+ends_by_words gate unread_old unread_new written_old written_new code checked exported (inr (inl (checks, plan))) = inr (inl (checked checks, plan))
+ends_by_words gate unread_old unread_new written_old written_new code checked exported (inr (inr (exports, inl found))) = inr (inr (exported exports, inl found))
+ends_by_words gate unread_old unread_new written_old written_new code checked exported (inr (inr (exports, inr (checks, has_plan)))) =
+    inr (inr (exported exports, inr (checked checks, has_plan)))
+
+pub open_by_words : {Exports Exported : Type 0} (gate : Bool) (unread_old unread_new written_old written_new : Option (List ℕ)) (code : ℕ)
+    → (Exports → Exported)
+    → (PrintsReport gate unread_old unread_new written_old written_new code ⊎ (Exports × FindsForBytes gate unread_old unread_new code))
+    → PrintsReport gate unread_old unread_new written_old written_new code ⊎ (Exported × FindsForBytes gate unread_old unread_new code)
+open_by_words gate unread_old unread_new written_old written_new code exported (inl printed) = inl printed
+open_by_words gate unread_old unread_new written_old written_new code exported (inr (exports, found)) = inr (exported exports, found)

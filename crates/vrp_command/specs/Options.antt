@@ -1,9 +1,11 @@
 -- How a run is asked for where nothing is said, what may be asked for, and the exit status of words that ask for no run.
-use Rattle.std.specs.Prelude.{◌≡◌, ◌≤◌, ℕ, None}
+use Rattle.std.specs.Prelude.{◌≡◌, ◌≢◌, ◌≤◌, ℕ, None}
 use Rattle.std.specs.Option.{ForSome}
 use Rattle.vrp_model.specs.declared.limits.TheConstants.{MAX_NODES}
 use Rattle.vrp_search.specs.declared.cutting.TheConstants.{MAX_PIECES}
 use Rattle.vrp_pool.specs.declared.solver.TheConstants.{MAX_WORKERS}
+use Rattle.vrp_command.specs.declared.options.Format.{Format}
+use Rattle.vrp_command.specs.declared.options.Format.TheVariants as format
 use Rattle.vrp_command.specs.declared.options.Options.{Options}
 use Rattle.vrp_command.specs.declared.options.TheConstants.{MAX_BUDGET}
 use Rattle.vrp_command.specs.declared.words.LineFault.{LineFault}
@@ -30,6 +32,10 @@ HasDepotFromOne options = ForSome options.depot (λ node. 1 ≤ node)
 -- and no higher than the last that a file may have
 abbrev pub HasDepotWithin : Options → Type 0
 HasDepotWithin options = ForSome options.depot (λ node. node ≤ MAX_NODES)
+
+-- another form than the report
+abbrev pub IsOtherFormat : Format → Type 0
+IsOtherFormat format = format ≢ format.Report
 
 abbrev pub line_code : LineFault → ℕ
 line_code (line.Help text) = 0

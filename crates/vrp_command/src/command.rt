@@ -40,6 +40,6 @@ pub fn run<T: Threads + Wait + Sync, R: Read, W: Write>(
     ensures silent { IfErr result (λ fault. fault ≢ RunError.Write → Keeps
         (W.contents output.old) (W.contents output.new)) }
 {
-    let problem = read_problem(alloc, options, input)?;
-    print_answer(rt, alloc, &problem, None, options, output, &NoGate)
+    let problem = read_problem(alloc, options, false, input)?;
+    print_answer(rt, alloc, &problem.instance, None, options, output, &NoGate)
 }

@@ -40,8 +40,14 @@ const START: &str =
 const CHECK: &str =
     "Tell whether the plan of --start is lawful and what it costs, and\nsearch for no other.";
 
+const FORMAT: &str =
+    "In which form the plan is printed: as a report; as CVRPLIB has it\n(sol), which is what --start reads; as JSON; or as a picture over\nthe coordinates of the file (svg).\nOne of report, sol, json, svg; default report.";
+
+// The names of the forms.
+const FORMATS: [&str; 4] = ["report", "sol", "json", "svg"];
+
 const VERDICTS_AND_STATUSES: &str =
-    "The last line of the report is the verdict:\n  Proven  no plan costs less than the printed one\n  Open L  a piece was left open: no plan costs less than L, but one may\n          cost less than the printed one\n  NoPlan  so few trucks can't serve all customers\n  Lawful  with --check: the plan is lawful, and a cheaper one may exist\n\nExit statuses:\n  0  Proven, NoPlan, Lawful, or this help\n  1  Open\n  2  the command line is refused\n  3  the file is refused, or the plan of --start\n  4  no memory\n  5  a read or a write failed\n\nExample, with four threads, for ten minutes at most:\n  cvrp --workers 4 --seconds 600 < examples/E-n51-k5.vrp";
+    "The last line of the report is the verdict:\n  Proven  no plan costs less than the printed one\n  Open L  a piece was left open: no plan costs less than L, but one may\n          cost less than the printed one\n  NoPlan  so few trucks can't serve all customers\n  Lawful  with --check: the plan is lawful, and a cheaper one may exist\n\nExit statuses:\n  0  Proven, NoPlan, Lawful, or this help\n  1  Open\n  2  the command line is refused\n  3  the file is refused, or the plan of --start\n  4  no memory\n  5  a read or a write failed\n\nWithout options one thread searches; it ends small files within seconds and\nleaves large ones open. What can't be solved: other types of problem (time\nwindows, pickups, fleets of different trucks), distances with decimals, and\nmore than 1200 nodes.\n\nExample, with four threads, for ten minutes at most:\n  cvrp --workers 4 --seconds 600 < examples/E-n51-k5.vrp";
 
 /// The command line of the program.
 pub(crate) fn grammar<'a>(alloc: Global) -> Result<Command<'a>, Error> {
@@ -60,7 +66,8 @@ pub(crate) fn grammar<'a>(alloc: Global) -> Result<Command<'a>, Error> {
         .arg(node(alloc, "depot").value_name("NODE").help(DEPOT))?
         .arg(node(alloc, "trucks").value_name("TRUCKS").help(TRUCKS))?
         .arg(start(alloc))?
-        .arg(check(alloc)?)?;
+        .arg(check(alloc)?)?
+        .arg(format(alloc))?;
     Ok(command)
 }
 
@@ -117,6 +124,15 @@ fn check<'a>(alloc: Global) -> Result<Arg<'a>, AllocError> {
         .help(CHECK)
         .action(ArgAction::SetTrue)
         .requires_arg("start")
+}
+
+fn format<'a>(alloc: Global) -> Arg<'a> {
+    Arg::new(alloc, "format")
+        .long("format")
+        .value_name("FORM")
+        .help(FORMAT)
+        .value_parser(FORMATS.as_slice())
+        .hide_possible_values(true)
 }
 
 // An option whose value is a number of nodes, or one of them.

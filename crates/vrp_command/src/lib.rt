@@ -4,6 +4,7 @@
 mod answer;
 mod command;
 mod deadline;
+mod export;
 mod fault;
 mod grammar;
 mod input;
@@ -25,7 +26,7 @@ mod words;
 pub use command::run;
 pub use fault::{RunError, exit_status, fault_line};
 pub use law::one_report;
-pub use options::{MAX_BUDGET, MAX_SECONDS, Options, Request, Status};
+pub use options::{Format, MAX_BUDGET, MAX_SECONDS, Options, Request, Status};
 pub use program::{end_without_run, run_words};
 pub use vrp_pool::{Gate, MAX_WORKERS, News, NoGate};
 pub use vrp_search::MAX_PIECES;

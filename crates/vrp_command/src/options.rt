@@ -38,6 +38,19 @@ impl Default for Options {
     }
 }
 
+/// In which form the plan is printed.
+#[derive(Clone, Copy, Debug, PartialEq, Eq)]
+pub enum Format {
+    /// As the report.
+    Report,
+    /// As a solution of CVRPLIB.
+    Solution,
+    /// As JSON.
+    Json,
+    /// As a picture in SVG.
+    Picture,
+}
+
 /// What the words of a command line ask for.
 #[derive(Clone, Copy, Debug, PartialEq, Eq)]
 pub struct Request<'a> {
@@ -51,6 +64,8 @@ pub struct Request<'a> {
     pub start: Option<&'a str>,
     /// Whether that plan is only to be checked.
     pub check: bool,
+    /// In which form the plan is printed.
+    pub format: Format,
 }
 
 /// The verdict on the plan that was printed.

@@ -81,8 +81,8 @@ fn answer_to<T: Threads + Wait + Sync, G: Gate + Sync>(
     Ok(Outcome { report, status })
 }
 
-// How a run ends that prints this answer.
-fn status(answer: &Answer) -> Status
+/// How a run ends that prints this answer.
+pub(crate) fn status(answer: &Answer) -> Status
     ensures { result ≡ status_of answer.now }
 {
     match answer {

@@ -11,19 +11,29 @@ use crate::input::read_input;
 use crate::options::Options;
 use std::alloc::Global;
 use std::io::Read;
+use vrp_export::Points;
 use vrp_model::Instance;
 use vrp_text::MAX_BYTES;
+
+/// A problem that was read.
+#[derive(Debug, Drop)]
+pub(crate) struct Problem {
+    pub(crate) instance: Instance,
+    /// Where its places lie, if that was asked for and the file tells.
+    pub(crate) points: Option<Points>,
+}
 
 /// The problem that the input means, with the chosen node as its depot and the trucks that were asked for. Reading ends at the end of
 /// the input or after one byte more than a file may have.
 pub(crate) fn read_problem<R: Read>(
     alloc: Global,
     options: Options,
+    wants_points: bool,
     input: &mut R,
-) -> Result<Instance, RunError>
+) -> Result<Problem, RunError>
     requires { AreInRange options }
-    ensures read { IfOk result (ReadsProblem options
-        (R.remaining input.old) (R.remaining input.new)) }
+    ensures read { IfOk result (λ problem. ReadsProblem options
+        (R.remaining input.old) (R.remaining input.new) problem.instance) }
     ensures refused { IfErr result (λ fault. OnRefusedFile fault (RefusesInput options.depot
         (R.remaining input.old) (R.remaining input.new))) }
     ensures failed { IfErr result (λ fault. fault ≡ RunError.Read → TakesAtMost MAX_BYTES
@@ -33,7 +43,15 @@ pub(crate) fn read_problem<R: Read>(
 {
     let bytes = read_input(alloc, input)?;
     let instance = vrp_text::read(alloc, &bytes, options.depot)?;
-    Ok(limited(instance, options.trucks))
+    let points = if wants_points {
+        Points::read(alloc, &bytes, &instance)?
+    } else {
+        None
+    };
+    Ok(Problem {
+        instance: limited(instance, options.trucks),
+        points,
+    })
 }
 
 // The instance with this many trucks, if a number was asked for.

@@ -1,18 +1,19 @@
 //! The program over given words and streams: from a command line to an exit status.
 ghost use Rattle.std.specs.Option.{ForSome, option_map};
-ghost use Rattle.std.specs.Prelude.{◌≡◌, ◌≢◌, ◌≤◌, ◌⊎◌, IsTrue, codes};
+ghost use Rattle.std.specs.Prelude.{◌≡◌, ◌≢◌, ◌≤◌, ◌⊎◌, IfErr, IsTrue, OnOk, codes, is_some};
 ghost use Rattle.std.specs.Io.KnownBytes.{Keeps};
 ghost use Rattle.vrp_command.specs.Fault.{exit_code, start_code};
-ghost use Rattle.vrp_command.specs.Options.{AreInRange, line_code};
-ghost use Rattle.vrp_command.specs.Program.{ChecksPlan, HasWord, PrintsReport, WritesLawful, WritesStatus};
+ghost use Rattle.vrp_command.specs.Options.{AreInRange, IsOtherFormat, line_code};
+ghost use Rattle.vrp_command.specs.Program.{EndsOn, EndsWell, FindsAnswer, FindsForBytes, HasWord, HasWordFrom, PrintsReport, WritesLawful, WritesStatus};
 ghost use Rattle.vrp_model.specs.Route.{IsPlanOf};
 
 use crate::deadline::Deadline;
+use crate::export::{Export, export_answer, export_lawful, export_of};
 use crate::fault::{RunError, exit_status, fault_line};
-use crate::options::{Request, Status};
+use crate::options::{Format, Request, Status};
 use crate::outcome::print_answer;
 use crate::output::write_report;
-use crate::problem::read_problem;
+use crate::problem::{Problem, read_problem};
 use crate::progress::Progress;
 use crate::report::lawful_report;
 use crate::start::{StartError, start_plan};
@@ -29,7 +30,8 @@ use vrp_pool::Gate;
 /// Does what the words behind the program's name ask for, and answers the exit status. The report goes to `output`, and so do the
 /// help and the version; why there is no report goes to `errors`, and how the run goes, where that is asked for, to `rt`. A gate is told
 /// before each piece is searched, and may stop the search, as a limit of seconds does. What the words ask for no clause says, but
-/// that without the word `--check` a plan is searched for.
+/// that without the word `--check` a plan is searched for, and that without a word that begins with `--format` it is printed as the
+/// report.
 pub fn run_words<
     T: Threads + Wait + Clock + Eprint + Files + Sync,
     R: Read,
@@ -47,12 +49,13 @@ pub fn run_words<
 ) -> u8
     ensures known { result ≤ 5 }
     ensures done { result ≡ 0 → Keeps (R.remaining input.old) (R.remaining input.new)
-        ⊎ PrintsReport (G.may_stop gate.now) (R.remaining input.old) (R.remaining input.new)
-        (W.contents output.old) (W.contents output.new) result
-        ⊎ (HasWord words.now (codes "--check") × ChecksPlan
-        (R.remaining input.old) (R.remaining input.new) (W.contents output.old) (W.contents output.new)) }
+        ⊎ EndsWell (HasWord words.now (codes "--check")) (HasWordFrom words.now (codes "--format"))
+        (G.may_stop gate.now) (R.remaining input.old) (R.remaining input.new)
+        (W.contents output.old) (W.contents output.new) result }
     ensures open { result ≡ 1 → PrintsReport (G.may_stop gate.now)
-        (R.remaining input.old) (R.remaining input.new) (W.contents output.old) (W.contents output.new) result }
+        (R.remaining input.old) (R.remaining input.new) (W.contents output.old) (W.contents output.new) result
+        ⊎ (HasWordFrom words.now (codes "--format") × FindsForBytes (G.may_stop gate.now)
+        (R.remaining input.old) (R.remaining input.new) result) }
     ensures refused { result ≡ 2 → Keeps (R.remaining input.old) (R.remaining input.new) }
     ensures silent { 2 ≤ result → result ≤ 4 → Keeps
         (W.contents output.old) (W.contents output.new) }
@@ -82,17 +85,19 @@ fn run_request<
     requires { AreInRange request.options }
     ensures known { result ≤ 5 }
     ensures not_refused { result ≢ 2 }
-    ensures done { result ≡ 0 →
-        PrintsReport (G.may_stop gate.now) (R.remaining input.old) (R.remaining input.new) (W.contents output.old) (W.contents output.new) result
-        ⊎ (IsTrue request.entry.check × ChecksPlan (R.remaining input.old) (R.remaining input.new)
-        (W.contents output.old) (W.contents output.new)) }
+    ensures done { result ≡ 0 → EndsWell (IsTrue request.entry.check) (IsOtherFormat request.entry.format)
+        (G.may_stop gate.now) (R.remaining input.old) (R.remaining input.new)
+        (W.contents output.old) (W.contents output.new) result }
     ensures open { result ≡ 1 → PrintsReport (G.may_stop gate.now)
-        (R.remaining input.old) (R.remaining input.new) (W.contents output.old) (W.contents output.new) result }
+        (R.remaining input.old) (R.remaining input.new) (W.contents output.old) (W.contents output.new) result
+        ⊎ (IsOtherFormat request.entry.format × FindsForBytes (G.may_stop gate.now)
+        (R.remaining input.old) (R.remaining input.new) result) }
     ensures silent { 2 ≤ result → result ≤ 4 → Keeps
         (W.contents output.old) (W.contents output.new) }
 {
     let deadline = Deadline::new(rt, request.seconds, gate);
-    match read_problem(alloc, request.options, input) {
+    let wants_points = request.format == Format::Picture;
+    match read_problem(alloc, request.options, wants_points, input) {
         Ok(problem) => run_on(rt, alloc, &problem, request, output, errors, &deadline),
         Err(fault) => end(alloc, &Err(fault), errors),
     }
@@ -102,7 +107,7 @@ fn run_request<
 fn run_on<T: Threads + Wait + Clock + Eprint + Files + Sync, W: Write, E: Write, G: Gate + Sync>(
     rt: &T,
     alloc: Global,
-    problem: &Instance,
+    problem: &Problem,
     request: Request<'_>,
     output: &mut W,
     errors: &mut E,
@@ -111,26 +116,32 @@ fn run_on<T: Threads + Wait + Clock + Eprint + Files + Sync, W: Write, E: Write,
     requires { AreInRange request.options }
     ensures known { result ≤ 5 }
     ensures not_refused { result ≢ 2 }
-    ensures done { result ≡ 0 →
-        WritesStatus request.entry.options (G.may_stop gate.now) problem.now (W.contents output.old) (W.contents output.new) result
-        ⊎ (IsTrue request.entry.check × WritesLawful problem.now
-        (W.contents output.old) (W.contents output.new)) }
-    ensures open { result ≡ 1 → WritesStatus request.entry.options (G.may_stop gate.now) problem.now
-        (W.contents output.old) (W.contents output.new) result }
+    ensures done { result ≡ 0 → EndsOn (IsTrue request.entry.check) (IsOtherFormat request.entry.format)
+        request.entry.options (G.may_stop gate.now) problem.now.instance (W.contents output.old) (W.contents output.new) result }
+    ensures open { result ≡ 1 → WritesStatus request.entry.options (G.may_stop gate.now) problem.now.instance
+        (W.contents output.old) (W.contents output.new) result
+        ⊎ (IsOtherFormat request.entry.format × FindsAnswer request.entry.options (G.may_stop gate.now) problem.now.instance result) }
     ensures silent { 2 ≤ result → result ≤ 4 → Keeps
         (W.contents output.old) (W.contents output.new) }
 {
-    let Some(path) = request.start else {
-        return search(rt, alloc, problem, None, request, output, errors, gate);
+    let instance = &problem.instance;
+    let Ok(export) = export_of(&request, problem) else {
+        return end_without_points(errors);
     };
-    match start_plan(rt, alloc, problem, path, errors) {
-        Ok(plan) if request.check => print_lawful(alloc, problem, &plan, output, errors),
+    let Some(path) = request.start else {
+        return search(
+            rt, alloc, instance, None, request, export, output, errors, gate,
+        );
+    };
+    match start_plan(rt, alloc, instance, path, errors) {
+        Ok(plan) if request.check => print_lawful(alloc, instance, &plan, export, output, errors),
         Ok(plan) => search(
             rt,
             alloc,
-            problem,
+            instance,
             Some(&plan),
             request,
+            export,
             output,
             errors,
             gate,
@@ -146,6 +157,7 @@ fn search<T: Threads + Wait + Clock + Eprint + Sync, W: Write, E: Write, G: Gate
     problem: &Instance,
     start: Option<&Plan>,
     request: Request<'_>,
+    export: Option<Export<'_>>,
     output: &mut W,
     errors: &mut E,
     gate: &G,
@@ -155,20 +167,19 @@ fn search<T: Threads + Wait + Clock + Eprint + Sync, W: Write, E: Write, G: Gate
     ensures known { result ≤ 5 }
     ensures not_refused { result ≢ 2 }
     ensures printed { result ≤ 1 → WritesStatus request.entry.options (G.may_stop gate.now) problem.now
-        (W.contents output.old) (W.contents output.new) result }
+        (W.contents output.old) (W.contents output.new) result
+        ⊎ (IsTrue (is_some export) × FindsAnswer request.entry.options (G.may_stop gate.now) problem.now result) }
     ensures silent { 2 ≤ result → result ≤ 4 → Keeps
         (W.contents output.old) (W.contents output.new) }
 {
     let progress = Progress::new(rt, request.progress, gate);
-    let outcome = print_answer(
-        rt,
-        alloc,
-        problem,
-        start,
-        request.options,
-        output,
-        &progress,
-    );
+    let options = request.options;
+    let outcome = match export {
+        None => print_answer(rt, alloc, problem, start, options, output, &progress),
+        Some(export) => export_answer(
+            rt, alloc, problem, start, options, export, output, errors, &progress,
+        ),
+    };
     progress.tell_end(&outcome);
     end(alloc, &outcome, errors)
 }
@@ -178,6 +189,7 @@ fn print_lawful<W: Write, E: Write>(
     alloc: Global,
     problem: &Instance,
     plan: &Plan,
+    export: Option<Export<'_>>,
     output: &mut W,
     errors: &mut E,
 ) -> u8
@@ -186,17 +198,36 @@ fn print_lawful<W: Write, E: Write>(
     ensures not_refused { result ≢ 2 }
     ensures not_open { result ≢ 1 }
     ensures printed { result ≡ 0 → WritesLawful problem.now
-        (W.contents output.old) (W.contents output.new) }
+        (W.contents output.old) (W.contents output.new) ⊎ IsTrue (is_some export) }
     ensures silent { 2 ≤ result → result ≤ 4 → Keeps
         (W.contents output.old) (W.contents output.new) }
 {
-    let Ok(report) = lawful_report(alloc, problem, plan) else {
-        return end(alloc, &Err(RunError::OutOfMemory), errors);
+    let printed = match export {
+        None => write_lawful(alloc, problem, plan, output),
+        Some(export) => export_lawful(alloc, problem, plan, export, output),
     };
-    match write_report(output, report.as_bytes()) {
+    match printed {
         Ok(()) => 0,
         Err(fault) => end(alloc, &Err(fault), errors),
     }
+}
+
+// Writes the report of a lawful plan. On a fault other than `Write` nothing is written.
+fn write_lawful<W: Write>(
+    alloc: Global,
+    problem: &Instance,
+    plan: &Plan,
+    output: &mut W,
+) -> Result<(), RunError>
+    requires { IsPlanOf problem.now plan.now }
+    ensures written { OnOk result (WritesLawful problem.now
+        (W.contents output.old) (W.contents output.new)) }
+    ensures silent { IfErr result (λ fault. fault ≢ RunError.Write → Keeps
+        (W.contents output.old) (W.contents output.new)) }
+    ensures faults { IfErr result (λ fault. (fault ≡ RunError.OutOfMemory) ⊎ (fault ≡ RunError.Write)) }
+{
+    let report = lawful_report(alloc, problem, plan)?;
+    write_report(output, report.as_bytes())
 }
 
 /// The exit status where the words give no options, or where there are none. The help and the version go to `output`, and all else
@@ -236,4 +267,15 @@ fn end_without_start<E: Write>(error: &StartError, errors: &mut E) -> u8
         StartError::OutOfMemory => 4,
         StartError::Read => 5,
     }
+}
+
+// The exit status where a picture was asked for and the file has no coordinates, which goes to `errors` as one line. Where that can't
+// be written nothing more is done.
+fn end_without_points<E: Write>(errors: &mut E) -> u8
+    ensures { result ≡ 3 }
+{
+    let _ = errors.write_all(
+        b"cvrp: no picture: the file has no whole coordinates for each node\n",
+    );
+    3
 }

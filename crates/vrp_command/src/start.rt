@@ -56,16 +56,15 @@ pub(crate) fn start_plan<T: Files, E: Write>(
 {
     let text = read_file(rt, alloc, path)?;
     let solution = Solution::read(alloc, &text, instance)?;
-    let plan = solution.plan(alloc, instance)?;
-    let cost = plan.cost();
-    if solution.states_other_cost(cost) {
+    let cost = solution.plan.cost();
+    if solution.states_other_cost {
         // Nobody is told where it can't be written.
         let _ = writeln!(
             errors,
             "cvrp: start plan: it states another cost than its true one, {cost}"
         );
     }
-    Ok(plan)
+    Ok(solution.plan)
 }
 
 // All bytes of a file.

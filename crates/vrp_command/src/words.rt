@@ -1,14 +1,15 @@
 //! Reads the words of a command line: how a run is asked for.
 ghost use Rattle.std.specs.Prelude.{◌≡◌, ◌≢◌, ◌≤◌, IfOk, IsTrue, codes};
+ghost use Rattle.std.specs.Io.{StartsWith};
 ghost use Rattle.std.specs.Option.{ForSome};
 ghost use Rattle.clap.specs.Words.{kind_of};
 ghost use Rattle.vrp_model.specs.declared.limits.TheConstants.{MAX_NODES};
 ghost use Rattle.vrp_command.specs.Options.{AreInRange, HasDepotFromOne, HasDepotWithin, line_code};
-ghost use Rattle.vrp_command.specs.Program.{HasWord};
+ghost use Rattle.vrp_command.specs.Program.{HasWord, HasWordFrom, IsOtherFormat};
 ghost use Rattle.vrp_command.specs.declared.options.TheConstants.{MAX_SECONDS};
 
 use crate::grammar::grammar;
-use crate::options::{MAX_BUDGET, MAX_SECONDS, Options, Request};
+use crate::options::{Format, MAX_BUDGET, MAX_SECONDS, Options, Request};
 use clap::error::ErrorKind;
 use clap::{ArgMatches, Error};
 use std::alloc::{AllocError, Global};
@@ -45,6 +46,7 @@ pub fn parse_request<'a>(alloc: Global, words: &'a [&'a str]) -> Result<Request<
     ensures some_depot { IfOk result (λ request. HasDepotFromOne request.options) }
     ensures few_depot { IfOk result (λ request. HasDepotWithin request.options) }
     ensures check { IfOk result (λ request. IsTrue request.check → HasWord words.now (codes "--check")) }
+    ensures format { IfOk result (λ request. IsOtherFormat request.format → HasWordFrom words.now (codes "--format")) }
 {
     match asked_for(alloc, words) {
         Ok(request) => Ok(request),
@@ -99,9 +101,16 @@ fn asked_for<'a>(alloc: Global, words: &'a [&'a str]) -> Result<Request<'a>, Err
     ensures some_depot { IfOk result (λ request. HasDepotFromOne request.options) }
     ensures few_depot { IfOk result (λ request. HasDepotWithin request.options) }
     ensures check { IfOk result (λ request. IsTrue request.check → HasWord words.now (codes "--check")) }
+    ensures format { IfOk result (λ request. IsOtherFormat request.format → HasWordFrom words.now (codes "--format")) }
 {
     let matches = grammar(alloc)?.try_get_matches_from(words)?;
-    Ok(chosen(&matches, has_word(words, "--check")))
+    let check = has_word(words, "--check");
+    let format = if has_word_from(words, "--format") {
+        format(&matches)
+    } else {
+        Format::Report
+    };
+    Ok(chosen(&matches, check, format))
 }
 
 // Whether one of the words is this one.
@@ -109,6 +118,35 @@ fn has_word(words: &[&str], word: &str) -> bool
     ensures { IsTrue result → HasWord words.now word.now }
 {
     words.contains(&word)
+}
+
+// Whether one of the words begins like this.
+fn has_word_from(words: &[&str], start: &str) -> bool
+    ensures { IsTrue result → HasWordFrom words.now start.now }
+{
+    for word in words {
+        if begins_with(word.as_bytes(), start.as_bytes()) {
+            return true;
+        }
+    }
+    false
+}
+
+// Whether a word begins like this. (Of std's `starts_with` no clause says so plainly.)
+fn begins_with(word: &[u8], start: &[u8]) -> bool
+    ensures { IsTrue result → StartsWith word.now start.now }
+{
+    start.len() <= word.len() && &word[..start.len()] == start
+}
+
+// The form that the words name, and else the report.
+fn format(matches: &ArgMatches<'_>) -> Format {
+    match matches.get_str("format") {
+        Some("sol") => Format::Solution,
+        Some("json") => Format::Json,
+        Some("svg") => Format::Picture,
+        _ => Format::Report,
+    }
 }
 
 /// The fault of words that `clap` doesn't take.
@@ -126,8 +164,9 @@ pub(crate) fn line_fault(alloc: Global, error: &Error) -> LineFault
 }
 
 // The values that stand in the words, and else the defaults.
-fn chosen<'a>(matches: &ArgMatches<'a>, check: bool) -> Request<'a>
+fn chosen<'a>(matches: &ArgMatches<'a>, check: bool, format: Format) -> Request<'a>
     ensures check { result.check ≡ check }
+    ensures format { result.format ≡ format }
     ensures in_range { AreInRange result.options }
     ensures some_depot { HasDepotFromOne result.options }
     ensures few_depot { HasDepotWithin result.options }
@@ -152,6 +191,7 @@ fn chosen<'a>(matches: &ArgMatches<'a>, check: bool) -> Request<'a>
         progress: matches.get_flag("progress"),
         start: matches.get_str("start"),
         check,
+        format,
     }
 }
 

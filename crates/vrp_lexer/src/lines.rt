@@ -158,7 +158,12 @@ impl<'a> Lines<'a> {
         ensures value { MatchOption result
             (parts_left self.old ≡ [])
             (λ heading. (self.new.number ≡ heading.number + 1)
-            × (parts_left self.old ≡ record { line = heading.number; keyword = heading.keyword; behind = tokens_of heading.behind.now; data_lines = data_left self.new } ∷ parts_left self.new)) }
+            × (parts_left self.old ≡ record {
+              line = heading.number;
+              keyword = heading.keyword;
+              behind = tokens_of heading.behind.now;
+              data_lines = data_left self.new;
+            } ∷ parts_left self.new)) }
         ensures after { IsNone result → self.new.lines ≡ [] }
     {
         while let Some((number, text, lines)) = self.split_first() {

@@ -1,4 +1,4 @@
-//! A solution: the routes that a text gives, and the cost that it states.
+//! A solution: the lawful plan that a text gives, and whether it states another cost.
 ghost use Rattle.std.specs.Prelude.{IfOk};
 ghost use Rattle.vrp_model.specs.Route.{IsPlanOf};
 
@@ -10,35 +10,60 @@ use std::alloc::Global;
 use vrp_lexer::Tokens;
 use vrp_model::{Instance, Plan};
 
-/// A plan as a text gives it, not yet known to be lawful.
+/// A lawful plan that a text gave.
 #[derive(Debug, Drop)]
 pub struct Solution {
-    // In the order of the text; those without stops are left out.
-    routes: Vec<Route>,
-    cost: Option<StatedCost>,
+    /// The plan, with its true cost.
+    pub plan: Plan,
+    /// Whether the text states a cost, and not that one.
+    pub states_other_cost: bool,
 }
 
 impl Solution {
     /// Reads a solution of an instance, as CVRPLIB writes it: for each route a line `Route #1: 5 2` and a line `Cost 521`. Customers
     /// have the numbers of their places: from 1 on by rising node, the depot left out. Lines end with a line feed, before which a
-    /// carriage return may stand, or with the text. A line of the cost may be missing, and so may a route's stops.
+    /// carriage return may stand, or with the text. A line of the cost may be missing, and so may a route's stops. Where the plan is
+    /// not lawful, the error says why.
     ///
-    /// Which text gives which routes is left open.
-    pub fn read(
-        alloc: Global,
-        text: &[u8],
-        instance: &Instance,
-    ) -> Result<Solution, SolutionError> {
-        let mut solution = Solution {
+    /// Which text gives which plan, or which error, is left open.
+    pub fn read(alloc: Global, text: &[u8], instance: &Instance) -> Result<Solution, SolutionError>
+        ensures { IfOk result (λ solution. IsPlanOf instance.now solution.plan) }
+    {
+        let listing = Listing::read(alloc, text, instance)?;
+        match plan_of(alloc, instance, &listing.routes)? {
+            Some(plan) => {
+                let states_other_cost = listing.states_other_cost(plan.cost());
+                Ok(Solution {
+                    plan,
+                    states_other_cost,
+                })
+            }
+            None => Err(refusal_of(alloc, instance, &listing.routes)?),
+        }
+    }
+}
+
+// The routes that a text lists, not yet known to be a lawful plan, and the cost that it states.
+#[derive(Debug, Drop)]
+struct Listing {
+    // In the order of the text; those without stops are left out.
+    routes: Vec<Route>,
+    cost: Option<StatedCost>,
+}
+
+impl Listing {
+    // Reads all lines of a text.
+    fn read(alloc: Global, text: &[u8], instance: &Instance) -> Result<Listing, SolutionError> {
+        let mut listing = Listing {
             routes: Vec::new(alloc),
             cost: None,
         };
         let mut number = 0u64;
         for line in text.split(|byte| *byte == b'\n') {
             number = number.saturating_add(1);
-            solution.add_line(alloc, number, line, instance)?;
+            listing.add_line(alloc, number, line, instance)?;
         }
-        Ok(solution)
+        Ok(listing)
     }
 
     // Adds what the line of this number says.
@@ -80,18 +105,8 @@ impl Solution {
         Ok(())
     }
 
-    /// The plan, with its true cost, where it is lawful for the instance; else why it isn't.
-    pub fn plan(&self, alloc: Global, instance: &Instance) -> Result<Plan, SolutionError>
-        ensures { IfOk result (IsPlanOf instance.now) }
-    {
-        match plan_of(alloc, instance, &self.routes)? {
-            Some(plan) => Ok(plan),
-            None => Err(refusal_of(alloc, instance, &self.routes)?),
-        }
-    }
-
-    /// Whether the text states a cost, and not this one. Left open.
-    pub fn states_other_cost(&self, cost: u64) -> bool {
+    // Whether the text states a cost, and not this one.
+    fn states_other_cost(&self, cost: u64) -> bool {
         match self.cost {
             Some(StatedCost::Whole(stated)) => stated != cost,
             Some(StatedCost::Fraction) => true,

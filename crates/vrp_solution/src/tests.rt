@@ -47,27 +47,18 @@ type Read<'a> = Result<(&'a [u16], u64, bool), SolutionError>;
 
 // Asserts what is read from a text.
 fn assert_read(rt: &impl Abort, alloc: Global, instance: &Instance, text: &str, wanted: Read<'_>) {
-    match read(alloc, instance, text) {
-        Ok((solution, plan)) => {
-            let other = solution.states_other_cost(plan.cost());
-            assert!(rt;
-                Ok((plan.word(), plan.cost(), other)) == wanted,
-                "{text}: {plan:?}"
-            );
-        }
+    match Solution::read(alloc, text.as_bytes(), instance) {
+        Ok(
+            Solution {
+                plan,
+                states_other_cost,
+            },
+        ) => assert!(rt;
+            Ok((plan.word(), plan.cost(), states_other_cost)) == wanted,
+            "{text}: {plan:?}"
+        ),
         Err(error) => assert!(rt; Err(error) == wanted, "{text}: {error}"),
     }
-}
-
-// A text's solution and its plan.
-fn read(
-    alloc: Global,
-    instance: &Instance,
-    text: &str,
-) -> Result<(Solution, vrp_model::Plan), SolutionError> {
-    let solution = Solution::read(alloc, text.as_bytes(), instance)?;
-    let plan = solution.plan(alloc, instance)?;
-    Ok((solution, plan))
 }
 
 const TWO: &[u16] = &[1, 2, 0, 3, 4, 0];
@@ -300,6 +291,7 @@ fn as_many_as_there_may_be(rt: HostRuntime) {
     let demands = Vec::from_elem(rt.alloc(), 0u64, 1_200).expect(&rt, "memory");
     let instance = instance(&rt, rt.alloc(), &ways, &demands, None);
     let text = singles(&rt, rt.alloc(), 1_200);
-    let (_, plan) = read(rt.alloc(), &instance, &text).expect(&rt, "a plan");
+    let solution = Solution::read(rt.alloc(), text.as_bytes(), &instance).expect(&rt, "a plan");
+    let plan = &solution.plan;
     assert!(rt; plan.routes() == 1_199 && plan.cost() == 2_398);
 }

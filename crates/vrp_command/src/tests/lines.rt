@@ -1,8 +1,8 @@
 //! Command lines: what they ask for, and how they are refused.
 use crate::words::line_fault;
 use crate::{
-    LineFault, MAX_BUDGET, MAX_PIECES, MAX_SECONDS, MAX_WORKERS, Options, Request, end_without_run,
-    line_status, parse_request, parse_words, words_fault,
+    Format, LineFault, MAX_BUDGET, MAX_PIECES, MAX_SECONDS, MAX_WORKERS, Options, Request,
+    end_without_run, line_status, parse_request, parse_words, words_fault,
 };
 use clap::Error;
 use std::alloc::{AllocError, Global};
@@ -132,6 +132,7 @@ fn seconds(rt: HostRuntime) {
             progress: *progress,
             start: None,
             check: false,
+            format: Format::Report,
         };
         assert_request(&rt, rt.alloc(), words, wanted);
     }
@@ -154,12 +155,40 @@ fn starts(rt: HostRuntime) {
             progress: false,
             start: Some("a.sol"),
             check: *check,
+            format: Format::Report,
         };
         assert_request(&rt, rt.alloc(), words, wanted);
     }
     let alone = "error: the following required arguments were not provided:\n  --start <FILE>\n";
     assert_refused(&rt, rt.alloc(), &["--check"], alone);
     assert_refused(&rt, rt.alloc(), &["--start"], "error: a value is required");
+}
+
+// Words that name a form.
+const FORMATS: &[(&[&str], Format)] = &[
+    (&["--format", "report"], Format::Report),
+    (&["--format", "sol"], Format::Solution),
+    (&["--format=json"], Format::Json),
+    (&["--format", "svg"], Format::Picture),
+];
+
+#[test]
+fn formats(rt: HostRuntime) {
+    for (words, format) in FORMATS {
+        let wanted = Request {
+            options: DEFAULT,
+            seconds: None,
+            progress: false,
+            start: None,
+            check: false,
+            format: *format,
+        };
+        assert_request(&rt, rt.alloc(), words, wanted);
+    }
+    let invalid =
+        "error: invalid value 'pdf' for '--format <FORM>'\n  [possible values: report, sol, json, svg]\n";
+    assert_refused(&rt, rt.alloc(), &["--format", "pdf"], invalid);
+    assert_refused(&rt, rt.alloc(), &["--format"], "error: a value is required");
 }
 
 #[test]

@@ -1,4 +1,5 @@
-use Rattle.vrp_command.proofs.PlaceLemmas.{answer_lawful, stops_within}
+use Rattle.vrp_export.proofs.Places.{stops_within}
+use Rattle.vrp_command.proofs.LawfulAnswers.{answer_lawful}
 use Rattle.vrp_command.proofs.outcome.answer_to.Goals as goal
 
 pub report-requires : goal.report-requires

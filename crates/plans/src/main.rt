@@ -1,5 +1,5 @@
-//! The program with plans to begin with. Each line of the file `runs` is a problem's file and the words of a command line; printed are
-//! the exit status, the report and what is told on standard error.
+//! The program with plans to begin with, and with plans printed in all forms. Each line of the file `runs` is a problem's file and the
+//! words of a command line; printed are the exit status, the report and what is told on standard error.
 #![tactic(auto)]
 
 use anyhow::{Context, Result};

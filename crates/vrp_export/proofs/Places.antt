@@ -1,16 +1,12 @@
 -- The stops of a lawful plan are places of the problem.
-use Rattle.std.proofs.Common.{◌≡◌, ℕ, suc, ◌<◌, Bool, None, Some, List, [], ◌∷◌, ◌++◌, get_or, subst, arith}
+use Rattle.std.proofs.Common.{ℕ, suc, ◌<◌, List, [], ◌∷◌, ◌++◌, get_or, arith}
 use Rattle.std.specs.List.{All, concat}
 use Rattle.std.proofs.lemmas.List.Elements.{All-cons, All-nil, Contains-get_or}
 use Rattle.std.proofs.lemmas.List.Sorted.{Contains-permutation}
 use Rattle.vrp_model.specs.Problem.{Problem, customers, place_count}
 use Rattle.vrp_model.proofs.CustomerPlaces.{customer_below}
-use Rattle.vrp_model.specs.Route.{IsLawful, IsPlanOf}
-use Rattle.std.specs.Option.{ForSome}
-use Rattle.vrp_command.specs.Answer.{IsAnswerTo}
-use Rattle.vrp_pool.specs.Answer.{known_plan}
-use Rattle.vrp_pool.specs.declared.answers.Answer.{Answer}
-use Rattle.vrp_pool.specs.declared.answers.Answer.TheVariants.{NoPlan, Open, Proven}
+use Rattle.vrp_model.specs.Route.{IsLawful}
+use Rattle.vrp_export.specs.Stops.{HaveStopsIn}
 
 parts : (P : ℕ → Type 0) (xs ys : List ℕ) → All P (xs ++ ys) → All P xs × All P ys
 parts P [] ys all = (All-nil P, all)
@@ -23,13 +19,7 @@ route_by_route P [] all = All-nil (All P)
 route_by_route P (route ∷ routes) all =
     let (here, rest) = parts P route (concat routes) all in All-cons (All P) route routes here (route_by_route P routes rest)
 
-pub stops_within : (p : Problem) (routes : List (List ℕ)) → IsLawful p routes → All (All (λ place. place < place_count p)) routes
+pub stops_within : (p : Problem) (routes : List (List ℕ)) → IsLawful p routes → HaveStopsIn p routes
 stops_within p routes lawful =
     route_by_route (λ place. place < place_count p) routes (λ k d lt.
     customer_below p (get_or (concat routes) k d) (Contains-permutation (concat routes) (customers p) (get_or (concat routes) k d) lawful.served (Contains-get_or (concat routes) k d lt)))
-
--- the plan of an answer is lawful
-pub answer_lawful : (p : Problem) (pieces budget : ℕ) (may_stop : Bool) (found : Answer) → IsAnswerTo p pieces budget may_stop found → ForSome (known_plan found) (IsPlanOf p)
-answer_lawful p pieces budget may_stop (Proven plan) first = λ other same. (let one : plan ≡ other = cc in subst (IsPlanOf p) one first.plan_of)
-answer_lawful p pieces budget may_stop (Open plan low lowest) left = left.left_open.plan_of
-answer_lawful p pieces budget may_stop NoPlan nothing = λ other same. absurd (let never : None ≡ Some other = same in cc)
