@@ -35,7 +35,7 @@ HasDepotWithin options = ForSome options.depot (λ node. node ≤ MAX_NODES)
 
 -- another form than the report
 abbrev pub IsOtherFormat : Format → Type 0
-IsOtherFormat format = format ≢ format.Report
+IsOtherFormat asked = asked ≢ format.Report
 
 abbrev pub line_code : LineFault → ℕ
 line_code (line.Help text) = 0

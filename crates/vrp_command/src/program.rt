@@ -168,7 +168,7 @@ fn search<T: Threads + Wait + Clock + Eprint + Sync, W: Write, E: Write, G: Gate
     ensures not_refused { result ≢ 2 }
     ensures printed { result ≤ 1 → WritesStatus request.entry.options (G.may_stop gate.now) problem.now
         (W.contents output.old) (W.contents output.new) result
-        ⊎ (IsTrue (is_some export) × FindsAnswer request.entry.options (G.may_stop gate.now) problem.now result) }
+        ⊎ (IsTrue (is_some export.entry) × FindsAnswer request.entry.options (G.may_stop gate.now) problem.now result) }
     ensures silent { 2 ≤ result → result ≤ 4 → Keeps
         (W.contents output.old) (W.contents output.new) }
 {
@@ -198,7 +198,7 @@ fn print_lawful<W: Write, E: Write>(
     ensures not_refused { result ≢ 2 }
     ensures not_open { result ≢ 1 }
     ensures printed { result ≡ 0 → WritesLawful problem.now
-        (W.contents output.old) (W.contents output.new) ⊎ IsTrue (is_some export) }
+        (W.contents output.old) (W.contents output.new) ⊎ IsTrue (is_some export.entry) }
     ensures silent { 2 ≤ result → result ≤ 4 → Keeps
         (W.contents output.old) (W.contents output.new) }
 {

@@ -4,8 +4,8 @@ ghost use Rattle.std.specs.Io.{StartsWith};
 ghost use Rattle.std.specs.Option.{ForSome};
 ghost use Rattle.clap.specs.Words.{kind_of};
 ghost use Rattle.vrp_model.specs.declared.limits.TheConstants.{MAX_NODES};
-ghost use Rattle.vrp_command.specs.Options.{AreInRange, HasDepotFromOne, HasDepotWithin, line_code};
-ghost use Rattle.vrp_command.specs.Program.{HasWord, HasWordFrom, IsOtherFormat};
+ghost use Rattle.vrp_command.specs.Options.{AreInRange, HasDepotFromOne, HasDepotWithin, IsOtherFormat, line_code};
+ghost use Rattle.vrp_command.specs.Program.{HasWord, HasWordFrom};
 ghost use Rattle.vrp_command.specs.declared.options.TheConstants.{MAX_SECONDS};
 
 use crate::grammar::grammar;
@@ -105,11 +105,7 @@ fn asked_for<'a>(alloc: Global, words: &'a [&'a str]) -> Result<Request<'a>, Err
 {
     let matches = grammar(alloc)?.try_get_matches_from(words)?;
     let check = has_word(words, "--check");
-    let format = if has_word_from(words, "--format") {
-        format(&matches)
-    } else {
-        Format::Report
-    };
+    let format = format_of(&matches, words);
     Ok(chosen(&matches, check, format))
 }
 
@@ -140,7 +136,12 @@ fn begins_with(word: &[u8], start: &[u8]) -> bool
 }
 
 // The form that the words name, and else the report.
-fn format(matches: &ArgMatches<'_>) -> Format {
+fn format_of(matches: &ArgMatches<'_>, words: &[&str]) -> Format
+    ensures { IsOtherFormat result → HasWordFrom words.now (codes "--format") }
+{
+    if !has_word_from(words, "--format") {
+        return Format::Report;
+    }
     match matches.get_str("format") {
         Some("sol") => Format::Solution,
         Some("json") => Format::Json,

@@ -5,4 +5,4 @@ use Rattle.vrp_command.proofs.export.export_answer.Goals as goal
 pub export_text-requires : goal.export_text-requires
 export_text-requires g c =
     let p = c.args.instance.now in
-    λ plan is. rw c.finding_of.ensures.instance (answer_lawful p c.args.options.pieces c.args.options.budget (g.G.Gate.may_stop c.args.gate.now) c.in_ok-answer.answer c.in_ok-answer.ensures plan (sym c.finding_of.ensures.plan ∙ is))
+    λ plan is. rw c.finding_of-finding.ensures.instance (answer_lawful p c.args.options.pieces c.args.options.budget (g.G.Gate.may_stop c.args.gate.now) c.in_ok-answer.answer c.in_ok-answer.ensures plan (sym c.finding_of-finding.ensures.plan ∙ is))
