@@ -1,7 +1,7 @@
 //! The cost word: the least cost that any caller has offered, read and lowered without a lock.
 ghost use Rattle.std.specs.Prelude.{◌≡◌, ◌<◌, IfOk, [], ◌∷◌, length};
 ghost use Rattle.vrp_register.specs.Costs.{HaveHistory, IsOffered, IsSeen, offer_count};
-ghost use Rattle.vrp_register.specs.Inner.Seats.{gathered_at, maker_after, new_maker, seat_made, with_caller};
+ghost use Rattle.vrp_register.specs.Inner.Seats.{closing_with, maker_after, new_maker, seat_made, with_caller};
 
 use crate::view::View;
 use atomic_table::{Join, Play, Seat, Split, Table, TableRule};
@@ -109,27 +109,27 @@ impl Model for Maker {
 
 /// A seat that has taken in callers.
 #[derive(Drop)]
-pub(crate) struct Gathered {
+pub(crate) struct ClosingSeat {
     seat: Seat<u8, View>,
 }
 
-impl Model for Gathered {
+impl Model for ClosingSeat {
     ghost use Rattle.std.specs.Prelude.{◌≡◌, []};
-    ghost use Rattle.vrp_register.specs.Inner.Seats.{GatheredState, gathered_at, seat_with};
+    ghost use Rattle.vrp_register.specs.Inner.Seats.{ClosingState, closing_with, seat_with};
 
-    ghost Value = { GatheredState };
+    ghost Value = { ClosingState };
 
-    ghost view = { λ s. gathered_at s.seat.table_id s.seat.me.0.callers };
+    ghost view = { λ s. closing_with s.seat.table_id s.seat.me.0.callers };
 
     ghost invariant = { λ s. s.seat.me ≡ (seat_with s.seat.me.0.callers, []) };
 }
 
 impl CostSeat {
     /// The seat, to take in others.
-    pub(crate) fn gather(self) -> Gathered
-        ensures { result ≡ gathered_at self.table (self.known ∷ []) }
+    pub(crate) fn closing(self) -> ClosingSeat
+        ensures { result ≡ closing_with self.table (self.known ∷ []) }
     {
-        Gathered { seat: self.seat }
+        ClosingSeat { seat: self.seat }
     }
 }
 
@@ -181,23 +181,23 @@ impl CostWord {
     }
 
     /// Takes a caller in, before the others.
-    pub(crate) fn take_in(&self, gathered: &mut Gathered, caller: CostSeat)
-        requires gathered { gathered.old.table ≡ self.now.table }
+    pub(crate) fn take_in(&self, closing: &mut ClosingSeat, caller: CostSeat)
+        requires closing { closing.old.table ≡ self.now.table }
         requires caller { caller.table ≡ self.now.table }
-        ensures { gathered.new ≡ with_caller caller.known gathered.old }
+        ensures { closing.new ≡ with_caller caller.known closing.old }
     {
         self.table
             .shared
-            .join_seat::<Numbering>(&mut gathered.seat, caller.seat)
+            .join_seat::<Numbering>(&mut closing.seat, caller.seat)
     }
 
     /// What the word holds at the end, once all callers were taken in: the least cost of their one history.
-    pub(crate) fn close(self, gathered: Gathered) -> u64
-        requires table { gathered.table ≡ self.table }
-        requires all { length gathered.callers ≡ self.count }
-        ensures { HaveHistory self.opening gathered.callers (offer_count gathered.callers) result }
+    pub(crate) fn close(self, closing: ClosingSeat) -> u64
+        requires table { closing.table ≡ self.table }
+        requires all { length closing.callers ≡ self.count }
+        ensures { HaveHistory self.opening closing.callers (offer_count closing.callers) result }
     {
-        let closed = self.table.close_with(gathered.seat);
+        let closed = self.table.close_with(closing.seat);
         let least = closed.word(0);
         closed.free();
         least

@@ -5,20 +5,17 @@ ghost use Rattle.std.specs.Option.{option_map};
 ghost use Rattle.vrp_model.specs.Cheapest.{cost_of};
 ghost use Rattle.vrp_register.specs.Caller.{newcomers, IsCallerOf, AreCallersOf, accepted_of, known_of};
 ghost use Rattle.vrp_register.specs.Costs.{HaveHistory, IsOffered, IsSeen};
-ghost use Rattle.vrp_register.specs.Inner.Seats.{gathered_at};
+ghost use Rattle.vrp_register.specs.Inner.Seats.{closing_with};
 
 use crate::book::{Book, copied};
 use crate::caller::Caller;
-use crate::cost_word::{CostWord, Gathered};
+use crate::cost_word::{ClosingSeat, CostWord};
 use crate::counted::CountedBook;
 use std::alloc::Global;
 use std::marker::Model;
 use std::sync::ledger::{Blank, Ledger, Share};
 use std::sync::{Mutex, Wait};
 use vrp_model::{NO_COST, NoMemory, Plan};
-
-#[cfg(test)]
-mod tests;
 
 /// Keeps the first plan that any caller has offered, by cost and then by word, and the least cost in a word that is read without
 /// the lock.
@@ -158,18 +155,18 @@ fn opening_cost(plan: Option<&Plan>) -> u64
 }
 
 // All shares as one, and a seat that has taken in all callers.
-fn merged<L: Ledger>(least: &CostWord, mut callers: Vec<Caller<L>>) -> (Share<L>, Gathered)
+fn merged<L: Ledger>(least: &CostWord, mut callers: Vec<Caller<L>>) -> (Share<L>, ClosingSeat)
     requires some { 1 ≤ vec_len callers }
     requires table { All (λ c. c.table ≡ least.now.table) callers.items }
     ensures parts { result.0.parts ≡ vec_len callers }
     ensures amount { result.0.amount ≡ accepted_of callers.items }
-    ensures seats { result.1 ≡ gathered_at least.now.table (known_of callers.items) }
+    ensures seats { result.1 ≡ closing_with least.now.table (known_of callers.items) }
 {
     let Some(last) = callers.pop() else {
         unreachable!()
     };
     let (mut shares, seat) = last.into_parts();
-    let mut seats = seat.gather();
+    let mut seats = seat.closing();
     while let Some(caller) = callers.pop() {
         let (share, seat) = caller.into_parts();
         shares.merge(share);

@@ -1,10 +1,10 @@
 //! Cuttings: the lawful words of an instance, shared out among pieces that are searched one by one.
-ghost use Rattle.std.specs.Prelude.{◌≡◌, ◌⊎◌, ◌+◌, ◌-◌, ◌*◌, ◌≤◌, ◌<◌, IfOk, OnOk, OnErr, [], ◌∷◌, ◌++◌, length, map, max, IsTrue, ◌↔◌};
+ghost use Rattle.std.specs.Prelude.{◌≡◌, ◌+◌, ◌-◌, ◌*◌, ◌≤◌, ◌<◌, IfOk, OnOk, OnErr, [], ◌∷◌, ◌++◌, length, map, max, IsTrue, ◌↔◌};
 ghost use Rattle.std.specs.List.{All};
 ghost use Rattle.vrp_model.specs.Word.{IsFront};
 ghost use Rattle.vrp_model.specs.declared.limits.TheConstants.{MAX_NODES};
 ghost use Rattle.vrp_search.specs.declared.cutting.TheConstants.{MAX_PIECES, MAX_REFINED};
-ghost use Rattle.vrp_search.specs.Cutting.{AreEnough, AreNumbered, BeginsAmong, HasNoChild, IsCutting, IsRefined};
+ghost use Rattle.vrp_search.specs.Cutting.{AreEnough, AreNumbered, BeginsAmong, IsCutting, IsRefined};
 ghost use Rattle.vrp_search.specs.Inner.Pass.{AreAdded, IsPass, IsStep};
 
 use crate::partial::Partial;

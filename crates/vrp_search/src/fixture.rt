@@ -1,6 +1,6 @@
 //! What tests are made on: instances, whose first place is the depot, and pieces, cuttings and plans of them. What has no memory for
 //! them ends the test.
-ghost use Rattle.std.specs.Prelude.{All, IsTrue, length, ◌≡◌, ◌≤◌, ◌↔◌};
+ghost use Rattle.std.specs.Prelude.{All, IsTrue, length, ◌≡◌, ◌≤◌};
 ghost use Rattle.std.specs.Option.{ForSome};
 ghost use Rattle.vrp_model.specs.Grid.{IsCoordinate};
 ghost use Rattle.vrp_model.specs.Route.{IsPlanOf};

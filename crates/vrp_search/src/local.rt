@@ -1,5 +1,5 @@
 //! The board of one thread: it keeps the first plan by cost and then by word, if there is one.
-ghost use Rattle.std.specs.Prelude.{◌≡◌, ◌↔◌, ◌≤◌, IsTrue, Option, Some, IfOk, OnOk, OnErr, ⊤};
+ghost use Rattle.std.specs.Prelude.{◌≡◌, ◌↔◌, ◌≤◌, IsTrue, Option, Some, OnOk, OnErr, ⊤};
 ghost use Rattle.std.specs.Option.{option_map};
 ghost use Rattle.vrp_model.specs.Problem.{Problem};
 ghost use Rattle.vrp_model.specs.Route.{IsPlanOf, PricedPlan};

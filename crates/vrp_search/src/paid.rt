@@ -1,7 +1,7 @@
 //! What is counted along a word in the problem with prices.
 ghost use Rattle.std.specs.Prelude.{ℕ, List, [], ◌∷◌, ◌++◌};
 ghost use Rattle.vrp_model.specs.Word.{IsFront};
-ghost use Rattle.vrp_search.specs.Inner.Paid.{IsPaid, IsPaidAt};
+ghost use Rattle.vrp_search.specs.Inner.Paid.{IsPaidAt};
 
 use vrp_model::Instance;
 

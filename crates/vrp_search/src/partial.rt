@@ -38,7 +38,9 @@ impl<'a> Model for Partial<'a> {
 
     ghost view = { λ a. record { problem = a.instance.now; word = a.word.items } };
 
-    ghost invariant = { λ a. AreTallied a.instance.now a.word.items a.served.items a.before.items a.tally × HasRoom a.instance.now a.word.capacity × HasRoom a.instance.now a.before.capacity };
+    ghost invariant = { λ a.
+        AreTallied a.instance.now a.word.items a.served.items a.before.items a.tally
+        × HasRoom a.instance.now a.word.capacity × HasRoom a.instance.now a.before.capacity };
 }
 
 impl<'a> Partial<'a> {

@@ -35,13 +35,13 @@ pub record MakerState : Type 0 where
   -- how many callers it has made
   pub next : ℕ
 
-pub record GatheredState : Type 0 where
+pub record ClosingState : Type 0 where
   pub table : TableId
   pub callers : List Known
 
 -- a seat that has taken in these callers
-abbrev pub gathered_at : TableId → List Known → GatheredState
-gathered_at table callers = record { table = table; callers = callers }
+abbrev pub closing_with : TableId → List Known → ClosingState
+closing_with table callers = record { table = table; callers = callers }
 
 -- the first seat, by the view that it holds
 abbrev pub maker_at : TableId → View → MakerState
@@ -60,8 +60,8 @@ abbrev pub seat_made : TableId → MakerState → SeatState
 seat_made table maker = record { table = table; known = newcomer maker.next maker.opening }
 
 -- with one caller more, before the others
-abbrev pub with_caller : Known → GatheredState → GatheredState
-with_caller known gathered = gathered_at gathered.table (known ∷ gathered.callers)
+abbrev pub with_caller : Known → ClosingState → ClosingState
+with_caller known closing = closing_with closing.table (known ∷ closing.callers)
 
 -- the view of a seat that has taken in these callers
 abbrev pub seat_with : List Known → View

@@ -54,7 +54,8 @@ pub(crate) fn own_tables<'a>(
     piece: &Piece,
 ) -> Result<Tables<'a>, NoMemory>
     requires { IsFront instance.now piece.now.word }
-    ensures { IfOk result (λ tables. tables ≡ record { problem = instance.now; among = unserved_in instance.now piece.now.word }) }
+    ensures { IfOk result (λ tables.
+        tables ≡ record { problem = instance.now; among = unserved_in instance.now piece.now.word }) }
 {
     let unserved = piece.unserved(alloc, instance)?;
     Tables::build(alloc, instance, &unserved)
