@@ -22,6 +22,7 @@ pub mod RisingCustomers
 pub mod RoutesOpened
 pub mod SameCounts
 pub mod ServedBehind
+pub mod SmallRows
 pub mod SymbolBySymbol
 pub mod TableSizes
 pub mod TreeBelow

@@ -1,5 +1,5 @@
 -- Distances between points by each metric: one number, the same both ways, and not past a bound.
-use Rattle.std.proofs.Common.{◌≡◌, ℕ, ◌+◌, ◌*◌, ◌≤◌, max, ℤ, ◌-ℤ◌, subst, sym, ◌∙◌, arith, unsigned_abs, to_z, of_z, w64}
+use Rattle.std.proofs.Common.{◌≡◌, ℕ, ◌+◌, ◌*◌, ◌≤◌, max, ℤ, ◌-ℤ◌, subst, sym, ◌∙◌, arith, unsigned_abs, to_z, of_z, Fits, w64}
 use Rattle.std.proofs.lemmas.Int.{ints}
 use Rattle.vrp_model.specs.declared.metric.Metric.{Metric}
 use Rattle.vrp_model.specs.declared.metric.Metric.TheVariants.{Euc2d, Ceil2d, Man2d, Max2d, Att}
@@ -40,6 +40,21 @@ square_between_small a b p q r s = square_small _ _ (apart_small a.0 b.0 p r) (a
 -- the square that the code computes
 pub square_of_words : (a b : ℤ × ℤ) (east north : ℕ) → IsCoordinate a.0 → IsCoordinate a.1 → IsCoordinate b.0 → IsCoordinate b.1 → east ≡ unsigned_abs (to_z w64 (of_z w64 a.0) -ℤ to_z w64 (of_z w64 b.0)) → north ≡ unsigned_abs (to_z w64 (of_z w64 a.1) -ℤ to_z w64 (of_z w64 b.1)) → east * east + north * north ≡ square_between a b
 square_of_words a b east north p q r s e n =
+    rw (apart_words east a.0 b.0 p r e, apart_words north a.1 b.1 q s n)
+
+-- a square that the code computes on the way fits a word
+pub apart_square_fits : (k : ℕ) (a b : ℤ) → IsCoordinate a → IsCoordinate b → k ≡ unsigned_abs (to_z w64 (of_z w64 a) -ℤ to_z w64 (of_z w64 b)) → Fits w64 (k * k)
+apart_square_fits k a b p q h =
+    let small : k ≤ 200000000 = rw (apart_words k a b p q h) (apart_small a b p q) in
+    omega (arith, square_le k 200000000 small)
+
+-- the distances along the axes that the code computes
+pub manhattan_of_words : (a b : ℤ × ℤ) (east north : ℕ) → IsCoordinate a.0 → IsCoordinate a.1 → IsCoordinate b.0 → IsCoordinate b.1 → east ≡ unsigned_abs (to_z w64 (of_z w64 a.0) -ℤ to_z w64 (of_z w64 b.0)) → north ≡ unsigned_abs (to_z w64 (of_z w64 a.1) -ℤ to_z w64 (of_z w64 b.1)) → east + north ≡ manhattan a b
+manhattan_of_words a b east north p q r s e n =
+    rw (apart_words east a.0 b.0 p r e, apart_words north a.1 b.1 q s n)
+
+pub maximum_of_words : (a b : ℤ × ℤ) (east north : ℕ) → IsCoordinate a.0 → IsCoordinate a.1 → IsCoordinate b.0 → IsCoordinate b.1 → east ≡ unsigned_abs (to_z w64 (of_z w64 a.0) -ℤ to_z w64 (of_z w64 b.0)) → north ≡ unsigned_abs (to_z w64 (of_z w64 a.1) -ℤ to_z w64 (of_z w64 b.1)) → max east north ≡ maximum a b
+maximum_of_words a b east north p q r s e n =
     rw (apart_words east a.0 b.0 p r e, apart_words north a.1 b.1 q s n)
 
 pub manhattan_both_ways : (a b : ℤ × ℤ) → manhattan a b ≡ manhattan b a

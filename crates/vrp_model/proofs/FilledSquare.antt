@@ -1,5 +1,5 @@
 -- A square that is filled cell by cell, in a layout's order.
-use Rattle.std.proofs.Common.{◌≡◌, ◌≢◌, ℕ, zero, suc, ◌+◌, ◌-◌, ◌*◌, ◌<◌, ◌≤◌, Bool, true, false, cond, Some, List, [], ◌∷◌, length, drop, replicate, filter, slice_get, slice_index, inl, inr, refl, sym, ap, subst, ◌∙◌, add-one, arith}
+use Rattle.std.proofs.Common.{◌≡◌, ◌≢◌, ℕ, zero, suc, ◌+◌, ◌-◌, ◌*◌, ◌<◌, ◌≤◌, Bool, true, false, cond, Some, List, [], ◌∷◌, length, drop, replicate, filter, slice_get, slice_index, inl, inr, refl, sym, ap, subst, ◌∙◌, add-one, Fits, w32, arith}
 use Rattle.std.proofs.lemmas.Bool.{cases_lt, cases_eq, cases_Bool, cond-true, cond-false, ltb-true, leb-true}
 use Rattle.std.proofs.lemmas.List.{get_or-replicate, get_or_past, length-replicate, length-drop}
 use Rattle.std.proofs.lemmas.Nat.{same_from_place}
@@ -145,6 +145,19 @@ IsFilled-skip layout n entries square next line across within unlisted h = recor
   diagonal = h.diagonal;
   small = h.small;
 }
+
+-- the end of a line
+pub on_line : (across n : ℕ) → across < n + 1 → across ≤ n
+on_line across n before = omega arith
+
+pub IsFilled-to_end : (layout : Layout) (n : ℕ) (entries square : List ℕ) (next line across : ℕ) → (1 ≤ n + 1 → across ≤ n + 1) → n + 1 ≤ across → IsFilled layout n entries square next line across → IsFilled layout n entries square next line (n + 1)
+IsFilled-to_end layout n entries square next line across near far h =
+    let end : across ≡ n + 1 = omega (arith, near (omega arith), far) in
+    subst (IsFilled layout n entries square next line) end h
+
+-- an entry fits a word of the square
+pub entry_fits : (entry : ℕ) → entry ≤ 1000000000 → Fits w32 entry
+entry_fits entry small = omega arith
 
 -- the cell that comes next
 pub next_cell : (layout : Layout) (n : ℕ) (entries square : List ℕ) (next line across : ℕ) → across ≤ n → lists layout (cell_on layout line across) ≡ true → IsFilled layout n entries square next line across → IsNext (cells layout n) next (cell_on layout line across) (cells_left layout n line (across + 1))

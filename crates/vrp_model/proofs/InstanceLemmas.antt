@@ -1,9 +1,11 @@
 -- What is known of an instance that is made from a request without a fault.
-use Rattle.std.proofs.Common.{◌≡◌, ℕ, zero, suc, ◌*◌, ◌≤◌, ◌<◌, true, false, None, List, length, slice_index, map, arith, inl, inr}
+use Rattle.std.proofs.Common.{◌≡◌, ℕ, zero, suc, ◌*◌, ◌≤◌, ◌<◌, ap, ◌∙◌, true, false, not, None, List, ◌∷◌, filter, length, slice_index, map, arith, inl, inr}
 use Rattle.std.proofs.lemmas.List.{get_or-map, get_or_past, length-map}
 use Rattle.std.proofs.lemmas.Bool.{cases_lt}
-use Rattle.vrp_model.specs.Problem.{IsProblem}
-use Rattle.vrp_model.specs.Request.{is_listed, node_demand, NoDepotHasDemand, NoneIsTooHeavy}
+use Rattle.std.specs.List.{range_with_len}
+use Rattle.vrp_model.specs.Grid.{Grid}
+use Rattle.vrp_model.specs.Problem.{IsProblem, Problem}
+use Rattle.vrp_model.specs.Request.{is_listed, node_demand, problem_of, request_at, weights_among, NoDepotHasDemand, NoneIsTooHeavy}
 use Rattle.vrp_model.specs.Inner.Places.{ArePlaces}
 
 -- a listed depot has no demand
@@ -45,3 +47,17 @@ IsProblem-made depots demands places weights depot capacity nodes are count few 
       some_trucks = λ trucks is. absurd (cc);
       few_trucks = λ trucks is. absurd (cc);
     }
+
+-- the nodes of the places
+pub places_few : (depots places : List ℕ) (depot nodes most : ℕ) → ArePlaces depots depot nodes places → nodes ≡ most → depot ≤ most → nodes ≤ 1200 → length places ≤ 1200
+places_few depots places depot nodes most are count within few = omega (arith, are.fewer (rw count within))
+
+pub places_within : (depots places : List ℕ) (depot nodes most : ℕ) → ArePlaces depots depot nodes places → nodes ≡ most → depot ≤ most → (k : ℕ) → k < length places → slice_index places k ≤ most
+places_within depots places depot nodes most are count within zero inside = rw are.depot_first within
+places_within depots places depot nodes most are count within (suc k) inside = omega (arith, are.within (suc k) (omega arith))
+
+-- the problem of the request
+pub problem_made : (grid : Grid) (demands : List ℕ) (capacity : ℕ) (depots : List ℕ) (depot nodes : ℕ) (places place_demands weights : List ℕ) → ArePlaces depots depot nodes places → nodes ≡ grid.nodes → place_demands ≡ map (node_demand demands) places → weights ≡ weights_among grid places → ◌≡◌ {A = Problem} (record { nodes = places; demands = place_demands; weights = weights; capacity = capacity; trucks = None }) (problem_of (request_at grid demands capacity depots depot))
+problem_made grid demands capacity depots depot nodes places place_demands weights are count asked between =
+    let made : List ℕ → Problem = λ all. record { nodes = all; demands = map (node_demand demands) all; weights = weights_among grid all; capacity = capacity; trucks = None } in
+    rw (asked, between) (ap made (are.value ∙ ap (λ n. depot ∷ filter (λ node. not (is_listed depots node)) (range_with_len 1 n)) count))

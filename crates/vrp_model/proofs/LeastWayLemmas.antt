@@ -1,10 +1,20 @@
 -- The least ways that an instance keeps are those of its problem.
-use Rattle.std.proofs.Common.{◌≡◌, ℕ, ◌+◌, ◌*◌, ◌<◌, ◌≤◌, inl, inr, List, length, subst, arith}
+use Rattle.std.proofs.Common.{◌≡◌, ℕ, ◌+◌, ◌*◌, ◌<◌, ◌≤◌, [], ◌∷◌, ◌++◌, sym, ◌∙◌, inl, inr, List, length, subst, arith}
 use Rattle.std.proofs.lemmas.Bool.{cases_lt}
+use Rattle.std.proofs.lemmas.List.{get_or_append_left, get_or_push}
 use Rattle.std.specs.Prelude.{slice_index}
 use Rattle.vrp_model.specs.LeastWay.{IsLeastHome, IsLeastIn}
 use Rattle.vrp_model.specs.Inner.LeastWays.{AreLeastWays, IsLeastBefore, IsLeastWay}
 use Rattle.vrp_model.specs.Problem.{IsProblem, Problem, place_count}
+
+-- the least way into one place more
+pub least_ways_push : (weights least : List ℕ) (places to weight : ℕ) → length least ≡ to → ((k : ℕ) → k < to → IsLeastWay weights places k (slice_index least k)) → IsLeastWay weights places to weight → (k : ℕ) → k < to + 1 → IsLeastWay weights places k (slice_index (least ++ weight ∷ []) k)
+least_ways_push weights least places to weight count each is k within = elim (cases_lt k to) [
+  | inl before ↦ rw (get_or_append_left least (weight ∷ []) 0 k (omega arith)) (each k before)
+  | inr past ↦
+      let here : k ≡ to = omega arith in
+      rw (get_or_push least weight 0 k (count ∙ sym here), here) is
+]
 
 least_in_is : (p : Problem) (to weight : ℕ) → IsLeastBefore p.weights (place_count p) to (place_count p) weight → IsLeastIn p to weight
 least_in_is p to weight before = record { met = before.met; least = before.least }

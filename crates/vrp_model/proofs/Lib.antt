@@ -22,6 +22,7 @@ pub mod InstanceLemmas
 pub mod LastRoute
 pub mod LeastWayLemmas
 pub mod OneRoute
+pub mod MadeLists
 pub mod NewAmounts
 pub mod Ordered
 pub mod PlacesLemmas
@@ -33,5 +34,7 @@ pub mod SinglesWord
 pub mod Trees
 pub mod TurnedRoutes
 pub mod UnservedCustomers
+pub mod WeightPlaces
 pub mod WordReading
 pub mod Words
+pub mod WrittenCells

@@ -1,5 +1,5 @@
 -- From a complete file to an instance.
-use Rattle.std.proofs.Common.{◌≡◌, ◌≢◌, ℕ, suc, ◌≤◌, ℤ, pos, Option, None, List, [], length, map, get_or, refl, subst, ◌∙◌, inl, inr, arith}
+use Rattle.std.proofs.Common.{◌≡◌, ◌≢◌, ℕ, suc, ◌≤◌, ℤ, pos, Option, Some, None, List, [], length, map, get_or, refl, subst, ◌∙◌, inl, inr, arith}
 use Rattle.std.specs.Prelude.{unsigned_abs, slice_index, Result, Ok, Err, IfOk, IfErr}
 use Rattle.std.proofs.lemmas.Bool.Decides.{leb_tells}
 use Rattle.std.proofs.lemmas.Int.{ints}
@@ -12,6 +12,7 @@ use Rattle.vrp_model.specs.Request.{request_of, problem_of, IsAcceptable}
 use Rattle.vrp_model.specs.declared.instance.InstanceError.{InstanceError}
 use Rattle.vrp_model.specs.declared.instance.InstanceError.TheVariants as refusal
 use Rattle.vrp_text.specs.Complete.{Complete, points_of, demands_of, listed_depots, bad_node, no_node, nodes_fault, row_nodes, row_points, row_demands, source_node_fault}
+use Rattle.vrp_text.specs.Inner.NodeFaults.{demands_fault, depots_fault}
 use Rattle.vrp_text.specs.Inner.PlacedRows.{beside_node}
 use Rattle.vrp_text.specs.Meaning.{HasWeights, MeansProblem, MeansRefusal, or_fault, reading_of}
 use Rattle.vrp_text.specs.Inner.Outcome.{StatesProblem, IsStatedRefusal}
@@ -118,3 +119,14 @@ pub if_refused : (bytes : List ℕ) (chosen : Option ℕ) (complete : Complete) 
     → IfErr result (λ fault. fault ≢ error.OutOfMemory → IsStatedRefusal complete chosen fault) → IfErr result (λ fault. fault ≢ error.OutOfMemory → MeansRefusal bytes chosen fault)
 if_refused bytes chosen complete (Ok problem) read states = tt
 if_refused bytes chosen complete (Err fault) read states = λ differs. means_refusal bytes chosen complete fault read (states differs)
+
+-- a fault of the nodes is a refusal that the file states
+pub refused_source : (complete : Complete) (chosen : Option ℕ) (fault : TextError) → source_node_fault complete.nodes complete.source ≡ Some fault → IsStatedRefusal complete chosen fault
+refused_source complete chosen fault bad = inl (rw bad refl)
+
+pub refused_demands : (complete : Complete) (chosen : Option ℕ) (fault : TextError) → source_node_fault complete.nodes complete.source ≡ None → demands_fault complete.nodes complete.demands ≡ Some fault → IsStatedRefusal complete chosen fault
+refused_demands complete chosen fault source bad = inl (rw (source, bad) refl)
+
+pub refused_depots : (complete : Complete) (chosen : Option ℕ) (fault : TextError) → source_node_fault complete.nodes complete.source ≡ None → bad_node complete.nodes [] (row_nodes 2 complete.nodes complete.demands) ≡ None
+    → depots_fault complete.nodes (listed_depots complete.depots) ≡ Some fault → IsStatedRefusal complete chosen fault
+refused_depots complete chosen fault source demands bad = inl (rw source (rw demands (rw bad refl)))

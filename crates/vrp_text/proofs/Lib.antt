@@ -6,6 +6,7 @@ pub mod NodeLemmas
 pub mod OneGrid
 pub mod OneProblem
 pub mod OneRefusal
+pub mod ReadLemmas
 pub mod ReadingLemmas
 pub mod SectionLemmas
 pub mod SomeDistance

@@ -6,11 +6,11 @@ use Rattle.std.specs.List.{list_any, position_or_len}
 use Rattle.std.specs.Ordering.{int_eq}
 use Rattle.std.proofs.Math.ListN.{get_or-append}
 use Rattle.std.proofs.Math.Seq.{drop-cons, get_or-append_seam}
-use Rattle.std.proofs.lemmas.Bool.{cases_Bool}
+use Rattle.std.proofs.lemmas.Bool.{cases_Bool, cases_lt}
 use Rattle.std.proofs.lemmas.Bool.Decides.{Decides-int_eq, nat_tests, eqb_tells}
 use Rattle.std.proofs.lemmas.Int.{ints}
 use Rattle.std.proofs.lemmas.Nat.{mod-mul-add}
-use Rattle.std.proofs.lemmas.List.{ext_get_or, take_more, length-take-le, take_all, drop_all, get_or-set_same, get_or-set_other, get_or_past, length-set}
+use Rattle.std.proofs.lemmas.List.{ext_get_or, get_or_append_left, get_or_push, map_more, take_more, length-take-le, take_all, drop_all, get_or-set_same, get_or-set_other, get_or_past, length-set}
 use Rattle.std.proofs.lemmas.List.Folds.{position_or_len_push, list_any-append}
 use Rattle.std.proofs.lemmas.List.FromFn.{length-map-range_with_len, get_or-map-range_with_len}
 use Rattle.vrp_model.specs.Grid.{IsCoordinate}
@@ -25,6 +25,49 @@ pub record ReadsDepots (nodes : ℕ) (numbers : List ℤ) (next : ℕ) (depots :
   pub read : depots ≡ map unsigned_abs (take next numbers)
   pub from_one : (k : ℕ) → k < length depots → 1 ≤ slice_index depots k
   pub within : (k : ℕ) → k < length depots → slice_index depots k ≤ nodes
+
+-- no depot is read yet
+pub depots_start : (nodes : ℕ) (numbers : List ℤ) (depots : List ℕ) → depots ≡ [] → ReadsDepots nodes numbers 0 depots
+depots_start nodes numbers depots none = rw none (record {
+  fault = refl;
+  read = refl;
+  from_one = λ k lt. absurd (omega (arith, lt));
+  within = λ k lt. absurd (omega (arith, lt));
+})
+
+depots_left : (numbers : List ℤ) (next : ℕ) (number : ℤ) → next < length numbers → get_or numbers next (pos 0) ≡ number → drop next numbers ≡ number ∷ drop (next + 1) numbers
+depots_left numbers next number lt number_is = rw add-one (drop-cons numbers next (pos 0) lt ∙ ap (λ n. n ∷ drop (suc next) numbers) number_is)
+
+last_place : (depots : List ℕ) (depot k : ℕ) → k < length (depots ++ depot ∷ []) → length depots ≤ k → k ≡ length depots
+last_place depots depot k inside past = omega (arith, length-append depots (depot ∷ []))
+
+-- one more depot is read
+pub depots_push : (nodes : ℕ) (numbers : List ℤ) (depots new : List ℕ) (next : ℕ) (number : ℤ) (depot : ℕ) → next < length numbers → get_or numbers next (pos 0) ≡ number → ReadsDepots nodes numbers next depots
+    → is_node nodes number ≡ true → depot ≡ unsigned_abs number → (1 ≤ depot) × (depot ≤ nodes) → new ≡ depots ++ depot ∷ [] → ReadsDepots nodes numbers (next + 1) new
+depots_push nodes numbers depots new next number depot lt number_is so_far good value bounds pushed = rw pushed (record {
+  fault = so_far.fault ∙ (rw (depots_left numbers next number lt number_is) (rw good refl));
+  read =
+      ap (λ xs. xs ++ depot ∷ []) so_far.read ∙ ap (λ d. map unsigned_abs (take next numbers) ++ d ∷ []) (value ∙ ap unsigned_abs (sym number_is))
+      ∙ sym (map_more unsigned_abs numbers next (pos 0) lt);
+  from_one = λ k inside. elim (cases_lt k (length depots)) [
+    | inl before ↦ rw (get_or_append_left depots (depot ∷ []) 0 k before) (so_far.from_one k before)
+    | inr past ↦ rw (get_or_push depots depot 0 k (sym (last_place depots depot k inside past))) bounds.0
+  ];
+  within = λ k inside. elim (cases_lt k (length depots)) [
+    | inl before ↦ rw (get_or_append_left depots (depot ∷ []) 0 k before) (so_far.within k before)
+    | inr past ↦ rw (get_or_push depots depot 0 k (sym (last_place depots depot k inside past))) bounds.1
+  ];
+})
+
+-- a number that is no node is refused
+pub depot_refused : (nodes : ℕ) (numbers : List ℤ) (depots : List ℕ) (next : ℕ) (number : ℤ) → next < length numbers → get_or numbers next (pos 0) ≡ number → ReadsDepots nodes numbers next depots → is_node nodes number ≡ false → no_node nodes numbers ≡ Some number
+depot_refused nodes numbers depots next number lt number_is so_far bad =
+    so_far.fault ∙ (rw (depots_left numbers next number lt number_is) (rw bad refl))
+
+-- all depots are read
+pub depots_all : (nodes : ℕ) (numbers : List ℤ) (depots : List ℕ) (next : ℕ) → length numbers ≤ next → ReadsDepots nodes numbers next depots → (no_node nodes numbers ≡ None) × (depots ≡ map unsigned_abs numbers)
+depots_all nodes numbers depots next all so_far =
+    (so_far.fault ∙ (rw (drop_all next numbers all) refl), so_far.read ∙ ap (map unsigned_abs) (take_all next numbers all))
 
 not_equal : (a b : ℤ) → (a ≡ b → ⊥) → int_eq a b ≡ false
 not_equal a b differ =

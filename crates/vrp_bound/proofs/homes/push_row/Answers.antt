@@ -1,4 +1,5 @@
-use Rattle.std.proofs.Common.{◌≡◌, ◌+◌, ◌-◌, ◌*◌, ◌<◌, ◌≤◌, length, ap, sym, subst, arith}
+use Rattle.std.proofs.Common.{◌≡◌, ◌+◌, ◌-◌, ◌*◌, ◌<◌, ◌≤◌, ℕ, length, refl, ap, sym, subst, arith}
+use Rattle.std.proofs.lemmas.Nat.{mul-le}
 use Rattle.vrp_model.specs.Problem.{place_count}
 use Rattle.vrp_model.specs.Route.{load_of}
 use Rattle.vrp_bound.specs.Inner.Cells.{AreHomesSoFar, HasWayHome, IsLeastCell, IsSmallLeastCell, mark, small_mark}
@@ -6,10 +7,24 @@ use Rattle.vrp_bound.specs.Tables.{room_of}
 use Rattle.vrp_bound.specs.Inner.Scaled.{near_by}
 use Rattle.vrp_bound.specs.Inner.Units.{in_units}
 use Rattle.vrp_bound.proofs.FirstTour.{IsWayHome}
+use Rattle.vrp_bound.proofs.SmallRows.{row_small}
 use Rattle.vrp_bound.proofs.WaysLookedAt.{least_home_cells, row_before}
 use Rattle.vrp_bound.proofs.WaysHome.{less_cell, more_homes, next_home}
 use Rattle.vrp_bound.proofs.homes.push_row.Goals.{then-room-eq0, else-room-eq0, then-room-rest, else-room-rest}
 use Rattle.vrp_bound.proofs.homes.push_row.Goals as goal
+
+-- the cells of the room before are there
+row_there : (at rooms room rests len : ℕ) → 0 < room → len ≡ (at * rooms + room) * rests → rests ≤ len
+row_there at rooms room rests len some is = omega (arith, mul-le 1 rests (at * rooms + room) rests (omega arith) (omega arith), is)
+
+pub overflow_mul-walk : goal.overflow_mul-walk
+overflow_mul-walk c = omega (arith, row_small c.args.room c.args.scope.places (omega (arith, c.requires.room, c.args.scope.scope.light)) (omega (arith, c.args.scope.counted, c.args.scope.scope.problem.few_places)))
+
+pub overflow_add-walk : goal.overflow_add-walk
+overflow_add-walk c = omega (arith, row_small c.args.room c.args.scope.places (omega (arith, c.requires.room, c.args.scope.scope.light)) (omega (arith, c.args.scope.counted, c.args.scope.scope.problem.few_places)), c.from.ensures, c.ranges.at)
+
+pub offset_bounds-walks-room : goal.offset_bounds-walks-room
+offset_bounds-walks-room c = omega (arith, row_small c.args.room c.args.scope.places (omega (arith, c.requires.room, c.args.scope.scope.light)) (omega (arith, c.args.scope.counted, c.args.scope.scope.problem.few_places)), c.from.ensures, c.ranges.at)
 
 pub bounds-walks-room : goal.bounds-walks-room
 bounds-walks-room c =
@@ -60,3 +75,40 @@ loop-rest-preserved c =
       capacity = omega (arith, c.push_reserved.ensures.capacity, c.loop-rest.invariant.capacity);
       so_far = subst (AreHomesSoFar p (near_by c.args.scope) among) (sym c.push_reserved.ensures.items) (more_homes p (near_by c.args.scope) among cells c.in-Some.cell at room rest room_within rest_within next cell c.loop-rest.invariant.so_far);
     }
+
+pub loop-rest-init : goal.loop-rest-init
+loop-rest-init c = record { len = omega arith; capacity = refl; so_far = c.requires.so_far }
+
+pub overflow_sub-len : goal.overflow_sub-len
+overflow_sub-len c =
+    let before = row_there c.args.at (room_of (in_units c.args.scope.unit c.args.scope.instance.now) c.args.scope.customers.now + 1) c.args.room (length c.args.tours.now) c.args.cells.now.len (omega (arith, c.if-room-eq0.false)) c.requires.next in
+    omega (arith, before, c.len.ensures, c.loop-rest.invariant.len)
+
+pub index-requires : goal.index-requires
+index-requires c =
+    let before = row_there c.args.at (room_of (in_units c.args.scope.unit c.args.scope.instance.now) c.args.scope.customers.now + 1) c.args.room (length c.args.tours.now) c.args.cells.now.len (omega (arith, c.if-room-eq0.false)) c.requires.next in
+    omega (arith, before, c.len.ensures, c.loop-rest.invariant.len, c.requires.tours.all)
+
+pub offset_bounds-tours-rest : goal.offset_bounds-tours-rest
+offset_bounds-tours-rest c = omega (arith, c.loop-rest-test.true, c.requires.tours.all, c.args.scope.scope.light)
+
+pub bounds-tours-rest : goal.bounds-tours-rest
+bounds-tours-rest c = omega (arith, c.loop-rest-test.true)
+
+pub overflow_add-whole : goal.overflow_add-whole
+overflow_add-whole c = omega (arith, c.requires.walks.so_far.within (c.args.room * c.args.scope.places + c.from.result), c.requires.tours.so_far.within (c.loop-rest.rest - c.args.room))
+
+pub push_reserved-requires : goal.push_reserved-requires
+push_reserved-requires c = omega (arith, c.loop-rest.invariant.len, c.loop-rest.invariant.capacity, c.requires.fits, c.loop-rest-test.true)
+
+pub returns-in-None-clause-capacity : goal.returns-in-None-clause-capacity
+returns-in-None-clause-capacity c = c.loop-rest.invariant.capacity
+
+pub returns-clause-len : goal.returns-clause-len
+returns-clause-len c = λ _. omega (arith, c.loop-rest.invariant.len, c.loop-rest-test.false, c.loop-rest.auto.rest-end)
+
+pub returns-clause-capacity : goal.returns-clause-capacity
+returns-clause-capacity c = c.loop-rest.invariant.capacity
+
+pub returns-clause-so_far : goal.returns-clause-so_far
+returns-clause-so_far c = λ _. c.loop-rest.invariant.so_far

@@ -127,3 +127,31 @@ returns-clause-least c = λ m small.
 
 pub returns-clause-within : goal.returns-clause-within
 returns-clause-within c = c.loop-customer.invariant.within
+
+pub weight-requires-clause-to_within : goal.weight-requires-clause-to_within
+weight-requires-clause-to_within c = c.args.scope.units.scope.problem.some_places
+
+pub bounds-customer-items-customer-index : goal.bounds-customer-items-customer-index
+bounds-customer-items-customer-index c = c.loop-customer-test.true
+
+pub offset_bounds-scope-stop : goal.offset_bounds-scope-stop
+offset_bounds-scope-stop c = omega (arith, c.from-stop.ensures, c.args.scope.units.scope.places c.loop-customer.customer-index 0 c.loop-customer-test.true, c.args.scope.units.scope.problem.few_places)
+
+pub bounds-scope-stop : goal.bounds-scope-stop
+bounds-scope-stop c =
+    omega (arith, ap length c.args.scope.amounts, c.args.scope.units.scope.problem.one_demand_each, c.from-stop.ensures, c.args.scope.units.scope.places c.loop-customer.customer-index 0 c.loop-customer-test.true)
+
+pub before-before-requires-clause-at : goal.before-before-requires-clause-at
+before-before-requires-clause-at c = omega (arith, c.requires.place, c.args.scope.of_places, c.args.scope.units.counted)
+
+pub weight-weight-requires-clause-to_within : goal.weight-weight-requires-clause-to_within
+weight-weight-requires-clause-to_within c = c.args.scope.units.scope.places c.loop-customer.customer-index 0 c.loop-customer-test.true
+
+pub pull-requires-clause-light : goal.pull-requires-clause-light
+pull-requires-clause-light c = omega (arith, c.weight-weight.ensures.small)
+
+pub pull-requires-clause-behind : goal.pull-requires-clause-behind
+pull-requires-clause-behind c = c.cells_of-behind.ensures.len ∙ sym c.loop-customer.invariant.len
+
+pub pull-requires-clause-before : goal.pull-requires-clause-before
+pull-requires-clause-before c = omega (arith, c.before-before.ensures.len, c.args.scope.bits, c.loop-customer.invariant.len)

@@ -1,4 +1,5 @@
-use Rattle.std.proofs.Common.{◌+◌, ◌*◌, ◌≤◌, ap, arith}
+use Rattle.std.proofs.Common.{◌≡◌, ℕ, ◌+◌, ◌*◌, ◌≤◌, ◌∙◌, List, length, get_or, sym, ap, arith}
+use Rattle.std.specs.List.{length_refill}
 use Rattle.std.proofs.lemmas.Nat.{mul-le}
 use Rattle.vrp_bound.proofs.WaysLookedAt.{row_before}
 use Rattle.vrp_bound.proofs.memory_walks.memory_walks.Goals as goal
@@ -29,3 +30,38 @@ push_load-requires-clause-fits c =
       row_before c.loop-load.load (c.args.room + 1) (c.args.scope.units.places * c.args.scope.masks) (omega (arith, c.loop-load-test.true)),
       ap (λ n. n * c.args.scope.masks) c.args.scope.units.counted,
     )
+
+pub loop-load-init : goal.loop-load-init
+loop-load-init c =
+    let empty : length c.in_ok-cells.cells.items ≡ 0 = ap length c.in_ok-cells.ensures.items in
+    record {
+      len = omega (arith, empty);
+      capacity = c.in_ok-cells.ensures.capacity;
+      row = sym c.in_ok-row.row.ok.0 ∙ c.in_ok-row.ensures.len;
+      so_far = record { each = λ k inside. absurd (omega (arith, inside, empty)); within = λ k. omega (arith, ap (λ (cells : List ℕ). get_or cells k 0) c.in_ok-cells.ensures.items) };
+    }
+
+pub push_load-requires-clause-row : goal.push_load-requires-clause-row
+push_load-requires-clause-row c = ap length c.deref_mut.ensures.value ∙ c.loop-load.invariant.row
+
+pub push_load-requires-clause-so_far : goal.push_load-requires-clause-so_far
+push_load-requires-clause-so_far c = c.loop-load.invariant.so_far
+
+pub loop-load-smaller : goal.loop-load-smaller
+loop-load-smaller c = omega arith
+
+pub loop-load-preserved : goal.loop-load-preserved
+loop-load-preserved c = record {
+  len = omega (arith, c.push_load.ensures.len, c.loop-load.invariant.len, ap (λ n. n * c.args.scope.masks) c.args.scope.units.counted);
+  capacity = omega (arith, c.push_load.ensures.capacity, c.loop-load.invariant.capacity);
+  row = sym (length_refill c.loop-load.row.len c.loop-load.row.items c.push_load.new.row c.loop-load.row.ok.0) ∙ c.loop-load.row.ok.0 ∙ c.loop-load.invariant.row;
+  so_far = c.push_load.ensures.so_far;
+}
+
+pub returns : goal.returns
+returns c =
+    let load : c.loop-load.load ≡ c.args.room + 1 = omega (arith, c.loop-load-test.false, c.loop-load.auto.load-end) in
+    record {
+      so_far = c.loop-load.invariant.so_far;
+      all = cc (c.loop-load.invariant.len, load, c.args.scope.units.counted, c.requires.room);
+    }

@@ -37,3 +37,18 @@ returns-clause-links c =
       | else-at-ne0 w ↦ ap (λ v. v.items) w.ways-is ∙ c.clear.ensures.items ∙ ap (links_to p at) (sym (joins_them at [] w.if-at-ne0.false))
     ]) in
     c.loop-customer.invariant.links ∙ ap (λ (s : List _). c.if-at-ne0.ways.items ++ links_to p at s) (take_all c.loop-customer.customer-index unserved (omega arith)) ∙ links_with_depot p at c.if-at-ne0.ways.items unserved first
+
+pub link_between-requires-clause-place : goal.link_between-requires-clause-place
+link_between-requires-clause-place c = omega (arith, c.requires.place)
+
+pub push_reserved-requires : goal.push_reserved-requires
+push_reserved-requires c = omega (arith, c.clear.ensures.len, c.clear.ensures.capacity, c.requires.room)
+
+pub bounds-unserved-customer-index : goal.bounds-unserved-customer-index
+bounds-unserved-customer-index c = c.loop-customer-test.true
+
+pub returns-clause-small : goal.returns-clause-small
+returns-clause-small c = c.loop-customer.invariant.small
+
+pub returns-clause-capacity : goal.returns-clause-capacity
+returns-clause-capacity c = c.loop-customer.invariant.capacity

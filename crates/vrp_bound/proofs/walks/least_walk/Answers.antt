@@ -1,13 +1,22 @@
-use Rattle.std.proofs.Common.{◌≡◌, ℕ, ◌+◌, ◌-◌, ◌*◌, List, get_or, subst, sym, ap, ◌∙◌, arith}
-use Rattle.vrp_model.specs.Problem.{demand_of, place_count}
+use Rattle.std.proofs.Common.{◌≡◌, ℕ, ◌+◌, ◌-◌, ◌*◌, ◌<◌, ◌≤◌, List, length, get_or, subst, sym, ap, ◌∙◌, arith}
+use Rattle.vrp_model.specs.Problem.{Problem, demand_of, place_count}
 use Rattle.vrp_bound.specs.Inner.Cells.{HasWalk, IsLeastCell}
+use Rattle.vrp_bound.specs.Inner.Scope.{IsScope}
 use Rattle.vrp_bound.specs.Inner.Units.{in_units}
 use Rattle.vrp_bound.specs.Remembering.{nothing_near}
 use Rattle.vrp_bound.proofs.FirstStep.{IsStep, least_at_once}
-use Rattle.vrp_bound.proofs.LeastOfCosts.{IsCostBelow}
-use Rattle.vrp_bound.proofs.WaysLookedAt.{step_looked, step_skipped, steps_looked}
+use Rattle.vrp_bound.proofs.LeastOfCosts.{IsCostBelow, least_none}
+use Rattle.vrp_bound.proofs.WaysLookedAt.{behind_is_so_far, step_looked, step_skipped, steps_looked}
 use Rattle.vrp_bound.proofs.walks.least_walk.Goals.{then-customer-at+then-demand-load, else-customer-at, else-customer-at-via-then-customer-at+else-demand-load, else-customer-at-via-else-customer-at}
 use Rattle.vrp_bound.proofs.walks.least_walk.Goals as goal
+
+-- the cell behind a first stop is there
+behind : (p : Problem) (among demands cells : List ℕ) (places at load k stop : ℕ) → IsScope p among → demands ≡ p.demands → places ≡ place_count p → length cells ≡ load * place_count p + at → k < length among → stop ≡ get_or among k 0 → get_or demands stop 0 ≤ load → (load - get_or demands stop 0) * places + stop < length cells
+behind p among demands cells places at load k stop scope same counted next inside is fits =
+    let demand_is : get_or demands stop 0 ≡ demand_of p (get_or among k 0) = ap (λ (ds : List ℕ). get_or ds stop 0) same ∙ ap (demand_of p) is in
+    let row : load * places ≡ load * place_count p = ap (λ n. load * n) counted in
+    let before = behind_is_so_far load (get_or demands stop 0) places stop at (omega (arith, demand_is, scope.demands k 0 inside)) fits (omega (arith, is, counted, scope.places k 0 inside)) in
+    omega (arith, before, next, row)
 
 pub returns-then-load-eq0-clause-least : goal.returns-then-load-eq0-clause-least
 returns-then-load-eq0-clause-least c =
@@ -51,3 +60,48 @@ pub returns-clause-least : goal.returns-clause-least
 returns-clause-least c =
     steps_looked (in_units c.args.scope.unit c.args.scope.instance.now) c.args.scope.customers.now c.args.at c.args.load c.loop-customer.customer-index c.loop-customer.least
     (omega (arith, c.if-load-eq0.false)) (omega (arith, c.loop-customer-test.false, c.loop-customer.auto.customer-index-end)) c.loop-customer.invariant.least
+
+pub weight-requires-clause-to_within : goal.weight-requires-clause-to_within
+weight-requires-clause-to_within c = c.args.scope.scope.problem.some_places
+
+pub returns-then-load-eq0-clause-within : goal.returns-then-load-eq0-clause-within
+returns-then-load-eq0-clause-within c = omega (arith, c.weight.ensures.small)
+
+pub loop-customer-init : goal.loop-customer-init
+loop-customer-init c = record {
+  least = least_none (IsStep (in_units c.args.scope.unit c.args.scope.instance.now) nothing_near c.args.scope.customers.now c.args.at c.args.load) 0 (λ way cost below. absurd (omega (arith, below)));
+  within = omega arith;
+}
+
+pub offset_bounds-customer-items-customer-index : goal.offset_bounds-customer-items-customer-index
+offset_bounds-customer-items-customer-index c = omega (arith, c.loop-customer-test.true, c.ranges.scope.1)
+
+pub bounds-customer-items-customer-index : goal.bounds-customer-items-customer-index
+bounds-customer-items-customer-index c = c.loop-customer-test.true
+
+pub offset_bounds-demands-stop : goal.offset_bounds-demands-stop
+offset_bounds-demands-stop c = omega (arith, c.from-stop.ensures, c.args.scope.scope.places c.loop-customer.customer-index 0 c.loop-customer-test.true, c.args.scope.scope.problem.few_places)
+
+pub bounds-demands-stop : goal.bounds-demands-stop
+bounds-demands-stop c = omega (arith, ap length c.requires.demands, c.args.scope.scope.problem.one_demand_each, c.from-stop.ensures, c.args.scope.scope.places c.loop-customer.customer-index 0 c.loop-customer-test.true)
+
+pub overflow_sub-behind : goal.overflow_sub-behind
+overflow_sub-behind c = c.if-demand-load.true
+
+pub overflow_mul-behind : goal.overflow_mul-behind
+overflow_mul-behind c = omega (arith, behind (in_units c.args.scope.unit c.args.scope.instance.now) c.args.scope.customers.now c.args.demands.now c.args.cells.now c.args.scope.places c.args.at c.args.load c.loop-customer.customer-index c.from-stop.result c.args.scope.scope c.requires.demands c.args.scope.counted c.requires.next c.loop-customer-test.true c.from-stop.ensures c.if-demand-load.true)
+
+pub overflow_add-behind : goal.overflow_add-behind
+overflow_add-behind c = omega (arith, behind (in_units c.args.scope.unit c.args.scope.instance.now) c.args.scope.customers.now c.args.demands.now c.args.cells.now c.args.scope.places c.args.at c.args.load c.loop-customer.customer-index c.from-stop.result c.args.scope.scope c.requires.demands c.args.scope.counted c.requires.next c.loop-customer-test.true c.from-stop.ensures c.if-demand-load.true)
+
+pub offset_bounds-cells-load : goal.offset_bounds-cells-load
+offset_bounds-cells-load c = omega (arith, behind (in_units c.args.scope.unit c.args.scope.instance.now) c.args.scope.customers.now c.args.demands.now c.args.cells.now c.args.scope.places c.args.at c.args.load c.loop-customer.customer-index c.from-stop.result c.args.scope.scope c.requires.demands c.args.scope.counted c.requires.next c.loop-customer-test.true c.from-stop.ensures c.if-demand-load.true)
+
+pub bounds-cells-load : goal.bounds-cells-load
+bounds-cells-load c = behind (in_units c.args.scope.unit c.args.scope.instance.now) c.args.scope.customers.now c.args.demands.now c.args.cells.now c.args.scope.places c.args.at c.args.load c.loop-customer.customer-index c.from-stop.result c.args.scope.scope c.requires.demands c.args.scope.counted c.requires.next c.loop-customer-test.true c.from-stop.ensures c.if-demand-load.true
+
+pub overflow_add-weight : goal.overflow_add-weight
+overflow_add-weight c = omega (arith, c.weight-then-demand-load.ensures.small, c.requires.so_far.within ((c.args.load - get_or c.args.demands.now c.from-stop.result 0) * c.args.scope.places + c.from-stop.result))
+
+pub returns-clause-within : goal.returns-clause-within
+returns-clause-within c = c.loop-customer.invariant.within

@@ -1,4 +1,4 @@
-use Rattle.std.proofs.Common.{◌≡◌, ◌/◌, IfSome, ap, sym, subst, arith}
+use Rattle.std.proofs.Common.{◌≡◌, ◌/◌, ◌∙◌, List, ℕ, IfSome, ap, sym, subst, arith}
 use Rattle.vrp_bound.specs.Inner.Scaled.{near_by, near_with}
 use Rattle.vrp_bound.specs.Inner.Cells.{AreHomes, AreTours, AreWalks}
 use Rattle.vrp_bound.specs.Tables.{room_of}
@@ -50,3 +50,30 @@ returns c =
       room = same_scope (λ b a. c.min-room.result ≡ room_of (in_units unit b) a) p q among others instance customers room;
       homes = subst (λ n. IfSome c.in_ok-homes.homes (λ homes. AreHomes (in_units unit p) n among homes.items)) memory (same_scope (λ b a. IfSome c.in_ok-homes.homes (λ homes. AreHomes (in_units unit b) near a homes.items)) p q among others instance customers c.in_ok-homes.ensures);
     }
+
+pub new-units-requires-clause-places : goal.new-units-requires-clause-places
+new-units-requires-clause-places c = c.requires.places
+
+pub new-units-requires-clause-scope : goal.new-units-requires-clause-scope
+new-units-requires-clause-scope c = c.requires.scope
+
+pub new-units-requires-clause-unit : goal.new-units-requires-clause-unit
+new-units-requires-clause-unit c = c.unit_of.ensures.is_unit
+
+pub walks-requires-clause-demands : goal.walks-requires-clause-demands
+walks-requires-clause-demands c = c.deref.ensures.value ∙ c.in_ok-demands.ensures
+
+pub tours-requires-clause-walks : goal.tours-requires-clause-walks
+tours-requires-clause-walks c = subst (λ (cells : List ℕ). AreWalks (in_units c.new-units.result.unit c.new-units.result.instance.now) (near_by c.new-units.result) c.new-units.result.customers.now cells) (sym c.deref-2.ensures.value) c.in_ok-walks.ensures
+
+pub homes_for-requires-clause-walks : goal.homes_for-requires-clause-walks
+homes_for-requires-clause-walks c = subst (λ (cells : List ℕ). AreWalks (in_units c.new-units.result.unit c.new-units.result.instance.now) (near_by c.new-units.result) c.new-units.result.customers.now cells) (sym c.deref-3.ensures.value) c.in_ok-walks.ensures
+
+pub homes_for-requires-clause-tours : goal.homes_for-requires-clause-tours
+homes_for-requires-clause-tours c = subst (λ (cells : List ℕ). AreTours (in_units c.new-units.result.unit c.new-units.result.instance.now) (near_by c.new-units.result) c.new-units.result.customers.now cells) (sym c.deref-4.ensures.value) c.in_ok-tours.ensures
+
+pub up_to-requires-clause-unit : goal.up_to-requires-clause-unit
+up_to-requires-clause-unit c = c.new-units.result.some
+
+pub up_to-requires-clause-most : goal.up_to-requires-clause-most
+up_to-requires-clause-most c = omega (arith, c.demand_of_all-2.ensures.value, c.requires.scope.light)
