@@ -7,9 +7,6 @@ use std::alloc::Global;
 use std::marker::Model;
 use vrp_model::NoMemory;
 
-#[cfg(test)]
-mod tests;
-
 /// Why a piece is not added.
 #[derive(Clone, Copy, Debug, PartialEq, Eq, thiserror::Error)]
 pub enum GatherError {

@@ -4,8 +4,6 @@
 mod answers;
 mod conclusion;
 mod draws;
-#[cfg(test)]
-mod fixture;
 mod gates;
 mod gatherer;
 mod left_pieces;

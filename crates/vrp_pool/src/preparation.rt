@@ -5,9 +5,9 @@ ghost use Rattle.vrp_model.specs.Route.{IsPlanOf};
 ghost use Rattle.vrp_pool.specs.declared.preparation.TheConstants.{LEAST_PREPARED_BUDGET};
 
 use crate::gates::{Gate, News};
-use std::alloc::Global;
+use crate::shared::Shared;
 use vrp_first::ENOUGH_MOVES;
-use vrp_model::{Instance, NoMemory, Plan};
+use vrp_model::{NoMemory, Plan};
 use vrp_prices::{FoundPrices, find_prices};
 
 /// The least budget of a piece with which anything is made before. With a lesser one a run is a look at the tree.
@@ -21,26 +21,21 @@ const MOST_REMEMBERED: usize = 3;
 
 /// A plan near the best, if one is found: by savings, and where many partial plans may be looked at in all, by ruin and recreate
 /// too.
-pub(crate) fn first_plan<G: Gate>(
-    alloc: Global,
-    instance: &Instance,
-    budget: u64,
-    in_all: u64,
-    gate: &G,
-) -> Result<Option<Plan>, NoMemory>
-    ensures lawful { IfOk result (λ plan. IfSome plan (IsPlanOf instance.now)) }
-    ensures look { budget < LEAST_PREPARED_BUDGET → IfOk result (λ plan. plan ≡ None) }
+pub(crate) fn first_plan<R, G: Gate>(shared: &Shared<'_, R, G>) -> Result<Option<Plan>, NoMemory>
+    ensures lawful { IfOk result (λ plan. IfSome plan (IsPlanOf shared.now.problem)) }
+    ensures look { shared.now.budget < LEAST_PREPARED_BUDGET → IfOk result (λ plan. plan ≡ None) }
 {
-    if budget < LEAST_PREPARED_BUDGET {
+    if shared.budget < LEAST_PREPARED_BUDGET {
         return Ok(None);
     }
-    let moves = if in_all < LEAST_FOR_MOVES {
+    let moves = if shared.budget_in_all() < LEAST_FOR_MOVES {
         0
     } else {
         ENOUGH_MOVES
     };
+    let gate = shared.gate;
     gate.hears(News::FirstPlan);
-    let plan = vrp_first::first_plan(alloc, instance, moves, &|| gate.goes_on())?;
+    let plan = vrp_first::first_plan(shared.alloc, shared.instance, moves, &|| gate.goes_on())?;
     if let Some(plan) = &plan {
         gate.hears(News::Plan(plan.cost()));
     }
@@ -49,26 +44,23 @@ pub(crate) fn first_plan<G: Gate>(
 
 /// Prices, with the first plan's cost to aim at, if there is such a plan and prices are found.
 // A step towards prices takes a tenth of the time that a partial plan does: so there are as many.
-pub(crate) fn prices_found<'a, G: Gate>(
-    alloc: Global,
-    instance: &'a Instance,
-    first: Option<&Plan>,
-    in_all: u64,
-    gate: &G,
+pub(crate) fn prices_found<'a, R, G: Gate>(
+    shared: &Shared<'a, R, G>,
 ) -> Result<Option<FoundPrices<'a>>, NoMemory>
-    ensures relaxation { IfOk result (λ found. IfSome found (λ prices. prices.relaxation.problem ≡ instance.now)) }
-    ensures memory { IfOk result (λ found. IfSome found (λ prices. prices.memory.places ≡ place_count instance.now)) }
+    ensures relaxation { IfOk result (λ found. IfSome found (λ prices. prices.relaxation.problem ≡ shared.now.problem)) }
+    ensures memory { IfOk result (λ found. IfSome found (λ prices. prices.memory.places ≡ place_count shared.now.problem)) }
 {
-    let Some(plan) = first else {
+    let Some(plan) = shared.first else {
         return Ok(None);
     };
+    let gate = shared.gate;
     gate.hears(News::Prices);
     find_prices(
-        alloc,
-        instance,
+        shared.alloc,
+        shared.instance,
         plan.cost(),
         MOST_REMEMBERED,
-        in_all,
+        shared.budget_in_all(),
         &|| gate.goes_on(),
     )
 }

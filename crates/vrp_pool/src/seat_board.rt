@@ -17,9 +17,6 @@ use vrp_model::{NoMemory, Plan};
 use vrp_register::{Caller, Register};
 use vrp_search::{Board, LOOKS_BEFORE_ASKING, Local};
 
-#[cfg(test)]
-mod tests;
-
 /// A board that offers plans to a register, as one of its callers, and keeps the first of them: the cheapest, and of those the one
 /// with the earliest word. Its floor is the least of the opening cost and the costs that the caller has seen. A gate hears of the
 /// plans, and stops searches.

@@ -1,7 +1,7 @@
 //! The search of an instance by several workers.
-ghost use Rattle.std.specs.Prelude.{◌≡◌, ◌+◌, ◌*◌, ◌≤◌, ◌⊎◌, IfOk, IfSome, length, vec_len};
+ghost use Rattle.std.specs.Prelude.{◌≡◌, ◌+◌, ◌*◌, ◌≤◌, IfOk, IfSome, length, vec_len};
 ghost use Rattle.std.specs.Option.{ForSome, option_map};
-ghost use Rattle.vrp_model.specs.Problem.{customers};
+ghost use Rattle.vrp_model.specs.Problem.{place_count};
 ghost use Rattle.vrp_model.specs.Route.{IsPlanOf};
 ghost use Rattle.vrp_pile.specs.Pile.{IsNewPile};
 ghost use Rattle.vrp_search.specs.Cutting.{IsCutting};
@@ -27,9 +27,6 @@ use vrp_pile::{Owner, Pile, Thief};
 use vrp_prices::FoundPrices;
 use vrp_register::{Book, Caller, Closed, Register};
 use vrp_search::{Cutting, Prices};
-
-#[cfg(test)]
-mod tests;
 
 /// The most workers that may be asked for.
 pub const MAX_WORKERS: u32 = 64;
@@ -90,93 +87,84 @@ pub fn solve_from<'a, R: Threads + Wait + Sync, G: Gate + Sync>(
     ensures { IfOk result (IsAnswer instance.now cutting budget (G.may_stop gate.now)) }
 {
     let tables = Tables::over_all(alloc, instance)?;
-    hear_plan(gate, start);
-    if let Some(answer) = looked_at(rt, alloc, instance, &tables, start, budget)? {
-        hear_plan(gate, answer.plan());
-        return Ok(answer);
-    }
     let pieces = cutting.pieces().len() as u32;
-    let in_all = budget.saturating_mul(u64::from(pieces));
-    let made = first_plan(alloc, instance, budget, in_all, gate)?;
-    let first = first_of(instance, copied(alloc, start)?, made);
-    let Some(found) = prices_found(alloc, instance, first.as_ref(), in_all, gate)? else {
-        let shared = Shared {
-            rt,
-            alloc,
-            instance,
-            tables: &tables,
-            first: first.as_ref(),
-            prices: None,
-            pieces,
-            budget,
-            gate,
-        };
-        return Ok(solve_pieces(&shared, cutting, workers)?);
-    };
-    let FoundPrices { relaxation, memory } = found;
-    let prices = Prices::new(alloc, &relaxation, memory)?;
-    gate.hears(News::Bound(prices.lower_bound()));
-    let shared = Shared {
-        rt,
-        alloc,
-        instance,
-        tables: &tables,
-        first: first.as_ref(),
-        prices: Some(&prices),
-        pieces,
-        budget,
-        gate,
-    };
-    Ok(solve_pieces(&shared, cutting, workers)?)
+    let shared = Shared::new(rt, alloc, instance, &tables, start, pieces, budget, gate);
+    Ok(solve_shared(&shared, cutting, workers)?)
 }
 
-// The plan that is before the other, where both are there.
-fn first_of(_instance: &Instance, one: Option<Plan>, other: Option<Plan>) -> Option<Plan>
-    requires one { IfSome one (IsPlanOf _instance.now) }
-    requires other { IfSome other (IsPlanOf _instance.now) }
-    ensures { IfSome result (IsPlanOf _instance.now) }
+// Answers by a look at the whole tree where that is enough, else by the pieces, with a first plan and prices.
+fn solve_shared<R: Threads + Wait + Sync, G: Gate + Sync>(
+    shared: &Shared<'_, R, G>,
+    cutting: Cutting,
+    workers: u32,
+) -> Result<Answer, NoMemory>
+    requires cutting { IsCutting shared.now.problem cutting }
+    requires few { length cutting ≤ 2 * MAX_REFINED }
+    requires pieces { shared.now.pieces ≡ length cutting }
+    requires some_worker { 1 ≤ workers }
+    requires few_workers { workers ≤ MAX_WORKERS }
+    ensures { IfOk result (IsAnswer shared.now.problem cutting shared.now.budget shared.now.may_stop) }
 {
-    let is_first = match (&one, &other) {
-        (Some(plan), Some(than)) => plan.is_before(than),
-        (Some(_), None) => true,
-        (None, _) => false,
-    };
-    if is_first { one } else { other }
+    hear_plan(shared.gate, shared.first);
+    if let Some(answer) = looked_at(shared)? {
+        hear_plan(shared.gate, answer.plan());
+        return Ok(answer);
+    }
+    let made = first_plan(shared)?;
+    let shared = shared.with_plan(made.as_ref());
+    match prices_found(&shared)? {
+        Some(found) => solve_by_prices(&shared, found, cutting, workers),
+        None => solve_pieces(&shared, cutting, workers),
+    }
 }
 
 // What a look at the whole tree by one worker answers. `None` where there is none with so small a budget, or it is not enough.
-fn looked_at<'a, R: Threads + Wait + Sync>(
-    rt: &'a R,
-    alloc: Global,
-    instance: &'a Instance,
-    tables: &'a Tables<'a>,
-    first: Option<&'a Plan>,
-    budget: u64,
+fn looked_at<R: Threads + Wait + Sync, G: Gate>(
+    shared: &Shared<'_, R, G>,
 ) -> Result<Option<Answer>, NoMemory>
-    requires first { ForSome (option_map (λ plan. plan.now) first) (IsPlanOf instance.now) }
-    requires tables { tables.now ≡ record { problem = instance.now; among = customers instance.now } }
-    ensures { IfOk result (λ found. IfSome found (AnswersAll instance.now)) }
+    ensures { IfOk result (λ found. IfSome found (AnswersAll shared.now.problem)) }
 {
-    if budget < LEAST_PREPARED_BUDGET {
+    if shared.budget < LEAST_PREPARED_BUDGET {
         return Ok(None);
     }
-    let whole = Cutting::whole(alloc, instance)?;
-    let shared = Shared {
-        rt,
-        alloc,
-        instance,
-        tables,
-        first,
-        prices: None,
-        pieces: whole.pieces().len() as u32,
-        budget: budget.min(FIRST_LOOK),
-        gate: &NoGate,
-    };
-    match solve_pieces(&shared, whole, 1)? {
+    let whole = Cutting::whole(shared.alloc, shared.instance)?;
+    let look = Shared::new(
+        shared.rt,
+        shared.alloc,
+        shared.instance,
+        shared.tables,
+        shared.first,
+        whole.pieces().len() as u32,
+        shared.budget.min(FIRST_LOOK),
+        &NoGate,
+    );
+    match solve_pieces(&look, whole, 1)? {
         Answer::Proven(plan) => Ok(Some(Answer::Proven(plan))),
         Answer::NoPlan => Ok(Some(Answer::NoPlan)),
         Answer::Open { .. } => Ok(None),
     }
+}
+
+// Searches all pieces of a cutting by these prices.
+fn solve_by_prices<R: Threads + Wait + Sync, G: Gate + Sync>(
+    shared: &Shared<'_, R, G>,
+    found: FoundPrices<'_>,
+    cutting: Cutting,
+    workers: u32,
+) -> Result<Answer, NoMemory>
+    requires problem { found.relaxation.problem ≡ shared.now.problem }
+    requires places { found.memory.places ≡ place_count shared.now.problem }
+    requires cutting { IsCutting shared.now.problem cutting }
+    requires few { length cutting ≤ 2 * MAX_REFINED }
+    requires pieces { shared.now.pieces ≡ length cutting }
+    requires some_worker { 1 ≤ workers }
+    requires few_workers { workers ≤ MAX_WORKERS }
+    ensures { IfOk result (IsAnswer shared.now.problem cutting shared.now.budget shared.now.may_stop) }
+{
+    let FoundPrices { relaxation, memory } = found;
+    let prices = Prices::new(shared.alloc, &relaxation, memory)?;
+    shared.gate.hears(News::Bound(prices.lower_bound()));
+    solve_pieces(&shared.by_prices(&prices), cutting, workers)
 }
 
 // Searches all pieces of a cutting by this many workers, who draw them from one pile.

@@ -139,18 +139,7 @@ fn all_searched<R: Threads + Wait + Sync, L: Ledger + Send + Sync, G: Gate + Syn
         callers.push(lead.take_over(shared, helper)?)?;
     }
     lead.draw_all(shared)?;
-    let Worker {
-        drawer: pile,
-        board,
-        outcomes,
-        ..
-    } = lead;
-    let (caller, best) = board.into_parts();
+    let (caller, searched) = lead.into_searched();
     callers.push(caller)?;
-    let searched = Searched {
-        pile,
-        outcomes,
-        best,
-    };
     Ok((callers, searched))
 }

@@ -1,14 +1,16 @@
 //! A worker: it draws pieces and searches them one by one, and keeps what is known of each.
 ghost use Rattle.std.specs.Prelude.{◌≡◌, ◌≤◌, IfOk, OnOk};
 ghost use Rattle.std.specs.Option.{ForSome, option_map};
+ghost use Rattle.vrp_model.specs.Cheapest.{cost_of};
 ghost use Rattle.vrp_model.specs.Route.{IsPlanOf};
 ghost use Rattle.vrp_model.specs.Word.{IsFront};
+ghost use Rattle.vrp_register.specs.Caller.{IsCallerOf};
 ghost use Rattle.vrp_pool.specs.SeatBoard.{IsLater, floor_of};
-ghost use Rattle.vrp_pool.specs.Inner.Workers.{CanWork, EndsPiece, HasHelped, HasSearched, IsNewCaller, IsOutcome, IsTakenOver, IsWorked, IsWorker, new_worker};
+ghost use Rattle.vrp_pool.specs.Inner.Workers.{CanWork, CostsNoLess, EndsPiece, HasHelped, HasSearched, IsNewCaller, IsOutcome, IsTakenOver, IsWorked, IsWorker, new_worker};
 
 use crate::draws::Draws;
 use crate::gates::{Gate, News};
-use crate::outcome::{Finished, Left, Outcome};
+use crate::outcome::{Finished, Left, Outcome, Searched};
 use crate::seat_board::SeatBoard;
 use crate::shared::Shared;
 use std::marker::Model;
@@ -161,6 +163,30 @@ impl<'a, R: Wait, L: Ledger, G: Gate> Worker<'a, Owner, R, L, G> {
             self.board.keep(shared.alloc, best)?;
         }
         Ok(caller)
+    }
+
+    /// The lead's caller, and what all workers leave, once it has taken the helpers over.
+    pub(crate) fn into_searched(self) -> (Caller<L>, Searched)
+        ensures caller { result.0 ≡ self.entry.board.caller }
+        ensures one_of { IsCallerOf self.entry.board.register result.0 }
+        ensures no_less { CostsNoLess (cost_of result.1.best) result.0 }
+        ensures pile { result.1.pile ≡ self.entry.drawer }
+        ensures outcomes { result.1.outcomes.items ≡ self.entry.outcomes }
+        ensures best { result.1.best ≡ self.entry.board.best }
+    {
+        let Worker {
+            drawer: pile,
+            board,
+            outcomes,
+            ..
+        } = self;
+        let (caller, best) = board.into_parts();
+        let searched = Searched {
+            pile,
+            outcomes,
+            best,
+        };
+        (caller, searched)
     }
 }
 

@@ -1,18 +1,21 @@
-use Rattle.std.proofs.Common.{◌≡◌, ◌∙◌, ◌+◌, length, ap, subst, sym, rules}
+use Rattle.std.proofs.Common.{◌≡◌, ◌∙◌, ◌+◌, List, length, ap, subst, sym, rules}
+use Rattle.std.specs.Prelude.{◌↔◌, IfOk, IsTrue, is_some}
 use Rattle.vrp_model.specs.Cheapest.{cost_of}
-use Rattle.vrp_pool.specs.Inner.Workers.{AreNewCallers, IsSearched}
+use Rattle.vrp_model.specs.Problem.{HasTrucks, customers}
+use Rattle.vrp_search.specs.Cutting.{AreNumbered, IsCutting, NumberedWord}
+use Rattle.vrp_pool.specs.Answer.{IsAnswer}
+use Rattle.vrp_pool.specs.Inner.Workers.{AreNewCallers, IsSearched, Search, words_of}
 use Rattle.vrp_pool.proofs.Closings.{all_searched}
 use Rattle.vrp_pool.proofs.NewCallers.{are_fronts, many_callers, new_callers}
 use Rattle.vrp_pool.proofs.solver.solve_pile.Goals as goal
 
 pub searched_by_all-requires-clause-fronts : goal.searched_by_all-requires-clause-fronts
-searched_by_all-requires-clause-fronts g c = let fronts = are_fronts c.args.shared.now c.args.owner.put c.requires.cutting in search (rules, fronts)
+searched_by_all-requires-clause-fronts g c κs within = are_fronts c.args.shared.now c.args.owner.put c.requires.cutting
 
 pub searched_by_all-requires-clause-callers : goal.searched_by_all-requires-clause-callers
-searched_by_all-requires-clause-callers g c =
+searched_by_all-requires-clause-callers g c κs within =
     let register = c.in_ok-register.register in
-    let callers = subst (AreNewCallers register) (sym c.in_ok-register.ensures.callers) (new_callers register (cost_of c.in_ok-opening.opening) (c.len.result + 1)) in
-    search (rules, callers)
+    subst (AreNewCallers register) (sym c.in_ok-register.ensures.callers) (new_callers register (cost_of c.in_ok-opening.opening) (c.len.result + 1))
 
 pub searched_by_all-requires-clause-as_many : goal.searched_by_all-requires-clause-as_many
 searched_by_all-requires-clause-as_many g c =
@@ -34,3 +37,21 @@ conclude-requires-clause-searched g c =
     let (history, is, long, least) = c.close-book.ensures.history in
     let all = all_searched c.args.shared.now c.in_ok-register.register c.in_ok-callers.callers.items searched history c.in_ok-callers.ensures.back is in
     subst (λ n. IsSearched c.args.shared.now n searched) opens all
+
+pub searched_by_all-requires-clause-pile : goal.searched_by_all-requires-clause-pile
+searched_by_all-requires-clause-pile g c κs within = c.requires.pile
+
+pub conclude-requires-clause-cutting : goal.conclude-requires-clause-cutting
+conclude-requires-clause-cutting g c = subst (λ (put : List NumberedWord). IsCutting c.args.shared.now.problem (words_of put)) (sym c.in_ok-callers.ensures.put) c.requires.cutting
+
+pub conclude-requires-clause-numbers : goal.conclude-requires-clause-numbers
+conclude-requires-clause-numbers g c = subst AreNumbered (sym c.in_ok-callers.ensures.put) c.requires.pile.numbers
+
+pub conclude-requires-clause-pieces : goal.conclude-requires-clause-pieces
+conclude-requires-clause-pieces g c = c.requires.pieces ∙ ap length (sym c.in_ok-callers.ensures.put)
+
+pub conclude-requires-clause-some : goal.conclude-requires-clause-some
+conclude-requires-clause-some g c = subst (λ (t : Search). IsTrue (is_some c.in_ok-singles.singles) ↔ HasTrucks t.problem (length (customers t.problem))) c.shared.view_is c.in_ok-singles.ensures.some
+
+pub returns : goal.returns
+returns g c = subst (λ (put : List NumberedWord). IfOk c.conclude.result (IsAnswer c.args.shared.now.problem (words_of put) c.args.shared.now.budget c.args.shared.now.may_stop)) c.in_ok-callers.ensures.put c.conclude.ensures

@@ -3,7 +3,8 @@ use Rattle.std.specs.List.{All}
 use Rattle.std.specs.Option.{ForSome, option_map}
 use Rattle.vrp_model.specs.Route.{IsPlanOf}
 use Rattle.std.proofs.lemmas.List.Elements.{All-head}
-use Rattle.vrp_register.specs.Caller.{CallerState, IsCallerOf, RegisterState}
+use Rattle.vrp_pile.specs.Pile.{DrawerState}
+use Rattle.vrp_register.specs.Caller.{CallerState, RegisterState}
 use Rattle.vrp_pool.specs.Inner.Workers.{IsTeam, IsWorker, Search, WorkerState}
 use Rattle.vrp_pool.proofs.Teams.{IsPartly, all_back, lead_worked, none_taken_over, one_taken_over}
 use Rattle.vrp_pool.proofs.team.all_searched.Goals as goal
@@ -61,13 +62,27 @@ returns-clause-back g c =
     let none : length rest ≡ 0 = search rules in
     let later = c.draw_all.new.self in
     let drawn = c.in_ok-draw_all.ensures in
-    let parts = c.into_parts-caller.ensures in
-    let caller = c.into_parts-caller.result.0 in
-    let view = c.lead-2.view_is in
+    let parts = c.into_searched-caller.ensures in
+    let caller = c.into_searched-caller.result.0 in
     rw c.in_ok-push-2.ensures.items
-    (all_back s register put callers caller rest lead later _ none c.loop-helper.invariant drawn.worked drawn.searched drawn.at_end (parts.caller ∙ ap (λ (w : WorkerState). w.board.caller) view)
-    (subst (λ (w : WorkerState). IsCallerOf w.board.register caller) view parts.one_of) parts.no_less
-    (ap (λ (w : WorkerState). w.drawer) view) (ap (λ (w : WorkerState). w.outcomes) view) (parts.best ∙ ap (λ (w : WorkerState). w.board.best) view))
+    (all_back s register put callers caller rest lead later _ none c.loop-helper.invariant drawn.worked drawn.searched drawn.at_end parts.caller parts.one_of parts.no_less parts.pile parts.outcomes parts.best)
 
 pub offered-requires-clause-plan : goal.offered-requires-clause-plan
 offered-requires-clause-plan g c = subst (λ (s : Search). ForSome (option_map (λ plan. plan.now) c.shared.inside.first) (IsPlanOf s.problem)) c.shared.view_is c.shared.invariant.2
+
+pub offered-requires-clause-can : goal.offered-requires-clause-can
+offered-requires-clause-can g c = c.requires.team.lead_is.can
+
+pub worked-requires-clause-fine : goal.worked-requires-clause-fine
+worked-requires-clause-fine g c κs within = c.requires.fine
+
+pub take_over-requires-clause-lead : goal.take_over-requires-clause-lead
+take_over-requires-clause-lead g c =
+    let lead = c.loop-helper.lead in
+    subst (λ (r : RegisterState). IsWorker c.args.shared.now r lead.drawer.pile lead) (sym c.loop-helper.invariant.lead_is.of_register) c.loop-helper.invariant.lead_is
+
+pub draw_all-requires : goal.draw_all-requires
+draw_all-requires g c = c.loop-helper.invariant.lead_is.can
+
+pub returns-clause-put : goal.returns-clause-put
+returns-clause-put g c = ap (λ (d : DrawerState). d.put) c.into_searched-caller.ensures.pile ∙ c.in_ok-draw_all.ensures.worked.put ∙ c.loop-helper.invariant.put_is

@@ -1,4 +1,4 @@
-use Rattle.std.proofs.Common.{◌≡◌, ◌∙◌, ℕ, Option, Some, List, [], append-nil, sym, subst, ap}
+use Rattle.std.proofs.Common.{◌≡◌, ◌∙◌, ℕ, Option, Some, List, [], append-nil, sym, subst, ap, arith}
 use Rattle.std.specs.Prelude.{IfNone, IfSome}
 use Rattle.std.proofs.lemmas.Result.{IfOk-weaker}
 use Rattle.vrp_model.specs.Word.{NoneCheaperUnder}
@@ -53,3 +53,65 @@ search_under-requires-clause-step g c =
       covered = subst (λ v. AreCovered one.problem v one.word) (sym (ap (λ v. v.among) c.in_ok-bounds.ensures.tables)) (subst (λ (v : PartialPlan). AreCovered v.problem c.args.tables.now.among v.word) (sym at) c.requires.covered);
       under = ([], sym (append-nil one.word));
     }
+
+pub opened-requires-clause-tables : goal.opened-requires-clause-tables
+opened-requires-clause-tables g c = c.requires.tables
+
+pub opened-requires-clause-covered : goal.opened-requires-clause-covered
+opened-requires-clause-covered g c = c.requires.covered
+
+pub opened-requires-clause-piece : goal.opened-requires-clause-piece
+opened-requires-clause-piece g c = c.requires.piece
+
+pub opened-requires-clause-board : goal.opened-requires-clause-board
+opened-requires-clause-board g c = c.requires.board
+
+pub returns-in_err-partial-clause-serves : goal.returns-in_err-partial-clause-serves
+returns-in_err-partial-clause-serves g c = c.opened.ensures.serves
+
+pub returns-in_err-partial-clause-keeps : goal.returns-in_err-partial-clause-keeps
+returns-in_err-partial-clause-keeps g c = c.opened.ensures.keeps
+
+pub returns-in_err-partial-clause-falls : goal.returns-in_err-partial-clause-falls
+returns-in_err-partial-clause-falls g c = c.opened.ensures.falls
+
+pub returns-in_default-clause-serves : goal.returns-in_default-clause-serves
+returns-in_default-clause-serves g c = c.opened.ensures.serves
+
+pub returns-in_default-clause-keeps : goal.returns-in_default-clause-keeps
+returns-in_default-clause-keeps g c = c.opened.ensures.keeps
+
+pub returns-in_default-clause-falls : goal.returns-in_default-clause-falls
+returns-in_default-clause-falls g c = c.opened.ensures.falls
+
+pub returns-in_err-bounds-clause-serves : goal.returns-in_err-bounds-clause-serves
+returns-in_err-bounds-clause-serves g c = c.opened.ensures.serves
+
+pub returns-in_err-bounds-clause-keeps : goal.returns-in_err-bounds-clause-keeps
+returns-in_err-bounds-clause-keeps g c = c.opened.ensures.keeps
+
+pub returns-in_err-bounds-clause-falls : goal.returns-in_err-bounds-clause-falls
+returns-in_err-bounds-clause-falls g c = c.opened.ensures.falls
+
+pub search_under-requires-clause-board : goal.search_under-requires-clause-board
+search_under-requires-clause-board g c =
+    let p = c.args.instance.now in
+    let root = c.args.piece.now.word in
+    let at : c.in-Some.field-0.partial ≡ record { problem = p; word = root } = subst (λ (o : Option Root). IfSome o (λ one. one.partial ≡ record { problem = p; word = root })) c.in-Some.is c.in_ok-partial.ensures.at in
+    subst (λ (v : PartialPlan). g.B.Board.serves c.opened.new.board v.problem) (sym at) c.opened.ensures.serves
+
+pub search_under-requires-clause-budget : goal.search_under-requires-clause-budget
+search_under-requires-clause-budget g c = c.requires.budget
+
+pub returns-clause-serves : goal.returns-clause-serves
+returns-clause-serves g c =
+    let p = c.args.instance.now in
+    let root = c.args.piece.now.word in
+    let at : c.in-Some.field-0.partial ≡ record { problem = p; word = root } = subst (λ (o : Option Root). IfSome o (λ one. one.partial ≡ record { problem = p; word = root })) c.in-Some.is c.in_ok-partial.ensures.at in
+    subst (λ (v : PartialPlan). g.B.Board.serves c.search_under.new.board v.problem) at c.search_under.ensures.serves
+
+pub returns-clause-keeps : goal.returns-clause-keeps
+returns-clause-keeps g c = λ earlier kept. c.search_under.ensures.keeps earlier (c.opened.ensures.keeps earlier kept)
+
+pub returns-clause-falls : goal.returns-clause-falls
+returns-clause-falls g c = omega (arith, c.search_under.ensures.falls, c.opened.ensures.falls)

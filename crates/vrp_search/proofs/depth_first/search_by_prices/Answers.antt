@@ -1,4 +1,4 @@
-use Rattle.std.proofs.Common.{◌≡◌, ℕ, Option, Some, List, sym, subst}
+use Rattle.std.proofs.Common.{◌≡◌, ◌∙◌, ℕ, Option, Some, List, sym, subst, ap, arith}
 use Rattle.std.specs.Prelude.{IfNone, IfSome}
 use Rattle.std.proofs.lemmas.Result.{IfOk-weaker}
 use Rattle.vrp_model.specs.Word.{NoneCheaperUnder}
@@ -39,3 +39,72 @@ returns-clause-ended g c =
     IfOk-weaker c.search_under.result (EndsUnder one.partial.problem one.partial.word one.low budget may_stop floor) (EndsSearch p among root budget may_stop floor)
     (λ ended ends. subst (λ (v : PartialPlan). (among : List ℕ) → IsLow v.problem among v.word (Some one.low) → EndsSearch v.problem among v.word budget may_stop floor ended) at ends among is_low)
     c.search_under.ensures.ended
+
+pub opened-requires-clause-tables : goal.opened-requires-clause-tables
+opened-requires-clause-tables g c = c.requires.tables
+
+pub opened-requires-clause-covered : goal.opened-requires-clause-covered
+opened-requires-clause-covered g c = c.requires.covered
+
+pub opened-requires-clause-piece : goal.opened-requires-clause-piece
+opened-requires-clause-piece g c = c.requires.piece
+
+pub opened-requires-clause-board : goal.opened-requires-clause-board
+opened-requires-clause-board g c = c.requires.board
+
+pub returns-in_err-partial-clause-serves : goal.returns-in_err-partial-clause-serves
+returns-in_err-partial-clause-serves g c = c.opened.ensures.serves
+
+pub returns-in_err-partial-clause-keeps : goal.returns-in_err-partial-clause-keeps
+returns-in_err-partial-clause-keeps g c = c.opened.ensures.keeps
+
+pub returns-in_err-partial-clause-falls : goal.returns-in_err-partial-clause-falls
+returns-in_err-partial-clause-falls g c = c.opened.ensures.falls
+
+pub returns-in_default-clause-serves : goal.returns-in_default-clause-serves
+returns-in_default-clause-serves g c = c.opened.ensures.serves
+
+pub returns-in_default-clause-keeps : goal.returns-in_default-clause-keeps
+returns-in_default-clause-keeps g c = c.opened.ensures.keeps
+
+pub returns-in_default-clause-falls : goal.returns-in_default-clause-falls
+returns-in_default-clause-falls g c = c.opened.ensures.falls
+
+pub returns-in_err-by_prices-clause-serves : goal.returns-in_err-by_prices-clause-serves
+returns-in_err-by_prices-clause-serves g c = c.opened.ensures.serves
+
+pub returns-in_err-by_prices-clause-keeps : goal.returns-in_err-by_prices-clause-keeps
+returns-in_err-by_prices-clause-keeps g c = c.opened.ensures.keeps
+
+pub returns-in_err-by_prices-clause-falls : goal.returns-in_err-by_prices-clause-falls
+returns-in_err-by_prices-clause-falls g c = c.opened.ensures.falls
+
+pub at-requires : goal.at-requires
+at-requires g c =
+    let p = c.args.instance.now in
+    let root = c.args.piece.now.word in
+    let at : c.in-Some.field-0.partial ≡ record { problem = p; word = root } = subst (λ (o : Option Root). IfSome o (λ one. one.partial ≡ record { problem = p; word = root })) c.in-Some.is c.in_ok-partial.ensures.at in
+    record { problem = c.requires.prices ∙ sym (ap (λ (v : PartialPlan). v.problem) at) }
+
+pub search_under-requires-clause-board : goal.search_under-requires-clause-board
+search_under-requires-clause-board g c =
+    let p = c.args.instance.now in
+    let root = c.args.piece.now.word in
+    let at : c.in-Some.field-0.partial ≡ record { problem = p; word = root } = subst (λ (o : Option Root). IfSome o (λ one. one.partial ≡ record { problem = p; word = root })) c.in-Some.is c.in_ok-partial.ensures.at in
+    subst (λ (v : PartialPlan). g.B.Board.serves c.opened.new.board v.problem) (sym at) c.opened.ensures.serves
+
+pub search_under-requires-clause-budget : goal.search_under-requires-clause-budget
+search_under-requires-clause-budget g c = c.requires.budget
+
+pub returns-clause-serves : goal.returns-clause-serves
+returns-clause-serves g c =
+    let p = c.args.instance.now in
+    let root = c.args.piece.now.word in
+    let at : c.in-Some.field-0.partial ≡ record { problem = p; word = root } = subst (λ (o : Option Root). IfSome o (λ one. one.partial ≡ record { problem = p; word = root })) c.in-Some.is c.in_ok-partial.ensures.at in
+    subst (λ (v : PartialPlan). g.B.Board.serves c.search_under.new.board v.problem) at c.search_under.ensures.serves
+
+pub returns-clause-keeps : goal.returns-clause-keeps
+returns-clause-keeps g c = λ earlier kept. c.search_under.ensures.keeps earlier (c.opened.ensures.keeps earlier kept)
+
+pub returns-clause-falls : goal.returns-clause-falls
+returns-clause-falls g c = omega (arith, c.search_under.ensures.falls, c.opened.ensures.falls)

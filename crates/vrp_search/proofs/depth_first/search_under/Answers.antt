@@ -1,4 +1,4 @@
-use Rattle.std.proofs.Common.{◌≡◌, ◌≢◌, ◌⊎◌, IsTrue, ◌∙◌, ℕ, ◌+◌, ◌≤◌, ◌<◌, List, [], ◌∷◌, ◌++◌, length, length-append, refl, sym, subst, ap, arith}
+use Rattle.std.proofs.Common.{◌≡◌, ◌-◌, ◌*◌, ◌≢◌, ◌⊎◌, IsTrue, ◌∙◌, ℕ, ◌+◌, ◌≤◌, ◌<◌, List, [], ◌∷◌, ◌++◌, length, length-append, refl, sym, subst, ap, arith}
 use Rattle.vrp_model.specs.Problem.{Problem}
 use Rattle.vrp_model.specs.declared.limits.TheConstants.{NO_COST}
 use Rattle.vrp_model.specs.Word.{BeginsWith, TreeHasAtLeast, word_cost}
@@ -10,6 +10,14 @@ use Rattle.vrp_search.specs.Search.{IsFinished}
 use Rattle.vrp_search.proofs.SearchProgress.{Progress, descended, ends_at_last, no_use, opened, pruned, returned, unfinished}
 use Rattle.vrp_search.proofs.WordOrder.{without_last}
 use Rattle.vrp_search.proofs.depth_first.search_under.Goals as goal
+
+-- one more is spent, and the word has at most one symbol more
+spent_more : (budget old new a b : ℕ) → new ≡ old + 1 → new ≤ budget → b ≤ a + 1 → 2 * (budget - new) + b < 2 * (budget - old) + a
+spent_more budget old new a b is within longer = omega (arith, is, within, longer)
+
+-- what is still to spend is the same, and the word has a symbol fewer
+one_fewer : (more : ℕ) (word popped : List ℕ) (last : ℕ) → word ≡ popped ++ last ∷ [] → more + length popped < more + length word
+one_fewer more word popped last is = omega (arith, ap length is, length-append popped (last ∷ []))
 
 pub loop-spending-init : goal.loop-spending-init
 loop-spending-init g c =
@@ -216,3 +224,73 @@ loop-spending-preserved g c =
       budget = c.loop-spending.invariant.budget;
       within = c.loop-spending.invariant.within;
     }
+
+pub loop-spending-smaller-then-prunes : goal.loop-spending-smaller-then-prunes
+loop-spending-smaller-then-prunes g c =
+    let word = c.loop-spending.partial.word in
+    let k = c.in-Some.field-0 in
+    let longer : c.push.new.partial.word ≡ word ++ k ∷ [] = ap (λ (v : PartialPlan). v.word) c.push.ensures.partial in
+    let parts = without_last c.pop-next.new.partial.word word c.pop-next.result k (sym c.pop-next.ensures.word ∙ longer) in
+    spent_more c.args.budget c.loop-spending.spending.spent c.look.new.self.spent (length word) (length c.pop-next.new.partial.word) (c.look.ensures.spent ∙ ap (λ n. n + 1) c.is_over.ensures.spent) (omega (arith, c.look.ensures.spent, c.is_over.ensures.more c.if-is_over.false, c.is_over.new.self.until, c.is_over.new.self.within, c.is_over.ensures.budget, c.loop-spending.invariant.budget)) (omega (arith, ap length parts.0))
+
+pub loop-spending-smaller-else-prunes : goal.loop-spending-smaller-else-prunes
+loop-spending-smaller-else-prunes g c =
+    let word = c.loop-spending.partial.word in
+    let k = c.in-Some.field-0 in
+    let longer : c.push.new.partial.word ≡ word ++ k ∷ [] = ap (λ (v : PartialPlan). v.word) c.push.ensures.partial in
+    spent_more c.args.budget c.loop-spending.spending.spent c.look.new.self.spent (length word) (length c.push.new.partial.word) (c.look.ensures.spent ∙ ap (λ n. n + 1) c.is_over.ensures.spent) (omega (arith, c.look.ensures.spent, c.is_over.ensures.more c.if-is_over.false, c.is_over.new.self.until, c.is_over.new.self.within, c.is_over.ensures.budget, c.loop-spending.invariant.budget)) (omega (arith, ap length longer, length-append word (k ∷ [])))
+
+pub loop-spending-smaller-in_default : goal.loop-spending-smaller-in_default
+loop-spending-smaller-in_default g c =
+    let long = length c.loop-spending.partial.word in
+    spent_more c.args.budget c.loop-spending.spending.spent c.look.new.self.spent long long (c.look.ensures.spent ∙ ap (λ n. n + 1) c.is_over.ensures.spent) (omega (arith, c.look.ensures.spent, c.is_over.ensures.more c.if-is_over.false, c.is_over.new.self.until, c.is_over.new.self.within, c.is_over.ensures.budget, c.loop-spending.invariant.budget)) (omega arith)
+
+pub loop-spending-smaller : goal.loop-spending-smaller
+loop-spending-smaller g c =
+    one_fewer (2 * (c.args.budget - c.loop-spending.spending.spent)) c.loop-spending.partial.word c.pop-next-in-None-2.new.partial.word c.pop-next-in-None-2.result c.pop-next-in-None-2.ensures.word
+
+pub returns-in-Some-clause-serves : goal.returns-in-Some-clause-serves
+returns-in-Some-clause-serves g c = c.loop-spending.invariant.serves
+
+pub returns-in-Some-clause-keeps : goal.returns-in-Some-clause-keeps
+returns-in-Some-clause-keeps g c = c.loop-spending.invariant.keeps
+
+pub returns-in-Some-clause-falls : goal.returns-in-Some-clause-falls
+returns-in-Some-clause-falls g c = c.loop-spending.invariant.falls
+
+pub returns-in-None-clause-serves : goal.returns-in-None-clause-serves
+returns-in-None-clause-serves g c = c.loop-spending.invariant.serves
+
+pub returns-in-None-clause-keeps : goal.returns-in-None-clause-keeps
+returns-in-None-clause-keeps g c = c.loop-spending.invariant.keeps
+
+pub returns-in-None-clause-falls : goal.returns-in-None-clause-falls
+returns-in-None-clause-falls g c = c.loop-spending.invariant.falls
+
+pub returns-in_err-offer_complete-clause-serves : goal.returns-in_err-offer_complete-clause-serves
+returns-in_err-offer_complete-clause-serves g c = c.offer_complete.ensures.serves
+
+pub returns-in_err-offer_complete-clause-keeps : goal.returns-in_err-offer_complete-clause-keeps
+returns-in_err-offer_complete-clause-keeps g c = c.offer_complete.ensures.keeps
+
+pub returns-in_err-offer_complete-clause-falls : goal.returns-in_err-offer_complete-clause-falls
+returns-in_err-offer_complete-clause-falls g c = c.offer_complete.ensures.falls
+
+pub returns-in_err-offer_complete-in-Some-2-clause-serves : goal.returns-in_err-offer_complete-in-Some-2-clause-serves
+returns-in_err-offer_complete-in-Some-2-clause-serves g c =
+    let problem : c.push.new.partial.problem ≡ c.args.partial.problem = ap (λ (v : PartialPlan). v.problem) c.push.ensures.partial ∙ c.loop-spending.invariant.problem in
+    subst (λ (q : Problem). g.B.Board.serves c.offer_complete-else-prunes.new.board q) problem c.offer_complete-else-prunes.ensures.serves
+
+pub returns-in_err-offer_complete-in-Some-2-clause-falls : goal.returns-in_err-offer_complete-in-Some-2-clause-falls
+returns-in_err-offer_complete-in-Some-2-clause-falls g c = omega (arith, c.offer_complete-else-prunes.ensures.falls, c.least-least.ensures.falls, c.loop-spending.invariant.falls)
+
+pub pop-next-requires-clause-some : goal.pop-next-requires-clause-some
+pop-next-requires-clause-some g c =
+    let longer : c.push.new.partial.word ≡ c.loop-spending.partial.word ++ c.in-Some.field-0 ∷ [] = ap (λ (v : PartialPlan). v.word) c.push.ensures.partial in
+    omega (arith, ap length longer, length-append c.loop-spending.partial.word (c.in-Some.field-0 ∷ []))
+
+pub offer_complete-requires : goal.offer_complete-requires
+offer_complete-requires g c = c.requires.board
+
+pub push-requires-clause-step : goal.push-requires-clause-step
+push-requires-clause-step g c = (c.args.partial.word, c.loop-spending.invariant.step)

@@ -54,3 +54,21 @@ returns-then-low-own-clause-exact c =
     let among = c.args.tables.now.among in
     let word = c.args.self.now.word ++ c.args.symbol ∷ [] in
     may_be_of_use p among word c.in-Some.low c.args.least c.args.own (λ dead. absurd (true≢false (sym (c.child_is_dead.ensures.dead.1 dead) ∙ c.if-child_is_dead.false))) (subst (IsLow p among word) c.in-Some.is c.child_low.ensures) (omega (arith, c.if-low-least.true)) (omega (arith, c.if-low-own.true))
+
+pub tally_after-tally-requires : goal.tally_after-tally-requires
+tally_after-tally-requires c = c.requires.child
+
+pub child_is_dead-requires : goal.child_is_dead-requires
+child_is_dead-requires c = c.tally_after-tally.ensures.tally
+
+pub child_low-requires-clause-tables : goal.child_low-requires-clause-tables
+child_low-requires-clause-tables c = c.requires.tables
+
+pub child_low-requires-clause-covered : goal.child_low-requires-clause-covered
+child_low-requires-clause-covered c = c.requires.covered
+
+pub child_low-requires-clause-child : goal.child_low-requires-clause-child
+child_low-requires-clause-child c = c.requires.child
+
+pub child_low-requires-clause-tally : goal.child_low-requires-clause-tally
+child_low-requires-clause-tally c = c.tally_after-tally.ensures.tally

@@ -1,4 +1,4 @@
-use Rattle.vrp_pool.proofs.seat_board.tests.check_ties.Given as goal
+use Rattle.vrp_pool_tests.proofs.seat_board.check_ties.Given as goal
 
 abbrev pub ghosts-check_ties_of : goal.ghosts-check_ties_of
 ghosts-check_ties_of g a = record { name = a.blank.name; parts = a.blank.parts }

@@ -1,4 +1,4 @@
-use Rattle.vrp_pool.proofs.seat_board.tests.one_seat.Given as goal
+use Rattle.vrp_pool_tests.proofs.seat_board.one_seat.Given as goal
 
 abbrev pub ghosts-check_one_seat : goal.ghosts-check_one_seat
 ghosts-check_one_seat g a = record { name = a.blank.name; parts = a.blank.parts }

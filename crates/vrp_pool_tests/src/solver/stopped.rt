@@ -3,8 +3,8 @@ ghost use Rattle.std.specs.Prelude.{true};
 
 use super::*;
 use crate::fixture::four_trucks;
-use crate::gates::News;
 use std::sync::atomic::{AtomicU64, Ordering};
+use vrp_pool::News;
 
 // Goes on where it was asked this often before, from the first number on and below the second.
 #[derive(Drop)]
@@ -65,9 +65,6 @@ impl Gate for GoesOn {
     }
 }
 
-// Workers, pieces, and the budget of each piece.
-type Asked = (u32, u32, u64);
-
 // Between which numbers the gate goes on, and how many partial plans are looked at in all. With a budget of 999 nothing comes before
 // the pieces, and each takes more. With a larger one the gate is asked once in each of four runs of ruin and recreate, which it stops,
 // and once before the rounds for prices, unless the budget is too small for these.
@@ -86,31 +83,15 @@ const STOPPED: &[(Asked, (u64, u64), u64)] = &[
 ];
 
 #[test]
-fn stopped_searches(rt: HostRuntime) -> Result<(), Fail> {
-    let instance = four_trucks(rt.alloc())?;
+fn stopped_searches(rt: HostRuntime) {
+    let instance = four_trucks(&rt, rt.alloc());
     for &(asked, (from, below), looked) in STOPPED {
         let gate = GoesOn::between(from, below);
-        let answer = answer_behind(&rt, rt.alloc(), &instance, asked, &gate)?;
+        let answer = answer_behind(&rt, rt.alloc(), &instance, asked, &gate);
         let is_open = matches!(answer, Answer::Open { .. });
         assert!(rt; is_open, "{asked:?} {below}");
         assert_heard(&rt, &gate, asked, looked);
     }
-    Ok(())
-}
-
-// The answer of a search behind a gate.
-fn answer_behind<R: Abort + Threads + Wait + Sync>(
-    rt: &R,
-    alloc: Global,
-    instance: &Instance,
-    (workers, pieces, budget): Asked,
-    gate: &GoesOn,
-) -> Result<Answer, Fail> {
-    assert!(rt; 1 <= workers && workers <= MAX_WORKERS);
-    assert!(rt; pieces <= MAX_PIECES);
-    assert!(rt; 1 <= budget);
-    let cutting = cut(alloc, instance, pieces)?;
-    Ok(solve(rt, alloc, instance, cutting, workers, budget, gate)?)
 }
 
 // Asserts of how many partial plans a gate has heard, and that all pieces are done with.
@@ -123,17 +104,15 @@ fn assert_heard(rt: &impl Abort, gate: &GoesOn, asked: Asked, looked: u64) {
 
 // A gate that stops nothing hears of the plan that is proved, and of a bound below it.
 #[test]
-fn what_a_gate_hears(rt: HostRuntime) -> Result<(), Fail> {
-    let instance = four_trucks(rt.alloc())?;
+fn what_a_gate_hears(rt: HostRuntime) {
+    let instance = four_trucks(&rt, rt.alloc());
     for workers in [1, 2] {
         let gate = GoesOn::between(0, u64::MAX);
-        let asked = (workers, 21, AMPLE);
-        let answer = answer_behind(&rt, rt.alloc(), &instance, asked, &gate)?;
+        let answer = answer_behind(&rt, rt.alloc(), &instance, (workers, 21, AMPLE), &gate);
         assert!(rt; matches!(answer, Answer::Proven(_)), "not proven");
         let least = gate.least.load(Ordering::SeqCst);
         assert!(rt; least == 375, "{least}");
         let bound = gate.bound.load(Ordering::SeqCst);
         assert!(rt; 365 < bound && bound <= 375, "{bound}");
     }
-    Ok(())
 }

@@ -1,12 +1,11 @@
 //! A gatherer of two pieces, and the texts of errors.
-use super::*;
-use crate::answers::SolveError;
 use std::process::Abort;
 use std::test::Fail;
+use vrp_pool::{Finished, GatherError, Gatherer, SolveError};
 
 #[test]
-fn each_once(rt: HostRuntime) -> Result<(), Fail> {
-    let mut gatherer = Gatherer::new(rt.alloc(), 2)?;
+fn each_once(rt: HostRuntime) {
+    let mut gatherer = Gatherer::new(rt.alloc(), 2).expect(&rt, "memory");
     // the number that is added, what comes of it, and what is missing then
     let table = [
         (1, Ok(()), Some(0)),
@@ -24,7 +23,6 @@ fn each_once(rt: HostRuntime) -> Result<(), Fail> {
         assert_eq!(rt; gatherer.add(finished), outcome, "{number}");
         assert_eq!(rt; gatherer.missing(), missing, "{number}");
     }
-    Ok(())
 }
 
 #[test]

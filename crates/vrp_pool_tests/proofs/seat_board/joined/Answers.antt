@@ -1,8 +1,8 @@
 use Rattle.std.proofs.Common.{◌≡◌, true, arith}
 use Rattle.vrp_model.specs.Problem.{place_count}
 use Rattle.vrp_model.proofs.OneRoute.{joined_word}
-use Rattle.vrp_pool.proofs.seat_board.tests.joined.Goals as goal
-use Rattle.vrp_pool.proofs.seat_board.tests.joined.Goals.{then-first-eq2+else-assert-5, else-first-eq2}
+use Rattle.vrp_pool_tests.proofs.seat_board.joined.Goals as goal
+use Rattle.vrp_pool_tests.proofs.seat_board.joined.Goals.{then-first-eq2+else-assert-5, else-first-eq2}
 
 pub of_word-requires : goal.of_word-requires
 of_word-requires g c =
