@@ -8,17 +8,19 @@ use vrp_pool::{Gate, News};
 /// Stops a search this many seconds after it was made, if a number is given, and where another gate says so, to which it passes on
 /// all that it is told. Where the clock fails or stands still the search goes on. That the clock is right no clause says.
 #[derive(Clone, Copy)]
-pub(crate) struct Deadline<'a, C, G: Gate> {
+pub struct Deadline<'a, C, G: Gate> {
     clock: &'a C,
     // `None` where the clock failed.
     start: Option<Instant>,
-    seconds: Option<u32>,
-    gate: &'a G,
+    /// After how many seconds the search is to stop.
+    pub seconds: Option<u32>,
+    /// Which else may stop it, and is told what it is told.
+    pub gate: &'a G,
 }
 
 impl<'a, C: Clock, G: Gate> Deadline<'a, C, G> {
     /// The time begins now.
-    pub(crate) fn new(clock: &'a C, seconds: Option<u32>, gate: &'a G) -> Deadline<'a, C, G>
+    pub fn new(clock: &'a C, seconds: Option<u32>, gate: &'a G) -> Deadline<'a, C, G>
         ensures seconds { result.seconds ≡ seconds }
         ensures gate { result.gate.now ≡ gate.entry.now }
     {
@@ -60,6 +62,3 @@ impl<'a, C: Clock, G: Gate> Gate for Deadline<'a, C, G> {
         }
     }
 }
-
-#[cfg(test)]
-mod tests;

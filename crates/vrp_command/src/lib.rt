@@ -19,15 +19,15 @@ mod progress;
 mod refusal;
 mod report;
 mod start;
-#[cfg(test)]
-mod tests;
 mod words;
 
 pub use command::run;
+pub use deadline::Deadline;
 pub use fault::{RunError, exit_status, fault_line};
 pub use law::one_report;
+pub use line::{Line, Stage};
 pub use options::{Format, MAX_BUDGET, MAX_SECONDS, Options, Request, Status};
-pub use program::{end_without_run, run_words};
+pub use program::{end, end_without_run, run_words};
 pub use vrp_pool::{Gate, MAX_WORKERS, News, NoGate};
 pub use vrp_search::MAX_PIECES;
-pub use words::{LineFault, line_status, parse_request, parse_words, words_fault};
+pub use words::{LineFault, line_fault, line_status, parse_request, parse_words, words_fault};

@@ -6,11 +6,16 @@ use std::fmt;
 
 /// What a run is at.
 #[derive(Clone, Copy, Debug, PartialEq, Eq)]
-pub(crate) enum Stage {
+pub enum Stage {
+    /// A look at the whole tree, before anything else.
     Look,
+    /// A first plan is looked for.
     FirstPlan,
+    /// Prices are looked for.
     Prices,
+    /// Pieces are searched.
     Search,
+    /// It has come to this verdict.
     Ended(Status),
 }
 
@@ -31,19 +36,22 @@ impl fmt::Display for Stage {
     }
 }
 
-/// What is known of a run.
+/// What is known of a run. Its text is one line, without an end; where no pieces are known it says nothing of them.
 #[derive(Clone, Copy, Debug, PartialEq, Eq)]
-pub(crate) struct Line {
-    pub(crate) stage: Stage,
-    // Since the start, where the clock tells.
-    pub(crate) seconds: Option<u64>,
-    // Of the best plan, if one is known.
-    pub(crate) cost: Option<u64>,
-    // No plan costs less, where that is known.
-    pub(crate) bound: Option<u64>,
-    pub(crate) done: u64,
-    pub(crate) pieces: u64,
-    pub(crate) looked: u64,
+pub struct Line {
+    pub stage: Stage,
+    /// How many have passed since the start, where the clock tells.
+    pub seconds: Option<u64>,
+    /// That of the best plan, if one is known.
+    pub cost: Option<u64>,
+    /// No plan costs less than this, where that is known.
+    pub bound: Option<u64>,
+    /// How many pieces are done with.
+    pub done: u64,
+    /// How many pieces there are; 0 where the tree has not been cut.
+    pub pieces: u64,
+    /// How many partial plans were looked at.
+    pub looked: u64,
 }
 
 impl fmt::Display for Line {
@@ -80,6 +88,3 @@ fn hundredths(cost: u64, bound: u64) -> u64 {
     let above = u128::from(cost.saturating_sub(bound)) * 10_000;
     (above / u128::from(cost.max(1))) as u64
 }
-
-#[cfg(test)]
-mod tests;

@@ -245,7 +245,7 @@ pub fn end_without_run<W: Write, E: Write>(fault: &LineFault, output: &mut W, er
 }
 
 /// The exit status of an outcome. A fault goes to `errors`, as one line. Where that can't be written nothing more is done.
-pub(crate) fn end<E: Write>(alloc: Global, outcome: &Result<Status, RunError>, errors: &mut E) -> u8
+pub fn end<E: Write>(alloc: Global, outcome: &Result<Status, RunError>, errors: &mut E) -> u8
     ensures { result ≡ exit_code outcome.now }
 {
     if let Err(fault) = outcome {

@@ -150,8 +150,8 @@ fn format_of(matches: &ArgMatches<'_>, words: &[&str]) -> Format
     }
 }
 
-/// The fault of words that `clap` doesn't take.
-pub(crate) fn line_fault(alloc: Global, error: &Error) -> LineFault
+/// The fault of words that `clap` doesn't take: its help and version, or its text of what is wrong. Which of these no clause says.
+pub fn line_fault(alloc: Global, error: &Error) -> LineFault
     ensures { kind_of error.now ≡ ErrorKind.OutOfMemory → result ≡ LineFault.OutOfMemory }
 {
     if error.kind() == ErrorKind::OutOfMemory {

@@ -10,8 +10,6 @@ mod points;
 mod route;
 mod solution;
 mod style;
-#[cfg(test)]
-mod tests;
 
 pub use finding::{Finding, Verdict};
 pub use json::{Settings, json_text};

@@ -7,9 +7,6 @@ ghost use Rattle.vrp_lexer.specs.Inner.WordTable.{words_of};
 
 use crate::key::Key;
 
-#[cfg(test)]
-mod tests;
-
 /// What a keyword is.
 #[derive(Clone, Copy, Debug, PartialEq, Eq)]
 pub enum Keyword {
@@ -60,7 +57,7 @@ fn lookup(table: &[(&[u8], Keyword)], word: &[u8]) -> Option<Keyword>
 }
 
 /// What a keyword is, where it is one.
-pub(crate) fn keyword_of(text: &[u8]) -> Option<Keyword>
+pub fn keyword_of(text: &[u8]) -> Option<Keyword>
     ensures { result ≡ keyword_of text.now }
 {
     lookup(&KEYWORDS, text)

@@ -1,8 +1,6 @@
 //! What stands in a line of a CVRP file of TSPLIB 95: lines, tokens, keywords, numerals and the values of keywords.
 #![tactic(auto)]
 
-#[cfg(test)]
-mod assertion;
 mod fault;
 mod key;
 mod keyword;
@@ -14,7 +12,7 @@ mod value;
 
 pub use fault::FaultyLine;
 pub use key::Key;
-pub use keyword::Keyword;
+pub use keyword::{Keyword, keyword_of};
 pub use limits::{MAX_BYTES, MAX_DEMAND, MAX_DIGITS, MAX_NODE, MAX_POWER, MAX_POWER_DIGITS};
 pub use lines::{DataLine, Heading, Lines};
 pub use numeral::number;

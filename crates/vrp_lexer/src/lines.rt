@@ -14,9 +14,6 @@ use crate::tokens::skip_blanks;
 use memchr::memchr;
 use std::marker::Model;
 
-#[cfg(test)]
-mod tests;
-
 // A line, and what stands behind its line feed where it has one.
 fn split_line(bytes: &[u8]) -> (&[u8], Option<&[u8]>)
     ensures { MatchOption result.1

@@ -6,9 +6,6 @@ ghost use Rattle.vrp_lexer.specs.Line.{tokens_of};
 
 use std::marker::Model;
 
-#[cfg(test)]
-mod tests;
-
 // Whether a byte stands between tokens.
 fn is_blank(byte: u8) -> bool
     ensures { result ≡ is_blank byte }

@@ -17,9 +17,6 @@ use std::alloc::{AllocError, Global};
 use std::marker::Model;
 use thiserror::Error;
 
-#[cfg(test)]
-mod tests;
-
 /// Why no instance was made: the first fault in this order. Each names the lowest node that has it.
 #[derive(Clone, Copy, Debug, PartialEq, Eq, Error)]
 pub enum InstanceError {

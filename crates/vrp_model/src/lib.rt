@@ -2,11 +2,7 @@
 //! crate's promises cite (`specs/`).
 #![tactic(auto)]
 
-#[cfg(test)]
-mod assertion;
 mod depots;
-#[cfg(test)]
-mod fixture;
 mod instance;
 mod law;
 mod layout;

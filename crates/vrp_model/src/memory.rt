@@ -20,15 +20,3 @@ impl<T: Drop> From<AllocFailed<T>> for NoMemory {
         NoMemory(())
     }
 }
-
-#[cfg(test)]
-mod tests {
-    use super::*;
-    use crate::assertion::assert_same;
-
-    #[test]
-    fn text(rt: HostRuntime) {
-        let text = NoMemory(()).to_string(rt.alloc()).expect(&rt, "memory");
-        assert_same(&rt, text.as_str(), "out of memory", "the text");
-    }
-}

@@ -15,8 +15,6 @@ use std::alloc::Global;
 use std::marker::Model;
 
 mod fits;
-#[cfg(test)]
-mod tests;
 
 // The stops of one route, by their indexes in the plan's word.
 #[derive(Clone, Copy, Debug, PartialEq, Eq)]

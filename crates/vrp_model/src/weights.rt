@@ -141,6 +141,3 @@ fn next_weight(
         metric.distance(points[row], points[column]) as u32
     }
 }
-
-#[cfg(test)]
-mod tests;

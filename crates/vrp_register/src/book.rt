@@ -8,9 +8,6 @@ use std::alloc::Global;
 use std::marker::Model;
 use vrp_model::{NoMemory, Plan};
 
-#[cfg(test)]
-mod tests;
-
 /// Keeps the first plan by cost and then by word among the opening plan and the offers, and every offer in order.
 #[derive(Debug, Drop)]
 pub struct Book {

@@ -1,15 +1,11 @@
 //! The register: the first plan so far by cost and then by word, and the history of all offers, shared among threads.
 #![tactic(auto)]
 
-#[cfg(test)]
-mod assertion;
 mod book;
 mod caller;
 mod cost_word;
 mod counted;
 mod entry;
-#[cfg(test)]
-mod fixture;
 mod law;
 mod register;
 mod view;

@@ -7,8 +7,6 @@ mod lawful;
 mod line;
 mod route;
 mod solution;
-#[cfg(test)]
-mod tests;
 
 pub use error::SolutionError;
 pub use solution::Solution;

@@ -11,8 +11,6 @@ mod nodes;
 mod reading;
 mod section;
 mod statements;
-#[cfg(test)]
-mod tests;
 
 pub use error::TextError;
 pub use instance::read;

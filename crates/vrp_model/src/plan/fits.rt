@@ -7,9 +7,6 @@ ghost use Rattle.vrp_model.specs.Route.{IsPlanOf, OverloadsNoTruck, ServesEachOn
 use super::{Plan, route_cost};
 use crate::instance::Instance;
 
-#[cfg(test)]
-mod tests;
-
 impl Plan {
     /// Whether this is a lawful plan of the instance, and costs there what it says. A plan is made for one instance, but nothing
     /// in it names that one: beside another it may leave customers out, overload a truck or cost something else.
