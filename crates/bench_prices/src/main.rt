@@ -1,6 +1,7 @@
 //! How good prices are, and how fast the search by them looks: it finds prices for the instance in a CVRP file, with a first plan's cost
 //! to aim at, and searches its whole tree till the budget is spent. The command line names the file, the budget in partial plans, the
-//! steps that may be taken to find prices, and how many customers near each place walks may remember. What was found goes to standard output, and how long it took to standard error.
+//! steps that may be taken to find prices, and how many customers near each place walks may remember. What was found goes to standard
+//! output, and how long it took to standard error.
 #![tactic(auto)]
 
 ghost use Rattle.std.specs.Prelude.{◌≡◌, ◌≤◌, IfOk};

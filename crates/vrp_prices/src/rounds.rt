@@ -36,9 +36,9 @@ pub struct FoundPrices<'a> {
 /// Prices and tolls that bound the instance's plans well, where a plan of it costs so much, and the memory of the walks in their
 /// rounds: the ng-routes of Baldacci, Mingozzi and Roberti (2011). At most this many steps are taken to find them: looks from one
 /// cell of a table at another, and looks at a way for a cut with a toll. Walks remember up to this many customers near each place, and
-/// fewer where rounds would be long or few. Before each round it is asked whether to go on. `None` where the steps are too few for a hundred rounds of walks that remember nothing,
-/// or no unit makes the tables small, or the prices are out of range. Which prices they are, and which memory, is left open: any
-/// bound the instance's plans.
+/// fewer where rounds would be long or few. Before each round it is asked whether to go on. `None` where the steps are too few for a
+/// hundred rounds of walks that remember nothing, or no unit makes the tables small, or the prices are out of range. Which prices
+/// they are, and which memory, is left open: any bound the instance's plans.
 pub fn find_prices<'a, F: Fn() -> bool>(
     alloc: Global,
     instance: &'a Instance,

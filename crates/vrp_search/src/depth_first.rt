@@ -34,8 +34,8 @@ pub enum Ended {
 /// partial plans than the budget says, at each at most once, at the piece's own word first, and at children by rising symbol. It
 /// doesn't go below one whose cost and bound together are above what the board answers, or not under the cost of the last plan that
 /// it offered, or whose bound says that no plan is under it, or that is dead, or of which the tree bound says the same. It asks the
-/// board now and then whether to go on. The tables are over all customers that the piece leaves unserved, and may be over more. Where memory is refused the board has the offers
-/// that were made before.
+/// board now and then whether to go on. The tables are over all customers that the piece leaves unserved, and may be over more.
+/// Where memory is refused the board has the offers that were made before.
 pub fn search<B: Board>(
     alloc: Global,
     instance: &Instance,
