@@ -16,11 +16,11 @@ use std::alloc::Global;
 use std::rt::{Clock, Files};
 use std::time::{Duration, Instant};
 use std::{env, fs};
+use vrp_ascent::{FoundPrices, find_prices};
 use vrp_bound::{MemoryTables, Tables};
 use vrp_first::{ENOUGH_MOVES, first_plan};
 use vrp_memory::{MOST_NEAR, Memory};
 use vrp_model::{Instance, NO_COST, Plan};
-use vrp_prices::{FoundPrices, find_prices};
 use vrp_search::{Cutting, Ended, Local, Prices, search_by_prices};
 
 fn main(rt: HostRuntime) -> Result<()> {

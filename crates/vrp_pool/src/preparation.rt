@@ -6,9 +6,9 @@ ghost use Rattle.vrp_pool.specs.declared.preparation.TheConstants.{LEAST_PREPARE
 
 use crate::gates::{Gate, News};
 use crate::shared::Shared;
+use vrp_ascent::{FoundPrices, find_prices};
 use vrp_first::ENOUGH_MOVES;
 use vrp_model::{NoMemory, Plan};
-use vrp_prices::{FoundPrices, find_prices};
 
 /// The least budget of a piece with which anything is made before. With a lesser one a run is a look at the tree.
 pub(crate) const LEAST_PREPARED_BUDGET: u64 = 1_000;

@@ -30,7 +30,7 @@ pub(crate) fn demands_in_units(
 }
 
 /// What a customer demands in units: rounded down, and at least 1.
-pub(crate) fn demand_in_units(instance: &Instance, unit: u64, customer: u16) -> u64
+pub fn demand_in_units(instance: &Instance, unit: u64, customer: u16) -> u64
     requires some { 1 ≤ unit }
     requires within { customer < place_count instance.now }
     ensures { result ≡ units_of unit (demand_of instance.now customer) }
@@ -39,7 +39,7 @@ pub(crate) fn demand_in_units(instance: &Instance, unit: u64, customer: u16) -> 
 }
 
 /// What one truck can carry in units: rounded down, and one more for each customer that demands less than a unit.
-pub(crate) fn capacity_in_units(instance: &Instance, unit: u64) -> u64
+pub fn capacity_in_units(instance: &Instance, unit: u64) -> u64
     requires some { 1 ≤ unit }
     ensures { result ≡ rounded_capacity instance.now unit }
 {

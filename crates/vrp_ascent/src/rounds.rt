@@ -1,11 +1,10 @@
 //! How prices are found: rounds of filling tables and stepping towards a higher bound.
-ghost use Rattle.std.specs.Prelude.{◌≡◌, ◌≤◌, IfOk, IfSome, vec_len};
+ghost use Rattle.std.specs.Prelude.{◌≡◌, ◌≤◌, All, IfOk, IfSome, vec_len};
 ghost use Rattle.vrp_memory.specs.declared.memory.TheConstants.{MOST_NEAR};
 ghost use Rattle.vrp_model.specs.Problem.{place_count};
-ghost use Rattle.vrp_prices.specs.declared.limits.TheConstants.{MAX_SCALE};
+ghost use Rattle.vrp_prices.specs.Cut.{IsCut};
+ghost use Rattle.vrp_prices.specs.declared.limits.TheConstants.{MAX_CUTS, MAX_SCALE};
 
-use crate::limits::MAX_SCALE;
-use crate::relaxation::Relaxation;
 use crate::remembered::Remembered;
 use crate::step::Ascent;
 use crate::stepped_cuts::SteppedCut;
@@ -14,6 +13,7 @@ use crate::walks::{Walks, at};
 use std::alloc::Global;
 use vrp_memory::{MOST_NEAR, Memory};
 use vrp_model::{Instance, NoMemory};
+use vrp_prices::{Cut, MAX_SCALE, Relaxation};
 
 // The most rounds; few instances take as many.
 const MAX_ROUNDS: u64 = 600;
@@ -65,23 +65,44 @@ pub fn find_prices<'a, F: Fn() -> bool>(
     let remembered = Remembered::largest(alloc, instance, size, near, steps)?;
     let (memory, size) = (remembered.memory, remembered.size);
     let mut walks = Walks::new(alloc, instance, scale, unit, size, remembered.looks)?;
-    let mut ascent = new_ascent(alloc, instance, scale, cost)?;
-    ascend(
-        alloc,
-        instance,
-        &mut walks,
-        &mut ascent,
-        size,
-        steps,
-        goes_on,
+    let best = best_prices(
+        alloc, instance, &mut walks, scale, cost, size, steps, goes_on,
     )?;
-    let (prices, cuts) = ascent.into_best();
-    let prices = lifted(alloc, instance, &mut walks, &prices, cuts.as_slice())?;
-    let cuts = cuts.into_cuts(alloc, instance)?;
-    match Relaxation::new(alloc, instance, scale, unit, &prices, &cuts)? {
+    match Relaxation::new(alloc, instance, scale, unit, &best.prices, &best.cuts)? {
         Some(relaxation) => Ok(Some(FoundPrices { relaxation, memory })),
         None => Ok(None),
     }
+}
+
+// Prices, a price for each place, and cuts with their tolls.
+#[derive(Drop)]
+struct BestPrices {
+    prices: Vec<i64>,
+    cuts: Vec<Cut>,
+}
+
+// Those by which the highest bound was found.
+fn best_prices<F: Fn() -> bool>(
+    alloc: Global,
+    instance: &Instance,
+    walks: &mut Walks,
+    scale: u64,
+    cost: u64,
+    size: Size,
+    steps: u64,
+    goes_on: &F,
+) -> Result<BestPrices, NoMemory>
+    requires { F.IsAlwaysCallable goes_on.now }
+    ensures one_each { IfOk result (λ best. vec_len best.prices ≡ place_count instance.now) }
+    ensures cuts { IfOk result (λ best. All (IsCut instance.now) best.cuts.items) }
+    ensures few { IfOk result (λ best. vec_len best.cuts ≤ MAX_CUTS) }
+{
+    let mut ascent = new_ascent(alloc, instance, scale, cost)?;
+    ascend(alloc, instance, walks, &mut ascent, size, steps, goes_on)?;
+    let (prices, cuts) = ascent.into_best();
+    let prices = lifted(alloc, instance, walks, &prices, cuts.as_slice())?;
+    let cuts = cuts.into_cuts(alloc, instance)?;
+    Ok(BestPrices { prices, cuts })
 }
 
 // Begins with no prices.

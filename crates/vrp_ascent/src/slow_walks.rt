@@ -4,10 +4,10 @@ ghost use Rattle.vrp_model.specs.Problem.{place_count};
 
 use crate::assertion::assert_same;
 use crate::cells::NO_WALK;
+use crate::found::assert_bounds;
 use crate::instances::{FOUR, at_points, with_ways};
 use crate::near_looks::NearLooks;
 use crate::rounds::find_prices;
-use crate::slow::assert_bounds;
 use crate::tours_used::UsedWay;
 use crate::unit::Size;
 use crate::walks::{Walks, at};

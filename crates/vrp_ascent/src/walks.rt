@@ -2,13 +2,13 @@
 ghost use Rattle.std.specs.Prelude.{◌≤◌, ◌<◌};
 ghost use Rattle.vrp_model.specs.Problem.{place_count};
 
-use crate::amounts::demand_in_units;
 use crate::cells::{Cells, FAR, NO_WALK};
 use crate::growth::Growth;
 use crate::near_looks::{NearLook, NearLooks};
 use crate::unit::Size;
 use std::alloc::Global;
 use vrp_model::{Instance, NoMemory};
+use vrp_prices::demand_in_units;
 
 /// The tables of one problem with prices, made once and filled in each round.
 #[derive(Debug, Drop)]

@@ -1,7 +1,7 @@
 use Rattle.std.proofs.Common.{[], ◌∷◌, ◌++◌, arith}
 use Rattle.std.proofs.lemmas.List.Elements.{All-nil, All-push, All-same}
 use Rattle.vrp_prices.specs.Cut.{IsCut}
-use Rattle.vrp_prices.proofs.stepped_cuts.SteppedCuts.into_cuts.Goals as goal
+use Rattle.vrp_ascent.proofs.stepped_cuts.SteppedCuts.into_cuts.Goals as goal
 
 pub loop-cut-init : goal.loop-cut-init
 loop-cut-init c = record {

@@ -1,9 +1,9 @@
 //! The unit that demands are counted in while prices are looked for, and how large the tables are then.
 ghost use Rattle.std.specs.Prelude.{◌≤◌, IfSome};
 
-use crate::amounts::{capacity_in_units, demand_in_units};
 use vrp_bound::gcd;
 use vrp_model::Instance;
+use vrp_prices::{capacity_in_units, demand_in_units};
 
 /// The most cells that one round of filling tables looks at.
 pub(crate) const MAX_ROUND: u64 = 20_000_000;

@@ -3,14 +3,13 @@ ghost use Rattle.std.specs.Prelude.{◌≤◌, All, IfOk, pos, ◌<ℤ◌, vec_l
 ghost use Rattle.vrp_prices.specs.Cut.{IsCut};
 ghost use Rattle.vrp_prices.specs.declared.limits.TheConstants.{MAX_CUTS};
 
-use crate::cut::Cut;
 use crate::flow::Flow;
-use crate::limits::{MAX_CUTS, MAX_TOLL};
 use crate::separation::violated_cuts;
 use crate::step::deflected;
 use crate::tours_used::UsedWay;
 use std::alloc::Global;
 use vrp_model::{Instance, NoMemory};
+use vrp_prices::{Cut, MAX_CUTS, MAX_TOLL};
 
 // Cuts are looked for after this many rounds, and then whenever `ROUNDS_BETWEEN` more are made.
 const FIRST_ROUNDS: u32 = 30;
