@@ -119,6 +119,3 @@ impl<'a> Pruning for ByPrices<'a> {
         partial.pop()
     }
 }
-
-#[cfg(test)]
-pub(crate) mod tests;

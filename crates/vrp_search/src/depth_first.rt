@@ -204,6 +204,3 @@ pub(crate) fn search_under<B: Board, P: Pruning + Drop>(
         }
     }
 }
-
-#[cfg(test)]
-pub(crate) mod tests;

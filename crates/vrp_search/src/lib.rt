@@ -1,15 +1,11 @@
 //! Partial plans, cuttings of the tree of plans, and the search of a piece.
 #![tactic(auto)]
 
-#[cfg(test)]
-mod assertion;
 mod board;
 mod bounds;
 mod by_prices;
 mod cutting;
 mod depth_first;
-#[cfg(test)]
-mod fixture;
 mod found;
 mod law;
 mod local;
@@ -18,8 +14,6 @@ mod partial;
 mod piece;
 mod prices;
 mod pruning;
-#[cfg(test)]
-mod slow;
 mod spending;
 mod tally;
 mod tree_pruning;
@@ -29,6 +23,6 @@ pub use cutting::{Cutting, MAX_PIECES, MAX_REFINED};
 pub use depth_first::{Ended, search, search_by_prices};
 pub use law::{one_low, one_piece, own_low_no_lower};
 pub use local::Local;
-pub use partial::Partial;
+pub use partial::{Partial, Room};
 pub use piece::Piece;
 pub use prices::Prices;

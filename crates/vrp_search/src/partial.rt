@@ -30,6 +30,13 @@ pub struct Partial<'a> {
     tally: Tally,
 }
 
+/// For how many symbols a partial plan has room, and for how many tallies of what was counted before each.
+#[derive(Clone, Copy, Debug, PartialEq, Eq)]
+pub struct Room {
+    pub symbols: usize,
+    pub tallies: usize,
+}
+
 impl<'a> Model for Partial<'a> {
     ghost use Rattle.vrp_search.specs.Partial.{PartialPlan};
     ghost use Rattle.vrp_search.specs.Inner.Tallied.{AreTallied, HasRoom};
@@ -189,6 +196,15 @@ impl<'a> Partial<'a> {
         self.tally.unserved
     }
 
+    /// For how many symbols, and for how many tallies of what was counted before each, it has room before it asks for memory. How
+    /// much that is, no clause says.
+    pub fn room(&self) -> Room {
+        Room {
+            symbols: self.word.capacity(),
+            tallies: self.before.capacity(),
+        }
+    }
+
     /// Puts the unserved customers into a list that has room for all, by rising place, in place of what stands there.
     pub(crate) fn list_unserved(&self, list: &mut Vec<u16>)
         requires { place_count self.now.problem ≤ vec_capacity list.old + 1 }
@@ -215,6 +231,3 @@ impl<'a> Partial<'a> {
         Plan::of_word(alloc, self.instance, self.word.as_slice())
     }
 }
-
-#[cfg(test)]
-mod tests;

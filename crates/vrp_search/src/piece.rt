@@ -26,7 +26,8 @@ impl Model for Piece {
 }
 
 impl Piece {
-    pub(crate) fn new(number: u32, word: Vec<u16>) -> Piece
+    /// A piece of this number in its cutting, whose words begin with these symbols.
+    pub fn new(number: u32, word: Vec<u16>) -> Piece
         ensures { result ≡ record { number = number; word = word.items } }
     {
         Piece { number, word }
@@ -77,6 +78,3 @@ impl Piece {
         Ok(partial.low(tables))
     }
 }
-
-#[cfg(test)]
-pub(crate) mod tests;

@@ -61,6 +61,3 @@ impl Spending {
         self.spent += 1;
     }
 }
-
-#[cfg(test)]
-mod tests;
