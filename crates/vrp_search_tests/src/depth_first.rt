@@ -169,7 +169,7 @@ fn assert_left(rt: &impl Abort, ended: Result<Ended, NoMemory>, board: &mut Loca
     assert_same(rt, board.least(), 30, low);
 }
 
-/// The search has ended so.
+/// Asserts how a search ended.
 pub(crate) fn assert_end(rt: &impl Abort, ended: &Ended, end: End<'_>) {
     let found = match ended {
         Ended::Finished { spent, first } => {

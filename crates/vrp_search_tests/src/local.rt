@@ -1,4 +1,4 @@
-//! The board of one thread is offered plans.
+//! Plans that the board of one thread is offered.
 ghost use Rattle.vrp_model.specs.Route.{IsPlanOf};
 ghost use Rattle.vrp_search.specs.Board.{KeepsPlanOf};
 

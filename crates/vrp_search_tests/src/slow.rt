@@ -5,7 +5,7 @@ use std::alloc::Global;
 use std::process::Abort;
 use vrp_model::{Instance, Layout, Weights};
 
-/// How many nodes each instance has, those included that have no part.
+/// How many nodes each instance has, with those that have no part.
 pub(crate) const NODES: u16 = 4;
 
 // Weights from each node to each: there and back differ, and there and back are the same.
