@@ -28,71 +28,110 @@ fn assert_options(rt: &impl Abort, alloc: Global, words: &[&str], wanted: Option
     }
 }
 
-#[test]
-fn defaults(rt: HostRuntime) {
-    assert_options(&rt, rt.alloc(), &[], DEFAULT);
-}
-
-fn assert_workers(rt: &impl Abort, alloc: Global, words: &[&str], workers: u32) {
-    assert_options(rt, alloc, words, Options { workers, ..DEFAULT });
-}
-
-#[test]
-fn workers(rt: HostRuntime) {
-    assert_workers(&rt, rt.alloc(), &["--workers", "1"], 1);
-    assert_workers(&rt, rt.alloc(), &["--workers", "64"], MAX_WORKERS);
-    assert_workers(&rt, rt.alloc(), &["--workers=2"], 2);
-    assert_workers(&rt, rt.alloc(), &["--workers", "02"], 2);
-    assert_workers(&rt, rt.alloc(), &["--workers", "+2"], 2);
-}
-
-fn assert_pieces(rt: &impl Abort, alloc: Global, words: &[&str], pieces: u32) {
-    assert_options(rt, alloc, words, Options { pieces, ..DEFAULT });
-}
-
-#[test]
-fn pieces(rt: HostRuntime) {
-    assert_pieces(&rt, rt.alloc(), &["--pieces", "1"], 1);
-    assert_pieces(&rt, rt.alloc(), &["--pieces", "65536"], MAX_PIECES);
-}
-
-fn assert_budget(rt: &impl Abort, alloc: Global, words: &[&str], budget: u64) {
-    assert_options(rt, alloc, words, Options { budget, ..DEFAULT });
-}
-
-#[test]
-fn budget(rt: HostRuntime) {
-    assert_budget(&rt, rt.alloc(), &["--budget", "1"], 1);
-    assert_budget(&rt, rt.alloc(), &["--budget", "1000000000000"], MAX_BUDGET);
-}
-
-fn assert_nodes(
-    rt: &impl Abort,
-    alloc: Global,
-    words: &[&str],
-    depot: Option<u16>,
-    trucks: Option<u16>,
-) {
-    let wanted = Options {
-        depot,
-        trucks,
-        ..DEFAULT
-    };
-    assert_options(rt, alloc, words, wanted);
-}
-
-#[test]
-fn nodes(rt: HostRuntime) {
-    assert_nodes(&rt, rt.alloc(), &["--depot", "1"], Some(1), None);
-    assert_nodes(&rt, rt.alloc(), &["--depot", "1200"], Some(MAX_NODES), None);
-    assert_nodes(&rt, rt.alloc(), &["--trucks", "1"], None, Some(1));
-    assert_nodes(
-        &rt,
-        rt.alloc(),
+// Words, and the options that they give.
+const OPTIONS: &[(&[&str], Options)] = &[
+    (&[], DEFAULT),
+    (&["--"], DEFAULT),
+    (&["--workers", "1"], DEFAULT),
+    (
+        &["--workers", "64"],
+        Options {
+            workers: MAX_WORKERS,
+            ..DEFAULT
+        },
+    ),
+    (&["--workers=2"], TWO_WORKERS),
+    (&["--workers", "02"], TWO_WORKERS),
+    (&["--workers", "+2"], TWO_WORKERS),
+    (
+        &["--pieces", "1"],
+        Options {
+            pieces: 1,
+            ..DEFAULT
+        },
+    ),
+    (
+        &["--pieces", "65536"],
+        Options {
+            pieces: MAX_PIECES,
+            ..DEFAULT
+        },
+    ),
+    (
+        &["--budget", "1"],
+        Options {
+            budget: 1,
+            ..DEFAULT
+        },
+    ),
+    (
+        &["--budget", "1000000000000"],
+        Options {
+            budget: MAX_BUDGET,
+            ..DEFAULT
+        },
+    ),
+    (
+        &["--depot", "1"],
+        Options {
+            depot: Some(1),
+            ..DEFAULT
+        },
+    ),
+    (
+        &["--depot", "1200"],
+        Options {
+            depot: Some(MAX_NODES),
+            ..DEFAULT
+        },
+    ),
+    (
+        &["--trucks", "1"],
+        Options {
+            trucks: Some(1),
+            ..DEFAULT
+        },
+    ),
+    (
         &["--trucks", "1200"],
-        None,
-        Some(MAX_NODES),
-    );
+        Options {
+            trucks: Some(MAX_NODES),
+            ..DEFAULT
+        },
+    ),
+    (
+        &[
+            "--trucks",
+            "5",
+            "--depot",
+            "4",
+            "--budget",
+            "3",
+            "--pieces",
+            "2",
+            "--workers",
+            "7",
+        ],
+        Options {
+            workers: 7,
+            pieces: 2,
+            budget: 3,
+            depot: Some(4),
+            trucks: Some(5),
+        },
+    ),
+];
+
+const TWO_WORKERS: Options = Options {
+    workers: 2,
+    ..DEFAULT
+};
+
+#[test]
+fn all_options(rt: HostRuntime) {
+    for &(words, options) in OPTIONS {
+        assert_options(&rt, rt.alloc(), words, options);
+    }
 }
 
 // Words, and what they ask for beside the options: the seconds, the budget, and whether to tell of progress.
@@ -158,9 +197,6 @@ fn starts(rt: HostRuntime) {
         };
         assert_request(&rt, rt.alloc(), words, wanted);
     }
-    let alone = "error: the following required arguments were not provided:\n  --start <FILE>\n";
-    assert_refused(&rt, rt.alloc(), &["--check"], alone);
-    assert_refused(&rt, rt.alloc(), &["--start"], "error: a value is required");
 }
 
 // Words that name a form.
@@ -184,34 +220,6 @@ fn formats(rt: HostRuntime) {
         };
         assert_request(&rt, rt.alloc(), words, wanted);
     }
-    let invalid =
-        "error: invalid value 'pdf' for '--format <FORM>'\n  [possible values: report, sol, json, svg]\n";
-    assert_refused(&rt, rt.alloc(), &["--format", "pdf"], invalid);
-    assert_refused(&rt, rt.alloc(), &["--format"], "error: a value is required");
-}
-
-#[test]
-fn all_options(rt: HostRuntime) {
-    let words = [
-        "--trucks",
-        "5",
-        "--depot",
-        "4",
-        "--budget",
-        "3",
-        "--pieces",
-        "2",
-        "--workers",
-        "7",
-    ];
-    let wanted = Options {
-        workers: 7,
-        pieces: 2,
-        budget: 3,
-        depot: Some(4),
-        trucks: Some(5),
-    };
-    assert_options(&rt, rt.alloc(), &words, wanted);
 }
 
 // Asserts that these words are refused, and how the text begins that says why.
@@ -228,116 +236,63 @@ fn assert_refused(rt: &impl Abort, alloc: Global, words: &[&str], begins: &str) 
     }
 }
 
-#[test]
-fn out_of_range(rt: HostRuntime) {
-    let no_workers = "error: invalid value '0' for '--workers <THREADS>': 0 is not in 1..=64\n";
-    assert_refused(&rt, rt.alloc(), &["--workers", "0"], no_workers);
-    assert_refused(
-        &rt,
-        rt.alloc(),
-        &["--workers", "65"],
-        "error: invalid value",
-    );
-    assert_refused(&rt, rt.alloc(), &["--pieces", "0"], "error: invalid value");
-    assert_refused(
-        &rt,
-        rt.alloc(),
-        &["--pieces", "65537"],
-        "error: invalid value",
-    );
-    assert_refused(&rt, rt.alloc(), &["--budget", "0"], "error: invalid value");
-    assert_refused(
-        &rt,
-        rt.alloc(),
-        &["--budget", "1000000000001"],
-        "error: invalid value",
-    );
-    for most in ["0", "1000001"] {
-        assert_refused(
-            &rt,
-            rt.alloc(),
-            &["--seconds", most],
-            "error: invalid value",
-        );
-    }
-    assert_refused(&rt, rt.alloc(), &["--depot", "0"], "error: invalid value");
-    assert_refused(
-        &rt,
-        rt.alloc(),
-        &["--depot", "1201"],
-        "error: invalid value",
-    );
-    assert_refused(&rt, rt.alloc(), &["--trucks", "0"], "error: invalid value");
-    assert_refused(
-        &rt,
-        rt.alloc(),
-        &["--trucks", "1201"],
-        "error: invalid value",
-    );
-}
+// How the text begins where a value is of another kind or out of its range.
+const INVALID: &str = "error: invalid value";
 
-#[test]
-fn no_numbers(rt: HostRuntime) {
-    assert_refused(
-        &rt,
-        rt.alloc(),
-        &["--workers", " 2"],
-        "error: invalid value",
-    );
-    assert_refused(
-        &rt,
-        rt.alloc(),
-        &["--workers", "2.0"],
-        "error: invalid value",
-    );
-    assert_refused(&rt, rt.alloc(), &["--workers="], "error: invalid value");
-    assert_refused(
-        &rt,
-        rt.alloc(),
-        &["--workers", "-2"],
-        "error: unexpected argument",
-    );
-    assert_refused(
-        &rt,
-        rt.alloc(),
-        &["--workers"],
-        "error: a value is required",
-    );
-    assert_refused(
-        &rt,
-        rt.alloc(),
-        &["--work", "2"],
-        "error: unexpected argument",
-    );
-    let twice = ["--pieces", "2", "--pieces", "2"];
-    assert_refused(
-        &rt,
-        rt.alloc(),
-        &twice,
+const FILE_NAMED: &str =
+    "error: unexpected argument 'a.vrp' found\n\nUsage: cvrp [OPTIONS] < FILE\n\nThe file comes on standard input.\n";
+
+// Words, and how the text begins that says why they are refused.
+const REFUSED: &[(&[&str], &str)] = &[
+    // A number out of its range.
+    (
+        &["--workers", "0"],
+        "error: invalid value '0' for '--workers <THREADS>': 0 is not in 1..=64\n",
+    ),
+    (&["--workers", "65"], INVALID),
+    (&["--pieces", "0"], INVALID),
+    (&["--pieces", "65537"], INVALID),
+    (&["--budget", "0"], INVALID),
+    (&["--budget", "1000000000001"], INVALID),
+    (&["--seconds", "0"], INVALID),
+    (&["--seconds", "1000001"], INVALID),
+    (&["--depot", "0"], INVALID),
+    (&["--depot", "1201"], INVALID),
+    (&["--trucks", "0"], INVALID),
+    (&["--trucks", "1201"], INVALID),
+    // No number, none at all, or two.
+    (&["--workers", " 2"], INVALID),
+    (&["--workers", "2.0"], INVALID),
+    (&["--workers="], INVALID),
+    (&["--workers", "-2"], "error: unexpected argument"),
+    (&["--workers"], "error: a value is required"),
+    (&["--work", "2"], "error: unexpected argument"),
+    (
+        &["--pieces", "2", "--pieces", "2"],
         "error: the argument '--pieces <PIECES>' cannot",
-    );
-}
+    ),
+    // Who gives the file's name is told how the file comes.
+    (&["a.vrp"], FILE_NAMED),
+    (&["--pieces", "2", "a.vrp"], FILE_NAMED),
+    (&[""], "error: unexpected argument '' found\n"),
+    (&["-w"], "error: unexpected argument '-w' found\n"),
+    // A form that there is not, and a check of no plan.
+    (
+        &["--format", "pdf"],
+        "error: invalid value 'pdf' for '--format <FORM>'\n  [possible values: report, sol, json, svg]\n",
+    ),
+    (&["--format"], "error: a value is required"),
+    (
+        &["--check"],
+        "error: the following required arguments were not provided:\n  --start <FILE>\n",
+    ),
+];
 
-// Who gives the file's name is told how the file comes.
 #[test]
-fn stray_words(rt: HostRuntime) {
-    let told =
-        "error: unexpected argument 'a.vrp' found\n\nUsage: cvrp [OPTIONS] < FILE\n\nThe file comes on standard input.\n";
-    assert_refused(&rt, rt.alloc(), &["a.vrp"], told);
-    assert_refused(&rt, rt.alloc(), &["--pieces", "2", "a.vrp"], told);
-    assert_refused(
-        &rt,
-        rt.alloc(),
-        &[""],
-        "error: unexpected argument '' found\n",
-    );
-    assert_refused(
-        &rt,
-        rt.alloc(),
-        &["-w"],
-        "error: unexpected argument '-w' found\n",
-    );
-    assert_options(&rt, rt.alloc(), &["--"], DEFAULT);
+fn refused_words(rt: HostRuntime) {
+    for &(words, begins) in REFUSED {
+        assert_refused(&rt, rt.alloc(), words, begins);
+    }
 }
 
 // The text of the help that these words ask for.

@@ -9,7 +9,7 @@ use Rattle.vrp_pile.specs.declared.limits.TheConstants.{MAX_DRAWERS}
 use Rattle.vrp_register.specs.Caller.{CallerState, IsCallerOf, RegisterState}
 use Rattle.vrp_search.specs.Cutting.{NumberedWord}
 use Rattle.vrp_pool.specs.SeatBoard.{floor_of, least_seen}
-use Rattle.vrp_pool.specs.Inner.Workers.{AreBack, AreFronts, AreOutcomes, CostsNoLess, HasOutcomes, HasSearched, HaveHelped, IsTakenOver, IsTeam, IsWorked, IsWorker, Search, WorkerState, new_worker}
+use Rattle.vrp_pool.specs.Inner.Workers.{AreBack, AreFronts, AreOutcomes, CostsNoLess, HasOutcomes, HasSearched, HaveHelped, IsPartly, IsTakenOver, IsTeam, IsWorked, IsWorker, Search, WorkerState, new_worker}
 use Rattle.vrp_pool.specs.declared.outcome.Searched.{Searched}
 use Rattle.vrp_pool.proofs.KeptOutcomes.{kept_lower, kept_together, none_kept}
 use Rattle.vrp_pool.proofs.Works.{can_still, still_has}
@@ -97,18 +97,6 @@ helpers_worked s register lead helpers others team fine helped = record {
 }
 
 -- ---- taking the helpers over
-
--- the lead has taken over the helpers who are these callers, and the rest is still to come
-pub record IsPartly (s : Search) (register : RegisterState) (put : List NumberedWord) (callers : List CallerState) (rest : List WorkerState) (lead : WorkerState) : Type 0 where
-  pub lead_is : IsWorker s register lead.drawer.pile lead
-  pub put_is : lead.drawer.put ≡ put
-  pub one_of : All (IsCallerOf register) callers
-  pub offered : All (CostsNoLess (cost_of lead.board.best)) callers
-  pub kept : (least : ℕ) → least ≤ floor_of lead.board → All (λ caller. least ≤ least_seen caller) callers → AreOutcomes s least lead.drawer.drawn lead.outcomes
-  pub rest_are : All (IsWorker s register lead.drawer.pile) rest
-  pub rest_have : All (λ helper. helper.refused ≡ false → HasOutcomes s helper) rest
-  pub parts : lead.drawer.parts + length rest ≡ MAX_DRAWERS
-  pub many : length callers + length rest + 1 ≡ register.callers
 
 pub none_taken_over : (s : Search) (register : RegisterState) (put : List NumberedWord) (lead : WorkerState) (helpers : List WorkerState) → IsTeam s register lead helpers → lead.drawer.put ≡ put → IsPartly s register put [] helpers lead
 none_taken_over s register put lead helpers team same = record {

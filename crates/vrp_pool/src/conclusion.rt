@@ -6,14 +6,14 @@ ghost use Rattle.vrp_model.specs.Problem.{HasTrucks, customers};
 ghost use Rattle.vrp_model.specs.Route.{IsPlanOf};
 ghost use Rattle.vrp_search.specs.Cutting.{AreNumbered, IsCutting};
 ghost use Rattle.vrp_pool.specs.Answer.{IsAnswer};
-ghost use Rattle.vrp_pool.specs.Inner.Conclusion.{IsOfferedTo, IsVerdict};
+ghost use Rattle.vrp_pool.specs.Inner.Conclusion.{IsNoLater, IsOfferedTo, IsVerdict, NotesAll};
 ghost use Rattle.vrp_pool.specs.Inner.Workers.{IsSearched, words_of};
 
 use crate::answers::Answer;
 use crate::gates::Gate;
 use crate::gatherer::Gatherer;
 use crate::left_pieces::{Settling, settled};
-use crate::outcome::{Outcome, Searched};
+use crate::outcome::{Left, Outcome, Searched};
 use crate::shared::Shared;
 use std::alloc::Global;
 use vrp_model::{NO_COST, NoMemory, Plan, plans_cost_less, plans_have_words};
@@ -37,9 +37,62 @@ pub(crate) fn conclude<R, G: Gate>(
     ensures { IfOk result (IsAnswer shared.now.problem (words_of searched.pile.put) shared.now.budget shared.now.may_stop) }
 {
     let Searched { outcomes, best, .. } = searched;
+    let book = opened(shared, singles, kept, best.as_ref())?;
+    let Notes {
+        book,
+        gatherer,
+        left,
+    } = noted(shared, book, outcomes)?;
+    // What is known of words holds of plans, and all plans cost less than `NO_COST`.
+    let _customers = shared.instance.customers();
+    one_piece();
+    plans_have_words();
+    plans_cost_less();
+    let plan = book.into_plan();
+    let cost = known_cost(plan.as_ref());
+    let settling = settled(shared, gatherer, left, cost)?;
+    Ok(verdict(plan, settling))
+}
+
+// The last book, which was offered the plan that the register kept and the best of the workers' own, where there are such.
+fn opened<R, G: Gate>(
+    shared: &Shared<'_, R, G>,
+    singles: Option<Plan>,
+    kept: Option<&Plan>,
+    best: Option<&Plan>,
+) -> Result<Book, NoMemory>
+    requires singles { ForSome singles (IsPlanOf shared.now.problem) }
+    requires best { ForSome (option_map (λ plan. plan.now) best) (IsPlanOf shared.now.problem) }
+    ensures plan_of { IfOk result (λ book. ForSome book.plan (IsPlanOf shared.now.problem)) }
+    ensures than_singles { IfOk result (λ book. IsNoLater book.plan singles) }
+    ensures than_best { IfOk result (λ book. IsNoLater book.plan (option_map (λ plan. plan.now) best.entry)) }
+{
     let mut book = Book::open(shared.alloc, singles)?;
     offer_some(shared.alloc, &mut book, fitting(shared, kept))?;
-    offer_some(shared.alloc, &mut book, best.as_ref())?;
+    offer_some(shared.alloc, &mut book, best)?;
+    Ok(book)
+}
+
+// What is known once all outcomes are taken note of.
+#[derive(Drop)]
+struct Notes {
+    // Was offered the first plan of each finished piece.
+    book: Book,
+    gatherer: Gatherer,
+    left: Vec<Left>,
+}
+
+// Takes note of each outcome.
+fn noted<R, G: Gate>(
+    shared: &Shared<'_, R, G>,
+    mut book: Book,
+    outcomes: Vec<Outcome>,
+) -> Result<Notes, NoMemory>
+    requires { ForSome book.plan (IsPlanOf shared.now.problem) }
+    ensures later { IfOk result (λ noted. IsNoLater noted.book.plan book.plan) }
+    ensures all { IfOk result (λ noted.
+        NotesAll shared.now outcomes.items noted.book.plan noted.gatherer noted.left.items) }
+{
     let mut gatherer = Gatherer::new(shared.alloc, shared.pieces)?;
     let mut left = Vec::new(shared.alloc);
     for outcome in outcomes {
@@ -52,15 +105,11 @@ pub(crate) fn conclude<R, G: Gate>(
             Outcome::Unfinished(unfinished) => left.push(unfinished)?,
         }
     }
-    // What is known of words holds of plans, and all plans cost less than `NO_COST`.
-    let _customers = shared.instance.customers();
-    one_piece();
-    plans_have_words();
-    plans_cost_less();
-    let plan = book.into_plan();
-    let cost = plan.as_ref().map_or(NO_COST, |plan| plan.cost());
-    let settling = settled(shared, gatherer, left, cost)?;
-    Ok(verdict(plan, settling))
+    Ok(Notes {
+        book,
+        gatherer,
+        left,
+    })
 }
 
 // A plan of which nothing is known, where it is a lawful plan of the instance and of its cost there.
@@ -81,6 +130,16 @@ fn offer_some(alloc: Global, book: &mut Book, plan: Option<&Plan>) -> Result<(),
         book.offer(alloc, 0, plan)?;
     }
     Ok(())
+}
+
+// What a plan costs, or `NO_COST` where there is none.
+fn known_cost(plan: Option<&Plan>) -> u64
+    ensures { result ≡ cost_of (option_map (λ plan. plan.now) plan.entry) }
+{
+    match plan {
+        Some(plan) => plan.cost(),
+        None => NO_COST,
+    }
 }
 
 // The best plan, if there is one, and what follows of it.

@@ -21,10 +21,10 @@ use std::marker::Brand;
 use std::sync::Wait;
 use std::sync::ledger::{Blank, Ledger};
 use std::thread::Threads;
+use vrp_ascent::FoundPrices;
 use vrp_bound::Tables;
 use vrp_model::{Instance, NoMemory, Plan};
 use vrp_pile::{Owner, Pile, Thief};
-use vrp_prices::FoundPrices;
 use vrp_register::{Book, Caller, Closed, Register};
 use vrp_search::{Cutting, Prices};
 

@@ -1,8 +1,8 @@
 //! All workers: how they are made, work in threads of their own, and are brought together.
-ghost use Rattle.std.specs.Prelude.{◌≡◌, ◌+◌, IfOk, false, vec_len};
+ghost use Rattle.std.specs.Prelude.{◌≡◌, ◌+◌, IfOk, [], false, vec_len};
 ghost use Rattle.std.specs.List.{All};
 ghost use Rattle.vrp_pile.specs.Pile.{IsNewPile};
-ghost use Rattle.vrp_pool.specs.Inner.Workers.{AreBack, AreFronts, AreNewCallers, CanWork, HasHelped, HasWorked, HaveHelped, IsTeam, words_of};
+ghost use Rattle.vrp_pool.specs.Inner.Workers.{AreBack, AreFronts, AreNewCallers, CanWork, HasHelped, HasWorked, HaveHelped, IsPartly, IsTeam, words_of};
 
 use crate::gates::Gate;
 use crate::outcome::Searched;
@@ -133,11 +133,38 @@ fn all_searched<R: Threads + Wait + Sync, L: Ledger + Send + Sync, G: Gate + Syn
     ensures put { IfOk result (λ found. found.1.pile.put ≡ lead.entry.drawer.put) }
 {
     let lead = lead.offered(shared, shared.first)?;
-    let (mut lead, helpers) = worked(shared, lead, helpers)?;
+    let (lead, helpers) = worked(shared, lead, helpers)?;
+    let (lead, callers) = taken_over(shared, lead, helpers)?;
+    left_drawn(shared, lead, callers)
+}
+
+// The lead, once it has taken all helpers over, and their callers.
+fn taken_over<'a, R: Wait, L: Ledger, G: Gate>(
+    shared: &Shared<'_, R, G>,
+    mut lead: Worker<'a, Owner, R, L, G>,
+    helpers: Vec<Worker<'_, Thief, R, L, G>>,
+) -> Result<(Worker<'a, Owner, R, L, G>, Vec<Caller<L>>), NoMemory>
+    requires { IsTeam shared.now lead.board.register lead helpers.items }
+    ensures { IfOk result (λ team.
+        IsPartly shared.now lead.entry.board.register lead.entry.drawer.put team.1.items [] team.0) }
+{
     let mut callers = Vec::new(shared.alloc);
     for helper in helpers {
         callers.push(lead.take_over(shared, helper)?)?;
     }
+    Ok((lead, callers))
+}
+
+// All callers and what they leave, once the lead, who has taken all helpers over, has drawn what is left.
+fn left_drawn<R: Wait, L: Ledger, G: Gate>(
+    shared: &Shared<'_, R, G>,
+    mut lead: Worker<'_, Owner, R, L, G>,
+    mut callers: Vec<Caller<L>>,
+) -> Result<(Vec<Caller<L>>, Searched), NoMemory>
+    requires { IsPartly shared.now lead.board.register lead.drawer.put callers.items [] lead }
+    ensures back { IfOk result (λ found. AreBack shared.now lead.entry.board.register found.0.items found.1) }
+    ensures put { IfOk result (λ found. found.1.pile.put ≡ lead.entry.drawer.put) }
+{
     lead.draw_all(shared)?;
     let (caller, searched) = lead.into_searched();
     callers.push(caller)?;

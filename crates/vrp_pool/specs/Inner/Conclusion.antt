@@ -10,12 +10,13 @@ use Rattle.vrp_search.specs.Cutting.{NumberedWord}
 use Rattle.vrp_search.specs.Search.{NoneBeforeUnder}
 use Rattle.vrp_pool.specs.Answer.{IsLeft, IsOwnLow, piece_of}
 use Rattle.vrp_pool.specs.Gatherer.{IsAdded, IsFirstMissing, AnswersAdd, IsMissing}
-use Rattle.vrp_pool.specs.Inner.Workers.{IsLeftPiece, Search}
+use Rattle.vrp_pool.specs.Inner.Workers.{AreOutcomes, IsLeftPiece, Search}
 use Rattle.vrp_pool.specs.declared.answers.Answer.{Answer}
 use Rattle.vrp_pool.specs.declared.answers.Answer.TheVariants.{Proven, Open, NoPlan}
 use Rattle.vrp_pool.specs.declared.gatherer.GatherError.{GatherError}
 use Rattle.vrp_pool.specs.declared.left_pieces.Settling.{Settling}
 use Rattle.vrp_pool.specs.declared.outcome.Left.{Left}
+use Rattle.vrp_pool.specs.declared.outcome.Outcome.{Outcome}
 
 -- where there was a plan there is one, and the old one is not before the new one
 abbrev pub IsNoLater : Option PricedPlan → Option PricedPlan → Type 0
@@ -56,6 +57,10 @@ pub record AreNoted (s : Search) (floor : ℕ) (best : Option PricedPlan) (piece
   pub only : (number : ℕ) → IsAdded added number → Contains (piece_numbers pieces) number
   pub apart : (number : ℕ) → IsAdded added number → Contains (numbers_of left) number → ⊥
   pub each : All (λ piece. Contains (numbers_of left) piece.number ⊎ (IsAdded added piece.number × NoneBeforeUnder s.problem piece.word floor best)) pieces
+
+-- whichever pieces with numbers of their own the outcomes are of, all are taken note of
+abbrev pub NotesAll : Search → List Outcome → Option PricedPlan → List Bool → List Left → Type 0
+NotesAll s outcomes best added left = (floor : ℕ) (pieces : List NumberedWord) → AreOutcomes s floor pieces outcomes → AreApart s pieces → AreNoted s floor best pieces added left
 
 -- ---- what becomes of the pieces that are left
 

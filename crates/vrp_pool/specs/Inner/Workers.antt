@@ -160,6 +160,18 @@ pub record IsTakenOver (s : Search) (old helper : WorkerState) (caller : CallerS
   pub one_of : IsCallerOf helper.board.register caller
   pub no_less : CostsNoLess (cost_of new.board.best) caller
 
+-- The lead has taken over the helpers who are these callers, and the rest is still to come
+pub record IsPartly (s : Search) (register : RegisterState) (put : List NumberedWord) (callers : List CallerState) (rest : List WorkerState) (lead : WorkerState) : Type 0 where
+  pub lead_is : IsWorker s register lead.drawer.pile lead
+  pub put_is : lead.drawer.put ≡ put
+  pub one_of : All (IsCallerOf register) callers
+  pub offered : All (CostsNoLess (cost_of lead.board.best)) callers
+  pub kept : (least : ℕ) → least ≤ floor_of lead.board → All (λ caller. least ≤ least_seen caller) callers → AreOutcomes s least lead.drawer.drawn lead.outcomes
+  pub rest_are : All (IsWorker s register lead.drawer.pile) rest
+  pub rest_have : All (λ helper. helper.refused ≡ false → HasOutcomes s helper) rest
+  pub parts : lead.drawer.parts + length rest ≡ MAX_DRAWERS
+  pub many : length callers + length rest + 1 ≡ register.callers
+
 -- All pieces are drawn, and each has its outcome. The callers are all of the register's, and none has offered a cost below that of
 -- the best plan
 pub record AreBack (s : Search) (register : RegisterState) (callers : List CallerState) (searched : Searched) : Type 0 where
