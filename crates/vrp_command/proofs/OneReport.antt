@@ -5,11 +5,11 @@ use Rattle.vrp_model.specs.Problem.{Problem}
 use Rattle.vrp_model.specs.Route.{PricedPlan}
 use Rattle.vrp_text.specs.Meaning.{MeansProblem}
 use Rattle.vrp_command.specs.Answer.{IsAnswerTo}
-use Rattle.vrp_command.specs.Report.{report_of}
+use Rattle.vrp_streams.specs.Report.{report_of}
 use Rattle.vrp_command.specs.Run.{AnswersBytes, ReportsAnswer, limited, status_of}
-use Rattle.vrp_command.specs.declared.options.Options.{Options}
-use Rattle.vrp_command.specs.declared.options.Status.{Status}
-use Rattle.vrp_command.specs.declared.options.Status.TheVariants as status
+use Rattle.vrp_request.specs.declared.options.Options.{Options}
+use Rattle.vrp_streams.specs.declared.status.Status.{Status}
+use Rattle.vrp_streams.specs.declared.status.Status.TheVariants as status
 use Rattle.vrp_pool.specs.declared.answers.Answer.{Answer}
 use Rattle.vrp_pool.specs.declared.answers.Answer.TheVariants as answer
 

@@ -1,11 +1,11 @@
 -- What is written of a problem, said of the bytes that mean it.
 use Rattle.std.proofs.Common.{◌⊎◌, inl, inr, ℕ, Bool, Option, List, Result, Ok, Err, IfOk, IfErr, subst}
 use Rattle.vrp_model.specs.Problem.{Problem}
-use Rattle.vrp_command.specs.Options.{AreInRange}
+use Rattle.vrp_request.specs.Options.{AreInRange}
 use Rattle.vrp_command.specs.Program.{EndsOn, EndsWell, FindsAnswer, FindsForBytes, PrintsReport, WritesStatus, may_stop_by}
 use Rattle.vrp_command.specs.Run.{AnswersBytes, PrintsAnswer, PrintsPart, ReadsProblem, ReportsAnswer, WritesAnswer, WritesPart}
-use Rattle.vrp_command.specs.declared.options.Options.{Options}
-use Rattle.vrp_command.specs.declared.options.Status.{Status}
+use Rattle.vrp_request.specs.declared.options.Options.{Options}
+use Rattle.vrp_streams.specs.declared.status.Status.{Status}
 
 -- what holds of a value holds of the one that is answered
 pub on_ok : {T E : Type 0} {P Q : T → Type 0} → (r : Result T E) → ((value : T) → P value → Q value) → IfOk r P → IfOk r Q

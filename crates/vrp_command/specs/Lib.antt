@@ -1,9 +1,4 @@
 pub mod Answer
-pub mod Fault
-pub mod Input
-pub mod Options
-pub mod Output
 pub mod Program
-pub mod Refusal
-pub mod Report
 pub mod Run
+pub mod Start

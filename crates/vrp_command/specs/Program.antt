@@ -1,32 +1,21 @@
 -- How the program ends.
-use Rattle.std.specs.Borrow.{Bor}
-use Rattle.std.specs.Io.{StartsWith}
 use Rattle.std.specs.Io.KnownBytes.{Appends}
-use Rattle.std.specs.List.{HoldsAt}
-use Rattle.std.specs.Prelude.{◌≡◌, ◌<◌, ◌⊎◌, ℕ, Bool, true, Option, Some, None, Ok, List, length}
+use Rattle.std.specs.Prelude.{◌≡◌, ◌⊎◌, ℕ, Bool, true, Option, Some, None, Ok, List}
 use Rattle.vrp_command.specs.Answer.{IsAnswerTo}
-use Rattle.vrp_command.specs.Fault.{exit_code}
-use Rattle.vrp_command.specs.Options.{AreInRange}
-use Rattle.vrp_command.specs.Report.{lawful_report}
+use Rattle.vrp_streams.specs.Fault.{exit_code}
+use Rattle.vrp_request.specs.Options.{AreInRange}
+use Rattle.vrp_streams.specs.Report.{lawful_report}
 use Rattle.vrp_command.specs.Run.{PrintsAnswer, ReadsProblem, WritesAnswer, status_of}
 use Rattle.vrp_model.specs.Problem.{Problem}
 use Rattle.vrp_model.specs.Route.{IsPlanOf, PricedPlan}
 use Rattle.vrp_pool.specs.declared.answers.Answer.{Answer}
-use Rattle.vrp_command.specs.declared.options.Options.{Options}
-use Rattle.vrp_command.specs.declared.options.Status.{Status}
+use Rattle.vrp_request.specs.declared.options.Options.{Options}
+use Rattle.vrp_streams.specs.declared.status.Status.{Status}
 
 -- whether a search may be stopped: where it has a limit of seconds, and where its gate may stop it
 abbrev pub may_stop_by : Option ℕ → Bool → Bool
 may_stop_by None gate = gate
 may_stop_by (Some seconds) gate = true
-
--- one of the words is this one
-abbrev pub HasWord : List (Bor (List ℕ)) → List ℕ → Type 0
-HasWord words word = (k : ℕ) × (k < length words) × HoldsAt (λ given. given.now ≡ word) words k
-
--- one of the words begins like this
-abbrev pub HasWordFrom : List (Bor (List ℕ)) → List ℕ → Type 0
-HasWordFrom words start = (k : ℕ) × (k < length words) × HoldsAt (λ given. StartsWith given.now start) words k
 
 -- what was written are the lines of a lawful plan of the problem, with its true cost, and the verdict that it is lawful
 pub record WritesLawful (problem : Problem) (written_old written_new : Option (List ℕ)) : Type 0 where

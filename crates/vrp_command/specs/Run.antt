@@ -6,14 +6,14 @@ use Rattle.vrp_text.specs.Meaning.{MeansProblem, MeansRefusal}
 use Rattle.vrp_text.specs.declared.error.TextError.{TextError}
 use Rattle.vrp_text.specs.declared.error.TextError.TheVariants as text
 use Rattle.vrp_command.specs.Answer.{IsAnswerTo}
-use Rattle.vrp_command.specs.Input.{IsInput}
-use Rattle.vrp_command.specs.Output.{AppendsPart}
-use Rattle.vrp_command.specs.Report.{report_of}
-use Rattle.vrp_command.specs.declared.fault.RunError.{RunError}
-use Rattle.vrp_command.specs.declared.fault.RunError.TheVariants as fault
-use Rattle.vrp_command.specs.declared.options.Options.{Options}
-use Rattle.vrp_command.specs.declared.options.Status.{Status}
-use Rattle.vrp_command.specs.declared.options.Status.TheVariants as status
+use Rattle.vrp_streams.specs.Input.{IsInput}
+use Rattle.vrp_streams.specs.Output.{AppendsPart}
+use Rattle.vrp_streams.specs.Report.{report_of}
+use Rattle.vrp_streams.specs.declared.fault.RunError.{RunError}
+use Rattle.vrp_streams.specs.declared.fault.RunError.TheVariants as fault
+use Rattle.vrp_request.specs.declared.options.Options.{Options}
+use Rattle.vrp_streams.specs.declared.status.Status.{Status}
+use Rattle.vrp_streams.specs.declared.status.Status.TheVariants as status
 use Rattle.vrp_pool.specs.declared.answers.Answer.{Answer}
 use Rattle.vrp_pool.specs.declared.answers.Answer.TheVariants as answer
 

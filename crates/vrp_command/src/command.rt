@@ -1,12 +1,10 @@
 //! A run: from the bytes of a file to the bytes of a report.
 ghost use Rattle.std.specs.Prelude.{◌≡◌, ◌≢◌, ◌+◌, false, IfOk, IfErr};
 ghost use Rattle.std.specs.Io.KnownBytes.{Keeps};
-ghost use Rattle.vrp_command.specs.Options.{AreInRange};
+ghost use Rattle.vrp_request.specs.Options.{AreInRange};
 ghost use Rattle.vrp_command.specs.Run.{PrintsAnswer, PrintsPart, RefusesInput, OnRefusedFile};
-ghost use Rattle.vrp_command.specs.Input.{TakesAtMost};
+ghost use Rattle.vrp_streams.specs.Input.{TakesAtMost};
 
-use crate::fault::RunError;
-use crate::options::{Options, Status};
 use crate::outcome::print_answer;
 use crate::problem::read_problem;
 use std::alloc::Global;
@@ -14,6 +12,8 @@ use std::io::{Read, Write};
 use std::sync::Wait;
 use std::thread::Threads;
 use vrp_pool::NoGate;
+use vrp_request::Options;
+use vrp_streams::{RunError, Status};
 use vrp_text::MAX_BYTES;
 
 /// Reads a CVRP file, and writes the report of a lawful plan of the problem that it means with the chosen node as its depot and

@@ -2,16 +2,13 @@
 ghost use Rattle.std.specs.Io.KnownBytes.{Keeps};
 ghost use Rattle.std.specs.Option.{ForSome, option_map};
 ghost use Rattle.std.specs.Prelude.{◌≡◌, ◌≢◌, ◌⊎◌, IfOk, IfErr, IsTrue, is_some};
-ghost use Rattle.vrp_command.specs.Options.{AreInRange, IsOtherFormat};
+ghost use Rattle.vrp_request.specs.Options.{AreInRange, IsOtherFormat};
 ghost use Rattle.vrp_command.specs.Program.{IsOfAnswer};
 ghost use Rattle.vrp_model.specs.Route.{IsPlanOf};
 ghost use Rattle.vrp_pool.specs.Answer.{known_plan};
 
 use crate::answer::cut_and_solve;
-use crate::fault::RunError;
-use crate::options::{Format, Options, Request, Status};
 use crate::outcome::status;
-use crate::output::write_report;
 use crate::problem::Problem;
 use std::alloc::Global;
 use std::io::Write;
@@ -20,6 +17,8 @@ use std::thread::Threads;
 use vrp_export::{Finding, Points, Settings, Verdict, json_text, picture_text, solution_text};
 use vrp_model::{Instance, NoMemory, Plan};
 use vrp_pool::{Answer, Gate};
+use vrp_request::{Format, Options, Request};
+use vrp_streams::{RunError, Status, write_report};
 
 /// A form other than the report, and what is needed for it.
 #[derive(Clone, Copy)]
@@ -92,12 +91,31 @@ pub(crate) fn export_answer<T: Threads + Wait + Sync, W: Write, E: Write, G: Gat
         gate,
     )?;
     let finding = finding_of(instance, &answer);
-    let text = export_text(alloc, &finding, export)?;
+    print_finding(alloc, &finding, export, output, errors)?;
+    Ok(status(&answer))
+}
+
+// Prints a finding. A solution without a plan is empty, and `errors` is told why. On a fault other than `Write` nothing is written to
+// `output`.
+fn print_finding<W: Write, E: Write>(
+    alloc: Global,
+    finding: &Finding<'_>,
+    export: Export<'_>,
+    output: &mut W,
+    errors: &mut E,
+) -> Result<(), RunError>
+    requires { ForSome (option_map (λ plan. plan.now) finding.now.plan)
+        (IsPlanOf finding.now.instance.now) }
+    ensures silent { IfErr result (λ fault. fault ≢ RunError.Write → Keeps
+        (W.contents output.old) (W.contents output.new)) }
+    ensures faults { IfErr result (λ fault. (fault ≡ RunError.OutOfMemory) ⊎ (fault ≡ RunError.Write)) }
+{
+    let text = export_text(alloc, finding, export)?;
     write_report(output, text.as_bytes())?;
     if text.is_empty() {
         let _ = writeln!(errors, "cvrp: no plan to print: {}", finding.verdict);
     }
-    Ok(status(&answer))
+    Ok(())
 }
 
 /// Prints a lawful plan that was not searched for. On a fault other than `Write` nothing is written. What is written no clause says.

@@ -1,8 +1,8 @@
 //! What is true of runs, whatever the code does.
 ghost use Rattle.std.specs.Prelude.{◌≡◌, ℕ, Bool, List};
 ghost use Rattle.vrp_command.specs.Run.{AnswersBytes};
-ghost use Rattle.vrp_command.specs.declared.options.Options.{Options};
-ghost use Rattle.vrp_command.specs.declared.options.Status.TheVariants.{Proven};
+ghost use Rattle.vrp_request.specs.declared.options.Options.{Options};
+ghost use Rattle.vrp_streams.specs.declared.status.Status.TheVariants.{Proven};
 
 use vrp_model::one_first;
 use vrp_text::one_meaning;

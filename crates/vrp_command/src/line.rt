@@ -1,8 +1,8 @@
 //! One line that tells how a run goes.
 ghost use Rattle.std.specs.Prelude.{None};
 
-use crate::options::Status;
 use std::fmt;
+use vrp_streams::Status;
 
 /// What a run is at.
 #[derive(Clone, Copy, Debug, PartialEq, Eq)]
@@ -62,6 +62,14 @@ impl fmt::Display for Line {
             write!(f, "{seconds} s, ")?;
         }
         write!(f, "{}", self.stage)?;
+        self.write_costs(f)?;
+        self.write_pieces(f)
+    }
+}
+
+impl Line {
+    // What the best plan costs, what none costs less than, and how far apart these are.
+    fn write_costs<W: fmt::Write>(&self, f: &mut fmt::Formatter<W>) -> fmt::Result {
         if let Some(cost) = self.cost {
             write!(f, ", cost {cost}")?;
         }
@@ -72,14 +80,19 @@ impl fmt::Display for Line {
             let gap = hundredths(cost, bound);
             write!(f, ", gap {}.{:02}%", gap / 100, gap % 100)?;
         }
-        if self.pieces > 0 {
-            write!(
-                f,
-                ", {} of {} pieces, {} partial plans",
-                self.done, self.pieces, self.looked
-            )?;
-        }
         Ok(())
+    }
+
+    // How many pieces are done with, where there are any, and how much was looked at.
+    fn write_pieces<W: fmt::Write>(&self, f: &mut fmt::Formatter<W>) -> fmt::Result {
+        if self.pieces == 0 {
+            return Ok(());
+        }
+        write!(
+            f,
+            ", {} of {} pieces, {} partial plans",
+            self.done, self.pieces, self.looked
+        )
     }
 }
 

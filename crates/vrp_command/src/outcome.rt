@@ -2,21 +2,19 @@
 ghost use Rattle.std.specs.Io.KnownBytes.{Keeps};
 ghost use Rattle.std.specs.Prelude.{◌≡◌, ◌≢◌, ◌⊎◌, IfOk, IfErr, string_bytes};
 ghost use Rattle.std.specs.Option.{ForSome, option_map};
-ghost use Rattle.vrp_command.specs.Options.{AreInRange};
+ghost use Rattle.vrp_request.specs.Options.{AreInRange};
 ghost use Rattle.vrp_command.specs.Run.{ReportsAnswer, WritesAnswer, WritesPart, status_of};
 ghost use Rattle.vrp_model.specs.Route.{IsPlanOf};
 
 use crate::answer::cut_and_solve;
-use crate::fault::RunError;
-use crate::options::{Options, Status};
-use crate::output::write_report;
-use crate::report::report;
 use std::alloc::Global;
 use std::io::Write;
 use std::sync::Wait;
 use std::thread::Threads;
 use vrp_model::{Instance, Plan};
 use vrp_pool::{Answer, Gate};
+use vrp_request::Options;
+use vrp_streams::{RunError, Status, report_text, write_report};
 
 /// Writes the report of an answer to an instance, with a plan to begin with, if one is given. On a fault other than `Write` nothing is
 /// written; on that one a part of the report is, from its first byte on.
@@ -76,7 +74,7 @@ fn answer_to<T: Threads + Wait + Sync, G: Gate + Sync>(
         options.budget,
         gate,
     )?;
-    let report = report(alloc, instance, &answer)?;
+    let report = report_text(alloc, instance, &answer)?;
     let status = status(&answer);
     Ok(Outcome { report, status })
 }

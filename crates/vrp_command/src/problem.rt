@@ -1,18 +1,17 @@
 //! The problem of a run: what the bytes of its input mean.
 ghost use Rattle.std.specs.Prelude.{◌≡◌, ◌≢◌, ◌+◌, ◌≤◌, IfOk, IfErr};
 ghost use Rattle.std.specs.Option.{ForSome};
-ghost use Rattle.vrp_command.specs.Input.{TakesAtMost};
-ghost use Rattle.vrp_command.specs.Options.{AreInRange};
+ghost use Rattle.vrp_streams.specs.Input.{TakesAtMost};
+ghost use Rattle.vrp_request.specs.Options.{AreInRange};
 ghost use Rattle.vrp_command.specs.Run.{OnRefusedFile, ReadsProblem, RefusesInput, limited};
 ghost use Rattle.vrp_model.specs.declared.limits.TheConstants.{MAX_NODES};
 
-use crate::fault::RunError;
-use crate::input::read_input;
-use crate::options::Options;
 use std::alloc::Global;
 use std::io::Read;
 use vrp_export::Points;
 use vrp_model::Instance;
+use vrp_request::Options;
+use vrp_streams::{RunError, read_input};
 use vrp_text::MAX_BYTES;
 
 /// A problem that was read.

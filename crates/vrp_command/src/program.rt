@@ -2,22 +2,19 @@
 ghost use Rattle.std.specs.Option.{ForSome, option_map};
 ghost use Rattle.std.specs.Prelude.{◌≡◌, ◌≢◌, ◌≤◌, ◌⊎◌, IfErr, IsTrue, OnOk, codes, is_some};
 ghost use Rattle.std.specs.Io.KnownBytes.{Keeps};
-ghost use Rattle.vrp_command.specs.Fault.{exit_code, start_code};
-ghost use Rattle.vrp_command.specs.Options.{AreInRange, IsOtherFormat, line_code};
-ghost use Rattle.vrp_command.specs.Program.{EndsOn, EndsWell, FindsAnswer, FindsForBytes, HasWord, HasWordFrom, PrintsReport, WritesLawful, WritesStatus};
+ghost use Rattle.vrp_command.specs.Start.{start_code};
+ghost use Rattle.vrp_streams.specs.Fault.{exit_code};
+ghost use Rattle.vrp_request.specs.Options.{AreInRange, IsOtherFormat};
+ghost use Rattle.vrp_request.specs.Words.{HasWord, HasWordFrom, line_code};
+ghost use Rattle.vrp_command.specs.Program.{EndsOn, EndsWell, FindsAnswer, FindsForBytes, PrintsReport, WritesLawful, WritesStatus};
 ghost use Rattle.vrp_model.specs.Route.{IsPlanOf};
 
 use crate::deadline::Deadline;
 use crate::export::{Export, export_answer, export_lawful, export_of};
-use crate::fault::{RunError, exit_status, fault_line};
-use crate::options::{Format, Request, Status};
 use crate::outcome::print_answer;
-use crate::output::write_report;
 use crate::problem::{Problem, read_problem};
 use crate::progress::Progress;
-use crate::report::lawful_report;
 use crate::start::{StartError, start_plan};
-use crate::words::{LineFault, line_status, parse_request};
 use std::alloc::Global;
 use std::io::{Eprint, Read, Write};
 use std::rt::Files;
@@ -26,6 +23,8 @@ use std::thread::Threads;
 use std::time::Clock;
 use vrp_model::{Instance, Plan};
 use vrp_pool::Gate;
+use vrp_request::{Format, LineFault, Request, line_status, parse_request};
+use vrp_streams::{RunError, Status, exit_status, fault_line, lawful_report_text, write_report};
 
 /// Does what the words behind the program's name ask for, and answers the exit status. The report goes to `output`, and so do the
 /// help and the version; why there is no report goes to `errors`, and how the run goes, where that is asked for, to `rt`. A gate is told
@@ -226,7 +225,7 @@ fn write_lawful<W: Write>(
         (W.contents output.old) (W.contents output.new)) }
     ensures faults { IfErr result (λ fault. (fault ≡ RunError.OutOfMemory) ⊎ (fault ≡ RunError.Write)) }
 {
-    let report = lawful_report(alloc, problem, plan)?;
+    let report = lawful_report_text(alloc, problem, plan)?;
     write_report(output, report.as_bytes())
 }
 

@@ -1,13 +1,12 @@
 //! A gate that tells on standard error how a run goes.
 ghost use Rattle.std.specs.Prelude.{◌≡◌};
 
-use crate::fault::RunError;
 use crate::line::{Line, Stage};
-use crate::options::Status;
 use std::io::Eprint;
 use std::sync::atomic::{AtomicU64, Ordering};
 use std::time::{Clock, Instant};
 use vrp_pool::{Gate, News};
+use vrp_streams::{RunError, Status};
 
 // What stands for no cost.
 const NO_PLAN: u64 = u64::MAX;

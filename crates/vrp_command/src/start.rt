@@ -2,14 +2,13 @@
 ghost use Rattle.std.specs.Prelude.{IfOk};
 ghost use Rattle.vrp_model.specs.Route.{IsPlanOf};
 
-use crate::fault::RunError;
-use crate::input::read_input;
 use std::alloc::{AllocError, Global};
 use std::fs;
 use std::io::Write;
 use std::rt::Files;
 use vrp_model::{Instance, Plan};
 use vrp_solution::{Solution, SolutionError};
+use vrp_streams::{RunError, read_input};
 use vrp_text::MAX_BYTES;
 
 /// Why there is no plan to begin with.

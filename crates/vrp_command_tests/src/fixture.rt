@@ -1,5 +1,5 @@
 //! Small files, and runs over them.
-ghost use Rattle.vrp_command.specs.Options.{AreInRange};
+ghost use Rattle.vrp_request.specs.Options.{AreInRange};
 
 use std::alloc::Global;
 use std::fmt::Debug;

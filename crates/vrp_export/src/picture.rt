@@ -143,21 +143,9 @@ impl Picture {
     fn write_marks<W: fmt::Write>(&self, f: &mut fmt::Formatter<W>) -> fmt::Result {
         for (place, mark) in self.marks.iter().enumerate() {
             if place == 0 {
-                let x = mark.at.x.saturating_sub(110);
-                let y = mark.at.y.saturating_sub(110);
-                write!(f, "<rect x=\"{x}\" y=\"{y}\" width=\"220\" height=\"220\">")?;
-                writeln!(f, "<title>depot, node {}</title></rect>", mark.node)?;
+                write_depot(f, mark)?;
             } else {
-                write!(
-                    f,
-                    "<circle cx=\"{}\" cy=\"{}\" r=\"50\">",
-                    mark.at.x, mark.at.y
-                )?;
-                writeln!(
-                    f,
-                    "<title>node {}, demand {}</title></circle>",
-                    mark.node, mark.demand
-                )?;
+                write_customer(f, mark)?;
             }
         }
         Ok(())
@@ -185,20 +173,55 @@ impl Picture {
         for (index, track) in self.tracks.iter().enumerate() {
             write_pen(f, index)?;
             writeln!(f, "M{x} {y}h600\"/>")?;
-            let load = track.load;
-            let capacity = self.capacity;
-            let cost = track.cost;
-            writeln!(
-                f,
-                "<text x=\"{}\" y=\"{}\">#{}: {load} of {capacity}, cost {cost}</text>",
-                x + 700,
-                y.saturating_add(70),
-                index + 1
-            )?;
+            let corner = Point {
+                x: x + 700,
+                y: y.saturating_add(70),
+            };
+            self.write_listed(f, index, track, corner)?;
             y = y.saturating_add(LIST_STEP);
         }
         writeln!(f, "</g>")
     }
+
+    // What the list says of the route of this index.
+    fn write_listed<W: fmt::Write>(
+        &self,
+        f: &mut fmt::Formatter<W>,
+        index: usize,
+        track: &Track,
+        corner: Point,
+    ) -> fmt::Result {
+        writeln!(
+            f,
+            "<text x=\"{}\" y=\"{}\">#{}: {} of {}, cost {}</text>",
+            corner.x,
+            corner.y,
+            index.saturating_add(1),
+            track.load,
+            self.capacity,
+            track.cost
+        )
+    }
+}
+
+// A square, and what is known of the depot.
+fn write_depot<W: fmt::Write>(f: &mut fmt::Formatter<W>, mark: &Mark) -> fmt::Result {
+    let x = mark.at.x.saturating_sub(110);
+    let y = mark.at.y.saturating_sub(110);
+    writeln!(
+        f,
+        "<rect x=\"{x}\" y=\"{y}\" width=\"220\" height=\"220\"><title>depot, node {}</title></rect>",
+        mark.node
+    )
+}
+
+// A dot, and what is known of a customer.
+fn write_customer<W: fmt::Write>(f: &mut fmt::Formatter<W>, mark: &Mark) -> fmt::Result {
+    writeln!(
+        f,
+        "<circle cx=\"{}\" cy=\"{}\" r=\"50\"><title>node {}, demand {}</title></circle>",
+        mark.at.x, mark.at.y, mark.node, mark.demand
+    )
 }
 
 // The beginning of a path that has the colour and the dashes of the route of this index.

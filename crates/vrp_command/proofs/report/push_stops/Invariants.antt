@@ -1,7 +1,0 @@
-use Rattle.std.proofs.Common.{◌≡◌, ◌++◌, take}
-use Rattle.std.specs.String.{string_bytes}
-use Rattle.vrp_command.specs.Report.{stops_text}
-use Rattle.vrp_command.proofs.report.push_stops.Given as goal
-
-abbrev pub invariant-loop-place : goal.invariant-loop-place
-invariant-loop-place l = string_bytes l.text ≡ string_bytes l.initial.text ++ stops_text l.instance (take l.place-index l.route)

@@ -1,0 +1,9 @@
+//! How a run is asked for: its options, and the words of a command line that give them.
+#![tactic(auto)]
+
+mod grammar;
+mod options;
+mod words;
+
+pub use options::{Format, MAX_BUDGET, MAX_SECONDS, Options, Request};
+pub use words::{LineFault, line_fault, line_status, parse_request, parse_words, words_fault};

@@ -1,0 +1,5 @@
+pub mod Fault
+pub mod Input
+pub mod Output
+pub mod Refusal
+pub mod Report
