@@ -3,7 +3,7 @@ use crate::walks::{Walks, at};
 
 impl Walks {
     /// Enters the ways anew: each costs its scaled weight and the prices of its two ends. There is one price for each place, by the
-    /// scale. The tables stay as they were filled last.
+    /// scale; the tolls that were taken off before are gone. The tables stay as they were filled last.
     pub fn enter(&mut self, prices: &[i64]) {
         for to in 0..self.places() {
             let own = at(prices, to);
@@ -13,8 +13,8 @@ impl Walks {
         }
     }
 
-    /// Takes a toll, by the scale, off each way that crosses the border between the places that are marked and the others. There is one
-    /// mark for each place. The tables stay as they were filled last.
+    /// Takes a toll, by the scale, off each way between a place that is marked and one that isn't. There is one mark for each place.
+    /// The tables stay as they were filled last.
     pub fn take_off(&mut self, inside: &[bool], toll: i64) {
         for to in 0..self.places() {
             let own = inside.get(to).copied().unwrap_or(false);

@@ -36,8 +36,7 @@ impl Size {
         Size { looks, ..self }
     }
 
-    /// How many steps it takes to fill the tables once: looks from one of their cells at another. The greatest number where they are
-    /// more.
+    /// How many steps it takes to fill the tables once: looks from one of their cells at another; `u64::MAX` where they are more.
     pub fn steps(self) -> u64 {
         let loads = self.room.saturating_add(1);
         let of_one = self
@@ -48,8 +47,7 @@ impl Size {
         loads.saturating_mul(of_one)
     }
 
-    /// How many steps it takes to enter the tolls of this many cuts: a look at each way for each. The greatest number where they are
-    /// more.
+    /// How many steps it takes to enter the tolls of this many cuts: a look at each way for each; `u64::MAX` where they are more.
     pub fn tolls(self, cuts: u64) -> u64 {
         cuts.saturating_mul(self.places).saturating_mul(self.places)
     }

@@ -1,6 +1,5 @@
 //! The least walks home from each place of each load, over ways that may cost less than nothing; and the least tours. Walks remember.
-ghost use Rattle.std.specs.Prelude.{◌≤◌, ◌<◌};
-ghost use Rattle.vrp_model.specs.Problem.{place_count};
+ghost use Rattle.std.specs.Prelude.{◌≤◌};
 
 use crate::cells::{Cells, FAR, NO_WALK};
 use crate::growth::Growth;
@@ -10,8 +9,8 @@ use std::alloc::Global;
 use vrp_model::{Instance, NoMemory};
 use vrp_prices::demand_in_units;
 
-/// The tables of one problem with prices, made once and filled in each round: the least walks home and the least tours. Costs are by
-/// the scale of the prices, and may be below 0; loads and demands are in units.
+/// The tables of one problem with prices, made once and filled in each round: the least walks home and the least tours. Costs are
+/// by the scale, and may be below 0; loads and demands are in units. Sums of costs wrap, where prices are so large.
 #[derive(Debug, Drop)]
 pub struct Walks {
     places: usize,
@@ -26,8 +25,9 @@ pub struct Walks {
 }
 
 impl Walks {
-    /// Empty tables of this size, of walks that remember what these looks tell. The size and the looks are those of the instance, by
-    /// this unit. A way costs the scale times its weight, once prices are entered; before that there are no ways.
+    /// Empty tables of this size, of walks that remember what these looks tell. The size is that of the instance by this unit, with
+    /// these looks, which are of the same instance. There are no ways until prices are entered; then a way's weight counts `scale`
+    /// times.
     pub fn new(
         alloc: Global,
         instance: &Instance,
@@ -133,10 +133,10 @@ impl Walks {
         self.demands.get(place).copied().unwrap_or(0)
     }
 
-    /// What the least walk home costs from a place, by the tables as they were filled last, which carries this load behind the place and
-    /// remembers no more there than these of its nearest customers: bit by bit, the nearest being the lowest. At the depot, where nothing
-    /// is remembered, the least tour of the load. No less than `NO_WALK` where there is none. The load is below `loads`, and the memory
-    /// has no more bits than customers are near.
+    /// What the least walk home costs from a place which carries this load behind it, and remembers no more there than this memory
+    /// says: the bits of a number, the lowest for the nearest customer. It is that of the tables as they were filled last. At the
+    /// depot, with memory 0, it is the least tour of the load. No less than `NO_WALK` where there is none. The load is below `loads`,
+    /// and the memory has no more bits than customers are near.
     pub fn cell(&self, load: usize, place: usize, memory: usize) -> i64 {
         self.cells.cell(load, place, memory)
     }
