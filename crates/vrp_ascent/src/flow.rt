@@ -1,7 +1,7 @@
 //! How often each way is used by the tours of the rounds so far: a mean that leans to the newest.
-use crate::tours_used::UsedWay;
 use std::alloc::Global;
 use vrp_model::NoMemory;
+use vrp_walks::UsedWay;
 
 /// One use of a way counts so much.
 pub(crate) const USE: i64 = 1_024;

@@ -7,13 +7,13 @@ ghost use Rattle.vrp_prices.specs.declared.limits.TheConstants.{MAX_CUTS, MAX_SC
 
 use crate::remembered::Remembered;
 use crate::step::Ascent;
-use crate::stepped_cuts::SteppedCut;
-use crate::unit::{Size, unit_for};
-use crate::walks::{Walks, at};
+use crate::stepped_cuts::SteppedCuts;
+use crate::unit::unit_for;
 use std::alloc::Global;
 use vrp_memory::{MOST_NEAR, Memory};
 use vrp_model::{Instance, NoMemory};
 use vrp_prices::{Cut, MAX_SCALE, Relaxation};
+use vrp_walks::{Size, Walks};
 
 // The most rounds; few instances take as many.
 const MAX_ROUNDS: u64 = 600;
@@ -100,7 +100,7 @@ fn best_prices<F: Fn() -> bool>(
     let mut ascent = new_ascent(alloc, instance, scale, cost)?;
     ascend(alloc, instance, walks, &mut ascent, size, steps, goes_on)?;
     let (prices, cuts) = ascent.into_best();
-    let prices = lifted(alloc, instance, walks, &prices, cuts.as_slice())?;
+    let prices = lifted(alloc, instance, walks, &prices, &cuts)?;
     let cuts = cuts.into_cuts(alloc, instance)?;
     Ok(BestPrices { prices, cuts })
 }
@@ -157,16 +157,16 @@ fn lifted(
     instance: &Instance,
     walks: &mut Walks,
     prices: &[i64],
-    cuts: &[SteppedCut],
+    cuts: &SteppedCuts,
 ) -> Result<Vec<i64>, NoMemory>
     ensures { IfOk result (λ lifted. vec_len lifted ≡ place_count instance.now) }
 {
-    walks.enter(prices, cuts);
+    cuts.enter(walks, prices);
     let lift = walks.least_lift();
     let mut lifted = Vec::with_capacity(alloc, usize::from(instance.customers()) + 1)?;
     for place in 0..instance.customers() + 1 {
         let demand = i64::try_from(walks.demand(usize::from(place))).unwrap_or(0);
-        let price = at(prices, usize::from(place));
+        let price = prices.get(usize::from(place)).copied().unwrap_or(0);
         lifted.push(price.wrapping_add(lift.wrapping_mul(demand)))?;
     }
     Ok(lifted)

@@ -2,7 +2,6 @@
 ghost use Rattle.std.specs.Prelude.{◌<◌};
 
 use crate::flow::{Flow, USE};
-use crate::walks::at;
 use std::alloc::Global;
 use vrp_bound::trucks_needed;
 use vrp_model::{Instance, NoMemory};
@@ -110,7 +109,7 @@ impl<'a> GrowingSet<'a> {
     // Takes a customer in.
     fn take_in(&mut self, customer: usize) {
         let flow = self.flow.of(customer);
-        let own = at(&self.joins, customer);
+        let own = self.joins.get(customer).copied().unwrap_or(0);
         let through = flow.iter().fold(0i64, |sum, &uses| sum.wrapping_add(uses));
         self.crossings = self
             .crossings

@@ -2,10 +2,9 @@
 ghost use Rattle.std.specs.Prelude.{pos, ◌<ℤ◌};
 
 use crate::stepped_cuts::SteppedCuts;
-use crate::tours_used::{UsedWay, count_visits};
-use crate::walks::Walks;
 use std::alloc::Global;
 use vrp_model::{Instance, NoMemory};
+use vrp_walks::{UsedWay, Walks};
 
 // A visit or a crossing too many or too few counts so much in a direction.
 const UNIT: i64 = 256;
@@ -65,7 +64,7 @@ impl Ascent {
 
     /// Enters the prices and tolls that are to be tried next.
     pub(crate) fn enter(&self, walks: &mut Walks) {
-        walks.enter(&self.prices, self.cuts.as_slice());
+        self.cuts.enter(walks, &self.prices);
     }
 
     /// How many cuts have a toll.
@@ -155,6 +154,19 @@ pub(crate) fn deflected(last: i64, now: i64) -> i64 {
     last.wrapping_mul(3)
         .wrapping_add(now.wrapping_mul(7 * UNIT))
         / 10
+}
+
+// Counts the visits of each customer. The depot counts as visited once, so that it keeps no price.
+fn count_visits(visits: &mut [i64], used: &[UsedWay]) {
+    visits.fill(0);
+    for way in used {
+        if let Some(count) = visits.get_mut(way.to) {
+            *count = count.wrapping_add(1);
+        }
+    }
+    if let Some(depot) = visits.first_mut() {
+        *depot = 1;
+    }
 }
 
 // Each customer's part of the direction, by the visits beyond one.

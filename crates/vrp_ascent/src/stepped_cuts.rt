@@ -6,10 +6,10 @@ ghost use Rattle.vrp_prices.specs.declared.limits.TheConstants.{MAX_CUTS};
 use crate::flow::Flow;
 use crate::separation::violated_cuts;
 use crate::step::deflected;
-use crate::tours_used::UsedWay;
 use std::alloc::Global;
 use vrp_model::{Instance, NoMemory};
 use vrp_prices::{Cut, MAX_CUTS, MAX_TOLL};
+use vrp_walks::{UsedWay, Walks};
 
 // Cuts are looked for after this many rounds, and then whenever `ROUNDS_BETWEEN` more are made.
 const FIRST_ROUNDS: u32 = 30;
@@ -19,12 +19,12 @@ const ROUNDS_BETWEEN: u32 = 15;
 // At most this many are taken at once.
 const MOST_AT_ONCE: usize = 8;
 
-/// A cut on its way.
+// A cut on its way.
 #[derive(Debug, Drop)]
-pub(crate) struct SteppedCut {
-    pub(crate) inside: Vec<bool>,
+struct SteppedCut {
+    inside: Vec<bool>,
     trucks: i64,
-    pub(crate) toll: i64,
+    toll: i64,
     // The toll by the best prices.
     best: i64,
     // The direction of the last step.
@@ -72,9 +72,14 @@ impl SteppedCuts {
         })
     }
 
-    /// The cuts.
-    pub(crate) fn as_slice(&self) -> &[SteppedCut] {
-        self.cuts.as_slice()
+    /// Enters the ways with these prices, and with the tolls.
+    pub(crate) fn enter(&self, walks: &mut Walks, prices: &[i64]) {
+        walks.enter(prices);
+        for cut in &self.cuts {
+            if cut.toll > 0 {
+                walks.take_off(&cut.inside, cut.toll);
+            }
+        }
     }
 
     /// How many have a toll.

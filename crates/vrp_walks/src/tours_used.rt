@@ -5,9 +5,11 @@ use vrp_model::NoMemory;
 
 /// A use of the way from one place to another.
 #[derive(Clone, Copy, Debug)]
-pub(crate) struct UsedWay {
-    pub(crate) from: usize,
-    pub(crate) to: usize,
+pub struct UsedWay {
+    /// The place that it comes from.
+    pub from: usize,
+    /// The place that it goes to.
+    pub to: usize,
 }
 
 // Where a walk home has come to.
@@ -21,8 +23,10 @@ struct Standing {
 }
 
 impl Walks {
-    /// Lists the ways of the least tours that carry the whole demand, in place of what stands there.
-    pub(crate) fn list_used(&self, used: &mut Vec<UsedWay>) -> Result<(), NoMemory> {
+    /// Lists the ways of the least tours that carry the whole demand, in place of what stands there: tour after tour, each from the
+    /// depot and back to it. They are those of the tables as they were filled last, where that answered a cost and no ways were
+    /// entered since; else any ways. Where memory is refused, the first of them are left in the list.
+    pub fn list_used(&self, used: &mut Vec<UsedWay>) -> Result<(), NoMemory> {
         used.clear();
         let mut rest = self.whole();
         for _ in 0..self.whole() {
@@ -116,17 +120,4 @@ impl Walks {
 fn leads(look: NearLook, here: Standing) -> bool {
     let more = usize::from(look.memory) & !here.memory;
     usize::from(look.at) == here.place && more == 0
-}
-
-/// Counts the visits of each customer. The depot counts as visited once, so that it keeps no price.
-pub(crate) fn count_visits(visits: &mut [i64], used: &[UsedWay]) {
-    visits.fill(0);
-    for way in used {
-        if let Some(count) = visits.get_mut(way.to) {
-            *count = count.wrapping_add(1);
-        }
-    }
-    if let Some(depot) = visits.first_mut() {
-        *depot = 1;
-    }
 }

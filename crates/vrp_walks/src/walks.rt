@@ -1,18 +1,18 @@
 //! The least walks home from each place of each load, over ways that may cost less than nothing; and the least tours. Walks remember.
-ghost use Rattle.std.specs.Prelude.{◌≤◌, ◌<◌};
-ghost use Rattle.vrp_model.specs.Problem.{place_count};
+ghost use Rattle.std.specs.Prelude.{◌≤◌};
 
 use crate::cells::{Cells, FAR, NO_WALK};
 use crate::growth::Growth;
 use crate::near_looks::{NearLook, NearLooks};
-use crate::unit::Size;
+use crate::size::Size;
 use std::alloc::Global;
 use vrp_model::{Instance, NoMemory};
 use vrp_prices::demand_in_units;
 
-/// The tables of one problem with prices, made once and filled in each round.
+/// The tables of one problem with prices, made once and filled in each round: the least walks home and the least tours. Costs are
+/// by the scale, and may be below 0; loads and demands are in units. Sums of costs wrap, where prices are so large.
 #[derive(Debug, Drop)]
-pub(crate) struct Walks {
+pub struct Walks {
     places: usize,
     // What each place demands in units; the depot nothing.
     demands: Vec<usize>,
@@ -25,8 +25,10 @@ pub(crate) struct Walks {
 }
 
 impl Walks {
-    /// Empty tables of this size, of walks that remember what these looks tell.
-    pub(crate) fn new(
+    /// Empty tables of this size, of walks that remember what these looks tell. The size is that of the instance by this unit, with
+    /// these looks, which are of the same instance. There are no ways until prices are entered; then a way's weight counts `scale`
+    /// times.
+    pub fn new(
         alloc: Global,
         instance: &Instance,
         scale: u64,
@@ -48,8 +50,9 @@ impl Walks {
         })
     }
 
-    /// What the least tours cost together that carry the whole demand, by the ways as they were entered; `None` where no tours do.
-    pub(crate) fn fill(&mut self) -> Option<i64> {
+    /// Fills the tables by the ways as they were entered last. What the least tours cost together that carry the whole demand; `None`
+    /// where no tours do.
+    pub fn fill(&mut self) -> Option<i64> {
         self.growth.mark_near();
         self.cells.begin(self.growth.ways_home());
         for load in 0..self.tour.len() {
@@ -100,57 +103,60 @@ impl Walks {
         }
     }
 
-    /// The ways into a place, and their scaled weights.
+    // The ways into a place, and their scaled weights.
     pub(crate) fn ways_into(&mut self, to: usize) -> Option<(&mut [i64], &[i64])> {
         self.growth.ways_into(to)
     }
 
-    /// How many places there are.
+    // How many places there are.
     pub(crate) fn places(&self) -> usize {
         self.places
     }
 
-    /// One more than what a truck can carry of the whole demand.
-    pub(crate) fn loads(&self) -> usize {
+    /// How many loads there are, 0 among them: one more than what a truck can carry of the whole demand.
+    pub fn loads(&self) -> usize {
         self.tour.len()
     }
 
-    /// The whole demand.
-    pub(crate) fn whole(&self) -> usize {
+    /// What all customers demand together.
+    pub fn whole(&self) -> usize {
         self.tours.len().saturating_sub(1)
     }
 
-    /// The least cost of tours that carry this together.
+    // The least cost of tours that carry this together.
     pub(crate) fn tours_cost(&self, rest: usize) -> i64 {
         at(&self.tours, rest)
     }
 
-    /// What a place demands in units.
-    pub(crate) fn demand(&self, place: usize) -> usize {
+    /// What a place demands; nothing where it is the depot, or no place.
+    pub fn demand(&self, place: usize) -> usize {
         self.demands.get(place).copied().unwrap_or(0)
     }
 
-    /// The least cost of a walk home from a place, which carries this load behind it, and remembers no more there.
-    pub(crate) fn cell(&self, load: usize, place: usize, memory: usize) -> i64 {
+    /// What the least walk home costs from a place which carries this load behind it, and remembers no more there than this memory
+    /// says: the bits of a number, the lowest for the nearest customer. It is that of the tables as they were filled last. At the
+    /// depot, with memory 0, it is the least tour of the load. No less than `NO_WALK` where there is none. The load is below `loads`,
+    /// and the memory has no more bits than customers are near.
+    pub fn cell(&self, load: usize, place: usize, memory: usize) -> i64 {
         self.cells.cell(load, place, memory)
     }
 
-    /// The memory of all that can be remembered.
+    // The memory of all that can be remembered.
     pub(crate) fn most(&self) -> usize {
         self.cells.most()
     }
 
-    /// The looks before a stop that take memory into account.
+    // The looks before a stop that take memory into account.
     pub(crate) fn near_looks(&self, stop: usize) -> &[NearLook] {
         self.growth.near_looks(stop)
     }
 
-    /// Whether memory doesn't count between a place and the stop after it.
+    // Whether memory doesn't count between a place and the stop after it.
     pub(crate) fn is_far(&self, place: usize, stop: usize) -> bool {
         self.growth.is_far(place, stop)
     }
 
-    /// What a way costs.
+    // What a way costs.
     pub(crate) fn way(&self, from: usize, to: usize) -> i64 {
         self.growth.way(from, to)
     }

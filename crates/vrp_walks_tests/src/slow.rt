@@ -1,169 +1,15 @@
-//! Tests: the least walks that remember, and the least tours, beside a program that tells each walk stop by stop.
+//! The slow program: it tells every walk, stop by stop from its end, and keeps the least.
 ghost use Rattle.std.specs.Prelude.{◌<◌};
 ghost use Rattle.vrp_model.specs.Problem.{place_count};
 
 use crate::assertion::assert_same;
-use crate::cells::NO_WALK;
-use crate::found::assert_bounds;
-use crate::instances::{FOUR, at_points, with_ways};
-use crate::near_looks::NearLooks;
-use crate::rounds::find_prices;
-use crate::tours_used::UsedWay;
-use crate::unit::Size;
-use crate::walks::{Walks, at};
 use std::alloc::Global;
 use std::process::Abort;
-use vrp_memory::Memory;
 use vrp_model::Instance;
+use vrp_walks::{NO_WALK, UsedWay, Walks};
 
 // More walks than any of these instances has.
 const MOST_WALKS: u32 = 1_000_000;
-
-// An instance, and a price for each of its places.
-#[derive(Clone, Copy, Debug)]
-struct Case {
-    weights: &'static [u64],
-    demands: &'static [u64],
-    capacity: u64,
-    prices: &'static [i64],
-}
-
-const WITH_ONE_WAY: Case = Case {
-    weights: &ONE_WAY,
-    demands: &[0, 1, 2, 1, 1],
-    capacity: 6,
-    prices: &[0, 0, 0, 0, 0],
-};
-
-// All ways weigh the same.
-const ALL_EQUAL: Case = Case {
-    weights: &EQUAL,
-    demands: &[0, 1, 1, 1, 1, 2],
-    capacity: 5,
-    prices: &[0, 0, 0, 0, 0, 0],
-};
-
-const CASES: &[Case] = &[
-    WITH_ONE_WAY,
-    Case {
-        weights: &ONE_WAY,
-        demands: &[0, 1, 1, 2, 1],
-        capacity: 5,
-        prices: &[0, -7, 4, -3, -9],
-    },
-    ALL_EQUAL,
-    Case {
-        weights: &EQUAL,
-        demands: &[0, 1, 1, 1, 1, 2],
-        capacity: 4,
-        prices: &[0, -8, -2, 5, 0, -4],
-    },
-    // Fewer customers than are to be near.
-    Case {
-        weights: &FEW,
-        demands: &[0, 1, 1],
-        capacity: 9,
-        prices: &[0, -3, -1],
-    },
-    Case {
-        weights: &[0, 3, 4, 0],
-        demands: &[0, 2],
-        capacity: 3,
-        prices: &[0, -5],
-    },
-];
-
-const WITHOUT_PRICES: &[Case] = &[WITH_ONE_WAY, ALL_EQUAL];
-
-const ONE_WAY: [u64; 25] = [
-    0, 3, 9, 4, 6, 8, 0, 2, 7, 1, 5, 6, 0, 1, 4, 9, 3, 8, 0, 2, 7, 5, 3, 6, 0,
-];
-
-const EQUAL: [u64; 36] = [
-    0, 5, 5, 5, 5, 5, 5, 0, 5, 5, 5, 5, 5, 5, 0, 5, 5, 5, 5, 5, 5, 0, 5, 5, 5, 5, 5, 5, 0, 5, 5, 5,
-    5, 5, 5, 0,
-];
-
-const FEW: [u64; 9] = [0, 4, 6, 5, 0, 1, 7, 2, 0];
-
-#[test]
-fn every_walk_that_remembers(rt: HostRuntime) {
-    let mut walks = 0u32;
-    for &case in CASES {
-        let instance = instance_of(&rt, rt.alloc(), case);
-        for size in 0..5 {
-            let told = compare(&rt, rt.alloc(), &instance, case.prices, size);
-            walks = walks.saturating_add(told);
-        }
-    }
-    assert!(rt; walks > 10_000);
-}
-
-// Many walks cost the same.
-#[test]
-fn walks_by_many_prices(rt: HostRuntime) {
-    for &case in WITHOUT_PRICES {
-        let instance = instance_of(&rt, rt.alloc(), case);
-        for round in 0..20 {
-            let prices = prices_of(&rt, rt.alloc(), case.demands.len(), round);
-            for size in 1..4 {
-                compare(&rt, rt.alloc(), &instance, &prices, size);
-            }
-        }
-    }
-}
-
-// Prices from -9 to 3, others in each round.
-fn prices_of(rt: &impl Abort, alloc: Global, places: usize, round: i64) -> Vec<i64> {
-    let mut prices = vec![in alloc; 0; 1].expect(rt, "memory");
-    let mut last = round;
-    for _ in 1..places {
-        last = last.wrapping_mul(7).wrapping_add(5) % 13;
-        prices.push(last.wrapping_sub(9)).expect(rt, "memory");
-    }
-    prices
-}
-
-fn instance_of(rt: &impl Abort, alloc: Global, case: Case) -> Instance {
-    with_ways(rt, alloc, case.weights, case.demands, case.capacity)
-}
-
-// Fills the tables where this many customers are near each place, and compares them with all walks; how many these are.
-fn compare(
-    rt: &impl Abort,
-    alloc: Global,
-    instance: &Instance,
-    prices: &[i64],
-    size: usize,
-) -> u32 {
-    let mut walks = empty_walks(rt, alloc, instance, size);
-    walks.enter(prices, &[]);
-    let whole = walks.fill();
-    let mut slow = Slow::new(rt, alloc, instance, prices, size, walks.loads());
-    let count = slow.tell_all(rt, alloc);
-    slow.compare_cells(rt, &walks);
-    let least = slow.least_tours(rt, alloc, walks.whole());
-    assert_same(rt, whole, least, size);
-    if let Some(cost) = whole {
-        let mut used = Vec::new(alloc);
-        walks.list_used(&mut used).expect(rt, "memory");
-        slow.compare_used(rt, &used, cost, walks.whole());
-    }
-    count
-}
-
-// The tables where this many customers are near each place.
-fn empty_walks(rt: &impl Abort, alloc: Global, instance: &Instance, size: usize) -> Walks {
-    assert!(rt; size <= 4);
-    let memory = Memory::nearest(alloc, instance, size).expect(rt, "memory");
-    let looks = NearLooks::new(alloc, instance, &memory).expect(rt, "memory");
-    walks_by(rt, alloc, instance, looks)
-}
-
-fn walks_by(rt: &impl Abort, alloc: Global, instance: &Instance, looks: NearLooks) -> Walks {
-    let size = Size::in_units(instance, 1);
-    Walks::new(alloc, instance, 1, 1, size, looks).expect(rt, "memory")
-}
 
 // A walk home, told from its end.
 #[derive(Clone, Copy, Debug)]
@@ -176,9 +22,21 @@ struct Walk {
     cost: i64,
 }
 
-// The slow program.
+// Where tours that are gone through from their end have come to.
+#[derive(Clone, Copy, Debug)]
+struct Back {
+    place: usize,
+    // Whom the tour remembers behind the place, each with its bit.
+    remembered: u32,
+    // What the ways before cost.
+    left: i64,
+    // What is carried behind.
+    load: usize,
+}
+
+/// An instance with prices, and the least of its walks.
 #[derive(Debug, Drop)]
-struct Slow {
+pub(crate) struct Slow {
     places: usize,
     loads: usize,
     // How many customers are near each place, and who: of one place after another.
@@ -192,7 +50,8 @@ struct Slow {
 }
 
 impl Slow {
-    fn new(
+    /// No walks yet, of so many loads, where this many customers are near each place.
+    pub(crate) fn new(
         rt: &impl Abort,
         alloc: Global,
         instance: &Instance,
@@ -264,8 +123,8 @@ impl Slow {
         }
     }
 
-    // Tells every walk, and how many there are.
-    fn tell_all(&mut self, rt: &impl Abort, alloc: Global) -> u32 {
+    /// Tells every walk, and how many there are.
+    pub(crate) fn tell_all(&mut self, rt: &impl Abort, alloc: Global) -> u32 {
         let mut stack = self.straight_home(rt, alloc);
         for count in 0..MOST_WALKS {
             let Some(walk) = stack.pop() else {
@@ -361,20 +220,26 @@ impl Slow {
         least
     }
 
-    // Compares every cell.
-    fn compare_cells(&self, rt: &impl Abort, walks: &Walks) {
+    /// Compares every cell.
+    pub(crate) fn compare_cells(&self, rt: &impl Abort, walks: &Walks) {
+        for load in 0..self.loads {
+            for place in 0..self.places {
+                self.compare_memories(rt, walks, load, place);
+            }
+        }
+    }
+
+    fn compare_memories(&self, rt: &impl Abort, walks: &Walks, load: usize, place: usize) {
         let masks = 1usize << self.size.min(4);
-        for index in 0..self.loads.saturating_mul(self.places).saturating_mul(masks) {
-            let (pair, memory) = (index / masks, index % masks);
-            let (load, place) = (pair / self.places.max(1), pair % self.places.max(1));
+        for memory in 0..masks {
             let cell = walks.cell(load, place, memory).min(NO_WALK);
             let least = self.least(load, place, memory);
             assert_same(rt, cell, least, (load, place, memory));
         }
     }
 
-    // The least tours that carry so much together.
-    fn least_tours(&self, rt: &impl Abort, alloc: Global, whole: usize) -> Option<i64> {
+    /// The least tours that carry so much together.
+    pub(crate) fn least_tours(&self, rt: &impl Abort, alloc: Global, whole: usize) -> Option<i64> {
         let mut tours = vec![in alloc; 0; 1].expect(rt, "memory");
         for rest in 1..whole.saturating_add(1) {
             let least = self.least_split(&tours, rest);
@@ -397,22 +262,36 @@ impl Slow {
         least
     }
 
-    // Whether the ways are those of tours that remember, which cost so much and carry so much.
-    fn compare_used(&self, rt: &impl Abort, used: &[UsedWay], cost: i64, whole: usize) {
-        let (mut left, mut load, mut remembered, mut next) = (cost, 0usize, 0, 0);
-        for way in used.iter().rev() {
-            assert_same(rt, way.to, next, *way);
-            remembered = if way.to == 0 {
-                0
-            } else {
-                self.remembered(way.to, remembered)
-            };
-            assert_same(rt, has(remembered, way.from), false, *way);
-            left = left.saturating_sub(self.way(way.from, way.to));
-            load = load.saturating_add(self.demand(way.to));
-            next = way.from;
+    /// Whether the ways are those of tours that remember, which cost so much and carry so much.
+    pub(crate) fn compare_used(&self, rt: &impl Abort, used: &[UsedWay], cost: i64, whole: usize) {
+        let mut back = Back {
+            place: 0,
+            remembered: 0,
+            left: cost,
+            load: 0,
+        };
+        for &way in used.iter().rev() {
+            back = self.before(rt, back, way);
         }
-        assert_same(rt, (next, left, load), (0, 0, whole), used.len());
+        let end = (back.place, back.left, back.load);
+        assert_same(rt, end, (0, 0, whole), used.len());
+    }
+
+    // One way further back, from a place that isn't remembered behind it.
+    fn before(&self, rt: &impl Abort, back: Back, way: UsedWay) -> Back {
+        assert_same(rt, way.to, back.place, way);
+        let remembered = if way.to == 0 {
+            0
+        } else {
+            self.remembered(way.to, back.remembered)
+        };
+        assert_same(rt, has(remembered, way.from), false, way);
+        Back {
+            place: way.from,
+            remembered,
+            left: back.left.saturating_sub(self.way(way.from, way.to)),
+            load: back.load.saturating_add(self.demand(way.to)),
+        }
     }
 
     fn way(&self, from: usize, to: usize) -> i64 {
@@ -450,23 +329,7 @@ fn has(places: u32, place: usize) -> bool {
     places & bit(place) != 0
 }
 
-// Prices that were found bound the walks that remember too, and these bound as well as walks that don't.
-#[test]
-fn found_prices_bound_walks(rt: HostRuntime) {
-    let instance = at_points(&rt, rt.alloc(), FOUR, &[0, 1, 2, 1], 3);
-    let found = find_prices(rt.alloc(), &instance, 46, 3, 1_000_000, &|| true);
-    let found = found.expect(&rt, "memory").expect(&rt, "prices");
-    assert_same(&rt, found.memory.masks(), 4, "masks");
-    let looks = NearLooks::new(rt.alloc(), &instance, &found.memory);
-    let looks = looks.expect(&rt, "memory");
-    let least = least_of_walks(&rt, rt.alloc(), found.relaxation.relaxed(), looks);
-    assert_bounds(&rt, &found.relaxation, least);
-}
-
-// What the least tours cost together by the ways of an instance.
-fn least_of_walks(rt: &impl Abort, alloc: Global, instance: &Instance, looks: NearLooks) -> u64 {
-    let mut walks = walks_by(rt, alloc, instance, looks);
-    walks.enter(&[0, 0, 0, 0], &[]);
-    let least = walks.fill().expect(rt, "tours");
-    u64::try_from(least).unwrap_or(0)
+// The number that stands at a place of a list; 0 past its end.
+fn at(values: &[i64], place: usize) -> i64 {
+    values.get(place).copied().unwrap_or(0)
 }

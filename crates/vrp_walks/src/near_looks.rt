@@ -20,9 +20,9 @@ pub(crate) struct NearLook {
     pub(crate) most: u8,
 }
 
-/// The looks that take memory into account, by stop.
+/// The looks that take memory into account, by stop: what tables need of a memory of an instance's walks.
 #[derive(Debug, Drop)]
-pub(crate) struct NearLooks {
+pub struct NearLooks {
     places: usize,
     // How many memories there are.
     masks: usize,
@@ -35,11 +35,7 @@ pub(crate) struct NearLooks {
 
 impl NearLooks {
     /// Those of a memory of an instance's walks.
-    pub(crate) fn new(
-        alloc: Global,
-        instance: &Instance,
-        memory: &Memory,
-    ) -> Result<NearLooks, NoMemory>
+    pub fn new(alloc: Global, instance: &Instance, memory: &Memory) -> Result<NearLooks, NoMemory>
         requires places { memory.now.places ≡ place_count instance.now }
     {
         let places = usize::from(instance.customers()) + 1;
@@ -111,8 +107,9 @@ impl NearLooks {
         self.masks
     }
 
-    /// How many looks memory takes of each load: those here, and from each memory of each place at those with one customer less.
-    pub(crate) fn count(&self) -> u64 {
+    /// How many looks memory takes of each load: those here, and from each memory of each place at those with one customer less. None
+    /// where walks remember nothing.
+    pub fn count(&self) -> u64 {
         let size = u64::from(self.masks.trailing_zeros());
         let lesser = (self.masks as u64)
             .saturating_mul(size)

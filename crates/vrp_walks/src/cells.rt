@@ -6,8 +6,8 @@ use vrp_model::NoMemory;
 /// What stands where there is no walk.
 pub(crate) const FAR: i64 = 2_000_000_000_000_000_000;
 
-/// No walk costs as much, and a mark and whatever a way costs are above.
-pub(crate) const NO_WALK: i64 = 1_000_000_000_000_000_000;
+/// No walk costs as much; what stands where there is none is no less.
+pub const NO_WALK: i64 = 1_000_000_000_000_000_000;
 
 /// The least walks home.
 #[derive(Debug, Drop)]

@@ -2,8 +2,9 @@
 use crate::walks::Walks;
 
 impl Walks {
-    /// The least such number, by the prices that were entered last.
-    pub(crate) fn least_lift(&self) -> i64 {
+    /// The least number that, added to each way once for each unit that its two ends demand together, lets no way cost less than
+    /// nothing; by the ways as they were entered last. 0 where none does.
+    pub fn least_lift(&self) -> i64 {
         let mut lift = 0;
         for to in 0..self.places() {
             lift = self.lift_into(to).max(lift);

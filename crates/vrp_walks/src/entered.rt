@@ -1,25 +1,21 @@
 //! Entering prices and tolls into the ways.
-use crate::stepped_cuts::SteppedCut;
 use crate::walks::{Walks, at};
 
 impl Walks {
-    /// Enters the ways with these prices, and with the tolls of these cuts.
-    pub(crate) fn enter(&mut self, prices: &[i64], cuts: &[SteppedCut]) {
+    /// Enters the ways anew: each costs its scaled weight and the prices of its two ends. There is one price for each place, by the
+    /// scale; the tolls that were taken off before are gone. The tables stay as they were filled last.
+    pub fn enter(&mut self, prices: &[i64]) {
         for to in 0..self.places() {
             let own = at(prices, to);
             if let Some((ways, weights)) = self.ways_into(to) {
                 enter_prices(ways, weights, prices, own);
             }
         }
-        for cut in cuts {
-            if cut.toll > 0 {
-                self.take_off(&cut.inside, cut.toll);
-            }
-        }
     }
 
-    // Takes a toll off each way that crosses the border.
-    fn take_off(&mut self, inside: &[bool], toll: i64) {
+    /// Takes a toll, by the scale, off each way between a place that is marked and one that isn't. There is one mark for each place.
+    /// The tables stay as they were filled last.
+    pub fn take_off(&mut self, inside: &[bool], toll: i64) {
         for to in 0..self.places() {
             let own = inside.get(to).copied().unwrap_or(false);
             if let Some((ways, _)) = self.ways_into(to) {
