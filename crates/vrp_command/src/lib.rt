@@ -29,5 +29,5 @@ pub use line::{Line, Stage};
 pub use options::{Format, MAX_BUDGET, MAX_SECONDS, Options, Request, Status};
 pub use program::{end, end_without_run, run_words};
 pub use vrp_pool::{Gate, MAX_WORKERS, News, NoGate};
-pub use vrp_search::MAX_PIECES;
+pub use vrp_tree::MAX_PIECES;
 pub use words::{LineFault, line_fault, line_status, parse_request, parse_words, words_fault};
