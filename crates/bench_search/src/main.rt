@@ -9,7 +9,7 @@ ghost use Rattle.std.specs.Option.{ForSome};
 ghost use Rattle.vrp_model.specs.Problem.{customers};
 ghost use Rattle.vrp_bound.specs.Tables.{tables_over};
 ghost use Rattle.vrp_model.specs.Route.{IsPlanOf};
-ghost use Rattle.vrp_search.specs.declared.cutting.TheConstants.{MAX_PIECES};
+ghost use Rattle.vrp_tree.specs.declared.cutting.TheConstants.{MAX_PIECES};
 
 mod pieces;
 

@@ -5,7 +5,7 @@ ghost use Rattle.vrp_model.specs.Problem.{customers};
 ghost use Rattle.vrp_bound.specs.Tables.{tables_over};
 ghost use Rattle.vrp_model.specs.Route.{IsPlanOf};
 ghost use Rattle.vrp_model.specs.Word.{IsFront, unserved_in};
-ghost use Rattle.vrp_search.specs.Cutting.{IsCutting};
+ghost use Rattle.vrp_tree.specs.Cutting.{IsCutting};
 
 use std::alloc::Global;
 use vrp_bound::Tables;

@@ -6,7 +6,7 @@ use Rattle.vrp_model.specs.Order.{IsFirst}
 use Rattle.vrp_model.specs.Problem.{Problem}
 use Rattle.vrp_model.specs.Route.{PricedPlan}
 use Rattle.vrp_model.specs.declared.limits.TheConstants.{MAX_NODES}
-use Rattle.vrp_search.specs.Cutting.{HasNoChild, IsCutting}
+use Rattle.vrp_tree.specs.Cutting.{HasNoChild, IsCutting}
 use Rattle.vrp_pool.specs.Answer.{IsLeftOpen}
 use Rattle.vrp_pool.specs.declared.answers.Answer.{Answer}
 use Rattle.vrp_pool.specs.declared.answers.Answer.TheVariants.{Proven, Open, NoPlan}

@@ -2,7 +2,7 @@
 ghost use Rattle.std.specs.Prelude.{◌≤◌, IfOk};
 ghost use Rattle.std.specs.Option.{ForSome, option_map};
 ghost use Rattle.vrp_model.specs.Route.{IsPlanOf};
-ghost use Rattle.vrp_search.specs.declared.cutting.TheConstants.{MAX_PIECES};
+ghost use Rattle.vrp_tree.specs.declared.cutting.TheConstants.{MAX_PIECES};
 ghost use Rattle.vrp_command.specs.Answer.{IsAnswerTo};
 ghost use Rattle.vrp_pool.specs.declared.solver.TheConstants.{MAX_WORKERS};
 
@@ -11,7 +11,7 @@ use std::sync::Wait;
 use std::thread::Threads;
 use vrp_model::{Instance, Plan};
 use vrp_pool::{Answer, Gate, SolveError, solve_from};
-use vrp_search::Cutting;
+use vrp_tree::Cutting;
 
 /// Cuts the tree of an instance into this many pieces, and has each searched with this budget, by this many workers, who begin with a
 /// plan, if one is given.

@@ -23,5 +23,5 @@ pub use vrp_request::{
     Format, LineFault, MAX_BUDGET, MAX_SECONDS, Options, Request, line_fault, line_status,
     parse_request, parse_words, words_fault,
 };
-pub use vrp_search::MAX_PIECES;
 pub use vrp_streams::{RunError, Status, exit_status, fault_line};
+pub use vrp_tree::MAX_PIECES;

@@ -2,7 +2,7 @@
 use Rattle.std.proofs.Common.{◌≡◌, ◌∙◌, ◌+◌, ◌-◌, ◌<◌, ℕ, List, [], ◌∷◌, ◌++◌, map, ap, subst, sym, arith, length-append}
 use Rattle.std.specs.List.{All}
 use Rattle.std.proofs.lemmas.List.Elements.{All-push}
-use Rattle.vrp_search.specs.Cutting.{AreNumbered, NumberedWord}
+use Rattle.vrp_tree.specs.Cutting.{AreNumbered, NumberedWord}
 use Rattle.vrp_pile.specs.Pile.{DrawerState, IsNewPile, IsNewThief}
 
 pub one_thief_more : (words : List (List ℕ)) (count : ℕ) (owner after : DrawerState) (made all : List DrawerState) (thief : DrawerState) → 1 < owner.parts

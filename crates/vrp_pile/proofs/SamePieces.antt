@@ -9,7 +9,7 @@ use Rattle.std.proofs.lemmas.Bool.Decides.{Decides-eqb}
 use Rattle.std.proofs.lemmas.List.Sorted.{IsPermutation-refl, IsPermutation-sym, IsPermutation-cons, IsPermutation-remove, IsPermutation-trans, sum_by-IsPermutation}
 use Rattle.std.proofs.lemmas.List.Sums.{sum_by-cons}
 use Rattle.vrp_model.proofs.DistinctLists.{behind_head}
-use Rattle.vrp_search.specs.Cutting.{NumberedWord}
+use Rattle.vrp_tree.specs.Cutting.{NumberedWord}
 
 abbrev same_piece : NumberedWord → NumberedWord → Bool
 same_piece x y = cond (x.number == y.number) (bytes_eq x.word y.word) false

@@ -6,7 +6,7 @@ use Rattle.std.proofs.lemmas.Bool.{cases_order}
 use Rattle.std.proofs.lemmas.List.{append-nil, length-map, get_or-map, get_or_append_left}
 use Rattle.std.proofs.lemmas.List.Sorted.{Contains-permutation, IsPermutation-map, length_permutation}
 use Rattle.vrp_model.proofs.DistinctLists.{AreDistinct, AreDistinct-permutation}
-use Rattle.vrp_search.specs.Cutting.{AreNumbered, NumberedWord}
+use Rattle.vrp_tree.specs.Cutting.{AreNumbered, NumberedWord}
 use Rattle.vrp_pile.specs.Pile.{AreShared}
 
 -- where nothing is left, each piece that was put on the pile was drawn

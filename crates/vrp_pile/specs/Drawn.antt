@@ -1,6 +1,6 @@
 -- What clauses say of a thief's answer.
 use Rattle.std.specs.Prelude.{◌≡◌}
-use Rattle.vrp_search.specs.Cutting.{NumberedWord}
+use Rattle.vrp_tree.specs.Cutting.{NumberedWord}
 use Rattle.vrp_pile.specs.Pile.{DrawerState, IsDrawn}
 use Rattle.vrp_pile.specs.declared.thief.Drawn.{Drawn}
 use Rattle.vrp_pile.specs.declared.thief.Drawn.TheVariants.{Piece, Empty, Busy}

@@ -4,7 +4,7 @@ use Rattle.std.specs.List.{All, Contains, flat_map}
 use Rattle.std.specs.List.Sorted.{IsPermutation}
 use Rattle.std.specs.declared.alloc.Global.{Global}
 use Rattle.atomic_blocks.specs.Lent.{RowsId}
-use Rattle.vrp_search.specs.Cutting.{AreNumbered, NumberedWord}
+use Rattle.vrp_tree.specs.Cutting.{AreNumbered, NumberedWord}
 use Rattle.vrp_pile.specs.declared.limits.TheConstants.{MAX_DRAWERS}
 
 -- which pile it is

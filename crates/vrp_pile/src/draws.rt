@@ -1,7 +1,7 @@
 //! What those who draw from a pile know, and how they change it. No value of these types is made: they exist in proofs alone.
 use crossbeam_deque::protocol::{Join, Lesson, Outcome, Protocol, Split};
 use std::collections::LinkedList;
-use vrp_search::Piece;
+use vrp_tree::Piece;
 
 /// What a drawer knows: how many of the pile's drawers it stands for, the pieces that were put on the pile, and those that it
 /// drew.

@@ -8,7 +8,7 @@ use crate::thief::Thief;
 use crossbeam_deque::Worker;
 use std::alloc::{AllocError, Global};
 use std::marker::Model;
-use vrp_search::Piece;
+use vrp_tree::Piece;
 
 /// Draws from a pile, and takes thieves in.
 #[derive(Drop)]

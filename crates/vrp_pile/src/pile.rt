@@ -8,7 +8,7 @@ use crate::owner::Owner;
 use crate::thief::Thief;
 use std::alloc::Global;
 use vrp_model::NoMemory;
-use vrp_search::Cutting;
+use vrp_tree::Cutting;
 
 #[cfg(test)]
 mod tests;

@@ -5,7 +5,7 @@ use crate::draws::{Drawing, Draws, Pieces};
 use crossbeam_deque::{Pass, Steal, Stealer};
 use std::alloc::Global;
 use std::marker::Model;
-use vrp_search::Piece;
+use vrp_tree::Piece;
 
 // How often a thief looks again where another step came in between.
 const MAX_STEALS: u32 = 64;

@@ -7,7 +7,7 @@ use Rattle.std.proofs.lemmas.List.Elements.{Contains-get_or}
 use Rattle.std.proofs.lemmas.List.Sorted.{Contains-permutation, IsPermutation-sym}
 use Rattle.vrp_pile.specs.Pile.{AreShared}
 use Rattle.vrp_pile.proofs.SharedPieces.{all_drawn, drawn_once}
-use Rattle.vrp_search.specs.Cutting.{AreNumbered, NumberedWord}
+use Rattle.vrp_tree.specs.Cutting.{AreNumbered, NumberedWord}
 use Rattle.vrp_pool.specs.Answer.{piece_of}
 use Rattle.vrp_pool.specs.Inner.Conclusion.{AreApart}
 use Rattle.vrp_pool.specs.Inner.Workers.{Search, words_of}

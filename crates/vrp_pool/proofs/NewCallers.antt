@@ -6,7 +6,7 @@ use Rattle.std.proofs.lemmas.List.FromFn.{length-range_with_len}
 use Rattle.vrp_model.specs.Word.{IsFront}
 use Rattle.vrp_register.specs.Caller.{CallerState, RegisterState, newcomers}
 use Rattle.vrp_register.specs.Costs.{newcomer}
-use Rattle.vrp_search.specs.Cutting.{IsCutting, NumberedWord}
+use Rattle.vrp_tree.specs.Cutting.{IsCutting, NumberedWord}
 use Rattle.vrp_pool.specs.Inner.Workers.{AreFronts, AreNewCallers, Search, words_of}
 
 pub new_callers : (register : RegisterState) (opening count : ℕ) → AreNewCallers register (newcomers register.table opening count)

@@ -11,7 +11,7 @@ use Rattle.std.proofs.lemmas.List.Kept.{AllPairs-cons}
 use Rattle.std.proofs.lemmas.List.Sorted.{IsPermutation-sym, IsPermutation-to_front}
 use Rattle.vrp_model.specs.Route.{IsPlanOf, PricedPlan}
 use Rattle.vrp_model.proofs.DistinctLists.{AreDistinct, AreDistinct-permutation}
-use Rattle.vrp_search.specs.Cutting.{NumberedWord}
+use Rattle.vrp_tree.specs.Cutting.{NumberedWord}
 use Rattle.vrp_search.specs.Search.{NoneBeforeUnder}
 use Rattle.vrp_pool.specs.Gatherer.{IsAdded, AnswersAdd}
 use Rattle.vrp_pool.specs.Inner.Conclusion.{AreApart, AreNoted, IsLeftOf, IsOfferedTo, numbers_of, piece_numbers}

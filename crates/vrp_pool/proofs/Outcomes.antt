@@ -3,7 +3,7 @@ use Rattle.std.proofs.Common.{◌≡◌, ◌∙◌, ◌⊎◌, ℕ, ◌≤◌, B
 use Rattle.vrp_model.specs.Problem.{Problem, customers}
 use Rattle.vrp_model.specs.Route.{PricedPlan}
 use Rattle.vrp_model.specs.Word.{IsFront}
-use Rattle.vrp_search.specs.Cutting.{NumberedWord}
+use Rattle.vrp_tree.specs.Cutting.{NumberedWord}
 use Rattle.vrp_search.specs.Search.{EndsSearch, IsFinished, IsUnfinished, NoneBeforeUnder}
 use Rattle.vrp_search.specs.declared.depth_first.Ended.{Ended}
 use Rattle.vrp_search.specs.declared.depth_first.Ended.TheVariants.{Finished, Unfinished}

@@ -11,7 +11,8 @@ use Rattle.vrp_model.specs.Problem.{IsProblem, Problem, customers}
 use Rattle.vrp_model.specs.Route.{PricedPlan}
 use Rattle.vrp_model.specs.Word.{IsFront, NoneCheaperUnder, unserved_in}
 use Rattle.vrp_model.proofs.DistinctLists.{AreDistinct-permutation, head_differs, tail_distinct}
-use Rattle.vrp_search.specs.Search.{IsLow, NoneBeforeUnder}
+use Rattle.vrp_tree.specs.Low.{IsLow}
+use Rattle.vrp_search.specs.Search.{NoneBeforeUnder}
 use Rattle.vrp_pool.specs.Answer.{IsOwnLow, piece_of}
 use Rattle.vrp_pool.specs.Gatherer.{IsAdded, AnswersAdd, IsMissing}
 use Rattle.vrp_pool.specs.Inner.Conclusion.{AreSettling, IsLeftAt, IsLeftWith, IsLowFor, IsSettled, numbers_of}

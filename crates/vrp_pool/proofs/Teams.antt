@@ -7,7 +7,7 @@ use Rattle.vrp_model.specs.Cheapest.{cost_of}
 use Rattle.vrp_pile.specs.Pile.{AreShared, DrawerState, IsNewThief, PileId}
 use Rattle.vrp_pile.specs.declared.limits.TheConstants.{MAX_DRAWERS}
 use Rattle.vrp_register.specs.Caller.{CallerState, IsCallerOf, RegisterState}
-use Rattle.vrp_search.specs.Cutting.{NumberedWord}
+use Rattle.vrp_tree.specs.Cutting.{NumberedWord}
 use Rattle.vrp_pool.specs.SeatBoard.{floor_of, least_seen}
 use Rattle.vrp_pool.specs.Inner.Workers.{AreBack, AreFronts, AreOutcomes, CostsNoLess, HasOutcomes, HasSearched, HaveHelped, IsPartly, IsTakenOver, IsTeam, IsWorked, IsWorker, Search, WorkerState, new_worker}
 use Rattle.vrp_pool.specs.declared.outcome.Searched.{Searched}

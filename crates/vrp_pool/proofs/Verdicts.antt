@@ -14,7 +14,7 @@ use Rattle.vrp_model.specs.Route.{IsLawful, IsPlanOf, PricedPlan, plan_cost}
 use Rattle.vrp_model.specs.Word.{BeginsWith, IsLawfulWord, word_cost, word_of}
 use Rattle.vrp_model.specs.declared.limits.TheConstants.{NO_COST}
 use Rattle.vrp_pile.specs.Pile.{AreShared}
-use Rattle.vrp_search.specs.Cutting.{AreNumbered, IsCutting, NumberedWord}
+use Rattle.vrp_tree.specs.Cutting.{AreNumbered, IsCutting, NumberedWord}
 use Rattle.vrp_search.specs.Search.{IsNotBefore, NoneBeforeUnder}
 use Rattle.vrp_pool.specs.Answer.{IsAnswer, IsLeastLow, IsLeftOpen, piece_of}
 use Rattle.vrp_pool.specs.Gatherer.{IsAdded, IsFirstMissing, IsMissing}

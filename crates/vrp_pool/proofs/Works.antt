@@ -4,7 +4,7 @@ use Rattle.std.specs.Option.{ForSome}
 use Rattle.std.proofs.lemmas.List.{append-nil, append_assoc}
 use Rattle.vrp_model.specs.Route.{IsPlanOf}
 use Rattle.vrp_pile.specs.Pile.{IsDrawn}
-use Rattle.vrp_search.specs.Cutting.{NumberedWord}
+use Rattle.vrp_tree.specs.Cutting.{NumberedWord}
 use Rattle.vrp_pool.specs.SeatBoard.{IsLater, floor_of}
 use Rattle.vrp_pool.specs.Inner.Workers.{AreFronts, CanWork, HasOutcomes, HasSearched, IsOutcome, IsWorked, Search, WorkerState}
 use Rattle.vrp_pool.specs.declared.outcome.Outcome.{Outcome}

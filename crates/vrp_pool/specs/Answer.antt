@@ -6,7 +6,7 @@ use Rattle.vrp_model.specs.Order.{IsFirst}
 use Rattle.vrp_model.specs.Problem.{HasTrucks, Problem, customers}
 use Rattle.vrp_model.specs.Route.{IsPlanOf, PricedPlan}
 use Rattle.vrp_model.specs.Word.{NoneCheaperUnder, TreeHasAtLeast, unserved_in}
-use Rattle.vrp_search.specs.Search.{IsLow}
+use Rattle.vrp_tree.specs.Low.{IsLow}
 use Rattle.vrp_pool.specs.declared.answers.Answer.{Answer}
 use Rattle.vrp_pool.specs.declared.answers.Answer.TheVariants.{Proven, Open, NoPlan}
 

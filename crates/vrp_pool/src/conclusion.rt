@@ -4,7 +4,7 @@ ghost use Rattle.std.specs.Option.{ForSome, option_map};
 ghost use Rattle.vrp_model.specs.Cheapest.{cost_of};
 ghost use Rattle.vrp_model.specs.Problem.{HasTrucks, customers};
 ghost use Rattle.vrp_model.specs.Route.{IsPlanOf};
-ghost use Rattle.vrp_search.specs.Cutting.{AreNumbered, IsCutting};
+ghost use Rattle.vrp_tree.specs.Cutting.{AreNumbered, IsCutting};
 ghost use Rattle.vrp_pool.specs.Answer.{IsAnswer};
 ghost use Rattle.vrp_pool.specs.Inner.Conclusion.{IsNoLater, IsOfferedTo, IsVerdict, NotesAll};
 ghost use Rattle.vrp_pool.specs.Inner.Workers.{IsSearched, words_of};

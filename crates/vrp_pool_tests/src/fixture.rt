@@ -1,8 +1,8 @@
 //! The instances that tests are made on, and cuttings of them. What has no memory for them ends the test.
 ghost use Rattle.std.specs.Prelude.{All, IsTrue, length, ◌*◌, ◌≤◌};
 ghost use Rattle.vrp_model.specs.Grid.{IsCoordinate};
-ghost use Rattle.vrp_search.specs.Cutting.{IsCutting};
-ghost use Rattle.vrp_search.specs.declared.cutting.TheConstants.{MAX_REFINED};
+ghost use Rattle.vrp_tree.specs.Cutting.{IsCutting};
+ghost use Rattle.vrp_tree.specs.declared.cutting.TheConstants.{MAX_REFINED};
 
 use std::alloc::Global;
 use std::process::Abort;

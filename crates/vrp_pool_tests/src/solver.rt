@@ -1,7 +1,7 @@
 //! Answers by one worker and by several.
 ghost use Rattle.std.specs.Prelude.{◌*◌, ◌≤◌, length};
-ghost use Rattle.vrp_search.specs.Cutting.{IsCutting};
-ghost use Rattle.vrp_search.specs.declared.cutting.TheConstants.{MAX_REFINED};
+ghost use Rattle.vrp_tree.specs.Cutting.{IsCutting};
+ghost use Rattle.vrp_tree.specs.declared.cutting.TheConstants.{MAX_REFINED};
 
 use crate::fixture::{cut_into, depot_alone, line, ring, ten_nodes, three_nodes};
 use std::alloc::Global;

@@ -2,7 +2,7 @@
 use Rattle.std.specs.Prelude.{◌≡◌, ◌≢◌, ◌≤◌, ℕ, None}
 use Rattle.std.specs.Option.{ForSome}
 use Rattle.vrp_model.specs.declared.limits.TheConstants.{MAX_NODES}
-use Rattle.vrp_search.specs.declared.cutting.TheConstants.{MAX_PIECES}
+use Rattle.vrp_tree.specs.declared.cutting.TheConstants.{MAX_PIECES}
 use Rattle.vrp_pool.specs.declared.solver.TheConstants.{MAX_WORKERS}
 use Rattle.vrp_request.specs.declared.options.Format.{Format}
 use Rattle.vrp_request.specs.declared.options.Format.TheVariants as format

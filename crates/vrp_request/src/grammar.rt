@@ -4,7 +4,7 @@ use clap::{Arg, ArgAction, Command, Error, value_parser};
 use std::alloc::{AllocError, Global};
 use vrp_model::MAX_NODES;
 use vrp_pool::MAX_WORKERS;
-use vrp_search::MAX_PIECES;
+use vrp_tree::MAX_PIECES;
 
 // What `--version` prints behind the name.
 const VERSION: &str = "0.1.0";

@@ -16,7 +16,7 @@ use std::alloc::{AllocError, Global};
 use std::io;
 use vrp_model::MAX_NODES;
 use vrp_pool::MAX_WORKERS;
-use vrp_search::MAX_PIECES;
+use vrp_tree::MAX_PIECES;
 
 // The text where a word is not UTF-8.
 const NOT_TEXT: &str =

@@ -5,7 +5,7 @@ ghost use Rattle.vrp_model.specs.Word.{word_of};
 
 use std::alloc::Global;
 use vrp_model::{Instance, NoMemory, Plan};
-use vrp_search::Partial;
+use vrp_tree::Partial;
 
 /// The plan of a word, if it is a lawful word of the instance. Each symbol is asked for before it is pushed, so the word need not be
 /// trusted.

@@ -13,7 +13,7 @@ use Rattle.vrp_model.specs.Route.{PricedPlan}
 use Rattle.vrp_model.specs.Word.{BeginsWith, IsFront, IsLawfulWord, TreeHasAtLeast, word_cost, word_of}
 use Rattle.vrp_model.proofs.FrontsBefore.{fronts_before}
 use Rattle.vrp_model.proofs.Ordered.{earlier_irreflexive}
-use Rattle.vrp_search.specs.Child.{IsNextChild, NoChildFrom}
+use Rattle.vrp_tree.specs.Child.{IsNextChild, NoChildFrom}
 use Rattle.vrp_search.specs.Inner.Found.{IsFoundAt, IsLastOffer}
 use Rattle.vrp_search.specs.Search.{IsFinished, IsFoundUnder, IsNotBefore}
 use Rattle.vrp_search.proofs.WordOrder.{IsFrom, child_of_front, child_or_behind, from_itself, from_next, from_shorter, from_sibling, front_or_behind, none_earlier, not_from_longer, sibling_or_behind}

@@ -9,7 +9,7 @@ use Rattle.vrp_model.specs.Problem.{IsProblem, Problem, customers}
 use Rattle.vrp_model.specs.Route.{load_of}
 use Rattle.vrp_model.specs.Word.{IsLawfulWord, last_symbol, stands_in, unserved_in, word_cost}
 use Rattle.vrp_model.proofs.DistinctLists.{customers_rise}
-use Rattle.vrp_search.specs.Inner.Pruned.{NoneOfUse}
+use Rattle.vrp_tree.specs.Pruned.{NoneOfUse}
 
 -- no lawful word under a front adds less to it than the tree bound
 abbrev pub TreeBounds : Type 0

@@ -1,28 +1,13 @@
--- What is known of the words under a front, and how the search of a piece ends.
+-- How the search of a piece ends, and what is known then of the words under its front.
 use Rattle.std.specs.Prelude.{◌≡◌, ◌⊎◌, ℕ, ◌+◌, ◌≤◌, ◌<◌, Bool, IsTrue, MatchOption, Option, Some, List}
-use Rattle.std.specs.List.{All, Contains}
-use Rattle.std.specs.Option.{ForSome, option_map}
-use Rattle.vrp_bound.specs.AtFront.{IsLowerBoundAt}
-use Rattle.vrp_bound.specs.Capacity.{IsInsOf}
+use Rattle.std.specs.Option.{ForSome}
 use Rattle.vrp_model.specs.Problem.{Problem}
 use Rattle.vrp_model.specs.Order.{ComesBefore}
 use Rattle.vrp_model.specs.Route.{IsPlanOf, PricedPlan}
-use Rattle.vrp_model.specs.Word.{BeginsWith, IsLawfulWord, NoneCheaperUnder, TreeHasAtLeast, unserved_in, word_cost, word_of}
+use Rattle.vrp_model.specs.Word.{BeginsWith, IsLawfulWord, NoneCheaperUnder, TreeHasAtLeast, word_cost, word_of}
+use Rattle.vrp_tree.specs.Low.{IsLow}
 use Rattle.vrp_search.specs.declared.depth_first.Ended.{Ended}
 use Rattle.vrp_search.specs.declared.depth_first.Ended.TheVariants.{Finished, Unfinished}
-
--- each customer that the front leaves unserved is among these
-abbrev pub AreCovered : Problem → List ℕ → List ℕ → Type 0
-AreCovered p among front = All (Contains among) (unserved_in p front)
-
--- What a word under the front costs at least, with tables over these customers: what is paid along the front, and the bound on
--- what is still to pay. None: there is no word under it.
-pub record IsLow (p : Problem) (among front : List ℕ) (low : Option ℕ) : Type 0 where
-  pub ins : ℕ
-  pub is_ins : IsInsOf p front ins
-  pub bound : Option ℕ
-  pub is_bound : IsLowerBoundAt p among front ins bound
-  pub whole : low ≡ option_map (λ more. word_cost p front + more) bound
 
 -- a lawful plan with its true cost, whose word is a lawful one under the front
 pub record IsFoundUnder (p : Problem) (front : List ℕ) (plan : PricedPlan) : Type 0 where

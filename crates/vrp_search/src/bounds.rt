@@ -1,16 +1,16 @@
 //! Pruning by the bounds on what is still to pay.
 ghost use Rattle.std.specs.Prelude.{◌≡◌, ◌↔◌, List, ℕ, [], ◌∷◌, ◌++◌, IfOk, IsTrue, MatchOption, is_some};
 ghost use Rattle.vrp_model.specs.Word.{IsFront};
-ghost use Rattle.vrp_search.specs.Inner.Pruned.{AreBoundsUnder, MayBeOfUse, NoneOfUse, with_symbol};
-ghost use Rattle.vrp_search.specs.Inner.Tallied.{IsTally};
+ghost use Rattle.vrp_search.specs.Inner.Bounded.{AreBoundsUnder};
+ghost use Rattle.vrp_tree.specs.Pruned.{MayBeOfUse, NoneOfUse, with_symbol};
+ghost use Rattle.vrp_tree.specs.Tally.{IsTally};
 
-use crate::partial::Partial;
 use crate::pruning::Pruning;
-use crate::tally::Tally;
 use crate::tree_pruning::TreePruning;
 use std::alloc::Global;
 use vrp_bound::Tables;
 use vrp_model::{Instance, NoMemory};
+use vrp_tree::{Partial, Tally};
 
 /// The bounds on what is still to pay: that of the tables and the capacity, and behind a push the tree bound, where it pays. They
 /// prune dead partial plans too.

@@ -1,16 +1,14 @@
 //! Pruning by prices.
 ghost use Rattle.std.specs.Prelude.{◌≡◌, ℕ, List, IfOk, IsTrue, vec_capacity};
-ghost use Rattle.vrp_search.specs.Inner.Paid.{IsInStep, IsPaid, IsPaidAt};
-ghost use Rattle.vrp_search.specs.Inner.Pruned.{NoneOfUse};
-ghost use Rattle.vrp_search.specs.Inner.Tallied.{IsTally};
+ghost use Rattle.vrp_search.specs.Inner.Paid.{IsInStep};
+ghost use Rattle.vrp_tree.specs.Paid.{IsPaid, IsPaidAt};
+ghost use Rattle.vrp_tree.specs.Pruned.{NoneOfUse};
+ghost use Rattle.vrp_tree.specs.Tally.{IsTally};
 
-use crate::paid::Paid;
-use crate::partial::Partial;
-use crate::prices::Prices;
 use crate::pruning::Pruning;
-use crate::tally::Tally;
 use std::alloc::Global;
 use vrp_model::{NO_COST, NoMemory};
+use vrp_tree::{Paid, Partial, Prices, Tally};
 
 /// What is counted along a word: in the instance, and in the one with prices.
 #[derive(Clone, Copy)]

@@ -1,21 +1,21 @@
 //! The search of a piece, depth first: it goes below a partial plan only where a plan under it may be of use.
 ghost use Rattle.std.specs.Prelude.{◌≡◌, ◌≤◌, Some, IfNone, IfOk, IfSome};
 ghost use Rattle.vrp_model.specs.Word.{IsFront, NoneCheaperUnder};
-ghost use Rattle.vrp_search.specs.Search.{AreCovered, EndsSearch, IsLow};
-ghost use Rattle.vrp_search.specs.Inner.Under.{AllCostMore, EndsUnder};
+ghost use Rattle.vrp_tree.specs.Low.{AreCovered, IsLow};
+ghost use Rattle.vrp_search.specs.Search.{EndsSearch};
+ghost use Rattle.vrp_tree.specs.Pruned.{AllCostMore};
+ghost use Rattle.vrp_search.specs.Inner.Under.{EndsUnder};
 
 use crate::board::Board;
 use crate::bounds::Bounds;
 use crate::by_prices::ByPrices;
 use crate::found::Found;
-use crate::partial::Partial;
-use crate::piece::Piece;
-use crate::prices::Prices;
 use crate::pruning::Pruning;
 use crate::spending::Spending;
 use std::alloc::Global;
 use vrp_bound::{Tables, bounds_hold};
 use vrp_model::{Instance, NoMemory, Plan, dead_fronts, plans_cost_less, words_are_plans};
+use vrp_tree::{Partial, Piece, Prices};
 
 /// How the search of a piece ended.
 #[derive(Debug, Drop)]

@@ -4,9 +4,9 @@ ghost use Rattle.vrp_model.specs.Cheapest.{cost_of};
 ghost use Rattle.vrp_search.specs.Inner.Found.{IsLastOffer};
 
 use crate::board::Board;
-use crate::partial::Partial;
 use std::alloc::Global;
 use vrp_model::{NO_COST, NoMemory, Plan};
+use vrp_tree::Partial;
 
 /// The last plan that a search offered, if any. It costs less than those that were offered before.
 #[derive(Drop)]

@@ -2,10 +2,10 @@
 ghost use Rattle.std.specs.Prelude.{◌≡◌, ◌<◌, ℕ, List, [], ◌∷◌, ◌++◌, length, IsTrue, MatchOption};
 ghost use Rattle.vrp_model.specs.Word.{BeginsWith, IsFront};
 ghost use Rattle.vrp_model.specs.declared.limits.TheConstants.{MAX_NODES};
-ghost use Rattle.vrp_search.specs.Inner.Pruned.{NoneOfUse, with_symbol};
-ghost use Rattle.vrp_search.specs.Partial.{PartialPlan};
+ghost use Rattle.vrp_tree.specs.Pruned.{NoneOfUse, with_symbol};
+ghost use Rattle.vrp_tree.specs.Partial.{PartialPlan};
 
-use crate::partial::Partial;
+use vrp_tree::Partial;
 
 /// Prunes the tree of a problem below one front, the root, and keeps in step with a partial plan under it, whose symbols it pushes
 /// and pops. It may keep numbers of its own beside the word, as what is paid along it in another problem. Where it prunes, each plan

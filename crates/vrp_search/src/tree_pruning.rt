@@ -1,12 +1,12 @@
 //! Pruning by the tree bound: it takes longer than the other bounds, and is tried where it pays.
 ghost use Rattle.std.specs.Prelude.{◌≡◌, ◌+◌, ◌≤◌, IfOk, IsTrue, vec_capacity};
 ghost use Rattle.vrp_model.specs.Problem.{place_count};
-ghost use Rattle.vrp_search.specs.Inner.Pruned.{NoneOfUse};
+ghost use Rattle.vrp_tree.specs.Pruned.{NoneOfUse};
 
-use crate::partial::Partial;
 use std::alloc::Global;
 use vrp_bound::{TreeRoom, tree_bounds};
 use vrp_model::{Instance, NoMemory};
+use vrp_tree::Partial;
 
 // With fewer unserved customers there is little left to prune below.
 const LEAST_CLOSED: u16 = 5;

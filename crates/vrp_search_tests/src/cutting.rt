@@ -1,5 +1,5 @@
 //! Cuttings of a small tree into so many pieces, and pieces refined one by one.
-ghost use Rattle.vrp_search.specs.Cutting.{IsCutting};
+ghost use Rattle.vrp_tree.specs.Cutting.{IsCutting};
 
 use crate::assertion::assert_same;
 use crate::fixture::{cut_into, three_on_a_line};

@@ -5,8 +5,8 @@ ghost use Rattle.std.specs.Option.{ForSome};
 ghost use Rattle.vrp_model.specs.Grid.{IsCoordinate};
 ghost use Rattle.vrp_model.specs.Route.{IsPlanOf};
 ghost use Rattle.vrp_model.specs.Word.{IsFront};
-ghost use Rattle.vrp_search.specs.Cutting.{IsCutting};
-ghost use Rattle.vrp_search.specs.declared.cutting.TheConstants.{MAX_REFINED};
+ghost use Rattle.vrp_tree.specs.Cutting.{IsCutting};
+ghost use Rattle.vrp_tree.specs.declared.cutting.TheConstants.{MAX_REFINED};
 
 use std::alloc::Global;
 use std::process::Abort;

@@ -1,7 +1,7 @@
 use Rattle.std.proofs.Common.{sym, subst}
 use Rattle.vrp_bound.specs.Tables.{TablesOf}
 use Rattle.vrp_model.proofs.UnservedCustomers.{unserved_are_customers}
-use Rattle.vrp_search.specs.Search.{AreCovered}
+use Rattle.vrp_tree.specs.Low.{AreCovered}
 use Rattle.bench_prices.proofs.search_whole.Goals as goal
 
 -- all customers are among the tables'

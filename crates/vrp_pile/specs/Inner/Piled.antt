@@ -3,7 +3,7 @@ use Rattle.std.specs.Prelude.{◌≡◌, ℕ, ◌+◌, ◌<◌, ◌≤◌, ◌++
 use Rattle.std.specs.List.{All, Contains, sum_by}
 use mathlib.Core.Option.{some}
 use lib.ListN.{get_elem?}
-use Rattle.vrp_search.specs.Cutting.{NumberedWord}
+use Rattle.vrp_tree.specs.Cutting.{NumberedWord}
 use Rattle.vrp_pile.specs.Pile.{DrawerState, IsOldest, PileId}
 use Rattle.vrp_pile.specs.declared.draws.Draws.{Draws}
 use Rattle.vrp_pile.specs.declared.limits.TheConstants.{MAX_DRAWERS}

@@ -1,7 +1,7 @@
 //! Piles of one thread and of two.
 ghost use Rattle.std.specs.Prelude.{◌≡◌, ◌≤◌};
 ghost use Rattle.vrp_pile.specs.declared.limits.TheConstants.{MAX_THIEVES};
-ghost use Rattle.vrp_search.specs.declared.cutting.TheConstants.{MAX_PIECES};
+ghost use Rattle.vrp_tree.specs.declared.cutting.TheConstants.{MAX_PIECES};
 
 use super::*;
 use crate::limits::MAX_THIEVES;

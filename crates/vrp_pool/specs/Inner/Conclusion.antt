@@ -6,7 +6,7 @@ use Rattle.vrp_model.specs.Cheapest.{cost_of}
 use Rattle.vrp_model.specs.Order.{IsBefore}
 use Rattle.vrp_model.specs.Route.{IsPlanOf, PricedPlan}
 use Rattle.vrp_model.specs.Word.{NoneCheaperUnder}
-use Rattle.vrp_search.specs.Cutting.{NumberedWord}
+use Rattle.vrp_tree.specs.Cutting.{NumberedWord}
 use Rattle.vrp_search.specs.Search.{NoneBeforeUnder}
 use Rattle.vrp_pool.specs.Answer.{IsLeft, IsOwnLow, piece_of}
 use Rattle.vrp_pool.specs.Gatherer.{IsAdded, IsFirstMissing, AnswersAdd, IsMissing}

@@ -9,9 +9,10 @@ use Rattle.vrp_model.specs.Word.{IsFront, NoneCheaperUnder, TreeHasAtLeast}
 use Rattle.vrp_pile.specs.Pile.{AreShared, DrawerState, IsTakenIn, PileId}
 use Rattle.vrp_pile.specs.declared.limits.TheConstants.{MAX_DRAWERS}
 use Rattle.vrp_register.specs.Caller.{AreCallersOf, CallerState, IsCallerOf, RegisterState}
-use Rattle.vrp_search.specs.Cutting.{NumberedWord}
+use Rattle.vrp_tree.specs.Cutting.{NumberedWord}
 use Rattle.vrp_search.specs.declared.depth_first.Ended.{Ended}
-use Rattle.vrp_search.specs.Search.{EndsSearch, IsLow, NoneBeforeUnder}
+use Rattle.vrp_search.specs.Search.{EndsSearch, NoneBeforeUnder}
+use Rattle.vrp_tree.specs.Low.{IsLow}
 use Rattle.vrp_pool.specs.SeatBoard.{IsLater, SeatBoardState, floor_of, least_seen}
 use Rattle.vrp_pool.specs.declared.outcome.Finished.{Finished}
 use Rattle.vrp_pool.specs.declared.outcome.Left.{Left}

@@ -1,7 +1,7 @@
 //! Answers where a gate holds pieces until others have begun.
 ghost use Rattle.std.specs.Prelude.{◌*◌, ◌≤◌, length};
-ghost use Rattle.vrp_search.specs.Cutting.{IsCutting};
-ghost use Rattle.vrp_search.specs.declared.cutting.TheConstants.{MAX_REFINED};
+ghost use Rattle.vrp_tree.specs.Cutting.{IsCutting};
+ghost use Rattle.vrp_tree.specs.declared.cutting.TheConstants.{MAX_REFINED};
 
 use super::*;
 use crate::fixture::seven_nodes;

@@ -1,13 +1,9 @@
 -- How a search below a front ends.
-use Rattle.std.specs.Prelude.{ℕ, ◌<◌, Bool, Some, List}
+use Rattle.std.specs.Prelude.{ℕ, Bool, Some, List}
 use Rattle.vrp_model.specs.Problem.{Problem}
-use Rattle.vrp_model.specs.Word.{BeginsWith, IsLawfulWord, word_cost}
-use Rattle.vrp_search.specs.Search.{EndsSearch, IsLow}
+use Rattle.vrp_search.specs.Search.{EndsSearch}
+use Rattle.vrp_tree.specs.Low.{IsLow}
 use Rattle.vrp_search.specs.declared.depth_first.Ended.{Ended}
-
--- each plan under the front costs more than this
-abbrev pub AllCostMore : Problem → List ℕ → ℕ → Type 0
-AllCostMore p front cost = (word : List ℕ) → IsLawfulWord p word → BeginsWith word front → cost < word_cost p word
 
 -- as the search of a piece with this word does, whichever tables give it this low
 abbrev pub EndsUnder : Problem → List ℕ → ℕ → ℕ → Bool → ℕ → Ended → Type 0

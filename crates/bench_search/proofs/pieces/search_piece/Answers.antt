@@ -3,7 +3,7 @@ use Rattle.std.proofs.lemmas.List.Elements.{All-contains_itself}
 use Rattle.vrp_bound.specs.Tables.{TablesOf}
 use Rattle.vrp_model.specs.Word.{unserved_in}
 use Rattle.vrp_model.proofs.UnservedCustomers.{unserved_are_customers}
-use Rattle.vrp_search.specs.Search.{AreCovered}
+use Rattle.vrp_tree.specs.Low.{AreCovered}
 use Rattle.bench_search.proofs.pieces.search_piece.Goals as goal
 
 -- all customers are among the tables'

@@ -1,5 +1,5 @@
 use Rattle.std.proofs.Common.{◌≡◌, ℕ, ◌++◌, List, length, take}
-use Rattle.vrp_search.specs.Cutting.{NumberedWord}
+use Rattle.vrp_tree.specs.Cutting.{NumberedWord}
 use Rattle.vrp_pool.specs.Inner.Conclusion.{AreApart, AreNoted, IsNoLater}
 use Rattle.vrp_pool.specs.Inner.Workers.{AreOutcomes}
 use Rattle.vrp_pool.proofs.conclusion.noted.Given as goal

@@ -6,7 +6,7 @@ use Rattle.vrp_bound.specs.Tables.{TablesOf}
 use Rattle.vrp_model.specs.Problem.{customers}
 use Rattle.vrp_model.specs.Word.{NoneCheaperUnder, unserved_in}
 use Rattle.vrp_model.proofs.UnservedCustomers.{unserved_are_customers}
-use Rattle.vrp_search.specs.Search.{AreCovered, IsLow}
+use Rattle.vrp_tree.specs.Low.{AreCovered, IsLow}
 use Rattle.vrp_search.proofs.TreePruned.{unserved_rise}
 use Rattle.vrp_pool.specs.Inner.Workers.{IsLeftPiece, Search}
 use Rattle.vrp_pool.proofs.left_pieces.own_low.Goals as goal

@@ -2,7 +2,7 @@ use Rattle.std.proofs.Common.{◌≡◌, ◌∙◌, ◌+◌, List, length, ap, s
 use Rattle.std.specs.Prelude.{◌↔◌, IfOk, IsTrue, is_some}
 use Rattle.vrp_model.specs.Cheapest.{cost_of}
 use Rattle.vrp_model.specs.Problem.{HasTrucks, customers}
-use Rattle.vrp_search.specs.Cutting.{AreNumbered, IsCutting, NumberedWord}
+use Rattle.vrp_tree.specs.Cutting.{AreNumbered, IsCutting, NumberedWord}
 use Rattle.vrp_pool.specs.Answer.{IsAnswer}
 use Rattle.vrp_pool.specs.Inner.Workers.{AreNewCallers, IsSearched, Search, words_of}
 use Rattle.vrp_pool.proofs.Closings.{all_searched}

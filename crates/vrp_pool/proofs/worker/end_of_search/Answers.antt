@@ -5,7 +5,8 @@ use Rattle.vrp_bound.specs.Tables.{TablesOf}
 use Rattle.vrp_model.specs.Problem.{customers}
 use Rattle.vrp_model.specs.Route.{IsPlanOf}
 use Rattle.vrp_model.proofs.UnservedCustomers.{unserved_are_customers}
-use Rattle.vrp_search.specs.Search.{AreCovered, EndsSearch}
+use Rattle.vrp_tree.specs.Low.{AreCovered}
+use Rattle.vrp_search.specs.Search.{EndsSearch}
 use Rattle.vrp_pool.specs.SeatBoard.{floor_of}
 use Rattle.vrp_pool.specs.Inner.Workers.{EndsPiece, Search}
 use Rattle.vrp_pool.proofs.Floors.{later_itself}

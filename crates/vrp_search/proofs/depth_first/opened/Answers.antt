@@ -1,9 +1,9 @@
 use Rattle.std.proofs.Common.{◌≡◌, ◌∙◌, ℕ, List, sym, subst, ap, arith}
 use Rattle.vrp_model.specs.Problem.{IsProblem, Problem}
 use Rattle.vrp_model.specs.Word.{IsFront}
-use Rattle.vrp_search.specs.Partial.{PartialPlan}
-use Rattle.vrp_search.specs.Search.{AreCovered, IsLow}
-use Rattle.vrp_search.proofs.LowBounds.{NoneUnder, none_left, none_under}
+use Rattle.vrp_tree.specs.Partial.{PartialPlan}
+use Rattle.vrp_tree.specs.Low.{AreCovered, IsLow}
+use Rattle.vrp_tree.proofs.LowBounds.{NoneUnder, none_left, none_under}
 use Rattle.vrp_search.proofs.depth_first.opened.Goals as goal
 
 pub low-requires-clause-covered : goal.low-requires-clause-covered

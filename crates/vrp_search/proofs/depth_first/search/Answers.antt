@@ -2,9 +2,11 @@ use Rattle.std.proofs.Common.{◌≡◌, ◌∙◌, ℕ, Option, Some, List, [],
 use Rattle.std.specs.Prelude.{IfNone, IfSome}
 use Rattle.std.proofs.lemmas.Result.{IfOk-weaker}
 use Rattle.vrp_model.specs.Word.{NoneCheaperUnder}
-use Rattle.vrp_search.specs.Partial.{PartialPlan}
-use Rattle.vrp_search.specs.Search.{AreCovered, EndsSearch, IsLow}
-use Rattle.vrp_search.specs.Inner.Under.{AllCostMore, EndsUnder}
+use Rattle.vrp_tree.specs.Partial.{PartialPlan}
+use Rattle.vrp_tree.specs.Low.{AreCovered, IsLow}
+use Rattle.vrp_search.specs.Search.{EndsSearch}
+use Rattle.vrp_tree.specs.Pruned.{AllCostMore}
+use Rattle.vrp_search.specs.Inner.Under.{EndsUnder}
 use Rattle.vrp_search.specs.declared.depth_first.Root.{Root}
 use Rattle.vrp_search.proofs.SearchProgress.{ends_at_root}
 use Rattle.vrp_search.proofs.depth_first.search.Goals as goal

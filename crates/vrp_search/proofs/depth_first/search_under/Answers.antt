@@ -2,10 +2,10 @@ use Rattle.std.proofs.Common.{◌≡◌, ◌-◌, ◌*◌, ◌≢◌, ◌⊎◌,
 use Rattle.vrp_model.specs.Problem.{Problem}
 use Rattle.vrp_model.specs.declared.limits.TheConstants.{NO_COST}
 use Rattle.vrp_model.specs.Word.{BeginsWith, TreeHasAtLeast, word_cost}
-use Rattle.vrp_search.specs.Child.{IsNextChild, NoChildFrom}
+use Rattle.vrp_tree.specs.Child.{IsNextChild, NoChildFrom}
 use Rattle.vrp_search.specs.Inner.Found.{IsLastOffer}
-use Rattle.vrp_search.specs.Inner.Pruned.{NoneOfUse}
-use Rattle.vrp_search.specs.Partial.{PartialPlan}
+use Rattle.vrp_tree.specs.Pruned.{NoneOfUse}
+use Rattle.vrp_tree.specs.Partial.{PartialPlan}
 use Rattle.vrp_search.specs.Search.{IsFinished}
 use Rattle.vrp_search.proofs.SearchProgress.{Progress, descended, ends_at_last, no_use, opened, pruned, returned, unfinished}
 use Rattle.vrp_search.proofs.WordOrder.{without_last}

@@ -2,7 +2,7 @@ use Rattle.std.proofs.Common.{◌≡◌, List, ℕ, ap, sym, subst}
 use Rattle.vrp_bound.specs.Tables.{TablesOf}
 use Rattle.vrp_model.specs.Problem.{customers}
 use Rattle.vrp_model.proofs.UnservedCustomers.{unserved_are_customers}
-use Rattle.vrp_search.specs.Search.{AreCovered}
+use Rattle.vrp_tree.specs.Low.{AreCovered}
 use Rattle.vrp_search_tests.proofs.by_prices.search_piece.Goals as goal
 
 pub search_by_prices-requires-clause-covered : goal.search_by_prices-requires-clause-covered

@@ -1,4 +1,4 @@
-use Rattle.vrp_search.specs.Cutting.{IsCutting}
+use Rattle.vrp_tree.specs.Cutting.{IsCutting}
 use Rattle.vrp_search_tests.proofs.cutting.assert_refinements.Given as goal
 
 abbrev pub invariant-loop-piece : goal.invariant-loop-piece

@@ -2,7 +2,7 @@ use Rattle.std.proofs.Common.{◌≡◌, List, ℕ, ap, sym, subst}
 use Rattle.std.proofs.lemmas.List.Elements.{All-contains_itself}
 use Rattle.vrp_bound.specs.Tables.{TablesOf}
 use Rattle.vrp_model.specs.Word.{unserved_in}
-use Rattle.vrp_search.specs.Search.{AreCovered}
+use Rattle.vrp_tree.specs.Low.{AreCovered}
 use Rattle.vrp_search_tests.proofs.depth_first.search_over_unserved.Goals as goal
 
 pub search-requires-clause-covered : goal.search-requires-clause-covered

@@ -1,6 +1,6 @@
 use Rattle.std.proofs.Common.{◌*◌, ◌≤◌, length}
-use Rattle.vrp_search.specs.Cutting.{IsCutting}
-use Rattle.vrp_search.specs.declared.cutting.TheConstants.{MAX_REFINED}
+use Rattle.vrp_tree.specs.Cutting.{IsCutting}
+use Rattle.vrp_tree.specs.declared.cutting.TheConstants.{MAX_REFINED}
 use Rattle.vrp_pool_tests.proofs.solver.gated.refined.Given as goal
 
 abbrev pub invariant-loop-number : goal.invariant-loop-number

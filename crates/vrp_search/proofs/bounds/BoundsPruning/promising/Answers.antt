@@ -1,7 +1,7 @@
 use Rattle.std.proofs.Common.{[], ◌∷◌, ◌++◌}
-use Rattle.vrp_search.specs.Inner.Pruned.{NoneOfUse}
-use Rattle.vrp_search.proofs.LowBounds.{covered_under}
-use Rattle.vrp_search.proofs.Promising.{counted_of}
+use Rattle.vrp_tree.specs.Pruned.{NoneOfUse}
+use Rattle.vrp_tree.proofs.LowBounds.{covered_under}
+use Rattle.vrp_tree.proofs.Promising.{counted_of}
 use Rattle.vrp_search.proofs.bounds.BoundsPruning.promising.Goals as goal
 
 pub promising-requires-clause-tables : goal.promising-requires-clause-tables

@@ -3,9 +3,10 @@ use Rattle.std.specs.Prelude.{slice_index_or}
 use Rattle.vrp_model.specs.Problem.{IsProblem, Problem, place_count}
 use Rattle.vrp_model.specs.Word.{IsFront}
 use Rattle.vrp_model.proofs.FrontsBefore.{fronts_before}
-use Rattle.vrp_search.specs.Inner.Paid.{ArePaidBefore, IsPaid, IsPaidAt}
-use Rattle.vrp_search.proofs.FrontLength.{fronts_are_short}
-use Rattle.vrp_search.proofs.PaidAlong.{front_so_far, paid_further}
+use Rattle.vrp_search.specs.Inner.Paid.{ArePaidBefore}
+use Rattle.vrp_tree.specs.Paid.{IsPaid, IsPaidAt}
+use Rattle.vrp_tree.proofs.FrontLength.{fronts_are_short}
+use Rattle.vrp_search.proofs.PaidInStep.{front_so_far, paid_further}
 use Rattle.vrp_search.proofs.by_prices.ByPrices.at.Goals as goal
 
 pub loop-symbol-init : goal.loop-symbol-init

@@ -1,6 +1,6 @@
-use Rattle.vrp_search.specs.Inner.Tallied.{HasRoom}
+use Rattle.vrp_tree.specs.Inner.Tallied.{HasRoom}
 use Rattle.std.specs.Prelude.{vec_capacity}
-use Rattle.vrp_search.proofs.PaidAlong.{PaidSoFar}
+use Rattle.vrp_search.proofs.PaidInStep.{PaidSoFar}
 use Rattle.vrp_search.proofs.by_prices.ByPrices.at.Given as goal
 
 abbrev pub invariant-loop-symbol : goal.invariant-loop-symbol

@@ -1,8 +1,8 @@
 use Rattle.std.proofs.Common.{◌≡◌, ◌∙◌, ℕ, List, [], ◌∷◌, ◌++◌, length, length-append, ap, sym, arith}
 use Rattle.std.specs.Option.{option_to_list}
 use Rattle.vrp_search.specs.Inner.Paid.{ArePaidBefore}
-use Rattle.vrp_search.specs.declared.paid.Paid.{Paid}
-use Rattle.vrp_search.proofs.PaidAlong.{paid_before_popped}
+use Rattle.vrp_tree.specs.declared.paid.Paid.{Paid}
+use Rattle.vrp_search.proofs.PaidInStep.{paid_before_popped}
 use Rattle.vrp_search.proofs.by_prices.ByPricesPruning.pop.Goals as goal
 
 pub returns-clause-step : goal.returns-clause-step

@@ -1,8 +1,8 @@
 use Rattle.std.proofs.Common.{[], ◌∷◌, ◌++◌, subst}
 use Rattle.std.specs.Prelude.{vec_capacity}
 use Rattle.vrp_model.specs.Problem.{Problem}
-use Rattle.vrp_search.specs.Inner.Pruned.{NoneOfUse}
-use Rattle.vrp_search.proofs.PaidAlong.{child_paid, step_taken}
+use Rattle.vrp_tree.specs.Pruned.{NoneOfUse}
+use Rattle.vrp_search.proofs.PaidInStep.{child_paid, step_taken}
 use Rattle.vrp_search.proofs.by_prices.ByPricesPruning.promising.Goals as goal
 
 pub after-paid-requires : goal.after-paid-requires

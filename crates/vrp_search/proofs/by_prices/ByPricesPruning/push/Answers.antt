@@ -1,8 +1,8 @@
 use Rattle.std.proofs.Common.{◌≡◌, ◌∙◌, [], ◌∷◌, ◌++◌, length-append, ap, sym, subst, arith}
 use Rattle.vrp_model.specs.Problem.{Problem, place_count}
 use Rattle.vrp_model.specs.Word.{IsFront}
-use Rattle.vrp_search.proofs.FrontLength.{fronts_are_short}
-use Rattle.vrp_search.proofs.PaidAlong.{paid_before_pushed}
+use Rattle.vrp_tree.proofs.FrontLength.{fronts_are_short}
+use Rattle.vrp_search.proofs.PaidInStep.{paid_before_pushed}
 use Rattle.vrp_search.proofs.SearchProgress.{begins_more}
 use Rattle.vrp_search.proofs.by_prices.ByPricesPruning.push.Goals as goal
 

@@ -1,0 +1,8 @@
+pub mod Child
+pub mod Cutting
+pub mod Inner
+pub mod Low
+pub mod Paid
+pub mod Partial
+pub mod Pruned
+pub mod Tally

@@ -1,0 +1,97 @@
+//! The prices that a search prunes by.
+ghost use Rattle.std.specs.Prelude.{◌≡◌, ℕ, ◌≤◌, List, [], IfOk, IsTrue};
+ghost use Rattle.vrp_model.specs.declared.limits.TheConstants.{NO_COST};
+ghost use Rattle.vrp_model.specs.Problem.{place_count};
+ghost use Rattle.vrp_model.specs.Word.{NoneCheaperUnder};
+ghost use Rattle.vrp_prices.specs.Relaxation.{Bounds};
+ghost use Rattle.vrp_tree.specs.Paid.{IsPaidAt};
+ghost use Rattle.vrp_tree.specs.Pruned.{AllCostMore};
+
+use crate::paid::Paid;
+use std::alloc::Global;
+use std::marker::Model;
+use vrp_bound::MemoryTables;
+use vrp_memory::Memory;
+use vrp_model::{Instance, NO_COST, NoMemory};
+use vrp_prices::{Relaxation, dear_fronts};
+
+/// A relaxation of an instance by prices, and tables of walks that remember over all customers in it.
+#[derive(Drop)]
+pub struct Prices<'a> {
+    relaxation: &'a Relaxation<'a>,
+    tables: MemoryTables<'a>,
+}
+
+impl<'a> Model for Prices<'a> {
+    ghost use Rattle.std.specs.Prelude.{◌≡◌};
+    ghost use Rattle.vrp_model.specs.Problem.{place_count};
+    ghost use Rattle.vrp_prices.specs.Relaxation.{RelaxationOf};
+
+    ghost Value = { RelaxationOf };
+
+    ghost view = { λ a. a.relaxation.now };
+
+    ghost invariant = { λ a. a.tables.problem ≡ a.relaxation.now.relaxed };
+}
+
+impl<'a> Prices<'a> {
+    /// The prices of a relaxation, whose walks have this memory.
+    pub fn new(
+        alloc: Global,
+        relaxation: &'a Relaxation<'a>,
+        memory: Memory,
+    ) -> Result<Prices<'a>, NoMemory>
+        requires places { memory.places ≡ place_count relaxation.now.problem }
+        ensures { IfOk result (λ prices. prices ≡ relaxation.now) }
+    {
+        let tables = MemoryTables::new(alloc, relaxation.relaxed(), memory)?;
+        Ok(Prices { relaxation, tables })
+    }
+
+    /// What the prices tell that each plan of the instance costs at least.
+    pub fn lower_bound(&self) -> u64
+        ensures { NoneCheaperUnder self.now.problem [] result }
+    {
+        let root = Paid::root(self.relaxed());
+        let mut low = 0;
+        let mut high = NO_COST;
+        while low < high {
+            let cost = low + (high - low) / 2;
+            if self.is_dear(0, root, cost) {
+                low = cost + 1;
+            } else {
+                high = cost;
+            }
+        }
+        low
+    }
+
+    /// The instance with prices.
+    #[inline(always)]
+    pub fn relaxed(&self) -> &Instance
+        ensures value { result.now ≡ self.now.relaxed }
+        // What is known of every relaxation.
+        ensures bounds { Bounds self.now }
+    {
+        self.relaxation.relaxed()
+    }
+
+    /// Whether the prices tell that each plan under a front costs more than this in the instance, where the front ends at this place
+    /// and so much is counted along it. Where they don't, nothing is said.
+    #[inline(always)]
+    pub fn is_dear(&self, at: u16, paid: Paid, cost: u64) -> bool
+        requires front { (front : List ℕ) × IsPaidAt self.now.relaxed front at paid }
+        requires cost { cost ≤ NO_COST }
+        ensures { IsTrue result → (front : List ℕ) → IsPaidAt self.now.relaxed front at paid
+            → AllCostMore self.now.problem front cost }
+    {
+        dear_fronts();
+        let Some(limit) = self.relaxation.limit(cost) else {
+            return true;
+        };
+        match self.tables.bound(at, paid.load, paid.rest) {
+            Some(more) => limit < paid.cost + more,
+            None => true,
+        }
+    }
+}
