@@ -55,14 +55,14 @@ pub fn search<B: Board>(
     ensures ended { IfOk result (EndsSearch instance.now tables.now.among piece.now.word
         budget (B.may_stop board.new) (B.floor board.new)) }
 {
-    let Some(Root { partial, low }) = opened(alloc, instance, tables, piece, board)? else {
+    let Some(Root { mut partial, low }) = opened(alloc, instance, tables, piece, board)? else {
         return Ok(Ended::Finished {
             spent: 1,
             first: None,
         });
     };
-    let bounds = Bounds::new(alloc, instance, tables)?;
-    search_under(alloc, partial, bounds, low, budget, board)
+    let mut bounds = Bounds::new(alloc, instance, tables)?;
+    search_under(alloc, &mut partial, &mut bounds, low, budget, board)
 }
 
 /// Searches the plans under a piece as `search` does, and prunes by prices: it doesn't go below a partial plan where the prices tell
@@ -89,14 +89,14 @@ pub fn search_by_prices<B: Board>(
     ensures ended { IfOk result (EndsSearch instance.now tables.now.among piece.now.word
         budget (B.may_stop board.new) (B.floor board.new)) }
 {
-    let Some(Root { partial, low }) = opened(alloc, instance, tables, piece, board)? else {
+    let Some(Root { mut partial, low }) = opened(alloc, instance, tables, piece, board)? else {
         return Ok(Ended::Finished {
             spent: 1,
             first: None,
         });
     };
-    let by_prices = ByPrices::at(alloc, prices, &partial)?;
-    search_under(alloc, partial, by_prices, low, budget, board)
+    let mut by_prices = ByPrices::at(alloc, prices, &partial)?;
+    search_under(alloc, &mut partial, &mut by_prices, low, budget, board)
 }
 
 // A partial plan at a piece's front, and what each plan under it costs at least.
@@ -148,22 +148,22 @@ fn opened<'a, B: Board>(
 
 /// Searches the plans under the front that a partial plan has come to, its root, as `search` does, and prunes by what it is given.
 /// No plan under the root costs less than `low`, which is told where the search is left unfinished.
-pub(crate) fn search_under<B: Board, P: Pruning + Drop>(
+pub(crate) fn search_under<B: Board, P: Pruning>(
     alloc: Global,
-    mut partial: Partial<'_>,
-    mut pruning: P,
+    partial: &mut Partial<'_>,
+    pruning: &mut P,
     low: u64,
     budget: u64,
     board: &mut B,
 ) -> Result<Ended, NoMemory>
-    requires step { P.in_step pruning partial.word partial }
-    requires low { NoneCheaperUnder partial.problem partial.word low }
-    requires board { B.serves board.old partial.problem }
+    requires step { P.in_step pruning.old partial.old.word partial.old }
+    requires low { NoneCheaperUnder partial.old.problem partial.old.word low }
+    requires board { B.serves board.old partial.old.problem }
     requires budget { 1 ≤ budget }
-    ensures serves { B.serves board.new partial.entry.problem }
+    ensures serves { B.serves board.new partial.old.problem }
     ensures keeps { (earlier : B) → B.keeps earlier board.old → B.keeps earlier board.new }
     ensures falls { B.floor board.new ≤ B.floor board.old }
-    ensures ended { IfOk result (EndsUnder partial.entry.problem partial.entry.word low
+    ensures ended { IfOk result (EndsUnder partial.old.problem partial.old.word low
         budget (B.may_stop board.new) (B.floor board.new)) }
 {
     // All plans cost less than `NO_COST`.
@@ -172,7 +172,7 @@ pub(crate) fn search_under<B: Board, P: Pruning + Drop>(
     let root = partial.depth();
     let mut spending = Spending::first(budget);
     let mut found = Found::nothing();
-    found.offer_complete(alloc, &partial, board)?;
+    found.offer_complete(alloc, partial, board)?;
     let mut next = 0;
     loop {
         match partial.next_child(next) {
@@ -183,12 +183,12 @@ pub(crate) fn search_under<B: Board, P: Pruning + Drop>(
             Some(symbol) => {
                 spending.look();
                 let least = board.least();
-                if let Some(counted) = pruning.promising(&partial, symbol, least, found.cost()) {
-                    pruning.push(&mut partial, symbol, counted);
-                    if pruning.prunes(&partial, least, found.cost()) {
-                        next = pruning.pop(&mut partial) + 1;
+                if let Some(counted) = pruning.promising(partial, symbol, least, found.cost()) {
+                    pruning.push(partial, symbol, counted);
+                    if pruning.prunes(partial, least, found.cost()) {
+                        next = pruning.pop(partial) + 1;
                     } else {
-                        found.offer_complete(alloc, &partial, board)?;
+                        found.offer_complete(alloc, partial, board)?;
                         next = 0;
                     }
                 } else {
@@ -200,7 +200,7 @@ pub(crate) fn search_under<B: Board, P: Pruning + Drop>(
                 let first = found.into_plan();
                 return Ok(Ended::Finished { spent, first });
             }
-            None => next = pruning.pop(&mut partial) + 1,
+            None => next = pruning.pop(partial) + 1,
         }
     }
 }

@@ -21,8 +21,8 @@ one_fewer more word popped last is = omega (arith, ap length is, length-append p
 
 pub loop-spending-init : goal.loop-spending-init
 loop-spending-init g c =
-    let p = c.args.partial.problem in
-    let root = c.args.partial.word in
+    let p = c.args.partial.now.problem in
+    let root = c.args.partial.now.word in
     let floor = g.B.Board.floor c.offer_complete.new.board in
     let kept = subst (λ f. IsLastOffer p root floor f c.offer_complete.new.self.plan) c.nothing-found.ensures c.in_ok-offer_complete.ensures.kept in
     let progress = opened p root floor c.offer_complete.new.self.plan c.depth-root.ensures.front
@@ -43,8 +43,8 @@ loop-spending-init g c =
 
 pub returns-in-Some-clause-ended : goal.returns-in-Some-clause-ended
 returns-in-Some-clause-ended g c = λ among is_low.
-    let p = c.args.partial.problem in
-    let root = c.args.partial.word in
+    let p = c.args.partial.now.problem in
+    let root = c.args.partial.now.word in
     let child = subst (λ (q : Problem). IsNextChild q c.loop-spending.partial.word c.loop-spending.next c.in-Some.field-0) c.loop-spending.invariant.problem c.in-Some.ensures.next in
     let tree = unfinished p root c.loop-spending.partial.word c.loop-spending.next c.in-Some.field-0 c.loop-spending.spending.spent (g.B.Board.floor c.loop-spending.board) c.loop-spending.found.plan c.loop-spending.invariant.progress child in
     record {
@@ -56,24 +56,24 @@ returns-in-Some-clause-ended g c = λ among is_low.
     }
 
 pub promising-requires-clause-step : goal.promising-requires-clause-step
-promising-requires-clause-step g c = (c.args.partial.word, c.loop-spending.invariant.step)
+promising-requires-clause-step g c = (c.args.partial.now.word, c.loop-spending.invariant.step)
 
 pub prunes-requires : goal.prunes-requires
 prunes-requires g c =
-    let root = c.args.partial.word in
+    let root = c.args.partial.now.word in
     record {
       step = (root, c.push.ensures.step root c.loop-spending.invariant.step);
     }
 
 pub pop-next-requires-clause-step : goal.pop-next-requires-clause-step
 pop-next-requires-clause-step g c =
-    let root = c.args.partial.word in
+    let root = c.args.partial.now.word in
     (root, c.prunes.ensures.step root (c.push.ensures.step root c.loop-spending.invariant.step))
 
 pub loop-spending-preserved-then-prunes : goal.loop-spending-preserved-then-prunes
 loop-spending-preserved-then-prunes g c =
-    let p = c.args.partial.problem in
-    let root = c.args.partial.word in
+    let p = c.args.partial.now.problem in
+    let root = c.args.partial.now.word in
     let word = c.loop-spending.partial.word in
     let k = c.in-Some.field-0 in
     let old = g.B.Board.floor c.loop-spending.board in
@@ -108,16 +108,16 @@ loop-spending-preserved-then-prunes g c =
 
 pub offer_complete-requires-else-prunes : goal.offer_complete-requires-else-prunes
 offer_complete-requires-else-prunes g c =
-    let problem : c.push.new.partial.problem ≡ c.args.partial.problem = ap (λ (v : PartialPlan). v.problem) c.push.ensures.partial ∙ c.loop-spending.invariant.problem in
-    subst (λ (q : Problem). g.B.Board.serves c.least-least.new.self q) (sym problem) (c.least-least.ensures.serves c.args.partial.problem c.loop-spending.invariant.serves)
+    let problem : c.push.new.partial.problem ≡ c.args.partial.now.problem = ap (λ (v : PartialPlan). v.problem) c.push.ensures.partial ∙ c.loop-spending.invariant.problem in
+    subst (λ (q : Problem). g.B.Board.serves c.least-least.new.self q) (sym problem) (c.least-least.ensures.serves c.args.partial.now.problem c.loop-spending.invariant.serves)
 
 pub returns-in_err-offer_complete-in-Some-2-clause-keeps : goal.returns-in_err-offer_complete-in-Some-2-clause-keeps
 returns-in_err-offer_complete-in-Some-2-clause-keeps g c = λ earlier kept. c.offer_complete-else-prunes.ensures.keeps earlier (c.least-least.ensures.keeps earlier (c.loop-spending.invariant.keeps earlier kept))
 
 pub loop-spending-preserved-else-prunes : goal.loop-spending-preserved-else-prunes
 loop-spending-preserved-else-prunes g c =
-    let p = c.args.partial.problem in
-    let root = c.args.partial.word in
+    let p = c.args.partial.now.problem in
+    let root = c.args.partial.now.word in
     let word = c.loop-spending.partial.word in
     let k = c.in-Some.field-0 in
     let old = g.B.Board.floor c.loop-spending.board in
@@ -149,8 +149,8 @@ loop-spending-preserved-else-prunes g c =
 
 pub loop-spending-preserved-in_default : goal.loop-spending-preserved-in_default
 loop-spending-preserved-in_default g c =
-    let p = c.args.partial.problem in
-    let root = c.args.partial.word in
+    let p = c.args.partial.now.problem in
+    let root = c.args.partial.now.word in
     let word = c.loop-spending.partial.word in
     let k = c.in-Some.field-0 in
     let old = g.B.Board.floor c.loop-spending.board in
@@ -178,8 +178,8 @@ loop-spending-preserved-in_default g c =
 
 pub returns-in-None-clause-ended : goal.returns-in-None-clause-ended
 returns-in-None-clause-ended g c = λ among is_low.
-    let p = c.args.partial.problem in
-    let root = c.args.partial.word in
+    let p = c.args.partial.now.problem in
+    let root = c.args.partial.now.word in
     let word = c.loop-spending.partial.word in
     let none = subst (λ (q : Problem). NoChildFrom q word c.loop-spending.next) c.loop-spending.invariant.problem c.in-None.ensures.next in
     let as_long : length word ≡ length root = sym c.depth.ensures.value ∙ c.if-depth-root.true ∙ c.depth-root.ensures.value in
@@ -189,18 +189,18 @@ returns-in-None-clause-ended g c = λ among is_low.
 pub pop-next-requires-in-None-2-clause-some : goal.pop-next-requires-in-None-2-clause-some
 pop-next-requires-in-None-2-clause-some g c =
     let word = c.loop-spending.partial.word in
-    let root = c.args.partial.word in
+    let root = c.args.partial.now.word in
     let under = c.loop-spending.invariant.progress.under in
     let differs : length word ≢ length root = λ same. c.if-depth-root.false (c.depth.ensures.value ∙ same ∙ sym c.depth-root.ensures.value) in
     omega (arith, differs, ap length under.1, length-append root under.0)
 
 pub pop-next-requires-in-None-2-clause-step : goal.pop-next-requires-in-None-2-clause-step
-pop-next-requires-in-None-2-clause-step g c = (c.args.partial.word, c.loop-spending.invariant.step)
+pop-next-requires-in-None-2-clause-step g c = (c.args.partial.now.word, c.loop-spending.invariant.step)
 
 pub loop-spending-preserved : goal.loop-spending-preserved
 loop-spending-preserved g c =
-    let p = c.args.partial.problem in
-    let root = c.args.partial.word in
+    let p = c.args.partial.now.problem in
+    let root = c.args.partial.now.word in
     let floor = g.B.Board.floor c.loop-spending.board in
     let first = c.loop-spending.found.plan in
     let none = subst (λ (q : Problem). NoChildFrom q c.loop-spending.partial.word c.loop-spending.next) c.loop-spending.invariant.problem c.in-None.ensures.next in
@@ -278,7 +278,7 @@ returns-in_err-offer_complete-clause-falls g c = c.offer_complete.ensures.falls
 
 pub returns-in_err-offer_complete-in-Some-2-clause-serves : goal.returns-in_err-offer_complete-in-Some-2-clause-serves
 returns-in_err-offer_complete-in-Some-2-clause-serves g c =
-    let problem : c.push.new.partial.problem ≡ c.args.partial.problem = ap (λ (v : PartialPlan). v.problem) c.push.ensures.partial ∙ c.loop-spending.invariant.problem in
+    let problem : c.push.new.partial.problem ≡ c.args.partial.now.problem = ap (λ (v : PartialPlan). v.problem) c.push.ensures.partial ∙ c.loop-spending.invariant.problem in
     subst (λ (q : Problem). g.B.Board.serves c.offer_complete-else-prunes.new.board q) problem c.offer_complete-else-prunes.ensures.serves
 
 pub returns-in_err-offer_complete-in-Some-2-clause-falls : goal.returns-in_err-offer_complete-in-Some-2-clause-falls
@@ -293,4 +293,4 @@ pub offer_complete-requires : goal.offer_complete-requires
 offer_complete-requires g c = c.requires.board
 
 pub push-requires-clause-step : goal.push-requires-clause-step
-push-requires-clause-step g c = (c.args.partial.word, c.loop-spending.invariant.step)
+push-requires-clause-step g c = (c.args.partial.now.word, c.loop-spending.invariant.step)
