@@ -202,10 +202,20 @@ impl Cutting {
         let partial = Partial::at_front(alloc, instance, front)?;
         for symbol in 0..instance.customers() + 1 {
             if partial.child(symbol) {
-                self.push(child_word(alloc, front, symbol)?)?;
+                self.push_child(alloc, front, symbol)?;
             }
         }
         Ok(before < self.len())
+    }
+
+    // Adds a front with one more symbol.
+    fn push_child(&mut self, alloc: Global, front: &[u16], symbol: u16) -> Result<(), NoMemory>
+        requires { length self.old ≤ 2 * MAX_REFINED }
+        ensures { OnOk result (self.new ≡ self.old ++ (front.now ++ symbol ∷ []) ∷ []) }
+    {
+        let mut word = Vec::from_slice(alloc, front)?;
+        word.push(symbol)?;
+        self.push(word)
     }
 
     // Adds what stands for a front: its children where it has any and is to be refined, and else itself. Tells which.
@@ -227,13 +237,4 @@ impl Cutting {
         self.push(Vec::from_slice(alloc, front)?)?;
         Ok(false)
     }
-}
-
-// The front with one more symbol.
-fn child_word(alloc: Global, front: &[u16], symbol: u16) -> Result<Vec<u16>, NoMemory>
-    ensures { IfOk result (λ word. word.items ≡ front.now ++ symbol ∷ []) }
-{
-    let mut word = Vec::from_slice(alloc, front)?;
-    word.push(symbol)?;
-    Ok(word)
 }
