@@ -10,9 +10,6 @@ use std::alloc::Global;
 use vrp_model::NoMemory;
 use vrp_tree::Cutting;
 
-#[cfg(test)]
-mod tests;
-
 /// A pile of the pieces of a cutting, from which its owner and its thieves draw.
 pub struct Pile;
 
