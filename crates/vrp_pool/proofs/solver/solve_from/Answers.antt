@@ -1,0 +1,25 @@
+use Rattle.std.proofs.Common.{subst, sym}
+use Rattle.vrp_tree.specs.Cutting.{IsCutting}
+use Rattle.vrp_pool.specs.Inner.Workers.{Search}
+use Rattle.vrp_pool.proofs.solver.solve_from.Goals as goal
+
+pub new-shared-requires-clause-tables : goal.new-shared-requires-clause-tables
+new-shared-requires-clause-tables g c = c.in_ok-tables.ensures
+
+pub new-shared-requires-clause-first : goal.new-shared-requires-clause-first
+new-shared-requires-clause-first g c = c.requires.start
+
+pub new-shared-requires-clause-budget : goal.new-shared-requires-clause-budget
+new-shared-requires-clause-budget g c = c.requires.budget
+
+pub solve_shared-requires-clause-cutting : goal.solve_shared-requires-clause-cutting
+solve_shared-requires-clause-cutting g c κs within = subst (λ (s : Search). IsCutting s.problem c.args.cutting) (sym c.new-shared.ensures) c.requires.cutting
+
+pub solve_shared-requires-clause-few : goal.solve_shared-requires-clause-few
+solve_shared-requires-clause-few g c κs within = c.requires.few
+
+pub solve_shared-requires-clause-some_worker : goal.solve_shared-requires-clause-some_worker
+solve_shared-requires-clause-some_worker g c κs within = c.requires.some_worker
+
+pub solve_shared-requires-clause-few_workers : goal.solve_shared-requires-clause-few_workers
+solve_shared-requires-clause-few_workers g c κs within = c.requires.few_workers
