@@ -9,6 +9,9 @@ use vrp_model::{Instance, Layout, MAX_NODES, Metric, Weights};
 /// Three points on a line, 5 apart.
 pub(crate) const LINE: &[(i64, i64)] = &[(0, 0), (3, 4), (6, 8)];
 
+/// Four points in a plane.
+pub(crate) const FOUR: &[(i64, i64)] = &[(0, 0), (3, 4), (6, 8), (5, -12)];
+
 /// Places at these points, a rounded Euclidean distance apart.
 pub(crate) fn at_points(
     rt: &impl Abort,
