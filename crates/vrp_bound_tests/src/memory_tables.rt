@@ -2,7 +2,7 @@
 ghost use Rattle.std.specs.Prelude.{◌≡◌};
 
 use crate::assertion::assert_same;
-use crate::instances::{at_points, with_ways};
+use crate::instances::{at_points, one_each, with_ways};
 use crate::slow_walks::{Stand, Walkers, every_walk};
 use std::alloc::Global;
 use std::process::Abort;
@@ -94,29 +94,29 @@ const EVERY_WALK: &[Loaded] = &[
 
 // How many customers are near each place, those near one place after another, and a bit for each of them by place. Near a customer are
 // the next ones, round and round, and so is the customer itself where there are too few others.
-type Near<'a> = (usize, &'a [u16], [u32; 5]);
+type Near<'a> = (usize, &'a [u16], &'a [u32]);
 
 const NEXT_CUSTOMERS: &[Near<'_>] = &[
-    (0, &[], [0b00000, 0b00000, 0b00000, 0b00000, 0b00000]),
+    (0, &[], &[0b00000, 0b00000, 0b00000, 0b00000, 0b00000]),
     (
         1,
         &[1, 2, 3, 4, 1],
-        [0b00010, 0b00100, 0b01000, 0b10000, 0b00010],
+        &[0b00010, 0b00100, 0b01000, 0b10000, 0b00010],
     ),
     (
         2,
         &[1, 2, 2, 3, 3, 4, 4, 1, 1, 2],
-        [0b00110, 0b01100, 0b11000, 0b10010, 0b00110],
+        &[0b00110, 0b01100, 0b11000, 0b10010, 0b00110],
     ),
     (
         3,
         &[1, 2, 3, 2, 3, 4, 3, 4, 1, 4, 1, 2, 1, 2, 3],
-        [0b01110, 0b11100, 0b11010, 0b10110, 0b01110],
+        &[0b01110, 0b11100, 0b11010, 0b10110, 0b01110],
     ),
     (
         4,
         &[1, 2, 3, 4, 2, 3, 4, 1, 3, 4, 1, 2, 4, 1, 2, 3, 1, 2, 3, 4],
-        [0b11110, 0b11110, 0b11110, 0b11110, 0b11110],
+        &[0b11110, 0b11110, 0b11110, 0b11110, 0b11110],
     ),
 ];
 
@@ -158,7 +158,6 @@ fn assert_sizes(rt: &impl Abort, alloc: Global, instance: &Instance) {
     }
 }
 
-// At every place.
 fn assert_size(rt: &impl Abort, alloc: Global, instance: &Instance, near: Near<'_>) {
     let (size, listed, bits) = near;
     assert!(rt; instance.customers() == 4);
@@ -167,10 +166,17 @@ fn assert_size(rt: &impl Abort, alloc: Global, instance: &Instance, near: Near<'
     let walkers = Walkers {
         instance,
         customers: &[1, 2, 3, 4],
-        near: &bits,
+        near: bits,
     };
-    for at in 0..5 {
-        assert_loads(rt, &tables, walkers, at);
+    assert_every_walk(rt, &tables, walkers);
+}
+
+// At every place.
+fn assert_every_walk(rt: &impl Abort, tables: &MemoryTables<'_>, walkers: Walkers<'_>)
+    requires { tables.now.problem ≡ walkers.instance.now }
+{
+    for at in 0..walkers.instance.customers() + 1 {
+        assert_loads(rt, tables, walkers, at);
     }
 }
 
@@ -224,8 +230,7 @@ fn assert_crowded(rt: &impl Abort, alloc: Global, instance: &Instance, size: usi
 fn crowded(rt: &impl Abort, alloc: Global) -> Instance {
     let places = usize::from(MAX_NODES);
     let mut points = vec![in alloc; (10, 0); places].expect(rt, "memory");
-    let mut demands = vec![in alloc; 1; places].expect(rt, "memory");
     points[0] = (0, 0);
-    demands[0] = 0;
+    let demands = one_each(rt, alloc, places);
     at_points(rt, alloc, &points, &demands, 3)
 }

@@ -4,7 +4,7 @@ ghost use Rattle.vrp_model.specs.Problem.{place_count};
 
 use crate::assertion::assert_same;
 use crate::fixture::{are_customers, demand_of_all};
-use crate::instances::{LINE, at_points, with_ways};
+use crate::instances::{LINE, at_points, one_each, with_ways};
 use crate::slow_tree::{Situation, least_completion, situations, slow_bound};
 use std::alloc::Global;
 use std::process::Abort;
@@ -214,9 +214,7 @@ fn scattered_weight((seed, symmetric): Seed, from: u64, to: u64) -> u64 {
 // This many nodes on a line, a step apart, the depot first. Each truck carries 240 customers.
 fn on_a_line(rt: &impl Abort, alloc: Global, nodes: u16) -> Instance {
     let ways = steps_between(rt, alloc, nodes);
-    let mut demands = vec![in alloc; 1u64; usize::from(nodes)].expect(rt, "memory");
-    assert!(rt; !demands.is_empty());
-    demands[0] = 0;
+    let demands = one_each(rt, alloc, usize::from(nodes));
     with_ways(rt, alloc, &ways, &demands, 240)
 }
 
