@@ -45,11 +45,11 @@ pub(crate) struct Cells {
 }
 
 /// How cells are kept.
-#[derive(Clone, Copy, Debug, Drop, PartialEq)]
+#[derive(Clone, Copy, Debug, PartialEq)]
 pub struct Shape {
-    /// In which loads and rests are counted.
+    /// The unit that loads and rests are counted in.
     pub unit: u64,
-    /// How many amounts are looked up in units.
+    /// How many amounts are looked up in units; those above are divided.
     pub quotients: usize,
     /// Whether there is a table of the ways home.
     pub has_homes: bool,

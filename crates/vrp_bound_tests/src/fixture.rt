@@ -1,5 +1,5 @@
 //! What the tests ask of an instance. No place need be one of it.
-ghost use Rattle.std.specs.Prelude.{◌≤◌, ◌<◌, All, Contains, IsTrue};
+ghost use Rattle.std.specs.Prelude.{◌≤◌, All, Contains, IsTrue};
 ghost use Rattle.std.specs.List.Sorted.{IsStrictlyIncreasing};
 ghost use Rattle.vrp_model.specs.Problem.{customers, demand_of};
 ghost use Rattle.vrp_model.specs.Route.{load_of};

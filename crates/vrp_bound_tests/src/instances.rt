@@ -1,5 +1,5 @@
 //! The instances that tests are made on; the first place is the depot.
-ghost use Rattle.std.specs.Prelude.{All, IsTrue, ◌↔◌, ◌≤◌};
+ghost use Rattle.std.specs.Prelude.{◌≤◌, All, IsTrue};
 ghost use Rattle.vrp_model.specs.Grid.{IsCoordinate};
 
 use std::alloc::Global;

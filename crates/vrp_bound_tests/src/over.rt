@@ -1,4 +1,4 @@
-//! Tables over some customers, with what is asked of them.
+//! Tables over some customers, with their instance and what they demand: so each answer can be asked for.
 ghost use Rattle.std.specs.Prelude.{◌≡◌, ◌≤◌};
 ghost use Rattle.vrp_model.specs.Route.{load_of};
 
