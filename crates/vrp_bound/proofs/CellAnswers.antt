@@ -1,11 +1,12 @@
 -- What the tables hold, moved between equal customers, and the answer from a cell.
-use Rattle.std.proofs.Common.{◌≡◌, ◌≢◌, ℕ, ◌-◌, ◌*◌, ◌/◌, ◌<◌, ◌≤◌, List, Option, Some, None, MatchOption, length, get_or, sym, ap, subst, ◌∙◌, arith}
+use Rattle.std.proofs.Common.{◌≡◌, ◌≢◌, ℕ, ◌-◌, ◌*◌, ◌/◌, ◌<◌, ◌≤◌, List, Option, Some, None, MatchOption, is_some, length, get_or, sym, ap, subst, ◌∙◌, arith}
 use Rattle.std.proofs.lemmas.List.{get_or_default}
 use Rattle.std.specs.List.{All, Contains}
 use Rattle.std.specs.List.Sorted.{IsStrictlyIncreasing}
 use Rattle.vrp_model.specs.Problem.{Problem, customers}
 use Rattle.vrp_model.specs.Route.{load_of}
 use Rattle.vrp_bound.specs.declared.completions.Cells.{Cells}
+use Rattle.vrp_bound.specs.declared.completions.Shape.{Shape}
 use Rattle.vrp_bound.specs.Inner.Cells.{HasRelaxed, HasTours, IsLeastCell, mark}
 use Rattle.vrp_bound.specs.Inner.Filled.{AreCells, AreFilled}
 use Rattle.vrp_bound.specs.Tables.{AreMade}
@@ -19,6 +20,13 @@ pub filled_same : (p q : Problem) (near : ℕ → List ℕ) (among others : List
 filled_same p q near among others cells same_problem same_list rising known filled =
     let there : AreFilled q near others cells = record { rising = rising; known = known; filled = filled } in
     subst (λ a. AreFilled p near a cells) same_list (subst (λ b. AreFilled b near others cells) same_problem there)
+
+-- there is a shape exactly where tables are made
+pub shape_made : (p : Problem) (near : ℕ → List ℕ) (among : List ℕ) (cells : Option Cells) (shape : Option Shape) → is_some shape ≡ is_some cells → AreFilled p near among cells → MatchOption shape (AreMade p among → ⊥) (λ _. AreMade p among)
+shape_made p near among None None same held = held.filled
+shape_made p near among None (Some shape) same held = absurd (cc)
+shape_made p near among (Some cells) None same held = absurd (cc)
+shape_made p near among (Some cells) (Some shape) same held = held.filled.made
 
 pub least_same_list : (p q : Problem) (near : ℕ → List ℕ) (among others : List ℕ) (at load rest cell : ℕ) → q ≡ p → others ≡ among → IsLeastCell (HasRelaxed q near others at load rest) cell → IsLeastCell (HasRelaxed p near among at load rest) cell
 least_same_list p q near among others at load rest cell same_problem same_list least =

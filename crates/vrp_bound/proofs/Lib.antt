@@ -18,7 +18,6 @@ pub mod OneTreeBound
 pub mod PulledRows
 pub mod RememberingCompletions
 pub mod RememberingSteps
-pub mod RisingCustomers
 pub mod RoutesOpened
 pub mod SameCounts
 pub mod ServedBehind

@@ -1,5 +1,5 @@
 //! What completes partial plans at the least cost, over some customers of an instance: filled once, and then looked up.
-ghost use Rattle.std.specs.Prelude.{◌≡◌, ◌≤◌, ◌<◌, All, Contains, IfOk, IfSome};
+ghost use Rattle.std.specs.Prelude.{◌≡◌, ◌≤◌, ◌<◌, All, Contains, IfOk, IfSome, is_some};
 ghost use Rattle.std.specs.List.Sorted.{IsStrictlyIncreasing};
 ghost use Rattle.vrp_model.specs.Problem.{customers as customers_of, place_count};
 ghost use Rattle.vrp_model.specs.Route.{load_of};
@@ -42,6 +42,17 @@ pub(crate) struct Cells {
     // By place, room and rest. None where that would be too many, or a cost is too large: then `walks` and `tours` are looked
     // through.
     pub(crate) homes: Option<Vec<u32>>,
+}
+
+/// How cells are kept.
+#[derive(Clone, Copy, Debug, PartialEq)]
+pub struct Shape {
+    /// The unit that loads and rests are counted in.
+    pub unit: u64,
+    /// How many amounts are looked up in units; those above are divided.
+    pub quotients: usize,
+    /// Whether there is a table of the ways home.
+    pub has_homes: bool,
 }
 
 impl<'a> Completions<'a> {
@@ -98,6 +109,20 @@ impl<'a> Completions<'a> {
         let scope = Scope::new(self.instance, self.customers.as_slice());
         let least = cells.least(scope, memory, at, load, rest);
         if least < MARK { Some(least) } else { None }
+    }
+
+    /// How the cells are kept, where there are any.
+    pub(crate) fn shape(&self) -> Option<Shape>
+        ensures { is_some result ≡ is_some self.now.cells }
+    {
+        let Some(cells) = &self.cells else {
+            return None;
+        };
+        Some(Shape {
+            unit: cells.unit,
+            quotients: cells.quotients.count(),
+            has_homes: cells.homes.is_some(),
+        })
     }
 }
 

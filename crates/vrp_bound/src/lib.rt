@@ -2,17 +2,11 @@
 //! bound, and the least spanning tree.
 #![tactic(auto)]
 
-#[cfg(test)]
-mod assertion;
 mod capacity;
 mod completions;
 mod divisor;
-#[cfg(test)]
-mod fixture;
 mod greater;
 mod homes;
-#[cfg(test)]
-mod instances;
 mod law;
 mod least_homes;
 mod memory_scope;
@@ -20,8 +14,6 @@ mod memory_tables;
 mod memory_walks;
 mod quotients;
 mod scope;
-#[cfg(test)]
-mod slow_tree;
 mod spanning;
 mod tables;
 mod tours;
@@ -33,6 +25,7 @@ mod way;
 mod ways;
 
 pub use capacity::{cap_bound, trucks_needed};
+pub use completions::Shape;
 pub use divisor::gcd;
 pub use greater::bound;
 pub use law::{
@@ -40,6 +33,11 @@ pub use law::{
     remembering_completions, remembering_is_tighter, tree_bounds, trucks_left_carry,
 };
 pub use memory_tables::MemoryTables;
+pub use quotients::Quotients;
+pub use scope::Scope;
 pub use tables::Tables;
 pub use tree::TreeRoom;
 pub use trucks_left::can_carry;
+pub use units::unit_of;
+pub use way::Way;
+pub use ways::take_least;

@@ -1,19 +1,17 @@
 //! The tables of walks that remember, over all customers of an instance.
-ghost use Rattle.std.specs.Prelude.{◌≡◌, ◌≤◌, ◌<◌, IfOk, IfSome};
+ghost use Rattle.std.specs.Prelude.{◌≡◌, ◌≤◌, ◌<◌, IfOk, IfSome, MatchOption};
 ghost use Rattle.vrp_model.specs.Problem.{customers, place_count};
 ghost use Rattle.vrp_model.specs.Route.{load_of};
 ghost use Rattle.vrp_bound.specs.Remembering.{IsMemoryBound};
+ghost use Rattle.vrp_bound.specs.Tables.{AreMade};
 
-use crate::completions::Completions;
+use crate::completions::{Completions, Shape};
 use crate::homes::Looks;
 use crate::tables::all_customers;
 use std::alloc::Global;
 use std::marker::Model;
 use vrp_memory::Memory;
 use vrp_model::{Instance, NoMemory};
-
-#[cfg(test)]
-mod tests;
 
 /// Tables over all customers of an instance, of walks that come back to no customer whom they remember: so they bound more closely.
 #[derive(Debug, Drop)]
@@ -75,5 +73,13 @@ impl<'a> MemoryTables<'a> {
         ensures small { IfSome result (λ least. least < 4000000000000000000) }
     {
         self.completions.bound(Some(&self.memory), at, load, rest)
+    }
+
+    /// How the tables are kept, where they are made.
+    pub fn shape(&self) -> Option<Shape>
+        ensures { let made = AreMade self.now.problem (customers self.now.problem) in
+            MatchOption result (made → ⊥) (λ _. made) }
+    {
+        self.completions.shape()
     }
 }

@@ -13,7 +13,7 @@ const MOST_STEPS: u64 = 200_000_000;
 
 /// Some customers of an instance, and how many places it has.
 #[derive(Clone, Copy)]
-pub(crate) struct Scope<'a> {
+pub struct Scope<'a> {
     pub(crate) instance: &'a Instance,
     pub(crate) customers: &'a [u16],
     pub(crate) places: usize,
@@ -25,7 +25,7 @@ pub(crate) struct Scope<'a> {
 
 impl<'a> Scope<'a> {
     /// These customers of an instance.
-    pub(crate) fn new(instance: &'a Instance, customers: &'a [u16]) -> Scope<'a>
+    pub fn new(instance: &'a Instance, customers: &'a [u16]) -> Scope<'a>
         requires rising { IsStrictlyIncreasing customers.now }
         requires customers { All (Contains (customers_of instance.now)) customers.now }
         ensures instance { result.instance.now ≡ instance.now }

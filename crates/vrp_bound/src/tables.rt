@@ -1,11 +1,11 @@
 //! The tables over some customers of an instance, and what they answer.
-ghost use Rattle.std.specs.Prelude.{◌≡◌, ◌≤◌, ◌<◌, All, Contains, IfOk, IfSome};
+ghost use Rattle.std.specs.Prelude.{◌≡◌, ◌≤◌, ◌<◌, All, Contains, IfOk, IfSome, MatchOption};
 ghost use Rattle.std.specs.List.Sorted.{IsStrictlyIncreasing};
 ghost use Rattle.vrp_model.specs.Problem.{customers, place_count};
 ghost use Rattle.vrp_model.specs.Route.{load_of};
-ghost use Rattle.vrp_bound.specs.Tables.{IsBound, tables_over};
+ghost use Rattle.vrp_bound.specs.Tables.{AreMade, IsBound, tables_over};
 
-use crate::completions::Completions;
+use crate::completions::{Completions, Shape};
 use crate::homes::Looks;
 use std::alloc::Global;
 use std::marker::Model;
@@ -81,6 +81,14 @@ impl<'a> Tables<'a> {
     {
         self.completions.bound(None, at, load, rest)
     }
+
+    /// How the tables are kept, where they are made.
+    pub fn shape(&self) -> Option<Shape>
+        ensures { let made = AreMade self.now.problem self.now.among in
+            MatchOption result (made → ⊥) (λ _. made) }
+    {
+        self.completions.shape()
+    }
 }
 
 /// All customers, by rising place.
@@ -89,6 +97,3 @@ pub(crate) fn all_customers(alloc: Global, instance: &Instance) -> Result<Vec<u1
 {
     Ok((1..instance.customers() + 1).collect(alloc)?)
 }
-
-#[cfg(test)]
-mod tests;

@@ -86,6 +86,3 @@ fn later_routes(instance: &Instance, at: u16, load: u64, unserved: &[u16], rest:
         trucks
     }
 }
-
-#[cfg(test)]
-mod tests;

@@ -57,7 +57,7 @@ impl<'a> UnitScope<'a> {
 }
 
 /// The greatest unit that divides each of these customers' demands; 1 where none of them has a demand.
-pub(crate) fn unit_of(scope: Scope<'_>) -> u64
+pub fn unit_of(scope: Scope<'_>) -> u64
     ensures { IsGreatestUnit scope.entry.instance.now scope.entry.customers.now result }
 {
     let mut unit = 0;
@@ -78,33 +78,4 @@ pub(crate) fn demands_in_units(alloc: Global, scope: UnitScope<'_>) -> Result<Ve
         demands.push_reserved(scope.whole_units(demand));
     }
     Ok(demands)
-}
-
-#[cfg(test)]
-mod tests {
-    use super::*;
-    use crate::assertion::assert_same;
-    use crate::fixture::are_customers;
-    use crate::instances::at_points;
-
-    // What the places demand, some customers, and their unit.
-    const UNITS: &[([u64; 4], &[u16], u64)] = &[
-        ([0, 200, 650, 300], &[1, 2, 3], 50),
-        ([0, 200, 650, 300], &[1, 3], 100),
-        ([0, 200, 650, 300], &[2], 650),
-        ([0, 200, 650, 300], &[], 1),
-        ([0, 6, 10, 15], &[1, 2, 3], 1),
-        ([0, 0, 10, 15], &[1, 2], 10),
-    ];
-
-    #[test]
-    fn greatest_units(rt: HostRuntime) {
-        for &(demands, customers, unit) in UNITS {
-            let points = [(0, 0), (3, 4), (6, 8), (5, -12)];
-            let instance = at_points(&rt, rt.alloc(), &points, &demands, 1_000);
-            assert!(rt; are_customers(&instance, customers));
-            let scope = Scope::new(&instance, customers);
-            assert_same(&rt, unit_of(scope), unit, (demands, customers));
-        }
-    }
 }

@@ -1,10 +1,13 @@
 //! Bounds over some customers: by hand, at the limits of the tables, and beside a slow program that tries every walk.
-use super::*;
+
 use crate::assertion::assert_same;
-use crate::fixture::{are_customers, every_walk};
-use crate::instances::{LINE, at_points, with_ways};
-use crate::scope::{Scope, demand_of_all};
+use crate::instances::{FOUR, LINE, at_points, with_ways};
+use crate::over::Over;
+use crate::slow_walks::{Stand, Walkers, every_walk};
+use std::alloc::Global;
 use std::process::Abort;
+use vrp_bound::Shape;
+use vrp_model::Instance;
 
 // A place, a load, a rest, and what is answered.
 type Asked = (u16, u64, u64, Option<u64>);
@@ -17,24 +20,23 @@ fn assert_over(
     customers: &[u16],
     asked: &[Asked],
 ) {
-    assert!(rt; are_customers(instance, customers));
-    let tables = Tables::build(alloc, instance, customers).expect(rt, "memory");
-    assert_answers(rt, &tables, asked);
+    let over = Over::these(rt, alloc, instance, customers);
+    assert_answers(rt, &over, asked);
 }
 
-fn assert_answers(rt: &impl Abort, tables: &Tables<'_>, asked: &[Asked]) {
+fn assert_answers(rt: &impl Abort, over: &Over<'_>, asked: &[Asked]) {
     for &asked in asked {
-        assert_answer(rt, tables, asked);
+        assert_answer(rt, over, asked);
     }
 }
 
-fn assert_answer(rt: &impl Abort, tables: &Tables<'_>, asked: Asked) {
+fn assert_answer(rt: &impl Abort, over: &Over<'_>, asked: Asked) {
     let (at, load, rest, answer) = asked;
-    let instance = tables.completions.instance;
-    let scope = Scope::new(instance, tables.completions.customers.as_slice());
+    let instance = over.instance;
     assert!(rt; at <= instance.customers() && load <= instance.capacity());
-    assert!(rt; (at != 0 || load == 0) && rest <= demand_of_all(scope));
-    assert_same(rt, tables.q_bound(at, load, rest), answer, (at, load, rest));
+    assert!(rt; (at != 0 || load == 0) && rest <= over.demand);
+    let found = over.tables.q_bound(at, load, rest);
+    assert_same(rt, found, answer, (at, load, rest));
 }
 
 // What the places demand, and what is asked.
@@ -119,36 +121,37 @@ fn the_largest_tables(rt: HostRuntime) {
     }
 }
 
-// Whether tables have the table of the ways home, where they are made.
-fn has_homes(tables: &Tables<'_>) -> Option<bool> {
-    match &tables.completions.cells {
-        Some(cells) => Some(cells.homes.is_some()),
-        None => None,
-    }
-}
-
 // The table of the ways home has at most 64,000,000 cells. Two customers who together demand 4,617 need a few less, and where they
-// demand 4,618 a few more.
-const DEMANDS: &[(u64, u64, bool)] = &[(1, 2, true), (2_308, 2_309, true), (2_307, 2_311, false)];
+// demand 4,618 a few more. What the two demand, and whether the table is made.
+type Demanded = (u64, u64, bool);
+
+const DEMANDS: &[Demanded] = &[(1, 2, true), (2_308, 2_309, true), (2_307, 2_311, false)];
 
 #[test]
 fn the_largest_table_of_homes(rt: HostRuntime) {
     for &(first, second, made) in DEMANDS {
         let instance = at_points(&rt, rt.alloc(), LINE, &[0, first, second], 4_618);
-        let tables = Tables::over_all(rt.alloc(), &instance).expect(&rt, "memory");
-        assert_same(&rt, has_homes(&tables), Some(made), (first, second));
-        assert_of_two(&rt, &tables, first, second);
+        assert_of_two(&rt, rt.alloc(), &instance, (first, second, made));
     }
 }
 
-// What two customers on a line demand, over whom the tables are.
-fn assert_of_two(rt: &impl Abort, tables: &Tables<'_>, first: u64, second: u64) {
-    assert_answer(rt, tables, (1, first, second, Some(15)));
-    assert_answer(rt, tables, (2, second, first, Some(10)));
-    assert_answer(rt, tables, (1, first, 0, Some(5)));
+// Of two customers on a line, who demand so much.
+fn assert_of_two(rt: &impl Abort, alloc: Global, instance: &Instance, demanded: Demanded) {
+    let (first, second, made) = demanded;
+    let over = Over::all(rt, alloc, instance);
+    assert_same(rt, over.has_homes(), Some(made), demanded);
+    assert_answer(rt, &over, (1, first, second, Some(15)));
+    assert_answer(rt, &over, (2, second, first, Some(10)));
+    assert_answer(rt, &over, (1, first, 0, Some(5)));
     let both = first.saturating_add(second);
-    assert_answer(rt, tables, (0, 0, both, Some(20)));
+    assert_answer(rt, &over, (0, 0, both, Some(20)));
 }
+
+const HUNDREDS: Shape = Shape {
+    unit: 100,
+    quotients: 22_501,
+    has_homes: true,
+};
 
 const IN_HUNDREDS: &[Asked] = &[
     (0, 0, 22_500, Some(100)),
@@ -168,23 +171,15 @@ fn demands_in_hundreds(rt: HostRuntime) {
     let points = [(0, 0), (3, 4), (6, 8), (9, 12), (12, 16)];
     let demands = [0, 5_900, 5_600, 6_000, 5_000];
     let instance = at_points(&rt, rt.alloc(), &points, &demands, 6_000);
-    assert!(rt; are_customers(&instance, &[1, 2, 3, 4]));
-    let tables = Tables::build(rt.alloc(), &instance, &[1, 2, 3, 4]).expect(&rt, "memory");
-    assert_same(&rt, units(&tables), Some((100, 22_501)), "the units");
-    assert_same(&rt, has_homes(&tables), Some(true), "the ways home");
-    assert_answers(&rt, &tables, IN_HUNDREDS);
-}
-
-// The unit of tables, and how many quotients by it they have, where they are made.
-fn units(tables: &Tables<'_>) -> Option<(u64, usize)> {
-    match &tables.completions.cells {
-        Some(cells) => Some((cells.unit, cells.quotients.count())),
-        None => None,
-    }
+    let over = Over::these(&rt, rt.alloc(), &instance, &[1, 2, 3, 4]);
+    assert_same(&rt, over.tables.shape(), Some(HUNDREDS), "the shape");
+    assert_answers(&rt, &over, IN_HUNDREDS);
 }
 
 // What the places demand, and what a truck carries.
-const EVERY_WALK: &[([u64; 4], u64)] = &[
+type Loaded = ([u64; 4], u64);
+
+const EVERY_WALK: &[Loaded] = &[
     ([0, 1, 2, 1], 3),
     ([0, 2, 3, 2], 4),
     ([0, 2, 2, 2], 2),
@@ -215,41 +210,58 @@ const FAR: &[u64] = &[
 
 #[test]
 fn the_same_as_every_walk(rt: HostRuntime) {
-    for &(demands, capacity) in EVERY_WALK {
-        let points = [(0, 0), (3, 4), (6, 8), (5, -12)];
-        let near = at_points(&rt, rt.alloc(), &points, &demands, capacity);
-        assert_lists(&rt, rt.alloc(), &near, true);
-        // too far for the table of the ways home
-        let far = with_ways(&rt, rt.alloc(), FAR, &demands, capacity);
-        assert_lists(&rt, rt.alloc(), &far, false);
+    for &loaded in EVERY_WALK {
+        assert_near(&rt, rt.alloc(), loaded);
+        assert_far(&rt, rt.alloc(), loaded);
     }
+}
+
+fn assert_near(rt: &impl Abort, alloc: Global, (demands, capacity): Loaded) {
+    let instance = at_points(rt, alloc, FOUR, &demands, capacity);
+    assert_lists(rt, alloc, &instance, true);
+}
+
+// Too far for the table of the ways home.
+fn assert_far(rt: &impl Abort, alloc: Global, (demands, capacity): Loaded) {
+    let instance = with_ways(rt, alloc, FAR, &demands, capacity);
+    assert_lists(rt, alloc, &instance, false);
 }
 
 // Some of three customers.
 const LISTS: &[&[u16]] = &[&[1, 2, 3], &[1, 3], &[2], &[]];
 
-// Over all customers with the table of the ways home or without.
 fn assert_lists(rt: &impl Abort, alloc: Global, instance: &Instance, near: bool) {
     for &customers in LISTS {
-        assert!(rt; are_customers(instance, customers));
-        let tables = Tables::build(alloc, instance, customers).expect(rt, "memory");
-        let homes = has_homes(&tables).expect(rt, "tables");
-        assert!(rt; customers.len() < 3 || homes == near);
-        assert_every_walk(rt, &tables);
+        assert_list(rt, alloc, instance, customers, near);
     }
 }
 
-// At every place, load and rest.
-fn assert_every_walk(rt: &impl Abort, tables: &Tables<'_>) {
-    let instance = tables.completions.instance;
-    let scope = Scope::new(instance, tables.completions.customers.as_slice());
+// At every place. Over all customers with the table of the ways home or without.
+fn assert_list(rt: &impl Abort, alloc: Global, instance: &Instance, customers: &[u16], near: bool) {
+    let over = Over::these(rt, alloc, instance, customers);
+    let homes = over.has_homes().expect(rt, "tables");
+    assert!(rt; customers.len() < 3 || homes == near);
+    let walkers = Walkers {
+        instance,
+        customers,
+        near: &[],
+    };
     for at in 0..instance.customers() + 1 {
-        let most = if at == 0 { 0 } else { instance.capacity() };
-        for load in 0..most + 1 {
-            for rest in 0..demand_of_all(scope) + 1 {
-                let slow = every_walk(scope, at, load, rest, 20);
-                assert_answer(rt, tables, (at, load, rest, slow));
-            }
-        }
+        assert_loads(rt, &over, walkers, at);
+    }
+}
+
+// With each load; at the depot there is none.
+fn assert_loads(rt: &impl Abort, over: &Over<'_>, walkers: Walkers<'_>, at: u16) {
+    let most = if at == 0 { 0 } else { over.instance.capacity() };
+    for load in 0..most + 1 {
+        assert_rests(rt, over, walkers, at, load);
+    }
+}
+
+fn assert_rests(rt: &impl Abort, over: &Over<'_>, walkers: Walkers<'_>, at: u16, load: u64) {
+    for rest in 0..over.demand.saturating_add(1) {
+        let slow = every_walk(walkers, Stand::begun(at, load, rest), 20);
+        assert_answer(rt, over, (at, load, rest, slow));
     }
 }

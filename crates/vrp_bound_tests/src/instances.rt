@@ -1,5 +1,5 @@
 //! The instances that tests are made on; the first place is the depot.
-ghost use Rattle.std.specs.Prelude.{All, IsTrue, ◌↔◌};
+ghost use Rattle.std.specs.Prelude.{◌≤◌, All, IsTrue};
 ghost use Rattle.vrp_model.specs.Grid.{IsCoordinate};
 
 use std::alloc::Global;
@@ -8,6 +8,9 @@ use vrp_model::{Instance, Layout, MAX_NODES, Metric, Weights};
 
 /// Three points on a line, 5 apart.
 pub(crate) const LINE: &[(i64, i64)] = &[(0, 0), (3, 4), (6, 8)];
+
+/// Four points in a plane.
+pub(crate) const FOUR: &[(i64, i64)] = &[(0, 0), (3, 4), (6, 8), (5, -12)];
 
 /// Places at these points, a rounded Euclidean distance apart.
 pub(crate) fn at_points(
@@ -39,10 +42,23 @@ pub(crate) fn with_ways(
 ) -> Instance {
     assert!(rt; 1 <= demands.len() && demands.len() <= usize::from(MAX_NODES));
     let nodes = demands.len() as u16;
-    assert!(rt; ways.len() == Layout::FullMatrix.entries(nodes));
-    assert!(rt; ways.iter().all(|&way| way <= 1_000_000_000));
+    assert!(rt; ways.len() == Layout::FullMatrix.entries(nodes) && are_weights(ways));
     let weights = Weights::matrix(alloc, Layout::FullMatrix, ways, nodes).expect(rt, "memory");
     instance_of(rt, alloc, weights, demands, capacity)
+}
+
+fn are_weights(ways: &[u64]) -> bool
+    ensures { IsTrue result → All (λ way. way ≤ 1000000000) ways.now }
+{
+    ways.iter().all(|&way| way <= 1_000_000_000)
+}
+
+/// What so many nodes demand where each customer demands 1.
+pub(crate) fn one_each(rt: &impl Abort, alloc: Global, nodes: usize) -> Vec<u64> {
+    let mut demands = vec![in alloc; 1; nodes].expect(rt, "memory");
+    assert!(rt; !demands.is_empty());
+    demands[0] = 0;
+    demands
 }
 
 fn instance_of(

@@ -1,5 +1,6 @@
 //! A plain slow program beside the tree bound: it tries every tree, every choice of ways home and every completion.
 
+use crate::fixture::{demand, demand_of_all, way};
 use std::alloc::Global;
 use std::process::Abort;
 use vrp_model::Instance;
@@ -231,28 +232,4 @@ pub(crate) fn least_completion(instance: &Instance, situation: Situation, steps:
         }
     }
     least
-}
-
-fn demand_of_all(instance: &Instance, customers: &[u16]) -> u64 {
-    let mut rest = 0u64;
-    for customer in customers {
-        rest = rest.saturating_add(demand(instance, *customer));
-    }
-    rest
-}
-
-fn demand(instance: &Instance, place: u16) -> u64 {
-    if place <= instance.customers() {
-        instance.demand(place)
-    } else {
-        0
-    }
-}
-
-fn way(instance: &Instance, from: u16, to: u16) -> u64 {
-    if from <= instance.customers() && to <= instance.customers() {
-        instance.weight(from, to)
-    } else {
-        0
-    }
 }

@@ -2,14 +2,14 @@
 ghost use Rattle.std.specs.Prelude.{◌≡◌, ◌≤◌};
 ghost use Rattle.vrp_model.specs.Problem.{place_count};
 
-use super::*;
 use crate::assertion::assert_same;
-use crate::fixture::are_customers;
-use crate::instances::{LINE, at_points, with_ways};
+use crate::fixture::{are_customers, demand_of_all};
+use crate::instances::{LINE, at_points, one_each, with_ways};
 use crate::slow_tree::{Situation, least_completion, situations, slow_bound};
-use crate::tables::all_customers;
+use std::alloc::Global;
 use std::process::Abort;
-use vrp_model::MAX_NODES;
+use vrp_bound::TreeRoom;
+use vrp_model::{Instance, MAX_NODES};
 
 // A place, a load, the unserved customers, what they demand, and the bound.
 type Asked<'a> = (u16, u64, &'a [u16], u64, u64);
@@ -79,7 +79,7 @@ fn there_and_back_differ(rt: HostRuntime) {
 #[test]
 fn customers_on_a_line(rt: HostRuntime) {
     let instance = on_a_line(&rt, rt.alloc(), MAX_NODES);
-    let customers = all_customers(rt.alloc(), &instance).expect(&rt, "memory");
+    let customers: Vec<u16> = (1..MAX_NODES).collect(rt.alloc()).expect(&rt, "memory");
     let asked = (0, 0, customers.as_slice(), 1_199, 1_199 + 15);
     assert_bound(&rt, rt.alloc(), &instance, asked);
 }
@@ -132,8 +132,8 @@ fn every_completion_of_six_customers(rt: HostRuntime) {
 fn assert_scattered(rt: &impl Abort, alloc: Global, cases: &[Loaded<'_>], seeds: u64) {
     for &loaded in cases {
         for seed in 1..seeds.min(9) + 1 {
-            assert_bounds(rt, alloc, &scattered(rt, alloc, seed, false, loaded));
-            assert_bounds(rt, alloc, &scattered(rt, alloc, seed, true, loaded));
+            assert_bounds(rt, alloc, &scattered(rt, alloc, (seed, false), loaded));
+            assert_bounds(rt, alloc, &scattered(rt, alloc, (seed, true), loaded));
         }
     }
 }
@@ -178,7 +178,7 @@ fn bound_of(
     requires { place_count instance.now ≤ room.old }
     ensures { room.new ≡ room.old }
 {
-    let rest = demand_of(rt, instance, customers);
+    let rest = demand_of_all(instance, customers);
     let Situation { at, load, .. } = situation;
     assert!(rt; are_customers(instance, customers));
     assert!(rt; at <= instance.customers() && load <= instance.capacity());
@@ -186,41 +186,39 @@ fn bound_of(
     room.tree_bound(instance, at, load, customers, rest)
 }
 
-fn demand_of(rt: &impl Abort, instance: &Instance, customers: &[u16]) -> u64 {
-    let mut demand = 0u64;
-    for &customer in customers {
-        assert!(rt; customer <= instance.customers());
-        demand = demand.saturating_add(instance.demand(customer));
-    }
-    demand
-}
+// By what weights are scattered, and whether they are the same there and back.
+type Seed = (u64, bool);
 
 // An instance of at most six customers, its weights scattered.
-fn scattered(
-    rt: &impl Abort,
-    alloc: Global,
-    seed: u64,
-    symmetric: bool,
-    loaded: Loaded<'_>,
-) -> Instance {
+fn scattered(rt: &impl Abort, alloc: Global, seed: Seed, loaded: Loaded<'_>) -> Instance {
     let (demands, capacity) = loaded;
-    let nodes = demands.len();
-    assert!(rt; nodes <= 7);
+    assert!(rt; demands.len() <= 7);
+    let nodes = demands.len() as u64;
     let mut ways = Vec::new(alloc);
-    for from in 0..nodes as u64 {
-        for to in 0..nodes as u64 {
-            let one = if symmetric { from.min(to) } else { from };
-            let other = if symmetric { from.max(to) } else { to };
-            let number = 7 * one + other + 1;
-            ways.push(number * number * seed.min(9) % 29)
+    for from in 0..nodes {
+        for to in 0..nodes {
+            ways.push(scattered_weight(seed, from, to))
                 .expect(rt, "memory");
         }
     }
     with_ways(rt, alloc, &ways, demands, capacity)
 }
 
+fn scattered_weight((seed, symmetric): Seed, from: u64, to: u64) -> u64 {
+    let one = if symmetric { from.min(to) } else { from };
+    let other = if symmetric { from.max(to) } else { to };
+    let number = 7 * one.min(6) + other.min(6) + 1;
+    number * number * seed.min(9) % 29
+}
+
 // This many nodes on a line, a step apart, the depot first. Each truck carries 240 customers.
 fn on_a_line(rt: &impl Abort, alloc: Global, nodes: u16) -> Instance {
+    let ways = steps_between(rt, alloc, nodes);
+    let demands = one_each(rt, alloc, usize::from(nodes));
+    with_ways(rt, alloc, &ways, &demands, 240)
+}
+
+fn steps_between(rt: &impl Abort, alloc: Global, nodes: u16) -> Vec<u64> {
     let mut ways = Vec::new(alloc);
     for from in 0..nodes {
         for to in 0..nodes {
@@ -228,8 +226,5 @@ fn on_a_line(rt: &impl Abort, alloc: Global, nodes: u16) -> Instance {
             ways.push(way).expect(rt, "memory");
         }
     }
-    let mut demands = vec![in alloc; 1u64; usize::from(nodes)].expect(rt, "memory");
-    assert!(rt; !demands.is_empty());
-    demands[0] = 0;
-    with_ways(rt, alloc, &ways, &demands, 240)
+    ways
 }
