@@ -146,8 +146,25 @@ fn timed_search<R: Clock + Eprint + AllocGlobal>(
     let FoundPrices { relaxation, memory } = found;
     let prices = Prices::new(rt.alloc(), &relaxation, memory)?;
     print_time(rt, "tables", start.elapsed(rt)?)?;
+    timed_looks(rt, instance, &tables, &prices, budget, board)
+}
+
+// The same, once there are tables.
+fn timed_looks<R: Clock + Eprint + AllocGlobal>(
+    rt: &R,
+    instance: &Instance,
+    tables: &Tables<'_>,
+    prices: &Prices<'_>,
+    budget: u64,
+    board: &mut Local,
+) -> Result<Ended>
+    requires tables { tables.now ≡ tables_over instance.now (customers instance.now) }
+    requires prices { prices.now.problem ≡ instance.now }
+    requires board { ForSome board.old (IsPlanOf instance.now) }
+    requires budget { 1 ≤ budget }
+{
     let start = Instant::now(rt)?;
-    let ended = search_whole(rt.alloc(), instance, &tables, &prices, budget, board)?;
+    let ended = search_whole(rt.alloc(), instance, tables, prices, budget, board)?;
     let time = start.elapsed(rt)?;
     let (Ended::Finished { spent, .. } | Ended::Unfinished { spent, .. }) = &ended;
     print_rate(rt, *spent, time)?;

@@ -89,17 +89,33 @@ fn measure<R: Clock + Print + Eprint + AllocGlobal>(
     requires budget { 1 ≤ way.budget }
     requires pieces { way.pieces ≤ MAX_PIECES }
 {
-    let mut board = Local::open(first_plan(rt.alloc(), instance, way.by_savings)?);
     let start = Instant::now(rt)?;
     let tables = Tables::over_all(rt.alloc(), instance)?;
     let tables_time = start.elapsed(rt)?;
+    measure_search(rt, name, instance, &tables, way)?;
+    eprintln!(rt; "tables in {} milliseconds", tables_time.as_millis())?;
+    Ok(())
+}
+
+// The same, of the search alone.
+fn measure_search<R: Clock + Print + Eprint + AllocGlobal>(
+    rt: &R,
+    name: &str,
+    instance: &Instance,
+    tables: &Tables<'_>,
+    way: Way,
+) -> Result<()>
+    requires tables { tables.now ≡ tables_over instance.now (customers instance.now) }
+    requires budget { 1 ≤ way.budget }
+    requires pieces { way.pieces ≤ MAX_PIECES }
+{
+    let mut board = Local::open(first_plan(rt.alloc(), instance, way.by_savings)?);
     let start = Instant::now(rt)?;
-    let looked = search_all(rt.alloc(), instance, &tables, way, &mut board)?;
+    let looked = search_all(rt.alloc(), instance, tables, way, &mut board)?;
     let time = start.elapsed(rt)?;
     let cost = board.plan().context("no plan")?.cost();
     println!(rt; "{name}: {looked} partial plans looked at, cost {cost}")?;
     print_rate(rt, looked, time)?;
-    eprintln!(rt; "tables in {} milliseconds", tables_time.as_millis())?;
     Ok(())
 }
 
