@@ -3,7 +3,7 @@ use crate::walks::{Walks, at};
 
 impl Walks {
     /// Enters the ways anew: each costs its scaled weight and the prices of its two ends. There is one price for each place, by the
-    /// scale; the tolls that were taken off before are gone. The tables stay as they were filled last.
+    /// scale; the tolls that were taken off before are gone. The tables stay as they were filled last. What ways cost is left open.
     pub fn enter(&mut self, prices: &[i64]) {
         for to in 0..self.places() {
             let own = at(prices, to);
@@ -14,7 +14,7 @@ impl Walks {
     }
 
     /// Takes a toll, by the scale, off each way between a place that is marked and one that isn't. There is one mark for each place.
-    /// The tables stay as they were filled last.
+    /// The tables stay as they were filled last. What ways cost is left open.
     pub fn take_off(&mut self, inside: &[bool], toll: i64) {
         for to in 0..self.places() {
             let own = inside.get(to).copied().unwrap_or(false);

@@ -3,7 +3,8 @@ use crate::walks::Walks;
 
 impl Walks {
     /// The least number that, added to each way once for each unit that its two ends demand together, lets no way cost less than
-    /// nothing; by the ways as they were entered last. 0 where none does.
+    /// nothing; by the ways as they were entered last. 0 where none does. The number is left
+    /// open.
     pub fn least_lift(&self) -> i64 {
         let mut lift = 0;
         for to in 0..self.places() {

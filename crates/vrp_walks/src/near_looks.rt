@@ -34,7 +34,7 @@ pub struct NearLooks {
 }
 
 impl NearLooks {
-    /// Those of a memory of an instance's walks.
+    /// Those of a memory of an instance's walks. Which they are is left open.
     pub fn new(alloc: Global, instance: &Instance, memory: &Memory) -> Result<NearLooks, NoMemory>
         requires places { memory.now.places ≡ place_count instance.now }
     {
@@ -108,7 +108,7 @@ impl NearLooks {
     }
 
     /// How many looks memory takes of each load: those here, and from each memory of each place at those with one customer less. None
-    /// where walks remember nothing.
+    /// where walks remember nothing. The number is left open.
     pub fn count(&self) -> u64 {
         let size = u64::from(self.masks.trailing_zeros());
         let lesser = (self.masks as u64)

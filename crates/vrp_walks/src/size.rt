@@ -1,5 +1,6 @@
 //! How large the tables are, and how many steps they take.
-ghost use Rattle.std.specs.Prelude.{◌≤◌};
+ghost use Rattle.std.specs.Prelude.{◌≡◌, ◌≤◌};
+ghost use Rattle.vrp_model.specs.Problem.{place_count};
 
 use vrp_model::Instance;
 use vrp_prices::{capacity_in_units, demand_in_units};
@@ -18,9 +19,12 @@ pub struct Size {
 }
 
 impl Size {
-    /// That of an instance by this unit, where walks remember nothing.
+    /// That of an instance by this unit, where walks remember nothing. How much all customers demand in units is left open.
     pub fn in_units(instance: &Instance, unit: u64) -> Size
         requires some { 1 ≤ unit }
+        ensures places { result.places ≡ place_count instance.now }
+        ensures room { result.room ≤ result.whole }
+        ensures looks { result.looks ≡ 0 }
     {
         let whole = whole_in_units(instance, unit);
         Size {
@@ -32,11 +36,14 @@ impl Size {
     }
 
     /// The same where memory takes this many looks of each load.
-    pub fn with_looks(self, looks: u64) -> Size {
+    pub fn with_looks(self, looks: u64) -> Size
+        ensures { result ≡ record self { looks = looks } }
+    {
         Size { looks, ..self }
     }
 
-    /// How many steps it takes to fill the tables once: looks from one of their cells at another; `u64::MAX` where they are more.
+    /// How many steps it takes to fill the tables once: looks from one of their cells at another; `u64::MAX` where they are more. The
+    /// number is left open.
     pub fn steps(self) -> u64 {
         let loads = self.room.saturating_add(1);
         let of_one = self
@@ -47,7 +54,8 @@ impl Size {
         loads.saturating_mul(of_one)
     }
 
-    /// How many steps it takes to enter the tolls of this many cuts: a look at each way for each; `u64::MAX` where they are more.
+    /// How many steps it takes to enter the tolls of this many cuts: a look at each way for each; `u64::MAX` where they are more. The
+    /// number is left open.
     pub fn tolls(self, cuts: u64) -> u64 {
         cuts.saturating_mul(self.places).saturating_mul(self.places)
     }

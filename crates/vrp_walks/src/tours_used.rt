@@ -25,7 +25,8 @@ struct Standing {
 impl Walks {
     /// Lists the ways of the least tours that carry the whole demand, in place of what stands there: tour after tour, each from the
     /// depot and back to it. They are those of the tables as they were filled last, where that answered a cost and no ways were
-    /// entered since; else any ways. Where memory is refused, the first of them are left in the list.
+    /// entered since; else any ways. Where memory is refused, the first of them are left in the list. Which
+    /// ways they are is left open.
     pub fn list_used(&self, used: &mut Vec<UsedWay>) -> Result<(), NoMemory> {
         used.clear();
         let mut rest = self.whole();

@@ -27,7 +27,7 @@ pub struct Walks {
 impl Walks {
     /// Empty tables of this size, of walks that remember what these looks tell. The size is that of the instance by this unit, with
     /// these looks, which are of the same instance. There are no ways until prices are entered; then a way's weight counts `scale`
-    /// times.
+    /// times. What is in the tables is left open.
     pub fn new(
         alloc: Global,
         instance: &Instance,
@@ -51,7 +51,7 @@ impl Walks {
     }
 
     /// Fills the tables by the ways as they were entered last. What the least tours cost together that carry the whole demand; `None`
-    /// where no tours do.
+    /// where no tours do. The cost is left open.
     pub fn fill(&mut self) -> Option<i64> {
         self.growth.mark_near();
         self.cells.begin(self.growth.ways_home());
@@ -113,12 +113,12 @@ impl Walks {
         self.places
     }
 
-    /// How many loads there are, 0 among them: one more than what a truck can carry of the whole demand.
+    /// How many loads there are, 0 among them: one more than what a truck can carry of the whole demand. The number is left open.
     pub fn loads(&self) -> usize {
         self.tour.len()
     }
 
-    /// What all customers demand together.
+    /// What all customers demand together. The number is left open.
     pub fn whole(&self) -> usize {
         self.tours.len().saturating_sub(1)
     }
@@ -128,7 +128,7 @@ impl Walks {
         at(&self.tours, rest)
     }
 
-    /// What a place demands; nothing where it is the depot, or no place.
+    /// What a place demands; nothing where it is the depot, or no place. The number is left open.
     pub fn demand(&self, place: usize) -> usize {
         self.demands.get(place).copied().unwrap_or(0)
     }
@@ -136,7 +136,7 @@ impl Walks {
     /// What the least walk home costs from a place which carries this load behind it, and remembers no more there than this memory
     /// says: the bits of a number, the lowest for the nearest customer. It is that of the tables as they were filled last. At the
     /// depot, with memory 0, it is the least tour of the load. No less than `NO_WALK` where there is none. The load is below `loads`,
-    /// and the memory has no more bits than customers are near.
+    /// and the memory has no more bits than customers are near. The cost is left open.
     pub fn cell(&self, load: usize, place: usize, memory: usize) -> i64 {
         self.cells.cell(load, place, memory)
     }
