@@ -107,8 +107,8 @@ impl States {
         recreate(setting, &mut self.next, taken, random).saturating_add(at_ruin)
     }
 
-    /// Takes the next routes for the last, unless they are dearer by the threshold or more: then they become the last again. The
-    /// cheapest routes so far are kept. That it is so is left open.
+    /// Takes the next routes for the last, unless they are dearer by the threshold or more, in the unit of the weights: then they become
+    /// the last again. The cheapest routes so far are kept. That it is so is left open.
     pub fn settle(&mut self, threshold: u64)
         ensures { self.new ≡ self.old }
     {

@@ -47,7 +47,7 @@ impl Model for Taken {
 }
 
 impl Taken {
-    /// Nobody, and room for all customers of an instance. Where memory was refused, `NoMemory`.
+    /// Nobody, and room for all customers of an instance. That it is so is left open. Where memory was refused, `NoMemory`.
     pub fn new(alloc: Global, instance: &Instance) -> Result<Taken, NoMemory>
         ensures { IfOk result (λ taken. taken ≡ place_count instance.now) }
     {

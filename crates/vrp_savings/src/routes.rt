@@ -44,7 +44,7 @@ impl Model for Routes {
 }
 
 impl Routes {
-    /// A route for each customer of an instance. Where memory was refused, `NoMemory`.
+    /// A route for each customer of an instance. Which customers they serve is left open. Where memory was refused, `NoMemory`.
     pub fn one_each(alloc: Global, instance: &Instance) -> Result<Routes, NoMemory>
         ensures { IfOk result (λ routes. routes ≡ place_count instance.now) }
     {
