@@ -1,10 +1,11 @@
 //! Which customers are near, worked out by hand, and what walks remember, told stop by stop.
 ghost use Rattle.std.specs.Prelude.{◌≡◌, ◌≤◌, ◌<◌};
 
-use super::*;
 use crate::assertion::assert_same;
+use std::alloc::Global;
 use std::process::Abort;
-use vrp_model::{Layout, MAX_NODES, Weights};
+use vrp_memory::Memory;
+use vrp_model::{Instance, Layout, MAX_NODES, Weights};
 
 // The customers near each place, of which a memory has the first few. In some the depot stands, one stands there twice, and one is
 // near itself.
@@ -20,7 +21,9 @@ const NEAR: [[u16; 4]; 5] = [
 const ONE_WAY: [u64; 16] = [0, 5, 3, 9, 1, 0, 7, 7, 2, 4, 0, 8, 6, 3, 2, 0];
 
 // Ways, how many customers are to be near, and who is.
-const NEAREST: &[(&[u64], usize, &[u16])] = &[
+type Nearest<'a> = (&'a [u64], usize, &'a [u16]);
+
+const NEAREST: &[Nearest<'_>] = &[
     (&ONE_WAY, 0, &[]),
     (&ONE_WAY, 1, &[2, 2, 1, 2]),
     (&ONE_WAY, 2, &[2, 1, 2, 3, 1, 3, 2, 1]),
@@ -37,21 +40,32 @@ const NEAREST: &[(&[u64], usize, &[u16])] = &[
 
 #[test]
 fn nearest_by_hand(rt: HostRuntime) {
-    for &(ways, size, near) in NEAREST {
-        assert!(rt; size <= 4);
-        let instance = by_matrix(&rt, rt.alloc(), ways);
-        let memory = Memory::nearest(rt.alloc(), &instance, size).expect(&rt, "memory");
-        assert_same(&rt, memory.near.as_slice(), near, size);
+    for &nearest in NEAREST {
+        assert_nearest(&rt, rt.alloc(), nearest);
     }
+}
+
+fn assert_nearest(rt: &impl Abort, alloc: Global, (ways, size, near): Nearest<'_>) {
+    assert!(rt; size <= 4);
+    let instance = by_matrix(rt, alloc, ways);
+    let memory = Memory::nearest(alloc, &instance, size).expect(rt, "memory");
+    assert_same(rt, memory.near(), near, size);
 }
 
 #[test]
 fn told_stop_by_stop(rt: HostRuntime) {
     for size in 0..5 {
         let memory = first_near(&rt, rt.alloc(), size);
-        for stop in 0..5 {
-            assert_told(&rt, rt.alloc(), &memory, stop, &[], 3);
-        }
+        assert_all_told(&rt, rt.alloc(), &memory);
+    }
+}
+
+fn assert_all_told(rt: &impl Abort, alloc: Global, memory: &Memory)
+    requires places { memory.now.places ≡ 5 }
+    requires few { memory.now.size ≤ 4 }
+{
+    for stop in 0..5 {
+        assert_told(rt, alloc, memory, stop, &[], 3);
     }
 }
 
@@ -74,25 +88,36 @@ const ON_A_LINE: &[(u16, u16, usize, u8)] = &[
 // It takes a second where it is built, as by `rt test`; `rt try` stops it at its limit of time.
 #[test]
 fn most_nodes(rt: HostRuntime) {
-    let instance = on_a_line(&rt, rt.alloc());
-    let memory = Memory::nearest(rt.alloc(), &instance, 4).expect(&rt, "memory");
-    for &(at, stop, after, before) in ON_A_LINE {
-        assert!(rt; usize::from(at).max(usize::from(stop)) < memory.places);
-        let found = memory.before(at, stop).get(after).copied();
-        assert_same(&rt, found, Some(before), (at, stop, after));
+    let memory = on_a_line(&rt, rt.alloc(), 4);
+    for &row in ON_A_LINE {
+        assert_on_a_line(&rt, &memory, row);
     }
+}
+
+fn assert_on_a_line(rt: &impl Abort, memory: &Memory, row: (u16, u16, usize, u8))
+    requires { memory.now.places ≡ 1_200 }
+{
+    let (at, stop, after, before) = row;
+    assert!(rt; at.max(stop) < 1_200);
+    let found = memory.before(at, stop).get(after).copied();
+    assert_same(rt, found, Some(before), (at, stop, after));
 }
 
 #[test]
 fn none_near(rt: HostRuntime) {
-    let instance = on_a_line(&rt, rt.alloc());
-    let none = Memory::nearest(rt.alloc(), &instance, 0).expect(&rt, "memory");
+    let none = on_a_line(&rt, rt.alloc(), 0);
     assert_same(&rt, none.masks(), 1, "masks");
     for stop in 0..1_200 {
-        assert!(rt; none.places == 1_200);
-        let before = [u8::from(stop == 1_199)];
-        assert_same(&rt, none.before(1_199, stop), before.as_slice(), stop);
+        assert_none_near(&rt, &none, stop);
     }
+}
+
+fn assert_none_near(rt: &impl Abort, none: &Memory, stop: u16)
+    requires places { none.now.places ≡ 1_200 }
+    requires stop { stop < 1_200 }
+{
+    let before = [u8::from(stop == 1_199)];
+    assert_same(rt, none.before(1_199, stop), before.as_slice(), stop);
 }
 
 // Compares the memories before a stop, where the walk behind it remembers these customers, and then those before longer walks.
@@ -108,8 +133,9 @@ fn assert_told(
     requires few { memory.now.size ≤ 4 }
     requires stop { stop < 5 }
 {
-    let after = as_bits(near_to(stop, memory.size), behind);
-    let remembered = remembered(rt, alloc, near_to(stop, memory.size), stop, behind);
+    let near = near_to(stop, memory.size());
+    let after = as_bits(near, behind);
+    let remembered = remembered(rt, alloc, near, stop, behind);
     for at in 0..5 {
         assert_before(rt, memory, at, stop, after, &remembered);
         if more > 0 {
@@ -135,7 +161,7 @@ fn assert_before(
     let wanted = if remembered.contains(&at) {
         memory.masks()
     } else {
-        as_bits(near_to(at, memory.size), remembered)
+        as_bits(near_to(at, memory.size()), remembered)
     };
     let found = memory.before(at, stop).get(after).copied().map(usize::from);
     assert_same(rt, found, Some(wanted), (at, stop, after));
@@ -201,8 +227,17 @@ fn without_demands(rt: &impl Abort, alloc: Global, weights: Weights) -> Instance
     Instance::new(alloc, weights, &demands, 1, &[1], None).expect(rt, "an instance")
 }
 
-// As many nodes as there may be, on a line, a step apart, the depot first.
-fn on_a_line(rt: &impl Abort, alloc: Global) -> Instance {
+// The memory of this many nearest customers, of as many nodes as there may be on a line, a step apart, the depot first.
+fn on_a_line(rt: &impl Abort, alloc: Global, size: usize) -> Memory
+    requires few { size ≤ 4 }
+    ensures places { result.places ≡ 1_200 }
+{
+    let instance = line_of_nodes(rt, alloc);
+    assert!(rt; instance.customers() == 1_199);
+    Memory::nearest(alloc, &instance, size).expect(rt, "memory")
+}
+
+fn line_of_nodes(rt: &impl Abort, alloc: Global) -> Instance {
     let mut ways = Vec::new(alloc);
     for from in 0..MAX_NODES {
         for to in 0..MAX_NODES {
