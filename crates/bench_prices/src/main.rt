@@ -23,6 +23,13 @@ use vrp_memory::{MOST_NEAR, Memory};
 use vrp_model::{Instance, NO_COST, Plan};
 use vrp_search::{Cutting, Ended, Local, Prices, search_by_prices};
 
+// How a search ended, and how many partial plans it looked at.
+#[derive(Clone, Copy)]
+struct End {
+    verdict: &'static str,
+    looked: u64,
+}
+
 fn main(rt: HostRuntime) -> Result<()> {
     let mut words = env::args(&rt)?.skip(1);
     let name = words.next().context("no file is named")?;
@@ -59,19 +66,34 @@ fn measure<R: Clock + Print + Eprint + AllocGlobal>(
 {
     let plan = timed_plan(rt, instance)?;
     let first = plan.cost();
-    let found = timed_prices(rt, instance, first, near, steps)?;
-    print_bound(rt, instance, &found, first.min(NO_COST))?;
     let mut board = Local::open(Some(plan));
-    let ended = timed_search(rt, instance, found, budget, &mut board)?;
-    let cost = board.plan().context("no plan")?.cost();
-    let (verdict, looked) = match ended {
-        Ended::Finished { spent, .. } => ("finished", spent),
-        Ended::Unfinished { spent, .. } => ("unfinished", spent),
-    };
+    let End { verdict, looked } = search_by_found(
+        rt, instance, first, budget, near, steps, &mut board,
+    )?;
+    let cost = board.into_plan().context("no plan")?.cost();
     println!(rt;
         "{name}: first plan {first}, {verdict}, {looked} partial plans looked at, cost {cost}"
     )?;
     Ok(())
+}
+
+// Finds prices, with a first plan's cost to aim at, and searches by them.
+fn search_by_found<R: Clock + Eprint + AllocGlobal>(
+    rt: &R,
+    instance: &Instance,
+    first: u64,
+    budget: u64,
+    near: usize,
+    steps: u64,
+    board: &mut Local,
+) -> Result<End>
+    requires budget { 1 ≤ budget }
+    requires near { near ≤ MOST_NEAR }
+    requires board { ForSome board.old (IsPlanOf instance.now) }
+{
+    let found = timed_prices(rt, instance, first, near, steps)?;
+    print_bound(rt, instance, &found, first.min(NO_COST))?;
+    timed_search(rt, instance, found, budget, board)
 }
 
 // The first plan, and prints how long it took.
@@ -114,10 +136,7 @@ fn print_bound<R: Eprint + AllocGlobal>(
 {
     let relaxation = &found.relaxation;
     let size = found.memory.size().min(MOST_NEAR);
-    let memory = Memory::nearest(rt.alloc(), instance, size)?;
-    let tables = MemoryTables::new(rt.alloc(), relaxation.relaxed(), memory)?;
-    let whole = relaxation.relaxed().whole_demand();
-    let tours = tables.bound(0, 0, whole).context("no tours")?;
+    let tours = least_tours(rt.alloc(), relaxation.relaxed(), size)?;
     let limit = relaxation.limit(cost).context("no limit")?;
     // Each plan costs at least as much less than this one as the least tours cost less than its limit.
     let scale = relaxation.scale().max(1);
@@ -128,6 +147,16 @@ fn print_bound<R: Eprint + AllocGlobal>(
     Ok(())
 }
 
+// What the least tours cost that carry all demands, of walks that remember so many customers near each place.
+fn least_tours(alloc: Global, instance: &Instance, size: usize) -> Result<u64>
+    requires { size ≤ MOST_NEAR }
+{
+    let memory = Memory::nearest(alloc, instance, size)?;
+    let tables = MemoryTables::new(alloc, instance, memory)?;
+    let tours = tables.bound(0, 0, instance.whole_demand());
+    tours.context("no tours")
+}
+
 // How the search of the whole tree ends. Prints how long its tables took, and how fast it looked.
 fn timed_search<R: Clock + Eprint + AllocGlobal>(
     rt: &R,
@@ -135,18 +164,34 @@ fn timed_search<R: Clock + Eprint + AllocGlobal>(
     found: FoundPrices<'_>,
     budget: u64,
     board: &mut Local,
-) -> Result<Ended>
+) -> Result<End>
     requires relaxation { found.relaxation.problem ≡ instance.now }
     requires memory { found.memory.places ≡ place_count instance.now }
     requires board { ForSome board.old (IsPlanOf instance.now) }
     requires budget { 1 ≤ budget }
 {
     let start = Instant::now(rt)?;
-    let tables = Tables::over_all(rt.alloc(), instance)?;
     let FoundPrices { relaxation, memory } = found;
     let prices = Prices::new(rt.alloc(), &relaxation, memory)?;
+    search_with(rt, instance, &prices, start, budget, board)
+}
+
+// The same, by these prices; the time that the tables take begins at the start.
+fn search_with<R: Clock + Eprint + AllocGlobal>(
+    rt: &R,
+    instance: &Instance,
+    prices: &Prices<'_>,
+    start: Instant,
+    budget: u64,
+    board: &mut Local,
+) -> Result<End>
+    requires prices { prices.now.problem ≡ instance.now }
+    requires board { ForSome board.old (IsPlanOf instance.now) }
+    requires budget { 1 ≤ budget }
+{
+    let tables = Tables::over_all(rt.alloc(), instance)?;
     print_time(rt, "tables", start.elapsed(rt)?)?;
-    timed_looks(rt, instance, &tables, &prices, budget, board)
+    timed_looks(rt, instance, &tables, prices, budget, board)
 }
 
 // The same, once there are tables.
@@ -157,18 +202,17 @@ fn timed_looks<R: Clock + Eprint + AllocGlobal>(
     prices: &Prices<'_>,
     budget: u64,
     board: &mut Local,
-) -> Result<Ended>
+) -> Result<End>
     requires tables { tables.now ≡ tables_over instance.now (customers instance.now) }
     requires prices { prices.now.problem ≡ instance.now }
     requires board { ForSome board.old (IsPlanOf instance.now) }
     requires budget { 1 ≤ budget }
 {
     let start = Instant::now(rt)?;
-    let ended = search_whole(rt.alloc(), instance, tables, prices, budget, board)?;
+    let end = search_whole(rt.alloc(), instance, tables, prices, budget, board)?;
     let time = start.elapsed(rt)?;
-    let (Ended::Finished { spent, .. } | Ended::Unfinished { spent, .. }) = &ended;
-    print_rate(rt, *spent, time)?;
-    Ok(ended)
+    print_rate(rt, end.looked, time)?;
+    Ok(end)
 }
 
 // Searches the whole tree by prices.
@@ -179,7 +223,7 @@ fn search_whole(
     prices: &Prices<'_>,
     budget: u64,
     board: &mut Local,
-) -> Result<Ended>
+) -> Result<End>
     requires tables { tables.now ≡ tables_over instance.now (customers instance.now) }
     requires prices { prices.now.problem ≡ instance.now }
     requires board { ForSome board.old (IsPlanOf instance.now) }
@@ -187,7 +231,16 @@ fn search_whole(
 {
     let cutting = Cutting::whole(alloc, instance)?;
     let piece = cutting.pieces().first().context("no piece")?;
-    Ok(search_by_prices(alloc, instance, tables, prices, piece, budget, board)?)
+    match search_by_prices(alloc, instance, tables, prices, piece, budget, board)? {
+        Ended::Finished { spent, .. } => Ok(End {
+            verdict: "finished",
+            looked: spent,
+        }),
+        Ended::Unfinished { spent, .. } => Ok(End {
+            verdict: "unfinished",
+            looked: spent,
+        }),
+    }
 }
 
 // Prints how long something took.

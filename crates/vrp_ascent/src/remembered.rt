@@ -1,5 +1,5 @@
 //! How much the walks of the rounds remember: as much as short rounds, and enough of them, allow.
-ghost use Rattle.std.specs.Prelude.{◌≡◌, ◌≤◌, IfOk};
+ghost use Rattle.std.specs.Prelude.{◌≡◌, ◌≤◌, ◌/◌, ◌↔◌, IfOk, IsTrue, max};
 ghost use Rattle.vrp_memory.specs.declared.memory.TheConstants.{MOST_NEAR};
 ghost use Rattle.vrp_model.specs.Problem.{place_count};
 
@@ -79,6 +79,8 @@ fn most_to_try(instance: &Instance, size: Size, most: usize, steps: u64) -> usiz
 
 /// Whether a round that takes so many steps is short enough for walks that remember, 20,000,000 steps at most, and all the steps are
 /// enough for 150 such rounds.
-pub fn is_affordable(round: u64, steps: u64) -> bool {
+pub fn is_affordable(round: u64, steps: u64) -> bool
+    ensures { IsTrue result ↔ (round ≤ 20000000) × (150 ≤ steps / max round 1) }
+{
     round <= MAX_ROUND && steps / round.max(1) >= LEAST_REMEMBERING_ROUNDS
 }

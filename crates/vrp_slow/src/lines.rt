@@ -38,19 +38,22 @@ pub(crate) fn before_the_end<'a>(
         if own == "EOF" {
             break;
         }
-        let is_data = own.is_empty();
-        let keyword = if is_data { last_keyword(&lines) } else { own };
-        let text = if is_data { line } else { behind_keyword(line) };
         if !line.is_empty() {
-            lines.push(Line {
-                number,
-                keyword,
-                is_data,
-                text,
-            })?;
+            lines.push(line_under(last_keyword(&lines), number, own, line))?;
         }
     }
     Ok(lines)
+}
+
+// A line of this number with its own keyword, if that is not empty, or under the last one.
+fn line_under<'a>(last: &'a str, number: u64, own: &'a str, line: &'a str) -> Line<'a> {
+    let is_data = own.is_empty();
+    Line {
+        number,
+        keyword: if is_data { last } else { own },
+        is_data,
+        text: if is_data { line } else { behind_keyword(line) },
+    }
 }
 
 // The keyword under which a line of data stands that follows these lines.

@@ -94,17 +94,21 @@ fn compare_cuts<R: Files + AllocGlobal + Threads + Wait + Sync>(
     let mut is_same = true;
     for length in 0..cuts {
         let cut = str::from_utf8(&text.as_bytes()[..length])?;
-        let finding = match reading::read(alloc, cut) {
-            Ok(problem) => evaluated(rt, alloc, &problem, cut)?,
-            Err(fault) => {
-                refusals = refusals.saturating_add(1);
-                refused(rt, alloc, fault, cut, None)?
-            }
-        };
-        is_same &= finding.as_str().ends_with(agreement(true));
+        let (is_refused, agrees) = compare_cut(rt, alloc, cut)?;
+        refusals = refusals.saturating_add(u32::from(is_refused));
+        is_same &= agrees;
     }
     let same = agreement(is_same);
     Ok(format!(in alloc; "{cuts} cuts, {refusals} refused; {same}")?)
+}
+
+// Whether the evaluator refuses a file, and whether the command answers what the evaluator finds in it.
+fn compare_cut<R: Threads + Wait + Sync>(rt: &R, alloc: Global, cut: &str) -> Result<(bool, bool)> {
+    let (is_refused, finding) = match reading::read(alloc, cut) {
+        Ok(problem) => (false, evaluated(rt, alloc, &problem, cut)?),
+        Err(fault) => (true, refused(rt, alloc, fault, cut, None)?),
+    };
+    Ok((is_refused, finding.as_str().ends_with(agreement(true))))
 }
 
 // What the evaluator finds in a file, with this many trucks or as many as are wanted, and whether the command answers just that.
@@ -131,32 +135,84 @@ fn evaluated<R: Threads + Wait + Sync>(
     problem: &Problem,
     text: &str,
 ) -> Result<String> {
+    let glance = at_a_glance(rt, alloc, problem, text)?;
+    let cheapest = least::least(alloc, problem)?;
+    let is_same = glance.is_bound(&cheapest) && is_found(rt, alloc, problem, text, &cheapest)?;
+    let finding = glance.finding.as_str();
+    told(
+        alloc,
+        finding,
+        &cheapest,
+        agreement(glance.is_same && is_same),
+    )
+}
+
+// What is known of a problem at a glance, and whether the command prints just that.
+#[derive(Debug, Drop)]
+struct Glance {
+    finding: String,
+    // No plan costs less, as the command says.
+    lower: u64,
+    // What the plan costs that the command starts with.
+    cost: Option<u64>,
+    is_same: bool,
+}
+
+fn at_a_glance<R: Threads + Wait + Sync>(
+    rt: &R,
+    alloc: Global,
+    problem: &Problem,
+    text: &str,
+) -> Result<Glance> {
     let glance = ask(rt, alloc, text, problem.trucks, Time::Glance)?;
     let verdict = last_line(str::from_utf8(&glance.printed)?);
-    let first = first_plan(alloc, problem, verdict)?;
-    let is_same = glance.is(status(verdict), first.report.as_str());
-    let lower = report::lower(verdict, first.cost);
-    let said = first.said;
-    let finding = format!(in alloc; "{said}, {verdict} at a glance")?;
-    match least::least(alloc, problem)? {
-        Cheapest::Unknown => {
-            let is_bound = lower <= first.cost.unwrap_or(report::NO_COST);
-            let same = agreement(is_same && is_bound);
-            Ok(format!(in alloc; "{finding}; {same}")?)
-        }
+    let First { said, cost, report } = first_plan(alloc, problem, verdict)?;
+    let is_same = glance.is(status(verdict), report.as_str());
+    Ok(Glance {
+        finding: format!(in alloc; "{said}, {verdict} at a glance")?,
+        lower: report::lower(verdict, cost),
+        cost,
+        is_same,
+    })
+}
+
+impl Glance {
+    // Whether no plan costs less than the command says, as far as one knows the cheapest.
+    fn is_bound(&self, cheapest: &Cheapest) -> bool {
+        let cost = match cheapest {
+            Cheapest::Unknown => self.cost.unwrap_or(report::NO_COST),
+            Cheapest::Plan { cost, .. } => *cost,
+            Cheapest::NoPlan => report::NO_COST,
+        };
+        self.lower <= cost
+    }
+}
+
+// Whether the command, given time, finds the cheapest plan, as far as one knows it.
+fn is_found<R: Threads + Wait + Sync>(
+    rt: &R,
+    alloc: Global,
+    problem: &Problem,
+    text: &str,
+    cheapest: &Cheapest,
+) -> Result<bool> {
+    match cheapest {
+        Cheapest::Unknown => Ok(true),
         Cheapest::Plan { cost, routes } => {
-            let is_bound = is_same && lower <= cost;
-            let wanted = report::text(alloc, &routes, cost, report::PROVEN)?;
-            let is_plan = plan::is_lawful(problem, &routes) && plan::cost(problem, &routes) == cost;
-            let is_solved = is_plan && is_solved(rt, alloc, problem, text, wanted.as_str())?;
-            let same = agreement(is_bound && is_solved);
-            Ok(format!(in alloc; "{finding}; least {cost}; {same}")?)
+            let wanted = report::text(alloc, routes, *cost, report::PROVEN)?;
+            let is_plan = plan::is_lawful(problem, routes) && plan::cost(problem, routes) == *cost;
+            Ok(is_plan && is_solved(rt, alloc, problem, text, wanted.as_str())?)
         }
-        Cheapest::NoPlan => {
-            let is_bound = is_same && lower <= report::NO_COST;
-            let same = agreement(is_bound && has_no_plan(rt, alloc, problem, text)?);
-            Ok(format!(in alloc; "{finding}; there is none; {same}")?)
-        }
+        Cheapest::NoPlan => has_no_plan(rt, alloc, problem, text),
+    }
+}
+
+// The finding, what a cheapest plan costs, as far as one knows it, and whether the command agrees.
+fn told(alloc: Global, finding: &str, cheapest: &Cheapest, same: &str) -> Result<String> {
+    match cheapest {
+        Cheapest::Unknown => Ok(format!(in alloc; "{finding}; {same}")?),
+        Cheapest::Plan { cost, .. } => Ok(format!(in alloc; "{finding}; least {cost}; {same}")?),
+        Cheapest::NoPlan => Ok(format!(in alloc; "{finding}; there is none; {same}")?),
     }
 }
 

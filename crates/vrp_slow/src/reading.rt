@@ -19,22 +19,33 @@ pub(crate) fn read(alloc: Global, text: &str) -> Result<Problem, Fault> {
         return Err(Fault::TooLong);
     }
     let lines = before_the_end(alloc, text)?;
-    let is_explicit = value(&lines, "EDGE_WEIGHT_TYPE") == "EXPLICIT";
-    for line in &lines {
-        if let Some(wrong) = line_fault(alloc, &lines, *line, is_explicit)? {
+    read_lines(alloc, &lines)
+}
+
+// The same, of the lines of a file.
+fn read_lines(alloc: Global, lines: &[Line<'_>]) -> Result<Problem, Fault> {
+    let is_explicit = value(lines, "EDGE_WEIGHT_TYPE") == "EXPLICIT";
+    for line in lines {
+        if let Some(wrong) = line_fault(alloc, lines, *line, is_explicit)? {
             return Err(Fault::Line(line.number, wrong));
         }
     }
-    for key in KEYS {
-        if is_needed(key, is_explicit) && first_with(&lines, key).is_none() {
-            return Err(Fault::Missing(key));
-        }
-    }
-    let problem = stated(alloc, &lines, is_explicit)?;
+    check_keys(lines, is_explicit)?;
+    let problem = stated(alloc, lines, is_explicit)?;
     match problem.fault() {
         Some(fault) => Err(fault),
         None => Ok(problem),
     }
+}
+
+// Whether each keyword that is needed is there.
+fn check_keys(lines: &[Line<'_>], is_explicit: bool) -> Result<(), Fault> {
+    for key in KEYS {
+        if is_needed(key, is_explicit) && first_with(lines, key).is_none() {
+            return Err(Fault::Missing(key));
+        }
+    }
+    Ok(())
 }
 
 // What is wrong with a line.
@@ -59,28 +70,42 @@ fn value<'a>(lines: &[Line<'a>], keyword: &str) -> &'a str {
 // What lines without a fault state, where each section has the right count and names the right nodes.
 fn stated(alloc: Global, lines: &[Line<'_>], is_explicit: bool) -> Result<Problem, Fault> {
     let nodes = number(value(lines, "DIMENSION"));
-    let weights = if is_explicit {
-        matrix(alloc, lines, nodes)?
-    } else {
-        points(alloc, lines, nodes)?
-    };
-    let demands = demands(alloc, lines, nodes)?;
-    let depots = depots(alloc, lines)?;
-    if let Weights::Points(_, points) = &weights {
-        check_nodes(points, nodes, "NODE_COORD_SECTION")?;
-    }
-    check_nodes(&demands, nodes, "DEMAND_SECTION")?;
-    for depot in &depots {
-        check_node(*depot, nodes, "DEPOT_SECTION")?;
-    }
-    Ok(Problem {
+    let problem = Problem {
         nodes,
         capacity: number(value(lines, "CAPACITY")),
-        demands,
-        depots,
-        weights,
+        weights: weights(alloc, lines, nodes, is_explicit)?,
+        demands: demands(alloc, lines, nodes)?,
+        depots: depots(alloc, lines)?,
         trucks: None,
-    })
+    };
+    check_all_nodes(&problem)?;
+    Ok(problem)
+}
+
+fn weights(
+    alloc: Global,
+    lines: &[Line<'_>],
+    nodes: i64,
+    is_explicit: bool,
+) -> Result<Weights, Fault> {
+    if is_explicit {
+        matrix(alloc, lines, nodes)
+    } else {
+        points(alloc, lines, nodes)
+    }
+}
+
+// Whether each section names the right nodes.
+fn check_all_nodes(problem: &Problem) -> Result<(), Fault> {
+    let nodes = problem.nodes;
+    if let Weights::Points(_, points) = &problem.weights {
+        check_nodes(points, nodes, "NODE_COORD_SECTION")?;
+    }
+    check_nodes(&problem.demands, nodes, "DEMAND_SECTION")?;
+    for depot in &problem.depots {
+        check_node(*depot, nodes, "DEPOT_SECTION")?;
+    }
+    Ok(())
 }
 
 // A number that is known to be one.
