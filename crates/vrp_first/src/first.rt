@@ -2,12 +2,11 @@
 ghost use Rattle.std.specs.Prelude.{IfOk, IfSome};
 ghost use Rattle.vrp_model.specs.Route.{IsPlanOf};
 
-use crate::run::run;
-use crate::setting::Setting;
-use crate::threshold::Threshold;
 use std::alloc::Global;
 use vrp_model::{Instance, NoMemory, Plan};
-use vrp_savings::{lawful_plan, savings_plan};
+use vrp_recreate::{Setting, Threshold, run};
+use vrp_savings::savings_plan;
+use vrp_tree::lawful_plan;
 
 /// With this many moves a run finds the cheapest plan of most instances of some 60 customers.
 pub const ENOUGH_MOVES: u32 = 20_000;
@@ -45,13 +44,27 @@ pub fn first_plan<F: Fn() -> bool>(
     let setting = Setting::new(alloc, instance)?;
     let threshold = threshold(instance, moves);
     for number in 1..RUNS + 1 {
-        let word = match &best {
-            Some(plan) => run(alloc, &setting, plan.word(), threshold, number, goes_on)?,
-            None => run(alloc, &setting, &[], threshold, number, goes_on)?,
-        };
+        let word = word_of_run(alloc, &setting, &best, threshold, number, goes_on)?;
         best = better(alloc, instance, &word, best)?;
     }
     Ok(best)
+}
+
+// The word that a run of a number ends with, which starts from a plan, or with nobody served.
+fn word_of_run<F: Fn() -> bool>(
+    alloc: Global,
+    setting: &Setting<'_>,
+    best: &Option<Plan>,
+    threshold: Threshold,
+    number: u64,
+    goes_on: &F,
+) -> Result<Vec<u16>, NoMemory>
+    requires { F.IsAlwaysCallable goes_on.now }
+{
+    match best {
+        Some(plan) => run(alloc, setting, plan.word(), threshold, number, goes_on),
+        None => run(alloc, setting, &[], threshold, number, goes_on),
+    }
 }
 
 // The plan of a word, where it is before the best so far, or else that one.
@@ -89,6 +102,3 @@ fn threshold(instance: &Instance, moves: u32) -> Threshold {
         positions: u64::from(moves) * POSITIONS_A_MOVE,
     }
 }
-
-#[cfg(test)]
-mod tests;

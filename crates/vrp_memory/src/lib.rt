@@ -1,8 +1,6 @@
 //! What walks remember, so that they come back to fewer customers: the ng-routes of Baldacci, Mingozzi and Roberti (2011).
 #![tactic(auto)]
 
-#[cfg(test)]
-mod assertion;
 mod law;
 mod memory;
 mod near;

@@ -81,6 +81,13 @@ impl Memory {
         self.size
     }
 
+    /// The customers near each place, one place after another, of each as many as `size` says. Public for tests alone.
+    pub fn near(&self) -> &[u16]
+        ensures { result.now ≡ self.now.listed }
+    {
+        self.near.as_slice()
+    }
+
     /// How many memories there are at a place: one for each set of the customers near it.
     pub fn masks(&self) -> usize
         ensures value { result ≡ 2 ^ self.now.size }
@@ -194,6 +201,3 @@ fn recalled(near: &[u16], stop: u16, memory: usize, customer: u16) -> bool
     }
     false
 }
-
-#[cfg(test)]
-mod tests;

@@ -21,9 +21,9 @@ struct Stop {
     load: u64,
 }
 
-/// Routes that serve each customer once, by their stops.
+/// Routes that serve each customer once, by their stops. Public for tests alone.
 #[derive(Debug, Drop)]
-pub(crate) struct Routes {
+pub struct Routes {
     // By place; the depot's is of no account.
     stops: Vec<Stop>,
     // How many routes there are.
@@ -44,8 +44,8 @@ impl Model for Routes {
 }
 
 impl Routes {
-    /// A route for each customer.
-    pub(crate) fn one_each(alloc: Global, instance: &Instance) -> Result<Routes, NoMemory>
+    /// A route for each customer of an instance. Which customers they serve is left open. Where memory was refused, `NoMemory`.
+    pub fn one_each(alloc: Global, instance: &Instance) -> Result<Routes, NoMemory>
         ensures { IfOk result (λ routes. routes ≡ place_count instance.now) }
     {
         let count = instance.customers();
@@ -138,8 +138,9 @@ impl Routes {
     }
 
     /// The routes as a word: by rising first customer, each followed by 0. In a symmetric instance each runs from the lower of its
-    /// ends.
-    pub(crate) fn word(&self, alloc: Global, instance: &Instance) -> Result<Vec<u16>, NoMemory>
+    /// ends. There is room for two symbols a customer, which is enough for any plan. Where memory was refused, `NoMemory`. Which word
+    /// is answered is left open, and so is its room.
+    pub fn word(&self, alloc: Global, instance: &Instance) -> Result<Vec<u16>, NoMemory>
         requires { self.now ≡ place_count instance.now }
     {
         let customers = instance.customers();

@@ -6,11 +6,11 @@ ghost use Rattle.vrp_model.specs.Route.{IsPlanOf};
 ghost use Rattle.vrp_savings.specs.Inner.Joints.{IsBetween};
 
 use crate::joint::{Joint, list_joints, sort_joints};
-use crate::lawful::lawful_plan;
 use crate::reach::Reach;
 use crate::routes::Routes;
 use std::alloc::Global;
 use vrp_model::{Instance, NoMemory, Plan};
+use vrp_tree::lawful_plan;
 
 /// The weights of the way between two customers that are tried, in tenths.
 const LEAST_TENTHS: u64 = 4;
@@ -68,6 +68,3 @@ fn joined(alloc: Global, instance: &Instance, joints: &[Joint]) -> Result<Option
     let word = routes.word(alloc, instance)?;
     lawful_plan(alloc, instance, &word)
 }
-
-#[cfg(test)]
-mod tests;

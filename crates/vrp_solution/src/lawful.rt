@@ -6,7 +6,7 @@ use crate::error::SolutionError;
 use crate::route::Route;
 use std::alloc::Global;
 use vrp_model::{Instance, NoMemory, Plan};
-use vrp_savings::lawful_plan;
+use vrp_tree::lawful_plan;
 
 /// The plan of these routes, with its true cost, if it is lawful.
 pub(crate) fn plan_of(

@@ -1,0 +1,150 @@
+//! Recreate: each customer that was taken out is put back where it costs least.
+ghost use Rattle.std.specs.Prelude.{◌≡◌, ◌<◌};
+ghost use Rattle.vrp_recreate.specs.Inner.Stops.{IsGap};
+ghost use Rattle.vrp_model.specs.Problem.{place_count};
+
+use crate::random::Random;
+use crate::routes::{Gap, Route, Routes};
+use crate::setting::Setting;
+use crate::taken::Taken;
+
+/// Where a customer can be put. Offers are compared by what is paid.
+#[derive(Clone, Copy, Debug)]
+struct Offer {
+    // What the ways weigh that are added, less the one that is spared, and `RAISE`.
+    paid: u64,
+    // On route 0: on a route of its own, whose number is left open.
+    gap: Gap,
+}
+
+/// More than a way weighs, so that what is paid is no negative number.
+const RAISE: u64 = 1 << 32;
+
+/// Puts the customers back that were taken out, in their order, where they find a place. Answers how many positions were looked
+/// at.
+pub(crate) fn recreate(
+    setting: &Setting<'_>,
+    routes: &mut Routes,
+    taken: &Taken,
+    random: &mut Random,
+) -> u64
+    requires routes { routes.old ≡ place_count setting.now }
+    requires taken { taken.now ≡ place_count setting.now }
+    ensures { routes.new ≡ routes.old }
+{
+    let mut looked: u64 = 0;
+    let turns = taken.turns();
+    for turn in turns {
+        looked = looked.saturating_add(put_back(setting, routes, turn.customer, random));
+    }
+    looked
+}
+
+// Puts a customer where that costs least, if there is a place. Answers how many positions were looked at.
+fn put_back(setting: &Setting<'_>, routes: &mut Routes, customer: u16, random: &mut Random) -> u64
+    requires routes { routes.old ≡ place_count setting.now }
+    requires customer { customer < routes.old }
+    ensures { routes.new ≡ routes.old }
+{
+    let demand = setting.instance().demand(customer);
+    let mut best = own_route(setting, routes, customer);
+    let mut free = routes.highest() + 1;
+    let mut looked: u64 = 0;
+    for number in 1..routes.highest() + 1 {
+        let route = routes.route(number);
+        if route.stops == 0 {
+            free = number;
+        } else if demand <= route.room {
+            best = best_along(setting, routes, customer, number, random, best);
+            looked = looked.saturating_add(u64::from(route.stops));
+        }
+        looked = looked.saturating_add(1);
+    }
+    put_at(setting, routes, customer, best, free);
+    looked
+}
+
+// Accepts an offer, where the number of a free route is known. If what is paid is endless, there is none.
+fn put_at(setting: &Setting<'_>, routes: &mut Routes, customer: u16, offer: Offer, free: u16)
+    requires routes { routes.old ≡ place_count setting.now }
+    requires customer { customer < routes.old }
+    requires gap { IsGap routes.old offer.gap }
+    ensures { routes.new ≡ routes.old }
+{
+    let Offer { paid, gap } = offer;
+    if paid == u64::MAX {
+        return;
+    }
+    if gap.route != 0 {
+        routes.put(setting, customer, gap);
+    } else if free <= setting.instance().customers() {
+        let gap = Gap {
+            route: free,
+            before: 0,
+        };
+        routes.put(setting, customer, gap);
+    }
+}
+
+// A route of the customer's own. Where there is no truck for it, what is paid is endless.
+fn own_route(setting: &Setting<'_>, routes: &Routes, customer: u16) -> Offer
+    requires routes { routes.now ≡ place_count setting.now }
+    requires customer { customer < routes.now }
+    ensures { IsGap routes.now result.gap }
+{
+    let ways = setting.ways();
+    let out = u64::from(ways.weight(0, customer));
+    let back = u64::from(ways.weight(customer, 0));
+    let paid = if routes.count() < setting.trucks() {
+        RAISE + out + back
+    } else {
+        u64::MAX
+    };
+    Offer {
+        paid,
+        gap: Gap {
+            route: 0,
+            before: 0,
+        },
+    }
+}
+
+// The best of an offer and of those along a route. One position in a hundred is passed over.
+fn best_along(
+    setting: &Setting<'_>,
+    routes: &Routes,
+    customer: u16,
+    route: u16,
+    random: &mut Random,
+    offer: Offer,
+) -> Offer
+    requires routes { routes.now ≡ place_count setting.now }
+    requires customer { customer < routes.now }
+    requires route { route < routes.now }
+    requires offer { IsGap routes.now offer.gap }
+    ensures { IsGap routes.now result.gap }
+{
+    let ways = setting.ways();
+    let (from, into, home) = (ways.from(customer), ways.into(customer), ways.into(0));
+    let Route { first, stops, .. } = routes.route(route);
+    let mut best = offer;
+    let mut before = 0;
+    let mut at = first;
+    for _ in 0..u32::from(stops) + 1 {
+        let stop = routes.stop(at);
+        let spared = if at == 0 {
+            home[usize::from(before)]
+        } else {
+            stop.way
+        };
+        let added = u64::from(into[usize::from(before)]) + u64::from(from[usize::from(at)]);
+        let paid = RAISE + added - u64::from(spared);
+        if !random.blinks() && paid < best.paid {
+            let gap = Gap { route, before };
+            best = Offer { paid, gap };
+        }
+        before = at;
+        at = stop.after;
+    }
+    best
+}
