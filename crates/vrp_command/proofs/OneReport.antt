@@ -10,8 +10,8 @@ use Rattle.vrp_command.specs.Run.{AnswersBytes, ReportsAnswer, limited, status_o
 use Rattle.vrp_request.specs.declared.options.Options.{Options}
 use Rattle.vrp_streams.specs.declared.status.Status.{Status}
 use Rattle.vrp_streams.specs.declared.status.Status.TheVariants as status
-use Rattle.vrp_pool.specs.declared.answers.Answer.{Answer}
-use Rattle.vrp_pool.specs.declared.answers.Answer.TheVariants as answer
+use Rattle.vrp_answer.specs.declared.answers.Answer.{Answer}
+use Rattle.vrp_answer.specs.declared.answers.Answer.TheVariants as answer
 
 abbrev code : Status → ℕ
 code status.Proven = 0

@@ -8,8 +8,8 @@ use Rattle.vrp_model.specs.Route.{PricedPlan}
 use Rattle.vrp_model.specs.declared.limits.TheConstants.{MAX_NODES}
 use Rattle.vrp_tree.specs.Cutting.{HasNoChild, IsCutting}
 use Rattle.vrp_pool.specs.Answer.{IsLeftOpen}
-use Rattle.vrp_pool.specs.declared.answers.Answer.{Answer}
-use Rattle.vrp_pool.specs.declared.answers.Answer.TheVariants.{Proven, Open, NoPlan}
+use Rattle.vrp_answer.specs.declared.answers.Answer.{Answer}
+use Rattle.vrp_answer.specs.declared.answers.Answer.TheVariants.{Proven, Open, NoPlan}
 
 -- The words are cut into pieces, as many as were asked for or until none has a child, and fewer than `MAX_NODES` more; and some of
 -- these are left unfinished

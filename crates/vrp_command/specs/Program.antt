@@ -8,7 +8,7 @@ use Rattle.vrp_streams.specs.Report.{lawful_report}
 use Rattle.vrp_command.specs.Run.{PrintsAnswer, ReadsProblem, WritesAnswer, status_of}
 use Rattle.vrp_model.specs.Problem.{Problem}
 use Rattle.vrp_model.specs.Route.{IsPlanOf, PricedPlan}
-use Rattle.vrp_pool.specs.declared.answers.Answer.{Answer}
+use Rattle.vrp_answer.specs.declared.answers.Answer.{Answer}
 use Rattle.vrp_request.specs.declared.options.Options.{Options}
 use Rattle.vrp_streams.specs.declared.status.Status.{Status}
 

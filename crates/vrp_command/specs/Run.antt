@@ -14,8 +14,8 @@ use Rattle.vrp_streams.specs.declared.fault.RunError.TheVariants as fault
 use Rattle.vrp_request.specs.declared.options.Options.{Options}
 use Rattle.vrp_streams.specs.declared.status.Status.{Status}
 use Rattle.vrp_streams.specs.declared.status.Status.TheVariants as status
-use Rattle.vrp_pool.specs.declared.answers.Answer.{Answer}
-use Rattle.vrp_pool.specs.declared.answers.Answer.TheVariants as answer
+use Rattle.vrp_answer.specs.declared.answers.Answer.{Answer}
+use Rattle.vrp_answer.specs.declared.answers.Answer.TheVariants as answer
 
 -- the status of a run that prints this answer
 abbrev pub status_of : Answer → Status

@@ -3,9 +3,9 @@ use Rattle.std.proofs.Common.{ℕ, zero, suc, ◌-◌, ◌≤◌, ◌<◌, inl, 
 use Rattle.std.proofs.lemmas.Bool.{cases_lt}
 use Rattle.std.proofs.lemmas.List.{get_or_append_left, get_or-append_right}
 use Rattle.vrp_tree.specs.Cutting.{NumberedWord}
-use Rattle.vrp_pool.specs.Inner.Workers.{AreOutcomes, IsOutcome, Search}
-use Rattle.vrp_pool.specs.declared.outcome.Outcome.{Outcome}
-use Rattle.vrp_pool.specs.declared.outcome.Outcome.TheVariants.{Finished, Unfinished}
+use Rattle.vrp_answer.specs.Outcomes.{AreOutcomes, IsOutcome, Search}
+use Rattle.vrp_answer.specs.declared.outcome.Outcome.{Outcome}
+use Rattle.vrp_answer.specs.declared.outcome.Outcome.TheVariants.{Finished, Unfinished}
 
 pub one_lower : (s : Search) (least lower : ℕ) (piece : NumberedWord) (one : Outcome) → lower ≤ least → IsOutcome s least piece one → IsOutcome s lower piece one
 one_lower s least lower piece (Finished done) falls kept = record {

@@ -1,12 +1,6 @@
-mod BestPlan
 mod Closings
-mod DrawnPieces
 mod Floors
 mod KeptOutcomes
 mod NewCallers
-mod NotedOutcomes
-mod Outcomes
-mod Settlings
 mod Teams
-mod Verdicts
 mod Works

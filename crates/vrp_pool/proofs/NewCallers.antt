@@ -7,7 +7,8 @@ use Rattle.vrp_model.specs.Word.{IsFront}
 use Rattle.vrp_register.specs.Caller.{CallerState, RegisterState, newcomers}
 use Rattle.vrp_register.specs.Costs.{newcomer}
 use Rattle.vrp_tree.specs.Cutting.{IsCutting, NumberedWord}
-use Rattle.vrp_pool.specs.Inner.Workers.{AreFronts, AreNewCallers, Search, words_of}
+use Rattle.vrp_answer.specs.Outcomes.{Search, words_of}
+use Rattle.vrp_pool.specs.Inner.Workers.{AreFronts, AreNewCallers}
 
 pub new_callers : (register : RegisterState) (opening count : ℕ) → AreNewCallers register (newcomers register.table opening count)
 new_callers register opening count = λ k d lt.

@@ -9,8 +9,9 @@ use Rattle.vrp_pile.specs.declared.limits.TheConstants.{MAX_DRAWERS}
 use Rattle.vrp_register.specs.Caller.{CallerState, IsCallerOf, RegisterState}
 use Rattle.vrp_tree.specs.Cutting.{NumberedWord}
 use Rattle.vrp_pool.specs.SeatBoard.{floor_of, least_seen}
-use Rattle.vrp_pool.specs.Inner.Workers.{AreBack, AreFronts, AreOutcomes, CostsNoLess, HasOutcomes, HasSearched, HaveHelped, IsPartly, IsTakenOver, IsTeam, IsWorked, IsWorker, Search, WorkerState, new_worker}
-use Rattle.vrp_pool.specs.declared.outcome.Searched.{Searched}
+use Rattle.vrp_answer.specs.Outcomes.{AreOutcomes, Search}
+use Rattle.vrp_pool.specs.Inner.Workers.{AreBack, AreFronts, CostsNoLess, HasOutcomes, HasSearched, HaveHelped, IsPartly, IsTakenOver, IsTeam, IsWorked, IsWorker, WorkerState, new_worker}
+use Rattle.vrp_answer.specs.declared.outcome.Searched.{Searched}
 use Rattle.vrp_pool.proofs.KeptOutcomes.{kept_lower, kept_together, none_kept}
 use Rattle.vrp_pool.proofs.Works.{can_still, still_has}
 

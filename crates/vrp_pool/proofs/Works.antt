@@ -6,8 +6,9 @@ use Rattle.vrp_model.specs.Route.{IsPlanOf}
 use Rattle.vrp_pile.specs.Pile.{IsDrawn}
 use Rattle.vrp_tree.specs.Cutting.{NumberedWord}
 use Rattle.vrp_pool.specs.SeatBoard.{IsLater, floor_of}
-use Rattle.vrp_pool.specs.Inner.Workers.{AreFronts, CanWork, HasOutcomes, HasSearched, IsOutcome, IsWorked, Search, WorkerState}
-use Rattle.vrp_pool.specs.declared.outcome.Outcome.{Outcome}
+use Rattle.vrp_answer.specs.Outcomes.{IsOutcome, Search}
+use Rattle.vrp_pool.specs.Inner.Workers.{AreFronts, CanWork, HasOutcomes, HasSearched, IsWorked, WorkerState}
+use Rattle.vrp_answer.specs.declared.outcome.Outcome.{Outcome}
 use Rattle.vrp_pool.proofs.Floors.{later_itself, later_still}
 use Rattle.vrp_pool.proofs.KeptOutcomes.{kept_lower, kept_together, none_kept, one_kept}
 

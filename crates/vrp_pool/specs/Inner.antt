@@ -1,3 +1,2 @@
 -- What inner contracts alone cite: nobody has to believe it.
-pub mod Conclusion
 pub mod Workers

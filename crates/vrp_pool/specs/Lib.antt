@@ -1,4 +1,4 @@
-pub mod Answer
-pub mod Gatherer
-pub mod SeatBoard
+pub use Rattle.vrp_answer.specs.Answer
+pub use Rattle.vrp_answer.specs.Gatherer
 pub mod Inner
+pub mod SeatBoard

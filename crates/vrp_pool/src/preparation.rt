@@ -4,8 +4,7 @@ ghost use Rattle.vrp_model.specs.Problem.{place_count};
 ghost use Rattle.vrp_model.specs.Route.{IsPlanOf};
 ghost use Rattle.vrp_pool.specs.declared.preparation.TheConstants.{LEAST_PREPARED_BUDGET};
 
-use crate::gates::{Gate, News};
-use crate::shared::Shared;
+use vrp_answer::{Gate, News, Shared};
 use vrp_ascent::{FoundPrices, find_prices};
 use vrp_first::ENOUGH_MOVES;
 use vrp_model::{NoMemory, Plan};

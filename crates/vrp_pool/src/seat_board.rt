@@ -8,11 +8,11 @@ ghost use Rattle.vrp_model.specs.Route.{IsPlanOf};
 ghost use Rattle.vrp_register.specs.Caller.{IsCallerOf};
 ghost use Rattle.vrp_pool.specs.SeatBoard.{IsLater, SeatBoardState, floor_of};
 
-use crate::gates::{Gate, News};
 use std::alloc::Global;
 use std::marker::Model;
 use std::sync::Wait;
 use std::sync::ledger::Ledger;
+use vrp_answer::{Gate, News};
 use vrp_model::{NoMemory, Plan};
 use vrp_register::{Caller, Register};
 use vrp_search::{Board, LOOKS_BEFORE_ASKING, Local};

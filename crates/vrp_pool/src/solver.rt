@@ -7,26 +7,23 @@ ghost use Rattle.vrp_pile.specs.Pile.{IsNewPile};
 ghost use Rattle.vrp_tree.specs.Cutting.{IsCutting};
 ghost use Rattle.vrp_tree.specs.declared.cutting.TheConstants.{MAX_REFINED};
 ghost use Rattle.vrp_pool.specs.declared.solver.TheConstants.{MAX_WORKERS};
-ghost use Rattle.vrp_pool.specs.Answer.{AnswersAll, IsAnswer};
-ghost use Rattle.vrp_pool.specs.Inner.Workers.{words_of};
+ghost use Rattle.vrp_answer.specs.Answer.{AnswersAll, IsAnswer};
+ghost use Rattle.vrp_answer.specs.Outcomes.{words_of};
 
-use crate::answers::{Answer, SolveError};
-use crate::conclusion::conclude;
-use crate::gates::{Gate, News, NoGate};
 use crate::preparation::{LEAST_PREPARED_BUDGET, first_plan, prices_found};
-use crate::shared::Shared;
 use crate::team::searched_by_all;
 use std::alloc::Global;
 use std::marker::Brand;
 use std::sync::Wait;
 use std::sync::ledger::{Blank, Ledger};
 use std::thread::Threads;
+use vrp_answer::{Answer, Gate, News, NoGate, Shared, SolveError, conclude};
 use vrp_ascent::FoundPrices;
 use vrp_bound::Tables;
 use vrp_model::{Instance, NoMemory, Plan};
 use vrp_pile::{Owner, Pile, Thief};
 use vrp_register::{Book, Caller, Closed, Register};
-use vrp_search::{Cutting, Prices};
+use vrp_tree::{Cutting, Prices};
 
 /// The most workers that may be asked for.
 pub const MAX_WORKERS: u32 = 64;

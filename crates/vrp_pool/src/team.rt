@@ -2,15 +2,14 @@
 ghost use Rattle.std.specs.Prelude.{◌≡◌, ◌+◌, IfOk, [], false, vec_len};
 ghost use Rattle.std.specs.List.{All};
 ghost use Rattle.vrp_pile.specs.Pile.{IsNewPile};
-ghost use Rattle.vrp_pool.specs.Inner.Workers.{AreBack, AreFronts, AreNewCallers, CanWork, HasHelped, HasWorked, HaveHelped, IsPartly, IsTeam, words_of};
+ghost use Rattle.vrp_answer.specs.Outcomes.{words_of};
+ghost use Rattle.vrp_pool.specs.Inner.Workers.{AreBack, AreFronts, AreNewCallers, CanWork, HasHelped, HasWorked, HaveHelped, IsPartly, IsTeam};
 
-use crate::gates::Gate;
-use crate::outcome::Searched;
-use crate::shared::Shared;
 use crate::worker::Worker;
 use std::sync::Wait;
 use std::sync::ledger::Ledger;
 use std::thread::{Threads, for_each_mut, join};
+use vrp_answer::{Gate, Searched, Shared};
 use vrp_model::NoMemory;
 use vrp_pile::{Owner, Thief};
 use vrp_register::{Caller, Register};

@@ -6,20 +6,20 @@ ghost use Rattle.vrp_model.specs.Route.{IsPlanOf};
 ghost use Rattle.vrp_model.specs.Word.{IsFront};
 ghost use Rattle.vrp_register.specs.Caller.{IsCallerOf};
 ghost use Rattle.vrp_pool.specs.SeatBoard.{IsLater, floor_of};
-ghost use Rattle.vrp_pool.specs.Inner.Workers.{CanWork, CostsNoLess, EndsPiece, HasHelped, HasSearched, IsNewCaller, IsOutcome, IsTakenOver, IsWorked, IsWorker, new_worker};
+ghost use Rattle.vrp_answer.specs.Outcomes.{EndsPiece, IsOutcome};
+ghost use Rattle.vrp_pool.specs.Inner.Workers.{CanWork, CostsNoLess, HasHelped, HasSearched, IsNewCaller, IsTakenOver, IsWorked, IsWorker, new_worker};
 
 use crate::draws::Draws;
-use crate::gates::{Gate, News};
-use crate::outcome::{Finished, Left, Outcome, Searched};
 use crate::seat_board::SeatBoard;
-use crate::shared::Shared;
 use std::marker::Model;
 use std::sync::Wait;
 use std::sync::ledger::Ledger;
+use vrp_answer::{Finished, Gate, Left, News, Outcome, Searched, Shared};
 use vrp_model::{NoMemory, Plan, plans_cost_less};
 use vrp_pile::{Drawn, Owner, Thief};
 use vrp_register::{Caller, Register};
-use vrp_search::{Board, Ended, LOOKS_BEFORE_ASKING, Piece, search, search_by_prices};
+use vrp_search::{Board, Ended, LOOKS_BEFORE_ASKING, search, search_by_prices};
+use vrp_tree::Piece;
 
 // How often in a row a worker may be told that others were drawing, before it draws no more.
 const MAX_BUSY: u32 = 1_000;

@@ -3,9 +3,9 @@ use Rattle.std.specs.Prelude.{ℕ, ◌+◌, ◌<◌, All, Option, None, Some, Li
 use Rattle.std.specs.List.{flat_map}
 use Rattle.vrp_model.specs.Problem.{Problem, node_of, place_count}
 use Rattle.vrp_model.specs.Route.{PricedPlan}
-use Rattle.vrp_pool.specs.Answer.{known_plan}
-use Rattle.vrp_pool.specs.declared.answers.Answer.{Answer}
-use Rattle.vrp_pool.specs.declared.answers.Answer.TheVariants.{Proven, Open, NoPlan}
+use Rattle.vrp_answer.specs.Answer.{known_plan}
+use Rattle.vrp_answer.specs.declared.answers.Answer.{Answer}
+use Rattle.vrp_answer.specs.declared.answers.Answer.TheVariants.{Proven, Open, NoPlan}
 
 -- the stops of all these routes are places of the problem
 abbrev pub HasStopsIn : Problem → List (List ℕ) → Type 0

@@ -8,8 +8,8 @@ use crate::status::Status;
 use std::alloc::{AllocError, Global};
 use std::error::Error;
 use std::fmt;
+use vrp_answer::SolveError;
 use vrp_model::NoMemory;
-use vrp_pool::SolveError;
 use vrp_text::TextError;
 
 /// Why a run failed. Nothing was written, but for `Write`, where a part of the report may have gone out.

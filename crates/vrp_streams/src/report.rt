@@ -2,13 +2,13 @@
 ghost use Rattle.std.specs.Prelude.{◌≡◌, ◌+◌, ◌<◌, Some, OnOk, IfOk, ◌++◌, decimal, string_bytes, All};
 ghost use Rattle.std.specs.Option.{ForSome};
 ghost use Rattle.vrp_model.specs.Problem.{place_count};
-ghost use Rattle.vrp_pool.specs.Answer.{known_plan};
+ghost use Rattle.vrp_answer.specs.Answer.{known_plan};
 ghost use Rattle.vrp_streams.specs.Report.{route_line, route_lines, stops_text, cost_line, verdict_line, plan_lines, report_of, lawful_report, HasStopsIn};
 
 use itoa::Buffer;
 use std::alloc::{AllocError, Global};
+use vrp_answer::Answer;
 use vrp_model::{Instance, Plan};
-use vrp_pool::Answer;
 
 /// The report of an answer to the instance.
 pub fn report_text(

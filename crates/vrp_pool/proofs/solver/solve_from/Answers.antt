@@ -1,6 +1,6 @@
 use Rattle.std.proofs.Common.{subst, sym}
 use Rattle.vrp_tree.specs.Cutting.{IsCutting}
-use Rattle.vrp_pool.specs.Inner.Workers.{Search}
+use Rattle.vrp_answer.specs.Outcomes.{Search}
 use Rattle.vrp_pool.proofs.solver.solve_from.Goals as goal
 
 pub new-shared-requires-clause-tables : goal.new-shared-requires-clause-tables

@@ -3,8 +3,9 @@ use Rattle.std.specs.Prelude.{◌↔◌, IfOk, IsTrue, is_some}
 use Rattle.vrp_model.specs.Cheapest.{cost_of}
 use Rattle.vrp_model.specs.Problem.{HasTrucks, customers}
 use Rattle.vrp_tree.specs.Cutting.{AreNumbered, IsCutting, NumberedWord}
-use Rattle.vrp_pool.specs.Answer.{IsAnswer}
-use Rattle.vrp_pool.specs.Inner.Workers.{AreNewCallers, IsSearched, Search, words_of}
+use Rattle.vrp_answer.specs.Answer.{IsAnswer}
+use Rattle.vrp_answer.specs.Outcomes.{IsSearched, Search, words_of}
+use Rattle.vrp_pool.specs.Inner.Workers.{AreNewCallers}
 use Rattle.vrp_pool.proofs.Closings.{all_searched}
 use Rattle.vrp_pool.proofs.NewCallers.{are_fronts, many_callers, new_callers}
 use Rattle.vrp_pool.proofs.solver.solve_pile.Goals as goal

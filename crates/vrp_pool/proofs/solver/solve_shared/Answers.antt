@@ -1,7 +1,7 @@
 use Rattle.std.proofs.Common.{Option, subst}
 use Rattle.std.specs.Prelude.{IfSome}
-use Rattle.vrp_pool.specs.Answer.{AnswersAll}
-use Rattle.vrp_pool.specs.declared.answers.Answer.{Answer}
+use Rattle.vrp_answer.specs.Answer.{AnswersAll}
+use Rattle.vrp_answer.specs.declared.answers.Answer.{Answer}
 use Rattle.vrp_pool.proofs.solver.solve_shared.Goals as goal
 
 pub returns-in-Some : goal.returns-in-Some

@@ -4,7 +4,8 @@ use Rattle.std.specs.Prelude.{IfOk}
 use Rattle.vrp_model.specs.Route.{IsPlanOf}
 use Rattle.vrp_register.specs.Caller.{RegisterState}
 use Rattle.vrp_tree.specs.Cutting.{NumberedWord}
-use Rattle.vrp_pool.specs.Inner.Workers.{AreBack, IsPartly, IsTeam, Search}
+use Rattle.vrp_answer.specs.Outcomes.{Search}
+use Rattle.vrp_pool.specs.Inner.Workers.{AreBack, IsPartly, IsTeam}
 use Rattle.vrp_pool.proofs.Teams.{lead_worked}
 use Rattle.vrp_pool.proofs.team.all_searched.Goals as goal
 

@@ -4,7 +4,8 @@ use Rattle.vrp_pile.specs.Pile.{DrawerState, IsNewThief}
 use Rattle.vrp_register.specs.Caller.{RegisterState}
 use Rattle.std.specs.List.{All}
 use Rattle.std.proofs.lemmas.List.Elements.{All-nil}
-use Rattle.vrp_pool.specs.Inner.Workers.{HasOutcomes, IsNewCaller, IsWorker, Search, WorkerState}
+use Rattle.vrp_answer.specs.Outcomes.{Search}
+use Rattle.vrp_pool.specs.Inner.Workers.{HasOutcomes, IsNewCaller, IsWorker, WorkerState}
 use Rattle.vrp_pool.proofs.Teams.{AreNewHelpers, new_team, one_more_helper}
 use Rattle.vrp_pool.proofs.team.new_team.Goals as goal
 

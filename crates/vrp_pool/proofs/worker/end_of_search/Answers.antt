@@ -8,9 +8,9 @@ use Rattle.vrp_model.proofs.UnservedCustomers.{unserved_are_customers}
 use Rattle.vrp_tree.specs.Low.{AreCovered}
 use Rattle.vrp_search.specs.Search.{EndsSearch}
 use Rattle.vrp_pool.specs.SeatBoard.{floor_of}
-use Rattle.vrp_pool.specs.Inner.Workers.{EndsPiece, Search}
+use Rattle.vrp_answer.specs.Outcomes.{EndsPiece, Search}
 use Rattle.vrp_pool.proofs.Floors.{later_itself}
-use Rattle.vrp_pool.proofs.Outcomes.{ends_within}
+use Rattle.vrp_answer.proofs.Outcomes.{ends_within}
 use Rattle.vrp_pool.proofs.worker.end_of_search.Goals as goal
 
 pub search_by_prices-requires-clause-prices : goal.search_by_prices-requires-clause-prices

@@ -1,8 +1,8 @@
 use Rattle.std.proofs.Common.{◌≤◌, subst, arith}
 use Rattle.vrp_pool.specs.SeatBoard.{floor_of}
-use Rattle.vrp_pool.specs.Inner.Workers.{EndsPiece, IsFinishedPiece}
-use Rattle.vrp_pool.specs.declared.outcome.Finished.{Finished}
-use Rattle.vrp_pool.proofs.Outcomes.{finished_piece, left_piece}
+use Rattle.vrp_answer.specs.Outcomes.{EndsPiece, IsFinishedPiece}
+use Rattle.vrp_answer.specs.declared.outcome.Finished.{Finished}
+use Rattle.vrp_answer.proofs.Outcomes.{finished_piece, left_piece}
 use Rattle.vrp_pool.proofs.worker.searched.Goals as goal
 
 pub returns-in-Finished-clause-serves : goal.returns-in-Finished-clause-serves

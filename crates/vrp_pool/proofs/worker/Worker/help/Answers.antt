@@ -3,7 +3,7 @@ use Rattle.std.specs.Prelude.{Err, Ok, OnOk, Result, is_some}
 use Rattle.std.specs.Result.{result_err}
 use Rattle.vrp_model.specs.declared.memory.NoMemory.{NoMemory}
 use Rattle.vrp_pool.specs.Inner.Workers.{CanWork, HasHelped, HasSearched, IsWorked, WorkerState}
-use Rattle.vrp_pool.specs.declared.outcome.Outcome.{Outcome}
+use Rattle.vrp_answer.specs.declared.outcome.Outcome.{Outcome}
 use Rattle.vrp_pool.proofs.Works.{none_searched, not_worked, searches_as_well, works_as_well}
 use Rattle.vrp_pool.proofs.worker.Worker.help.Goals as goal
 

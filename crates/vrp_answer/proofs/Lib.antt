@@ -1,0 +1,6 @@
+pub mod BestPlan
+mod DrawnPieces
+mod NotedOutcomes
+pub mod Outcomes
+mod Settlings
+mod Verdicts

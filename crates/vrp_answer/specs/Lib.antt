@@ -1,0 +1,4 @@
+pub mod Answer
+pub mod Gatherer
+pub mod Inner
+pub mod Outcomes
