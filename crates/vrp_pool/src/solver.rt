@@ -20,8 +20,10 @@ use std::thread::Threads;
 use vrp_answer::{Answer, Gate, News, NoGate, Shared, SolveError, conclude};
 use vrp_ascent::FoundPrices;
 use vrp_bound::Tables;
+use vrp_memory::Memory;
 use vrp_model::{Instance, NoMemory, Plan};
 use vrp_pile::{Owner, Pile, Thief};
+use vrp_prices::Relaxation;
 use vrp_register::{Book, Caller, Closed, Register};
 use vrp_tree::{Cutting, Prices};
 
@@ -86,7 +88,10 @@ pub fn solve_from<'a, R: Threads + Wait + Sync, G: Gate + Sync>(
     let tables = Tables::over_all(alloc, instance)?;
     let pieces = cutting.pieces().len() as u32;
     let shared = Shared::new(rt, alloc, instance, &tables, start, pieces, budget, gate);
-    Ok(solve_shared(&shared, cutting, workers)?)
+    let answer = solve_shared(&shared, cutting, workers);
+    // By a call, here and below: what is let go by itself is let go on each way out, and each of these is proved.
+    drop(tables);
+    Ok(answer?)
 }
 
 // Answers by a look at the whole tree where that is enough, else by the pieces, with a first plan and prices.
@@ -108,10 +113,31 @@ fn solve_shared<R: Threads + Wait + Sync, G: Gate + Sync>(
         return Ok(answer);
     }
     let made = first_plan(shared)?;
-    let shared = shared.with_plan(made.as_ref());
-    match prices_found(&shared)? {
-        Some(found) => solve_by_prices(&shared, found, cutting, workers),
-        None => solve_pieces(&shared, cutting, workers),
+    let answer = solve_prepared(&shared.with_plan(made.as_ref()), cutting, workers);
+    drop(made);
+    answer
+}
+
+// Answers by the pieces, with prices where they are found.
+fn solve_prepared<R: Threads + Wait + Sync, G: Gate + Sync>(
+    shared: &Shared<'_, R, G>,
+    cutting: Cutting,
+    workers: u32,
+) -> Result<Answer, NoMemory>
+    requires cutting { IsCutting shared.now.problem cutting }
+    requires few { length cutting ≤ 2 * MAX_REFINED }
+    requires pieces { shared.now.pieces ≡ length cutting }
+    requires some_worker { 1 ≤ workers }
+    requires few_workers { workers ≤ MAX_WORKERS }
+    ensures { IfOk result (IsAnswer shared.now.problem cutting shared.now.budget shared.now.may_stop) }
+{
+    match prices_found(shared)? {
+        Some(FoundPrices { relaxation, memory }) => {
+            let answer = solve_by_prices(shared, &relaxation, memory, cutting, workers);
+            drop(relaxation);
+            answer
+        }
+        None => solve_pieces(shared, cutting, workers),
     }
 }
 
@@ -142,15 +168,16 @@ fn looked_at<R: Threads + Wait + Sync, G: Gate>(
     }
 }
 
-// Searches all pieces of a cutting by these prices.
+// Searches all pieces of a cutting by the prices of a relaxation, whose walks have this memory.
 fn solve_by_prices<R: Threads + Wait + Sync, G: Gate + Sync>(
     shared: &Shared<'_, R, G>,
-    found: FoundPrices<'_>,
+    relaxation: &Relaxation<'_>,
+    memory: Memory,
     cutting: Cutting,
     workers: u32,
 ) -> Result<Answer, NoMemory>
-    requires problem { found.relaxation.problem ≡ shared.now.problem }
-    requires places { found.memory.places ≡ place_count shared.now.problem }
+    requires problem { relaxation.now.problem ≡ shared.now.problem }
+    requires places { memory.places ≡ place_count shared.now.problem }
     requires cutting { IsCutting shared.now.problem cutting }
     requires few { length cutting ≤ 2 * MAX_REFINED }
     requires pieces { shared.now.pieces ≡ length cutting }
@@ -158,10 +185,11 @@ fn solve_by_prices<R: Threads + Wait + Sync, G: Gate + Sync>(
     requires few_workers { workers ≤ MAX_WORKERS }
     ensures { IfOk result (IsAnswer shared.now.problem cutting shared.now.budget shared.now.may_stop) }
 {
-    let FoundPrices { relaxation, memory } = found;
-    let prices = Prices::new(shared.alloc, &relaxation, memory)?;
+    let prices = Prices::new(shared.alloc, relaxation, memory)?;
     shared.gate.hears(News::Bound(prices.lower_bound()));
-    solve_pieces(&shared.by_prices(&prices), cutting, workers)
+    let answer = solve_pieces(&shared.by_prices(&prices), cutting, workers);
+    drop(prices);
+    answer
 }
 
 // Searches all pieces of a cutting by this many workers, who draw them from one pile.
@@ -205,7 +233,9 @@ fn solve_pile<L: Ledger + Send + Sync, R: Threads + Wait + Sync, G: Gate + Sync>
     let (register, callers) = Register::<L>::new(shared.alloc, opening, blank, workers)?;
     let (callers, searched) = searched_by_all(shared, &register, owner, thieves, callers)?;
     let Closed { book, .. } = register.close(callers);
-    conclude(shared, singles, book.plan(), searched)
+    let answer = conclude(shared, singles, book.plan(), searched);
+    drop(book);
+    answer
 }
 
 // The gate hears what a plan costs, if there is one.

@@ -123,7 +123,7 @@ fn helped<'a, R: Threads + Wait + Sync, L: Ledger + Send + Sync, G: Gate + Sync>
 // pieces.
 fn all_searched<R: Threads + Wait + Sync, L: Ledger + Send + Sync, G: Gate + Sync>(
     shared: &Shared<'_, R, G>,
-    lead: Worker<'_, Owner, R, L, G>,
+    mut lead: Worker<'_, Owner, R, L, G>,
     helpers: Vec<Worker<'_, Thief, R, L, G>>,
 ) -> Result<(Vec<Caller<L>>, Searched), NoMemory>
     requires team { IsTeam shared.now lead.board.register lead helpers.items }
@@ -131,27 +131,27 @@ fn all_searched<R: Threads + Wait + Sync, L: Ledger + Send + Sync, G: Gate + Syn
     ensures back { IfOk result (λ found. AreBack shared.now lead.entry.board.register found.0.items found.1) }
     ensures put { IfOk result (λ found. found.1.pile.put ≡ lead.entry.drawer.put) }
 {
-    let lead = lead.offered(shared, shared.first)?;
-    let (lead, helpers) = worked(shared, lead, helpers)?;
-    let (lead, callers) = taken_over(shared, lead, helpers)?;
+    lead.offer(shared, shared.first)?;
+    let (mut lead, helpers) = worked(shared, lead, helpers)?;
+    let callers = taken_over(shared, &mut lead, helpers)?;
     left_drawn(shared, lead, callers)
 }
 
-// The lead, once it has taken all helpers over, and their callers.
-fn taken_over<'a, R: Wait, L: Ledger, G: Gate>(
+// The helpers' callers, once the lead has taken all helpers over.
+fn taken_over<R: Wait, L: Ledger, G: Gate>(
     shared: &Shared<'_, R, G>,
-    mut lead: Worker<'a, Owner, R, L, G>,
+    lead: &mut Worker<'_, Owner, R, L, G>,
     helpers: Vec<Worker<'_, Thief, R, L, G>>,
-) -> Result<(Worker<'a, Owner, R, L, G>, Vec<Caller<L>>), NoMemory>
-    requires { IsTeam shared.now lead.board.register lead helpers.items }
-    ensures { IfOk result (λ team.
-        IsPartly shared.now lead.entry.board.register lead.entry.drawer.put team.1.items [] team.0) }
+) -> Result<Vec<Caller<L>>, NoMemory>
+    requires { IsTeam shared.now lead.old.board.register lead.old helpers.items }
+    ensures { IfOk result (λ callers.
+        IsPartly shared.now lead.old.board.register lead.old.drawer.put callers.items [] lead.new) }
 {
     let mut callers = Vec::new(shared.alloc);
     for helper in helpers {
         callers.push(lead.take_over(shared, helper)?)?;
     }
-    Ok((lead, callers))
+    Ok(callers)
 }
 
 // All callers and what they leave, once the lead, who has taken all helpers over, has drawn what is left.

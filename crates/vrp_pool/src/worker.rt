@@ -64,25 +64,24 @@ impl<'a, D: Draws, R: Wait, L: Ledger, G: Gate> Worker<'a, D, R, L, G> {
         }
     }
 
-    /// The worker, once it has offered a lawful plan to its board, if there is one.
-    pub(crate) fn offered(
-        mut self,
+    /// Offers a lawful plan to its board, if there is one.
+    pub(crate) fn offer(
+        &mut self,
         shared: &Shared<'_, R, G>,
         plan: Option<&Plan>,
-    ) -> Result<Worker<'a, D, R, L, G>, NoMemory>
-        requires can { CanWork shared.now self }
+    ) -> Result<(), NoMemory>
+        requires can { CanWork shared.now self.old }
         requires plan { ForSome (option_map (λ plan. plan.now) plan) (IsPlanOf shared.now.problem) }
-        ensures worked { IfOk result (IsWorked shared.now self.entry) }
-        ensures searched { IfOk result (HasSearched shared.now self.entry) }
+        ensures worked { IsWorked shared.now self.old self.new }
+        ensures searched { HasSearched shared.now self.old self.new }
     {
-        let Some(plan) = plan else {
-            return Ok(self);
-        };
-        self.board.offer(shared.alloc, plan)?;
-        Ok(self)
+        match plan {
+            Some(plan) => self.board.offer(shared.alloc, plan),
+            None => Ok(()),
+        }
     }
 
-    /// The worker, after its work as the lead: it makes room for the outcomes of all pieces, and draws.
+    /// The worker, after its work as the lead.
     pub(crate) fn led(
         mut self,
         shared: &Shared<'_, R, G>,
@@ -91,8 +90,7 @@ impl<'a, D: Draws, R: Wait, L: Ledger, G: Gate> Worker<'a, D, R, L, G> {
         ensures worked { IfOk result (IsWorked shared.now self.entry) }
         ensures searched { IfOk result (HasSearched shared.now self.entry) }
     {
-        self.outcomes.reserve(shared.pieces as usize)?;
-        self.draw_all(shared)?;
+        self.work(shared)?;
         Ok(self)
     }
 
@@ -102,9 +100,17 @@ impl<'a, D: Draws, R: Wait, L: Ledger, G: Gate> Worker<'a, D, R, L, G> {
         requires { CanWork shared.now self.old }
         ensures { HasHelped shared.now self.old self.new }
     {
-        if self.outcomes.reserve(shared.pieces as usize).is_ok() {
-            self.refused = self.draw_all(shared).err();
-        }
+        self.refused = self.work(shared).err();
+    }
+
+    /// Makes room for the outcomes of all pieces, and draws.
+    pub(crate) fn work(&mut self, shared: &Shared<'_, R, G>) -> Result<(), NoMemory>
+        requires { CanWork shared.now self.old }
+        ensures worked { IsWorked shared.now self.old self.new }
+        ensures searched { OnOk result (HasSearched shared.now self.old self.new) }
+    {
+        self.outcomes.reserve(shared.pieces as usize)?;
+        self.draw_all(shared)
     }
 
     /// Draws pieces and searches them until none is left, or it was told too often that others were drawing.
@@ -150,12 +156,12 @@ impl<'a, R: Wait, L: Ledger, G: Gate> Worker<'a, Owner, R, L, G> {
             refused,
             ..
         } = helper;
+        self.drawer.take_in(drawer);
+        let (caller, best) = board.into_parts();
         if let Some(refusal) = refused {
             return Err(refusal);
         }
-        self.drawer.take_in(drawer);
         self.outcomes.append(&mut outcomes)?;
-        let (caller, best) = board.into_parts();
         // All plans cost less than `NO_COST`.
         let _customers = shared.instance.customers();
         plans_cost_less();

@@ -1,5 +1,6 @@
 use Rattle.std.proofs.Common.{subst, sym}
 use Rattle.vrp_tree.specs.Cutting.{IsCutting}
+use Rattle.vrp_answer.specs.Answer.{IsAnswer}
 use Rattle.vrp_answer.specs.Outcomes.{Search}
 use Rattle.vrp_pool.proofs.solver.solve_from.Goals as goal
 
@@ -12,14 +13,17 @@ new-shared-requires-clause-first g c = c.requires.start
 pub new-shared-requires-clause-budget : goal.new-shared-requires-clause-budget
 new-shared-requires-clause-budget g c = c.requires.budget
 
-pub solve_shared-requires-clause-cutting : goal.solve_shared-requires-clause-cutting
-solve_shared-requires-clause-cutting g c κs within = subst (λ (s : Search). IsCutting s.problem c.args.cutting) (sym c.new-shared.ensures) c.requires.cutting
+pub solve_shared-answer-requires-clause-cutting : goal.solve_shared-answer-requires-clause-cutting
+solve_shared-answer-requires-clause-cutting g c κs within = subst (λ (s : Search). IsCutting s.problem c.args.cutting) (sym c.new-shared.ensures) c.requires.cutting
 
-pub solve_shared-requires-clause-few : goal.solve_shared-requires-clause-few
-solve_shared-requires-clause-few g c κs within = c.requires.few
+pub solve_shared-answer-requires-clause-few : goal.solve_shared-answer-requires-clause-few
+solve_shared-answer-requires-clause-few g c κs within = c.requires.few
 
-pub solve_shared-requires-clause-some_worker : goal.solve_shared-requires-clause-some_worker
-solve_shared-requires-clause-some_worker g c κs within = c.requires.some_worker
+pub solve_shared-answer-requires-clause-some_worker : goal.solve_shared-answer-requires-clause-some_worker
+solve_shared-answer-requires-clause-some_worker g c κs within = c.requires.some_worker
 
-pub solve_shared-requires-clause-few_workers : goal.solve_shared-requires-clause-few_workers
-solve_shared-requires-clause-few_workers g c κs within = c.requires.few_workers
+pub solve_shared-answer-requires-clause-few_workers : goal.solve_shared-answer-requires-clause-few_workers
+solve_shared-answer-requires-clause-few_workers g c κs within = c.requires.few_workers
+
+pub returns : goal.returns
+returns g c = subst (λ (s : Search). IsAnswer s.problem c.args.cutting s.budget s.may_stop c.in_ok-answer.field-0) c.new-shared.ensures (c.in_ok-answer.ensures)

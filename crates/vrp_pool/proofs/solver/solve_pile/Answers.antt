@@ -30,8 +30,8 @@ searched_by_all-requires-clause-all g c =
     let many : length c.in_ok-register.callers.items ≡ c.len.result + 1 = ap length c.in_ok-register.ensures.callers ∙ many_callers register _ _ in
     search (rules, many)
 
-pub conclude-requires-clause-searched : goal.conclude-requires-clause-searched
-conclude-requires-clause-searched g c =
+pub conclude-answer-requires-clause-searched : goal.conclude-answer-requires-clause-searched
+conclude-answer-requires-clause-searched g c =
     let same : c.in_ok-opening.opening ≡ c.in_ok-singles.singles = c.in_ok-opening.ensures ∙ c.as_ref.ensures.value in
     let opens : c.in_ok-register.register.opening ≡ cost_of c.in_ok-singles.singles = c.in_ok-register.ensures.opening ∙ ap cost_of same in
     let searched = c.in_ok-callers.searched in
@@ -42,17 +42,17 @@ conclude-requires-clause-searched g c =
 pub searched_by_all-requires-clause-pile : goal.searched_by_all-requires-clause-pile
 searched_by_all-requires-clause-pile g c κs within = c.requires.pile
 
-pub conclude-requires-clause-cutting : goal.conclude-requires-clause-cutting
-conclude-requires-clause-cutting g c = subst (λ (put : List NumberedWord). IsCutting c.args.shared.now.problem (words_of put)) (sym c.in_ok-callers.ensures.put) c.requires.cutting
+pub conclude-answer-requires-clause-cutting : goal.conclude-answer-requires-clause-cutting
+conclude-answer-requires-clause-cutting g c = subst (λ (put : List NumberedWord). IsCutting c.args.shared.now.problem (words_of put)) (sym c.in_ok-callers.ensures.put) c.requires.cutting
 
-pub conclude-requires-clause-numbers : goal.conclude-requires-clause-numbers
-conclude-requires-clause-numbers g c = subst AreNumbered (sym c.in_ok-callers.ensures.put) c.requires.pile.numbers
+pub conclude-answer-requires-clause-numbers : goal.conclude-answer-requires-clause-numbers
+conclude-answer-requires-clause-numbers g c = subst AreNumbered (sym c.in_ok-callers.ensures.put) c.requires.pile.numbers
 
-pub conclude-requires-clause-pieces : goal.conclude-requires-clause-pieces
-conclude-requires-clause-pieces g c = c.requires.pieces ∙ ap length (sym c.in_ok-callers.ensures.put)
+pub conclude-answer-requires-clause-pieces : goal.conclude-answer-requires-clause-pieces
+conclude-answer-requires-clause-pieces g c = c.requires.pieces ∙ ap length (sym c.in_ok-callers.ensures.put)
 
-pub conclude-requires-clause-some : goal.conclude-requires-clause-some
-conclude-requires-clause-some g c = subst (λ (t : Search). IsTrue (is_some c.in_ok-singles.singles) ↔ HasTrucks t.problem (length (customers t.problem))) c.shared.view_is c.in_ok-singles.ensures.some
+pub conclude-answer-requires-clause-some : goal.conclude-answer-requires-clause-some
+conclude-answer-requires-clause-some g c = subst (λ (t : Search). IsTrue (is_some c.in_ok-singles.singles) ↔ HasTrucks t.problem (length (customers t.problem))) c.shared.view_is c.in_ok-singles.ensures.some
 
 pub returns : goal.returns
-returns g c = subst (λ (put : List NumberedWord). IfOk c.conclude.result (IsAnswer c.args.shared.now.problem (words_of put) c.args.shared.now.budget c.args.shared.now.may_stop)) c.in_ok-callers.ensures.put c.conclude.ensures
+returns g c = subst (λ (put : List NumberedWord). IfOk c.conclude-answer.result (IsAnswer c.args.shared.now.problem (words_of put) c.args.shared.now.budget c.args.shared.now.may_stop)) c.in_ok-callers.ensures.put c.conclude-answer.ensures

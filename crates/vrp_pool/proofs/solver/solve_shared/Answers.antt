@@ -9,20 +9,11 @@ returns-in-Some g c =
     let s = c.args.shared.now in
     subst (λ (found : Option Answer). IfSome found (AnswersAll s.problem)) c.in-Some.is c.in_ok-answer.ensures c.args.cutting s.budget s.may_stop
 
-pub solve_by_prices-requires-clause-few : goal.solve_by_prices-requires-clause-few
-solve_by_prices-requires-clause-few g c κs within = c.requires.few
+pub solve_prepared-answer-requires-clause-few : goal.solve_prepared-answer-requires-clause-few
+solve_prepared-answer-requires-clause-few g c κs within = c.requires.few
 
-pub solve_by_prices-requires-clause-some_worker : goal.solve_by_prices-requires-clause-some_worker
-solve_by_prices-requires-clause-some_worker g c κs within = c.requires.some_worker
+pub solve_prepared-answer-requires-clause-some_worker : goal.solve_prepared-answer-requires-clause-some_worker
+solve_prepared-answer-requires-clause-some_worker g c κs within = c.requires.some_worker
 
-pub solve_by_prices-requires-clause-few_workers : goal.solve_by_prices-requires-clause-few_workers
-solve_by_prices-requires-clause-few_workers g c κs within = c.requires.few_workers
-
-pub solve_pieces-requires-clause-few : goal.solve_pieces-requires-clause-few
-solve_pieces-requires-clause-few g c κs within = c.requires.few
-
-pub solve_pieces-requires-clause-some_worker : goal.solve_pieces-requires-clause-some_worker
-solve_pieces-requires-clause-some_worker g c κs within = c.requires.some_worker
-
-pub solve_pieces-requires-clause-few_workers : goal.solve_pieces-requires-clause-few_workers
-solve_pieces-requires-clause-few_workers g c κs within = c.requires.few_workers
+pub solve_prepared-answer-requires-clause-few_workers : goal.solve_prepared-answer-requires-clause-few_workers
+solve_prepared-answer-requires-clause-few_workers g c κs within = c.requires.few_workers

@@ -9,18 +9,18 @@ use Rattle.vrp_pool.specs.Inner.Workers.{AreBack, IsPartly, IsTeam}
 use Rattle.vrp_pool.proofs.Teams.{lead_worked}
 use Rattle.vrp_pool.proofs.team.all_searched.Goals as goal
 
-pub offered-requires-clause-can : goal.offered-requires-clause-can
-offered-requires-clause-can g c = c.requires.team.lead_is.can
+pub offer-requires-clause-can : goal.offer-requires-clause-can
+offer-requires-clause-can g c = c.requires.team.lead_is.can
 
-pub offered-requires-clause-plan : goal.offered-requires-clause-plan
-offered-requires-clause-plan g c = subst (λ (s : Search). ForSome (option_map (λ plan. plan.now) c.shared.inside.first) (IsPlanOf s.problem)) c.shared.view_is c.shared.invariant.2
+pub offer-requires-clause-plan : goal.offer-requires-clause-plan
+offer-requires-clause-plan g c = subst (λ (s : Search). ForSome (option_map (λ plan. plan.now) c.shared.inside.first) (IsPlanOf s.problem)) c.shared.view_is c.shared.invariant.2
 
 pub worked-requires-clause-team : goal.worked-requires-clause-team
 worked-requires-clause-team g c κs within =
     let s = c.args.shared.now in
     let lead = c.args.lead in
-    let later = c.in_ok-lead.lead in
-    let offered = c.in_ok-lead.ensures in
+    let later = c.offer.new.self in
+    let offered = c.offer.ensures in
     subst (λ (r : RegisterState). IsTeam s r later c.args.helpers.items) (sym offered.worked.later.register)
     (lead_worked s lead.board.register lead later c.args.helpers.items c.requires.team offered.worked offered.searched)
 
@@ -29,25 +29,25 @@ worked-requires-clause-fine g c κs within = c.requires.fine
 
 pub taken_over-requires : goal.taken_over-requires
 taken_over-requires g c =
-    let team = c.in_ok-lead-2.ensures.team in
-    subst (λ (r : RegisterState). IsTeam c.args.shared.now r c.in_ok-lead-2.lead c.in_ok-lead-2.helpers.items) (sym team.lead_is.of_register) team
+    let team = c.in_ok-lead.ensures.team in
+    subst (λ (r : RegisterState). IsTeam c.args.shared.now r c.in_ok-lead.lead c.in_ok-lead.helpers.items) (sym team.lead_is.of_register) team
 
 pub left_drawn-requires : goal.left_drawn-requires
 left_drawn-requires g c =
     let s = c.args.shared.now in
-    let before = c.in_ok-lead-2.lead in
-    let lead = c.in_ok-lead-3.lead in
-    let callers = c.in_ok-lead-3.callers.items in
-    let over = c.in_ok-lead-3.ensures in
+    let before = c.in_ok-lead.lead in
+    let lead = c.taken_over.new.lead in
+    let callers = c.in_ok-callers.callers.items in
+    let over = c.in_ok-callers.ensures in
     subst (λ (r : RegisterState). IsPartly s r lead.drawer.put callers [] lead) (sym over.lead_is.of_register)
     (subst (λ (put : List NumberedWord). IsPartly s before.board.register put callers [] lead) (sym over.put_is) over)
 
 pub returns-clause-back : goal.returns-clause-back
 returns-clause-back g c =
-    let register = c.in_ok-lead-3.ensures.lead_is.of_register ∙ c.in_ok-lead-2.ensures.team.lead_is.of_register ∙ c.in_ok-lead.ensures.worked.later.register in
+    let register = c.in_ok-callers.ensures.lead_is.of_register ∙ c.in_ok-lead.ensures.team.lead_is.of_register ∙ c.offer.ensures.worked.later.register in
     subst (λ (r : RegisterState). IfOk c.left_drawn.result (λ found. AreBack c.args.shared.now r found.0.items found.1)) register c.left_drawn.ensures.back
 
 pub returns-clause-put : goal.returns-clause-put
 returns-clause-put g c =
-    let put = c.in_ok-lead-3.ensures.put_is ∙ c.in_ok-lead-2.ensures.put ∙ c.in_ok-lead.ensures.worked.put in
+    let put = c.in_ok-callers.ensures.put_is ∙ c.in_ok-lead.ensures.put ∙ c.offer.ensures.worked.put in
     subst (λ (pieces : List NumberedWord). IfOk c.left_drawn.result (λ found. found.1.pile.put ≡ pieces)) put c.left_drawn.ensures.put

@@ -13,7 +13,7 @@ none_left (helper ∷ rest) none = absurd (omega (arith, none))
 pub loop-helper-init : goal.loop-helper-init
 loop-helper-init g c =
     let s = c.args.shared.now in
-    let lead = c.args.lead in
+    let lead = c.args.lead.now in
     let register = lead.board.register in
     let put = lead.drawer.put in
     let none : IsPartly s register put [] c.args.helpers.items lead = none_taken_over s register put lead c.args.helpers.items c.requires refl in
@@ -24,7 +24,7 @@ pub take_over-requires-clause-helper : goal.take_over-requires-clause-helper
 take_over-requires-clause-helper g c =
     let s = c.args.shared.now in
     let pile = c.loop-helper.lead.drawer.pile in
-    let register = c.args.lead.board.register in
+    let register = c.args.lead.now.board.register in
     let are = subst (All (IsWorker s register pile)) c.in-Some.ensures.steps.0 c.loop-helper.invariant.rest_are in
     subst (λ (r : RegisterState). IsWorker s r pile c.in-Some.helper) (sym c.loop-helper.invariant.lead_is.of_register) (All-head (IsWorker s register pile) c.in-Some.helper c.next.new.self.rest.items are)
 
@@ -36,8 +36,8 @@ take_over-requires-clause-lead g c =
 pub loop-helper-preserved : goal.loop-helper-preserved
 loop-helper-preserved g c =
     let s = c.args.shared.now in
-    let register = c.args.lead.board.register in
-    let put = c.args.lead.drawer.put in
+    let register = c.args.lead.now.board.register in
+    let put = c.args.lead.now.drawer.put in
     let lead = c.loop-helper.lead in
     let callers = c.loop-helper.callers.items in
     let rest = c.next.new.self.rest.items in
@@ -47,7 +47,7 @@ loop-helper-preserved g c =
 
 pub returns : goal.returns
 returns g c =
-    let lead = c.args.lead in
+    let lead = c.args.lead.now in
     let rest = c.loop-helper.helper-iterator.rest.items in
     let none : length rest ≡ 0 = search rules in
     subst (λ (helpers : List WorkerState). IsPartly c.args.shared.now lead.board.register lead.drawer.put c.loop-helper.callers.items helpers c.loop-helper.lead) (none_left rest none) c.loop-helper.invariant

@@ -26,7 +26,7 @@ returns g c =
     let parts = c.into_parts-caller.ensures in
     let caller = c.into_parts-caller.result.0 in
     let mine = caller.known.mine in
-    let told : IsTakenOver s old helper caller c.match-best.self = elim c.match-best.branch [
+    let told : IsTakenOver s old helper caller c.match-best-3.self = elim c.match-best-3.branch [
       | in-Some-best+in_ok-keep w ↦ (
           let plan_of = helper_can.serves w.in-Some-best.best (sym parts.best ∙ w.in-Some-best.is) in
           let taken : cost_of w.keep.new.self.best ≤ cost_of c.into_parts-caller.result.1 = rw w.in-Some-best.is w.in_ok-keep.ensures.taken in
@@ -59,4 +59,4 @@ returns g c =
           })
           )
     ] in
-    subst (λ (w : WorkerState). IsTakenOver s w c.args.helper caller c.match-best.self) c.self.view_is (subst (λ (w : WorkerState). IsTakenOver s old w caller c.match-best.self) c.helper.view_is told)
+    subst (λ (w : WorkerState). IsTakenOver s w c.args.helper caller c.match-best-3.self) c.self.view_is (subst (λ (w : WorkerState). IsTakenOver s old w caller c.match-best-3.self) c.helper.view_is told)

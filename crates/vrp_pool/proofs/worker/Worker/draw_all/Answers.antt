@@ -1,4 +1,4 @@
-use Rattle.std.proofs.Common.{refl, subst, sym}
+use Rattle.std.proofs.Common.{◌∙◌, refl, subst, sym}
 use Rattle.std.specs.Prelude.{is_some}
 use Rattle.vrp_pool.specs.Inner.Workers.{CanWork, HasSearched, IsWorked, WorkerState}
 use Rattle.vrp_pool.proofs.Works.{has_drawn, none_searched, not_worked, one_searched, searches_on, works_on}
@@ -27,3 +27,27 @@ loop-preserved-in-Piece-1 g c =
       worked = works_on s c.args.self.now old new c.loop.invariant.worked worked;
       searched = searches_on s c.args.self.now old new c.loop.invariant.searched one searched.falls;
     }
+
+pub searched-requires-clause-serves : goal.searched-requires-clause-serves
+searched-requires-clause-serves g c = c.loop.invariant.worked.serves
+
+pub searched-requires-clause-gate : goal.searched-requires-clause-gate
+searched-requires-clause-gate g c = c.loop.invariant.worked.later.may_stop ∙ c.requires.may_stop
+
+pub returns-in_err-outcome-in-Piece-clause-worked : goal.returns-in_err-outcome-in-Piece-clause-worked
+returns-in_err-outcome-in-Piece-clause-worked g c =
+    let s = c.args.shared.now in
+    let inside = c.loop.self-inside in
+    let old : WorkerState = record { drawer = g.D.Draws.drawer inside.drawer; board = inside.board; outcomes = inside.outcomes.items; refused = is_some inside.refused } in
+    let new : WorkerState = record { drawer = g.D.Draws.drawer c.draw.new.self; board = c.searched.new.board; outcomes = inside.outcomes.items; refused = is_some inside.refused } in
+    let searched = c.searched.ensures in
+    works_on s c.args.self.now old new c.loop.invariant.worked (has_drawn s old new c.in-Piece.piece c.in-Piece.ensures.drawn searched.serves searched.later searched.falls)
+
+pub returns-in_err-push-in-Piece-clause-worked : goal.returns-in_err-push-in-Piece-clause-worked
+returns-in_err-push-in-Piece-clause-worked g c =
+    let s = c.args.shared.now in
+    let inside = c.loop.self-inside in
+    let old : WorkerState = record { drawer = g.D.Draws.drawer inside.drawer; board = inside.board; outcomes = inside.outcomes.items; refused = is_some inside.refused } in
+    let new : WorkerState = record { drawer = g.D.Draws.drawer c.draw.new.self; board = c.searched.new.board; outcomes = c.push.new.self.items; refused = is_some inside.refused } in
+    let searched = c.searched.ensures in
+    works_on s c.args.self.now old new c.loop.invariant.worked (has_drawn s old new c.in-Piece.piece c.in-Piece.ensures.drawn searched.serves searched.later searched.falls)
