@@ -9,7 +9,6 @@
 #![tactic(auto)]
 
 use anyhow::{Context, Result, ensure};
-use std::alloc::Global;
 use std::io::Eprint;
 use std::rt::Files;
 use std::sync::Wait;
