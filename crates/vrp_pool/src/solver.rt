@@ -24,7 +24,7 @@ use vrp_memory::Memory;
 use vrp_model::{Instance, NoMemory, Plan};
 use vrp_pile::{Owner, Pile, Thief};
 use vrp_prices::Relaxation;
-use vrp_register::{Book, Caller, Closed, Register};
+use vrp_register::{Closed, Register};
 use vrp_tree::{Cutting, Prices};
 
 /// The most workers that may be asked for.
