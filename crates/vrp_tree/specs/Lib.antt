@@ -5,4 +5,5 @@ pub mod Low
 pub mod Paid
 pub mod Partial
 pub mod Pruned
+pub mod Reached
 pub mod Tally

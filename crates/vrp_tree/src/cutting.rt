@@ -1,5 +1,5 @@
 //! Cuttings: the lawful words of an instance, shared out among pieces that are searched one by one.
-ghost use Rattle.std.specs.Prelude.{◌≡◌, ◌+◌, ◌-◌, ◌*◌, ◌≤◌, ◌<◌, IfOk, OnOk, OnErr, [], ◌∷◌, ◌++◌, length, map, max, IsTrue, ◌↔◌};
+ghost use Rattle.std.specs.Prelude.{◌≡◌, ◌+◌, ◌-◌, ◌*◌, ◌^◌, ◌≤◌, ◌<◌, IfOk, OnOk, OnErr, [], ◌∷◌, ◌++◌, length, map, max, IsTrue, ◌↔◌};
 ghost use Rattle.std.specs.List.{All};
 ghost use Rattle.vrp_model.specs.Word.{IsFront};
 ghost use Rattle.vrp_model.specs.declared.limits.TheConstants.{MAX_NODES};
@@ -28,7 +28,7 @@ pub struct Cutting {
 }
 
 impl Model for Cutting {
-    ghost use Rattle.std.specs.Prelude.{List, ℕ, map};
+    ghost use Rattle.std.specs.Prelude.{◌<◌, ◌^◌, List, ℕ, length, map};
     ghost use Rattle.vrp_model.specs.declared.limits.TheConstants.{MAX_NODES};
     ghost use Rattle.vrp_tree.specs.declared.cutting.TheConstants.{MAX_PIECES, MAX_REFINED};
     ghost use Rattle.vrp_tree.specs.Cutting.{AreNumbered};
@@ -37,7 +37,7 @@ impl Model for Cutting {
 
     ghost view = { λ a. map (λ piece. piece.word) a.pieces.items };
 
-    ghost invariant = { λ a. AreNumbered a.pieces.items };
+    ghost invariant = { λ a. AreNumbered a.pieces.items × (length a.pieces.items < 2 ^ 32) };
 }
 
 impl Cutting {
@@ -63,6 +63,7 @@ impl Cutting {
     pub fn into_pieces(self) -> Vec<Piece>
         ensures words { map (λ piece. piece.word) result.items ≡ self }
         ensures numbers { AreNumbered result.items }
+        ensures few { length result.items < 2 ^ 32 }
     {
         let Cutting { pieces } = self;
         pieces

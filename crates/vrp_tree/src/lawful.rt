@@ -1,14 +1,14 @@
 //! From a word that need not be trusted to a lawful plan.
-ghost use Rattle.std.specs.Prelude.{◌≡◌, [], IfOk, IfSome};
+ghost use Rattle.std.specs.Prelude.{◌≡◌, [], IfNone, IfOk, IfSome};
 ghost use Rattle.vrp_model.specs.Route.{IsPlanOf};
-ghost use Rattle.vrp_model.specs.Word.{word_of};
+ghost use Rattle.vrp_model.specs.Word.{IsLawfulWord, word_of};
 
 use crate::partial::Partial;
 use std::alloc::Global;
 use vrp_model::{Instance, NoMemory, Plan};
 
-/// The plan of a word, if it is a lawful word of the instance. Each symbol is asked for before it is pushed, so the word need not be
-/// trusted.
+/// The plan of a word, if it is a lawful word of the instance, and `None` if it is not. Each symbol is asked for before it is pushed, so
+/// the word need not be trusted.
 pub fn lawful_plan(
     alloc: Global,
     instance: &Instance,
@@ -16,6 +16,7 @@ pub fn lawful_plan(
 ) -> Result<Option<Plan>, NoMemory>
     ensures lawful { IfOk result (λ plan. IfSome plan (IsPlanOf instance.now)) }
     ensures word { IfOk result (λ found. IfSome found (λ plan. word_of plan.routes ≡ word.now)) }
+    ensures none { IfOk result (λ found. IfNone found (IsLawfulWord instance.now word.now → ⊥)) }
 {
     let mut partial = Partial::root(alloc, instance)?;
     pushed_plan(alloc, &mut partial, word)
@@ -30,6 +31,8 @@ fn pushed_plan(
     requires { partial.old.word ≡ [] }
     ensures lawful { IfOk result (λ plan. IfSome plan (IsPlanOf partial.old.problem)) }
     ensures word { IfOk result (λ found. IfSome found (λ plan. word_of plan.routes ≡ word.now)) }
+    ensures none { IfOk result (λ found.
+        IfNone found (IsLawfulWord partial.old.problem word.now → ⊥)) }
 {
     for symbol in word {
         if !partial.child(*symbol) {

@@ -1,11 +1,13 @@
 //! The prices that a search prunes by.
-ghost use Rattle.std.specs.Prelude.{◌≡◌, ℕ, ◌≤◌, List, [], IfOk, IsTrue};
+ghost use Rattle.std.specs.Prelude.{◌≡◌, ℕ, ◌≤◌, ◌<◌, List, [], IfOk, IsTrue};
+ghost use Rattle.std.specs.Bool.{OnFalse};
 ghost use Rattle.vrp_model.specs.declared.limits.TheConstants.{NO_COST};
 ghost use Rattle.vrp_model.specs.Problem.{place_count};
 ghost use Rattle.vrp_model.specs.Word.{NoneCheaperUnder};
 ghost use Rattle.vrp_prices.specs.Relaxation.{Bounds};
 ghost use Rattle.vrp_tree.specs.Paid.{IsPaidAt};
 ghost use Rattle.vrp_tree.specs.Pruned.{AllCostMore};
+ghost use Rattle.vrp_tree.specs.Reached.{IsReached, IsWithin};
 
 use crate::paid::Paid;
 use std::alloc::Global;
@@ -48,9 +50,10 @@ impl<'a> Prices<'a> {
         Ok(Prices { relaxation, tables })
     }
 
-    /// What the prices tell that each plan of the instance costs at least.
+    /// What the prices tell that each plan of the instance costs at least. Where they tell that there is none, it is `NO_COST`.
     pub fn lower_bound(&self) -> u64
-        ensures { NoneCheaperUnder self.now.problem [] result }
+        ensures none { NoneCheaperUnder self.now.problem [] result }
+        ensures reached { result < NO_COST → IsReached self.now result }
     {
         let root = Paid::root(self.relaxed());
         let mut low = 0;
@@ -77,13 +80,14 @@ impl<'a> Prices<'a> {
     }
 
     /// Whether the prices tell that each plan under a front costs more than this in the instance, where the front ends at this place
-    /// and so much is counted along it. Where they don't, nothing is said.
+    /// and so much is counted along it.
     #[inline(always)]
     pub fn is_dear(&self, at: u16, paid: Paid, cost: u64) -> bool
         requires front { (front : List ℕ) × IsPaidAt self.now.relaxed front at paid }
         requires cost { cost ≤ NO_COST }
-        ensures { IsTrue result → (front : List ℕ) → IsPaidAt self.now.relaxed front at paid
+        ensures dear { IsTrue result → (front : List ℕ) → IsPaidAt self.now.relaxed front at paid
             → AllCostMore self.now.problem front cost }
+        ensures within { OnFalse result (IsWithin self.now at paid cost) }
     {
         dear_fronts();
         let Some(limit) = self.relaxation.limit(cost) else {

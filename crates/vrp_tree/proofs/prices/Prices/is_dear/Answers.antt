@@ -1,11 +1,34 @@
-use Rattle.std.proofs.Common.{◌≡◌, ◌∙◌, ◌≤◌, ◌<◌, ap, sym, subst, arith}
+use Rattle.std.proofs.Common.{ℕ, ◌+◌, ◌*◌, Bool, true, false, Some, refl, nat_lt, ◌≡◌, ◌∙◌, ◌≤◌, ◌<◌, ap, sym, subst, arith}
 use Rattle.vrp_model.specs.Problem.{Problem, customers, demand_of, place_count}
 use Rattle.vrp_model.specs.Route.{load_of}
 use Rattle.vrp_model.proofs.FrontPlaces.{last_is_place}
 use Rattle.vrp_model.proofs.UnservedCustomers.{sum_of_unserved_fits}
 use Rattle.vrp_prices.specs.Relaxation.{RelaxationOf}
 use Rattle.vrp_tree.proofs.PaidAlong.{paid_is_small}
+use Rattle.std.specs.Bool.{OnFalse}
+use Rattle.std.proofs.lemmas.Bool.Decides.{nat_tests}
+use Rattle.vrp_bound.specs.Remembering.{IsMemoryBound}
+use Rattle.vrp_bound.specs.Tables.{MemoryTablesOf}
+use Rattle.vrp_tree.specs.Reached.{IsWithin}
+use Rattle.vrp_tree.specs.declared.paid.Paid.{Paid}
 use Rattle.vrp_tree.proofs.prices.Prices.is_dear.Goals as goal
+
+on_false : (b : Bool) (P : Type 0) → (b ≡ false → P) → OnFalse b P
+on_false true P told = tt
+on_false false P told = told refl
+
+-- what is within a limit is within what is allowed
+within_limit : (r : RelaxationOf) (tables : MemoryTablesOf) (at : ℕ) (paid : Paid) (cost limit more : ℕ) → tables.problem ≡ r.relaxed → IsMemoryBound tables at paid.load paid.rest (Some more)
+    → limit + r.rewards ≡ r.scale * cost + r.charges → OnFalse (nat_lt limit (paid.cost + more)) (IsWithin r at paid cost)
+within_limit r tables at paid cost limit more tabled bound is =
+    on_false (nat_lt limit (paid.cost + more)) (IsWithin r at paid cost) (λ no.
+    let low : paid.cost + more ≤ limit = grind (arith, nat_tests) in
+    record {
+      near = tables.near;
+      least = more;
+      completes = subst (λ (q : Problem). IsMemoryBound (record { problem = q; near = tables.near }) at paid.load paid.rest (Some more)) tabled bound;
+      within = omega (arith, low, is);
+    })
 
 pub bound-requires-clause-place : goal.bound-requires-clause-place
 bound-requires-clause-place c =
@@ -24,3 +47,9 @@ pub overflow_add-result : goal.overflow_add-result
 overflow_add-result c =
     let few = paid_is_small c.args.self.now.relaxed c.requires.front.0 c.args.at c.args.paid c.requires.front.1 in
     omega (arith, few, c.in-Some-bound.ensures.small)
+
+pub returns-in-Some-bound-clause-within : goal.returns-in-Some-bound-clause-within
+returns-in-Some-bound-clause-within c =
+    let tabled : c.self.inside.tables.problem ≡ c.args.self.now.relaxed = c.self.invariant ∙ ap (λ (r : RelaxationOf). r.relaxed) c.self.view_is in
+    within_limit c.args.self.now c.self.inside.tables c.args.at c.args.paid c.args.cost c.in-Some.limit c.in-Some-bound.more tabled c.in-Some-bound.ensures.bound
+    (subst (λ (r : RelaxationOf). c.in-Some.limit + r.rewards ≡ r.scale * c.args.cost + r.charges) c.self.view_is c.in-Some.ensures.limit)
