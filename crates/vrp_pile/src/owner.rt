@@ -1,5 +1,5 @@
 //! The owner of a pile: it puts all pieces on it, draws from it, and takes thieves in.
-ghost use Rattle.std.specs.Prelude.{◌≡◌, ◌<◌, IfOk, None, []};
+ghost use Rattle.std.specs.Prelude.{◌≡◌, ◌<◌, ◌^◌, IfOk, None, [], length};
 ghost use Rattle.vrp_pile.specs.declared.limits.TheConstants.{MAX_DRAWERS};
 ghost use Rattle.vrp_pile.specs.Pile.{DrawsOrStays, DrewAll, IsNewThief, IsTakenIn, LeavesSoMany, one_part_less};
 
@@ -17,7 +17,7 @@ pub struct Owner {
 }
 
 impl Model for Owner {
-    ghost use Rattle.std.specs.Prelude.{◌≡◌, ◌<◌};
+    ghost use Rattle.std.specs.Prelude.{◌≡◌, ◌<◌, ◌^◌, length};
     ghost use Rattle.crossbeam_deque.specs.Handles.{worker_deque, worker_flavor, worker_view};
     ghost use Rattle.vrp_pile.specs.Pile.{DrawerState};
     ghost use Rattle.vrp_pile.specs.Inner.Piled.{drawer};
@@ -26,12 +26,16 @@ impl Model for Owner {
 
     ghost view = { λ o. drawer (worker_deque o.deque) (worker_view o.deque) };
 
-    ghost invariant = { λ o. (worker_flavor o.deque ≡ 0) × (0 < (worker_view o.deque).parts) };
+    ghost invariant = { λ o.
+        (worker_flavor o.deque ≡ 0)
+        × (0 < (worker_view o.deque).parts)
+        × (length (worker_view o.deque).put < 2 ^ 32) };
 }
 
 impl Owner {
     /// The owner of a pile with these pieces, in order, which stands for all drawers.
     pub(crate) fn of_pieces(alloc: Global, pieces: Vec<Piece>) -> Result<Owner, AllocError>
+        requires { length pieces.items < 2 ^ 32 }
         ensures parts { IfOk result (λ owner. owner.parts ≡ MAX_DRAWERS) }
         ensures put { IfOk result (λ owner. owner.put ≡ pieces.items) }
         ensures drawn { IfOk result (λ owner. owner.drawn ≡ []) }
@@ -77,10 +81,10 @@ impl Owner {
     }
 
     /// How many pieces are left, where the owner stands for all drawers.
-    pub(crate) fn count_left(&mut self) -> usize
+    pub(crate) fn count_left(&mut self) -> u32
         requires { self.old.parts ≡ MAX_DRAWERS }
         ensures { LeavesSoMany self.old.drawn self.old.put result }
     {
-        self.deque.len_as::<Counting>()
+        self.deque.len_as::<Counting>() as u32
     }
 }

@@ -35,7 +35,7 @@ impl Pile {
 
 /// How many pieces nobody drew, where all drawers of the pile are handed in. Those that were drawn and those that are left are
 /// all that were put on the pile, each once.
-pub fn settle(mut owner: Owner, thieves: Vec<Thief>) -> usize
+pub fn settle(mut owner: Owner, thieves: Vec<Thief>) -> u32
     requires pile { All (λ thief. thief.pile ≡ owner.pile) thieves.items }
     requires all { owner.parts + length thieves.items ≡ MAX_DRAWERS }
     ensures { LeavesSoMany (owner.drawn ++ drawn_by thieves.items) owner.put result }

@@ -109,7 +109,7 @@ fn finds_nothing(thief: &mut Thief) -> bool
 }
 
 // How many thieves there are, how often the owner draws from the four pieces, and how many are left.
-const LEFT: &[(u32, u32, usize)] = &[
+const LEFT: &[(u32, u32, u32)] = &[
     (0, 0, 4),
     (0, 4, 0),
     (0, 5, 0),
@@ -128,7 +128,7 @@ fn left_at_the_end(rt: HostRuntime) {
 }
 
 // How many thieves are made, and how many of four pieces are left after this many draws of the owner.
-fn settled_after(rt: &impl Abort, alloc: Global, thieves: u32, draws: u32) -> (usize, usize)
+fn settled_after(rt: &impl Abort, alloc: Global, thieves: u32, draws: u32) -> (usize, u32)
     requires { thieves ≤ MAX_THIEVES }
 {
     let pile = Pile::new(alloc, four_pieces(rt, alloc), thieves);
