@@ -1,4 +1,7 @@
 //! Why a solution is refused.
+ghost use Rattle.std.specs.Prelude.{◌≡◌};
+ghost use Rattle.vrp_solution.specs.declared.error.SolutionError.TheVariants.{OutOfMemory};
+
 use std::alloc::{AllocError, AllocFailed};
 use vrp_model::NoMemory;
 
@@ -47,18 +50,24 @@ pub enum SolutionError {
 }
 
 impl<T: Drop> From<AllocFailed<T>> for SolutionError {
+    ghost from_gives = { λ _ error. error ≡ OutOfMemory };
+
     fn from(_refusal: AllocFailed<T>) -> SolutionError {
         SolutionError::OutOfMemory
     }
 }
 
 impl From<AllocError> for SolutionError {
+    ghost from_gives = { λ _ error. error ≡ OutOfMemory };
+
     fn from(_refusal: AllocError) -> SolutionError {
         SolutionError::OutOfMemory
     }
 }
 
 impl From<NoMemory> for SolutionError {
+    ghost from_gives = { λ _ error. error ≡ OutOfMemory };
+
     fn from(_refusal: NoMemory) -> SolutionError {
         SolutionError::OutOfMemory
     }

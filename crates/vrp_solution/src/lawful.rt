@@ -1,10 +1,14 @@
 //! Whether routes are a lawful plan, and else why not.
-ghost use Rattle.std.specs.Prelude.{IfOk, IfSome};
-ghost use Rattle.vrp_model.specs.Route.{IsPlanOf};
+ghost use Rattle.std.specs.Prelude.{◌≡◌, ◌<◌, All, IfNone, IfOk, IfSome, List, ℕ, length, map};
+ghost use Rattle.vrp_model.specs.Route.{IsLawful, IsPlanOf};
+ghost use Rattle.vrp_model.specs.Word.{word_of};
+ghost use Rattle.vrp_solution.specs.Inner.Listing.{AreCustomers};
+ghost use Rattle.vrp_solution.specs.Inner.Ordered.{AreOrdered, AreRoutesOf, turned};
+ghost use Rattle.vrp_solution.specs.Solution.{HaveFault};
 
 use crate::error::SolutionError;
 use crate::route::Route;
-use std::alloc::Global;
+use std::alloc::{AllocError, Global};
 use vrp_model::{Instance, NoMemory, Plan};
 use vrp_tree::lawful_plan;
 
@@ -14,22 +18,50 @@ pub(crate) fn plan_of(
     instance: &Instance,
     routes: &[Route],
 ) -> Result<Option<Plan>, NoMemory>
-    ensures { IfOk result (λ plan. IfSome plan (IsPlanOf instance.now)) }
+    requires customers { All (λ route. AreCustomers instance.now route.stops.items) routes.now }
+    requires stops { All (λ route. 0 < length route.stops.items) routes.now }
+    ensures lawful { IfOk result (λ plan. IfSome plan (IsPlanOf instance.now)) }
+    ensures routes { IfOk result (λ plan. IfSome plan (λ plan.
+        AreRoutesOf (map (λ route. route.stops.items) routes.now) plan.routes)) }
+    ensures none { IfOk result (λ plan. IfNone plan
+        (IsLawful instance.now (map (λ route. route.stops.items) routes.now) → ⊥)) }
 {
-    let word = word_of(alloc, instance, routes)?;
+    // That there is a depot comes with what is known of every instance.
+    let _customers = instance.customers();
+    let word = word_of(alloc, instance.symmetric(), routes)?;
     lawful_plan(alloc, instance, &word)
 }
 
 // The word of these routes: they rise by their starts.
-fn word_of(alloc: Global, instance: &Instance, routes: &[Route]) -> Result<Vec<u16>, NoMemory> {
-    let symmetric = instance.symmetric();
-    let mut rising: Vec<&Route> = routes.iter().collect(alloc)?;
-    rising.sort_unstable_by_key(|route| route.start(symmetric));
+fn word_of(alloc: Global, symmetric: bool, routes: &[Route]) -> Result<Vec<u16>, NoMemory>
+    ensures { IfOk result (λ word. (ordered : List (List ℕ))
+        × AreOrdered symmetric (map (λ route. route.stops.items) routes.now) ordered
+        × (word.items ≡ word_of (map (turned symmetric) ordered))) }
+{
+    let rising = by_start(alloc, symmetric, routes)?;
     let mut word = Vec::new(alloc);
     for route in &rising {
         route.push_onto(&mut word, symmetric)?;
     }
     Ok(word)
+}
+
+// The routes in the order of their starts.
+fn by_start(alloc: Global, symmetric: bool, routes: &[Route]) -> Result<Vec<&Route>, AllocError>
+    ensures { IfOk result (λ rising. AreOrdered symmetric
+        (map (λ route. route.stops.items) routes.now)
+        (map (λ route. route.now.stops.items) rising.items)) }
+{
+    let mut rising = references(alloc, routes)?;
+    rising.sort_unstable_by_key(|route| route.start(symmetric));
+    Ok(rising)
+}
+
+// Each of the routes by a reference, in order.
+fn references(alloc: Global, routes: &[Route]) -> Result<Vec<&Route>, AllocError>
+    ensures { IfOk result (λ listed. map (λ route. route.now) listed.items ≡ routes.now) }
+{
+    routes.iter().collect(alloc)
 }
 
 /// Why routes that are no lawful plan, but whose stops are customers, are none.

@@ -5,6 +5,7 @@
 mod error;
 mod lawful;
 mod line;
+mod listing;
 mod route;
 mod solution;
 

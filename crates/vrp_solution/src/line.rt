@@ -1,5 +1,11 @@
 //! What a line of a solution says.
-ghost use Rattle.std.specs.Prelude.{◌≤ℤ◌, IfOk};
+ghost use Rattle.std.specs.Prelude.{◌≡◌, ◌≤ℤ◌, ◌||◌, ◌==◌, ℕ, pos, List, codes, option_copied, IfOk, IsErr, MatchOption, MatchResult};
+ghost use Rattle.std.specs.List.{position};
+ghost use Rattle.vrp_lexer.specs.Numeral.{number_of};
+ghost use Rattle.vrp_solution.specs.Line as spec;
+ghost use Rattle.vrp_solution.specs.Line.{cost_line, is_word, number_token, without_hash};
+ghost use Rattle.vrp_solution.specs.Inner.Parted.{ArePartedAt};
+ghost use Rattle.vrp_solution.specs.Inner.Read.{IsCostRead, IsRead};
 
 use vrp_lexer::{FaultyLine, Tokens, number};
 
@@ -8,9 +14,8 @@ pub(crate) const MAX_NUMBER: i64 = 1_000_000_000_000_000_000;
 
 /// What a line says.
 #[derive(Drop)]
-pub(crate) enum Line<'a> {
-    /// Nothing.
-    Blank,
+pub(crate) enum Said<'a> {
+    Nothing,
     /// A route has this number and these stops.
     Route { number: u64, stops: Tokens<'a> },
     /// The plan has this cost.
@@ -32,66 +37,126 @@ pub(crate) enum LineError {
     BadNumber,
 }
 
+// Where a byte stands first.
+fn place_of(text: &[u8], byte: u8) -> Option<usize>
+    ensures { result ≡ position (λ other. other == byte) text.now }
+{
+    text.iter().position(|other| *other == byte)
+}
+
+/// What stands before the first of these bytes, and what stands behind it.
+pub(crate) fn parted(text: &[u8], byte: u8) -> Option<(&[u8], &[u8])>
+    ensures { MatchOption result
+        (position (λ other. other == byte) text.now ≡ None)
+        (λ parts. ArePartedAt (λ other. other == byte) text.now parts.0.now parts.1.now) }
+{
+    match place_of(text, byte) {
+        Some(place) => Some((&text[..place], &text[place + 1..])),
+        None => None,
+    }
+}
+
 /// What a line says: `Route #1: 5 2` or `Cost 521`. Small and capital letters mean the same, blanks may stand between all parts, and
 /// the sign `#` and the colon behind `Cost` are as may be.
-pub(crate) fn line_of(text: &[u8]) -> Result<Line<'_>, LineError> {
+pub(crate) fn line_of(text: &[u8]) -> Result<Said<'_>, LineError>
+    ensures { IsRead (spec.line_of text.now) result }
+{
     let mut tokens = Tokens::of(text);
-    let Some(first) = tokens.next() else {
-        return Ok(Line::Blank);
+    let Some(word) = tokens.next() else {
+        return Ok(Said::Nothing);
     };
-    let word = first.strip_suffix(b":".as_slice()).unwrap_or(first);
-    if word.eq_ignore_ascii_case(b"cost".as_slice()) {
-        Ok(Line::Cost(stated_cost(tokens)?))
-    } else if word.eq_ignore_ascii_case(b"route".as_slice()) {
+    if is_cost(word) {
+        Ok(Said::Cost(stated_cost(tokens)?))
+    } else if is_route(word) {
         route_line(text)
     } else {
         Err(LineError::Unknown)
     }
 }
 
+// Whether a token is the word of the cost.
+fn is_cost(token: &[u8]) -> bool
+    ensures { result ≡ (is_word (codes "cost") token.now || is_word (codes "cost:") token.now) }
+{
+    token.eq_ignore_ascii_case(b"cost".as_slice())
+        || token.eq_ignore_ascii_case(b"cost:".as_slice())
+}
+
+// Whether a token is the word of a route.
+fn is_route(token: &[u8]) -> bool
+    ensures { result ≡ is_word (codes "route") token.now }
+{
+    token.eq_ignore_ascii_case(b"route".as_slice())
+}
+
 // The cost that stands behind its word.
-fn stated_cost(mut tokens: Tokens<'_>) -> Result<StatedCost, LineError> {
-    let cost = tokens.next().ok_or(LineError::Unknown)?;
+fn stated_cost(mut tokens: Tokens<'_>) -> Result<StatedCost, LineError>
+    ensures { IsCostRead (cost_line tokens.entry) result }
+{
+    let Some(cost) = tokens.next() else {
+        return Err(LineError::Unknown);
+    };
     if !tokens.is_empty() {
         return Err(LineError::Unknown);
     }
     match number(cost, 0, MAX_NUMBER) {
         Ok(cost) => Ok(StatedCost::Whole(cost as u64)),
-        Err(FaultyLine::NotWhole) => Ok(StatedCost::Fraction),
-        Err(_) => Err(LineError::BadNumber),
+        Err(fault) => match fault {
+            FaultyLine::NotWhole => Ok(StatedCost::Fraction),
+            _ => Err(LineError::BadNumber),
+        },
     }
 }
 
 // The number that stands before the colon, and the stops behind it.
-fn route_line(text: &[u8]) -> Result<Line<'_>, LineError> {
-    let Some(colon) = text.iter().position(|byte| *byte == b':') else {
+fn route_line(text: &[u8]) -> Result<Said<'_>, LineError>
+    ensures { IsRead (spec.parted_line text.now) result }
+{
+    let Some((heading, stops)) = parted(text, b':') else {
         return Err(LineError::Unknown);
     };
-    Ok(Line::Route {
-        number: route_number(&text[..colon])?,
-        stops: Tokens::of(&text[colon + 1..]),
-    })
+    let Some(digits) = number_token(Tokens::of(heading)) else {
+        return Err(LineError::Unknown);
+    };
+    match whole(digits, 0) {
+        Ok(number) => Ok(Said::Route {
+            number: number as u64,
+            stops: Tokens::of(stops),
+        }),
+        Err(error) => Err(error),
+    }
 }
 
-// The number behind the first word.
-fn route_number(heading: &[u8]) -> Result<u64, LineError> {
-    let mut tokens = Tokens::of(heading);
-    let _ = tokens.next();
-    let behind = tokens.next().ok_or(LineError::Unknown)?;
-    let digits = match behind.strip_prefix(b"#".as_slice()) {
-        Some([]) => tokens.next().ok_or(LineError::Unknown)?,
-        Some(digits) => digits,
-        None => behind,
+// The token of the number behind the word of a route.
+fn number_token(mut tokens: Tokens<'_>) -> Option<&[u8]>
+    ensures { option_copied result ≡ number_token tokens.entry }
+{
+    let _word = tokens.next()?;
+    let first = tokens.next()?;
+    let token = if first == b"#".as_slice() {
+        tokens.next()?
+    } else {
+        without_hash(first)
     };
-    if !tokens.is_empty() {
-        return Err(LineError::Unknown);
+    if tokens.is_empty() { Some(token) } else { None }
+}
+
+// Without the sign # that may stand at the front.
+fn without_hash(token: &[u8]) -> &[u8]
+    ensures { result.now ≡ without_hash token.now }
+{
+    match token {
+        [b'#', digits @ ..] => digits,
+        _ => token,
     }
-    Ok(whole(digits, 0)? as u64)
 }
 
 /// The whole number of a token, no less than `least`.
 pub(crate) fn whole(token: &[u8], least: i64) -> Result<i64, LineError>
-    ensures { IfOk result (λ number. least ≤ℤ number) }
+    ensures value { MatchResult result
+        (λ whole. number_of least MAX_NUMBER token.now ≡ Ok whole)
+        (λ error. (error ≡ LineError.BadNumber) × IsErr (number_of least MAX_NUMBER token.now)) }
+    ensures in_range { IfOk result (λ number. (least ≤ℤ number) × (number ≤ℤ MAX_NUMBER)) }
 {
     number(token, least, MAX_NUMBER).map_err(|_| LineError::BadNumber)
 }

@@ -1,5 +1,10 @@
 //! A route of a solution: its number and its stops.
-use std::alloc::{AllocError, Global};
+ghost use Rattle.std.specs.Prelude.{◌≡◌, ◌<◌, ◌∷◌, ◌++◌, [], IsTrue, OnOk, length};
+ghost use Rattle.vrp_model.specs.Problem.{Problem};
+ghost use Rattle.vrp_model.specs.Route.{load_of};
+ghost use Rattle.vrp_solution.specs.Inner.Ordered.{start_of, turned};
+
+use std::alloc::AllocError;
 use vrp_model::Instance;
 
 /// A route with at least one stop.
@@ -11,21 +16,24 @@ pub(crate) struct Route {
 }
 
 impl Route {
-    /// The stop from which the route runs forward, in a symmetric instance the lower of its ends.
-    pub(crate) fn start(&self, symmetric: bool) -> Option<u16> {
-        let first = self.stops.first().copied();
-        let last = self.stops.last().copied();
+    /// The stop from which the route runs forward, in a symmetric instance the lower of its ends. 0 where it has no stops.
+    pub(crate) fn start(&self, symmetric: bool) -> u16
+        ensures { result ≡ start_of symmetric self.now.stops.items }
+    {
+        let first = self.stops.first().copied().unwrap_or(0);
+        let last = self.stops.last().copied().unwrap_or(0);
         if symmetric { first.min(last) } else { first }
     }
 
     /// Adds the stops to a word, from the start on, and the way home.
-    pub(crate) fn push_onto(&self, word: &mut Vec<u16>, symmetric: bool) -> Result<(), AllocError> {
-        if self.start(symmetric) == self.stops.first().copied() {
-            word.extend_from_slice(&self.stops)?;
-        } else {
-            for stop in self.stops.iter().rev() {
-                word.push(*stop)?;
-            }
+    pub(crate) fn push_onto(&self, word: &mut Vec<u16>, symmetric: bool) -> Result<(), AllocError>
+        ensures { OnOk result (word.new.items
+            ≡ word.old.items ++ (turned symmetric self.now.stops.items ++ 0 ∷ [])) }
+    {
+        let start = word.len();
+        word.extend_from_slice(&self.stops)?;
+        if self.start(symmetric) != self.stops.first().copied().unwrap_or(0) {
+            word.as_mut_slice()[start..].reverse();
         }
         word.push(0)?;
         Ok(())

@@ -1,0 +1,9 @@
+pub mod LineLemmas
+pub mod ListingLemmas
+pub mod StopLemmas
+pub mod LinesRead
+pub mod RouteLists
+pub mod OrderedRoutes
+pub mod TurnedRoutes
+pub mod AnsweredPlans
+pub mod ReadSolutions

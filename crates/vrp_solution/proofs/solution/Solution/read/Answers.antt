@@ -1,0 +1,17 @@
+use Rattle.vrp_solution.specs.Line.{lines_of}
+use Rattle.vrp_solution.proofs.ReadSolutions.{customers_kept, gives_plan, states_other, stops_kept}
+use Rattle.vrp_solution.proofs.solution.Solution.read.Goals as goal
+
+pub plan_of-requires-clause-customers : goal.plan_of-requires-clause-customers
+plan_of-requires-clause-customers c = rw c.deref.ensures.value (customers_kept c.args.instance.now (lines_of c.args.text.now) c.in_ok-listing.listing c.in_ok-listing.ensures.listed)
+
+pub plan_of-requires-clause-stops : goal.plan_of-requires-clause-stops
+plan_of-requires-clause-stops c = rw c.deref.ensures.value (stops_kept c.args.instance.now (lines_of c.args.text.now) c.in_ok-listing.listing c.in_ok-listing.ensures.listed)
+
+pub returns-in-Some-clause-read : goal.returns-in-Some-clause-read
+returns-in-Some-clause-read c =
+    gives_plan c.args.instance.now c.args.text.now c.in_ok-listing.listing c.in-Some.plan c.in_ok-listing.ensures.listed (rw (c.in-Some.is, c.deref.ensures.value) at c.in_ok-plan.ensures.routes) (rw c.in-Some.is at c.in_ok-plan.ensures.lawful)
+
+pub returns-in-Some-clause-other_cost : goal.returns-in-Some-clause-other_cost
+returns-in-Some-clause-other_cost c =
+    states_other c.args.instance.now c.args.text.now c.in_ok-listing.listing c.cost.result c.in-Some.plan.cost c.states_other_cost-states_other_cost.result c.in_ok-listing.ensures.listed c.cost.ensures c.states_other_cost-states_other_cost.ensures

@@ -1,0 +1,5 @@
+-- What inner contracts alone cite: nobody has to believe it.
+pub mod Listing
+pub mod Ordered
+pub mod Parted
+pub mod Read
