@@ -7,3 +7,5 @@ pub mod OrderedRoutes
 pub mod TurnedRoutes
 pub mod AnsweredPlans
 pub mod ReadSolutions
+pub mod FaultyRoutes
+pub mod ServedStops

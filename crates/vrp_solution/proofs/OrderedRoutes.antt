@@ -98,7 +98,7 @@ first_at : (route : List ℕ) (rest : List ℕ) (d : ℕ) → 0 < length route �
 first_at [] rest d some = absurd (omega arith)
 first_at (stop ∷ route) rest d some = refl
 
-right_distinct : (xs ys : List ℕ) → AreDistinct (xs ++ ys) → AreDistinct ys
+pub right_distinct : (xs ys : List ℕ) → AreDistinct (xs ++ ys) → AreDistinct ys
 right_distinct xs ys distinct = λ i j d lt within same.
     distinct (length xs + i) (length xs + j) d (omega (arith, lt)) (omega (arith, within, length-append xs ys)) (get_or-append-add xs ys i d ∙ same ∙ sym (get_or-append-add xs ys j d))
 

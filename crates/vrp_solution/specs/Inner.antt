@@ -3,3 +3,4 @@ pub mod Listing
 pub mod Ordered
 pub mod Parted
 pub mod Read
+pub mod Served

@@ -1,10 +1,11 @@
 //! Whether routes are a lawful plan, and else why not.
-ghost use Rattle.std.specs.Prelude.{◌≡◌, ◌<◌, All, IfNone, IfOk, IfSome, List, ℕ, length, map};
+ghost use Rattle.std.specs.Prelude.{◌≡◌, ◌<◌, ◌++◌, All, Contains, IfNone, IfOk, IfSome, List, MatchOption, [], ℕ, false, length, map, slice_index_or, true};
+ghost use Rattle.vrp_model.specs.Problem.{customers, place_count};
 ghost use Rattle.vrp_model.specs.Route.{IsLawful, IsPlanOf};
 ghost use Rattle.vrp_model.specs.Word.{word_of};
-ghost use Rattle.vrp_solution.specs.Inner.Listing.{AreCustomers};
+ghost use Rattle.vrp_solution.specs.Inner.Listing.{AreCustomers, given_routes};
 ghost use Rattle.vrp_solution.specs.Inner.Ordered.{AreOrdered, AreRoutesOf, turned};
-ghost use Rattle.vrp_solution.specs.Solution.{HaveFault};
+ghost use Rattle.vrp_solution.specs.Inner.Served.{AreDifferent, AreFaulty, AreServed, Marks, StandsTwice};
 
 use crate::error::SolutionError;
 use crate::route::Route;
@@ -69,26 +70,17 @@ pub(crate) fn refusal_of(
     alloc: Global,
     instance: &Instance,
     routes: &[Route],
-) -> Result<SolutionError, NoMemory> {
+) -> Result<SolutionError, NoMemory>
+    requires customers { All (λ route. AreCustomers instance.now route.stops.items) routes.now }
+    requires stops { All (λ route. 0 < length route.stops.items) routes.now }
+    requires refused { IsLawful instance.now (map (λ route. route.stops.items) routes.now) → ⊥ }
+    ensures { IfOk result (AreFaulty instance.now (given_routes routes.now)) }
+{
     let mut served = Vec::from_elem(alloc, false, usize::from(instance.customers()) + 1)?;
-    for route in routes {
-        if let Some(customer) = served_before(&route.stops, &mut served) {
-            return Ok(SolutionError::ServedTwice {
-                route: route.number,
-                customer,
-            });
-        }
-        let load = route.load(instance);
-        let capacity = instance.capacity();
-        if capacity < load {
-            return Ok(SolutionError::Overloaded {
-                route: route.number,
-                load,
-                capacity,
-            });
-        }
+    if let Some(error) = faulty_route(instance, routes, served.as_mut_slice()) {
+        return Ok(error);
     }
-    Ok(match first_unserved(&served, instance) {
+    Ok(match first_unserved(instance, served.as_slice()) {
         Some(customer) => SolutionError::NotServed(customer),
         None => SolutionError::TooManyRoutes {
             routes: routes.len(),
@@ -96,22 +88,62 @@ pub(crate) fn refusal_of(
     })
 }
 
+// The first route that has a customer twice, or one whom an earlier route has, or too much load. The stops are served with it.
+fn faulty_route(instance: &Instance, routes: &[Route], served: &mut [bool]) -> Option<SolutionError>
+    requires customers { All (λ route. AreCustomers instance.now route.stops.items) routes.now }
+    requires none { AreServed instance.now served.old [] }
+    ensures { MatchOption result
+        (AreServed instance.now served.new (map (λ route. route.stops.items) routes.now))
+        (AreFaulty instance.now (given_routes routes.now)) }
+{
+    for route in routes {
+        if let Some(customer) = served_before(&route.stops, served) {
+            return Some(SolutionError::ServedTwice {
+                route: route.number,
+                customer,
+            });
+        }
+        let load = route.load(instance);
+        let capacity = instance.capacity();
+        if capacity < load {
+            return Some(SolutionError::Overloaded {
+                route: route.number,
+                load,
+                capacity,
+            });
+        }
+    }
+    None
+}
+
 // The first of the stops who is served already. The stops are served with it.
-fn served_before(stops: &[u16], served: &mut [bool]) -> Option<u16> {
+fn served_before(stops: &[u16], served: &mut [bool]) -> Option<u16>
+    requires { All (λ stop. stop < length served.old) stops.now }
+    ensures { (done : List ℕ) → Marks served.old done → AreDifferent done
+        → MatchOption result
+        (Marks served.new (done ++ stops.now) × AreDifferent (done ++ stops.now))
+        (StandsTwice done stops.now) }
+{
     for stop in stops {
-        let flag = served.get_mut(usize::from(*stop))?;
-        if *flag {
+        let place = usize::from(*stop);
+        if served[place] {
             return Some(*stop);
         }
-        *flag = true;
+        served[place] = true;
     }
     None
 }
 
 // The lowest customer who isn't served.
-fn first_unserved(served: &[bool], instance: &Instance) -> Option<u16> {
+fn first_unserved(instance: &Instance, served: &[bool]) -> Option<u16>
+    requires { length served.now ≡ place_count instance.now }
+    ensures { MatchOption result
+        (All (λ k. slice_index_or served.now k false ≡ true) (customers instance.now))
+        (λ customer. Contains (customers instance.now) customer
+        × (slice_index_or served.now customer false ≡ false)) }
+{
     for customer in 1..instance.customers() + 1 {
-        if served.get(usize::from(customer)).copied() == Some(false) {
+        if !served[usize::from(customer)] {
             return Some(customer);
         }
     }

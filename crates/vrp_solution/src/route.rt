@@ -1,8 +1,9 @@
 //! A route of a solution: its number and its stops.
 ghost use Rattle.std.specs.Prelude.{◌≡◌, ◌<◌, ◌∷◌, ◌++◌, [], IsTrue, OnOk, length};
-ghost use Rattle.vrp_model.specs.Problem.{Problem};
 ghost use Rattle.vrp_model.specs.Route.{load_of};
+ghost use Rattle.vrp_solution.specs.Inner.Listing.{AreCustomers};
 ghost use Rattle.vrp_solution.specs.Inner.Ordered.{start_of, turned};
+ghost use Rattle.vrp_solution.specs.Inner.Served.{AreDifferent};
 
 use std::alloc::AllocError;
 use vrp_model::Instance;
@@ -40,12 +41,16 @@ impl Route {
     }
 
     /// What the customers of the route demand.
-    pub(crate) fn load(&self, instance: &Instance) -> u64 {
-        let mut load = 0u64;
+    pub(crate) fn load(&self, instance: &Instance) -> u64
+        requires customers { AreCustomers instance.now self.now.stops.items }
+        requires once { AreDifferent self.now.stops.items }
+        ensures { result ≡ load_of instance.now self.now.stops.items }
+    {
+        // The number of customers comes with what is known of every instance.
+        let _customers = instance.customers();
+        let mut load = 0;
         for stop in &self.stops {
-            if *stop <= instance.customers() {
-                load = load.saturating_add(instance.demand(*stop));
-            }
+            load += instance.demand(*stop);
         }
         load
     }

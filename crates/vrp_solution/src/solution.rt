@@ -1,7 +1,7 @@
 //! A solution: the lawful plan that a text gives, and whether it states another cost.
-ghost use Rattle.std.specs.Prelude.{◌↔◌, IfOk, IsTrue};
+ghost use Rattle.std.specs.Prelude.{◌≢◌, ◌↔◌, IfErr, IfOk, IsTrue};
 ghost use Rattle.vrp_model.specs.Route.{IsPlanOf};
-ghost use Rattle.vrp_solution.specs.Solution.{GivesPlan, StatesOtherCost};
+ghost use Rattle.vrp_solution.specs.Solution.{GivesPlan, IsRefusedFor, StatesOtherCost};
 
 use crate::error::SolutionError;
 use crate::lawful::{plan_of, refusal_of};
@@ -24,12 +24,14 @@ impl Solution {
     /// carriage return may stand, or with the text. A line of the cost may be missing, and so may a route's stops. Where the plan is
     /// not lawful, the error says why.
     ///
-    /// Which error comes is left open.
+    /// Where several things are wrong, which of them is told is left open.
     pub fn read(alloc: Global, text: &[u8], instance: &Instance) -> Result<Solution, SolutionError>
         ensures read { IfOk result (λ solution. GivesPlan instance.now text.now solution.plan) }
         ensures lawful { IfOk result (λ solution. IsPlanOf instance.now solution.plan) }
         ensures other_cost { IfOk result (λ solution.
             IsTrue solution.states_other_cost ↔ StatesOtherCost text.now solution.plan.cost) }
+        ensures refused { IfErr result (λ error.
+            error ≢ SolutionError.OutOfMemory → IsRefusedFor instance.now text.now error) }
     {
         let listing = Listing::read(alloc, text, instance)?;
         match plan_of(alloc, instance, &listing.routes)? {

@@ -1,4 +1,9 @@
+use Rattle.std.proofs.Common.{List, subst}
 use Rattle.vrp_solution.specs.Line.{lines_of}
+use Rattle.vrp_solution.specs.Inner.Listing.{given_routes}
+use Rattle.vrp_solution.specs.Inner.Served.{AreFaulty}
+use Rattle.vrp_solution.specs.declared.route.Route.{Route}
+use Rattle.vrp_solution.proofs.FaultyRoutes.{lines_are_faulty}
 use Rattle.vrp_solution.proofs.ReadSolutions.{customers_kept, gives_plan, states_other, stops_kept}
 use Rattle.vrp_solution.proofs.solution.Solution.read.Goals as goal
 
@@ -15,3 +20,15 @@ returns-in-Some-clause-read c =
 pub returns-in-Some-clause-other_cost : goal.returns-in-Some-clause-other_cost
 returns-in-Some-clause-other_cost c =
     states_other c.args.instance.now c.args.text.now c.in_ok-listing.listing c.cost.result c.in-Some.plan.cost c.states_other_cost-states_other_cost.result c.in_ok-listing.ensures.listed c.cost.ensures c.states_other_cost-states_other_cost.ensures
+
+pub refusal_of-requires-clause-customers : goal.refusal_of-requires-clause-customers
+refusal_of-requires-clause-customers c = rw c.deref-in-None.ensures.value (customers_kept c.args.instance.now (lines_of c.args.text.now) c.in_ok-listing.listing c.in_ok-listing.ensures.listed)
+
+pub refusal_of-requires-clause-stops : goal.refusal_of-requires-clause-stops
+refusal_of-requires-clause-stops c = rw c.deref-in-None.ensures.value (stops_kept c.args.instance.now (lines_of c.args.text.now) c.in_ok-listing.listing c.in_ok-listing.ensures.listed)
+
+pub returns-clause-refused : goal.returns-clause-refused
+returns-clause-refused c = λ differs.
+    let p = c.args.instance.now in
+    lines_are_faulty p (lines_of c.args.text.now) c.in_ok-listing.listing c.in_ok-refusal_of-in-None.field-0 c.in_ok-listing.ensures.listed
+    (subst (λ (l : List Route). AreFaulty p (given_routes l) c.in_ok-refusal_of-in-None.field-0) c.deref-in-None.ensures.value c.in_ok-refusal_of-in-None.ensures)
