@@ -16,7 +16,7 @@ use Rattle.vrp_model.specs.declared.limits.TheConstants.{NO_COST}
 use Rattle.vrp_pile.specs.Pile.{AreShared}
 use Rattle.vrp_tree.specs.Cutting.{AreNumbered, IsCutting, NumberedWord}
 use Rattle.vrp_search.specs.Search.{IsNotBefore, NoneBeforeUnder}
-use Rattle.vrp_answer.specs.Answer.{IsAnswer, IsLeastLow, IsLeftOpen, piece_of}
+use Rattle.vrp_answer.specs.Answer.{IsAnswer, IsLeastLow, IsLeftOpen, known_plan, piece_of}
 use Rattle.vrp_answer.specs.Gatherer.{IsAdded, IsFirstMissing, IsMissing}
 use Rattle.vrp_answer.specs.Inner.Conclusion.{AreNoted, AreSettling, IsLeftWith, IsNoLater, IsVerdict, numbers_of}
 use Rattle.vrp_answer.specs.Outcomes.{Search, words_of}
@@ -204,3 +204,9 @@ answer_is one have less s cutting opening best settling NoPlan problem is_cuttin
     let all = all_finished s cutting best settling known missing in
     no_plan one have less s cutting settling.cost problem is_cutting (omega (arith, known.priced, ap cost_of is))
     (subst (λ (b : Option PricedPlan). (number : ℕ) → number < length cutting → NoneBeforeUnder s.problem (piece_of cutting number) settling.cost b) is all)
+
+-- the plan of the answer is the best one
+pub best_answered : (best : Option PricedPlan) (settling : Settling) (answer : Answer) → IsVerdict best settling answer → known_plan answer ≡ best
+best_answered best settling (Proven plan) (missing, is) = sym is
+best_answered best settling (Open plan low first) (missing, is, lower) = sym is
+best_answered best settling NoPlan (missing, is) = sym is

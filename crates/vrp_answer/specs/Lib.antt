@@ -1,4 +1,5 @@
 pub mod Answer
+pub mod Finding
 pub mod Gatherer
 pub mod Inner
 pub mod Outcomes

@@ -1,9 +1,9 @@
 -- What workers leave of the pieces, public for vrp_pool alone.
-use Rattle.std.specs.Prelude.{◌≡◌, ◌⊎◌, ℕ, ◌+◌, ◌≤◌, ◌<◌, Bool, IsTrue, Some, List, [], length, map, slice_index_or}
+use Rattle.std.specs.Prelude.{◌≡◌, ◌⊎◌, ℕ, ◌+◌, ◌≤◌, ◌<◌, Bool, IsTrue, Option, Some, List, [], length, map, slice_index_or}
 use Rattle.std.specs.Option.{ForSome}
 use Rattle.vrp_model.specs.Cheapest.{cost_of}
 use Rattle.vrp_model.specs.Problem.{Problem, customers}
-use Rattle.vrp_model.specs.Route.{IsPlanOf}
+use Rattle.vrp_model.specs.Route.{IsPlanOf, PricedPlan}
 use Rattle.vrp_model.specs.Word.{IsFront, NoneCheaperUnder, TreeHasAtLeast}
 use Rattle.vrp_pile.specs.Pile.{AreShared}
 use Rattle.vrp_tree.specs.Cutting.{NumberedWord}
@@ -16,9 +16,11 @@ use Rattle.vrp_answer.specs.declared.outcome.Outcome.{Outcome}
 use Rattle.vrp_answer.specs.declared.outcome.Outcome.TheVariants as outcome
 use Rattle.vrp_answer.specs.declared.outcome.Searched.{Searched}
 
--- what is searched, in how many pieces, how many partial plans may be looked at in each, and whether the search may be stopped
+-- what is searched, which plan is offered before, if there is one, in how many pieces, how many partial plans may be looked at in each,
+-- and whether the search may be stopped
 pub record Search : Type 0 where
   pub problem : Problem
+  pub first : Option PricedPlan
   pub pieces : ℕ
   pub budget : ℕ
   pub may_stop : Bool

@@ -1,11 +1,11 @@
 //! What all workers found makes a plan and a verdict on it.
-ghost use Rattle.std.specs.Prelude.{◌≡◌, ◌↔◌, IfOk, IsTrue, OnOk, is_some, length};
+ghost use Rattle.std.specs.Prelude.{◌≡◌, ◌↔◌, ◌≤◌, IfOk, IsTrue, OnOk, is_some, length};
 ghost use Rattle.std.specs.Option.{ForSome, option_map};
 ghost use Rattle.vrp_model.specs.Cheapest.{cost_of};
 ghost use Rattle.vrp_model.specs.Problem.{HasTrucks, customers};
 ghost use Rattle.vrp_model.specs.Route.{IsPlanOf};
 ghost use Rattle.vrp_tree.specs.Cutting.{AreNumbered, IsCutting};
-ghost use Rattle.vrp_answer.specs.Answer.{IsAnswer};
+ghost use Rattle.vrp_answer.specs.Answer.{IsAnswer, known_plan};
 ghost use Rattle.vrp_answer.specs.Inner.Conclusion.{IsNoLater, IsOfferedTo, IsVerdict, NotesAll};
 ghost use Rattle.vrp_answer.specs.Outcomes.{IsSearched, words_of};
 
@@ -21,8 +21,8 @@ use vrp_register::Book;
 use vrp_tree::one_piece;
 
 /// The plan and the verdict. The last book opens with the plan of one truck for each customer, if there is one. It is offered the
-/// plan that the register kept, the best of the workers' own, and the first plan of each finished piece. The one error is want of
-/// memory. Public for vrp_pool alone.
+/// plan with which the search began, the one that the register kept, the best of the workers' own, and the first plan of each finished
+/// piece. The one error is want of memory. Public for vrp_pool alone.
 pub fn conclude<R, G: Gate>(
     shared: &Shared<'_, R, G>,
     singles: Option<Plan>,
@@ -35,7 +35,8 @@ pub fn conclude<R, G: Gate>(
     requires cutting { IsCutting shared.now.problem (words_of searched.pile.put) }
     requires numbers { AreNumbered searched.pile.put }
     requires pieces { shared.now.pieces ≡ length searched.pile.put }
-    ensures { IfOk result (IsAnswer shared.now.problem (words_of searched.pile.put) shared.now.budget shared.now.may_stop) }
+    ensures answer { IfOk result (IsAnswer shared.now.problem (words_of searched.pile.put) shared.now.budget shared.now.may_stop) }
+    ensures no_dearer { IfOk result (λ answer. cost_of (known_plan answer) ≤ cost_of shared.now.first) }
 {
     let Searched { outcomes, best, .. } = searched;
     let book = opened(shared, singles, kept, best.as_ref())?;
@@ -55,7 +56,8 @@ pub fn conclude<R, G: Gate>(
     Ok(verdict(plan, settling))
 }
 
-// The last book, which was offered the plan that the register kept and the best of the workers' own, where there are such.
+// The last book, which was offered the plan with which the search began, the one that the register kept, and the best of the workers'
+// own, where there are such.
 fn opened<R, G: Gate>(
     shared: &Shared<'_, R, G>,
     singles: Option<Plan>,
@@ -66,9 +68,11 @@ fn opened<R, G: Gate>(
     requires best { ForSome (option_map (λ plan. plan.now) best) (IsPlanOf shared.now.problem) }
     ensures plan_of { IfOk result (λ book. ForSome book.plan (IsPlanOf shared.now.problem)) }
     ensures than_singles { IfOk result (λ book. IsNoLater book.plan singles) }
+    ensures than_first { IfOk result (λ book. IsNoLater book.plan shared.now.first) }
     ensures than_best { IfOk result (λ book. IsNoLater book.plan (option_map (λ plan. plan.now) best.entry)) }
 {
     let mut book = Book::open(shared.alloc, singles)?;
+    offer_some(shared.alloc, &mut book, shared.first)?;
     offer_some(shared.alloc, &mut book, fitting(shared, kept))?;
     offer_some(shared.alloc, &mut book, best)?;
     Ok(book)

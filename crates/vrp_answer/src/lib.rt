@@ -3,15 +3,19 @@
 
 mod answers;
 mod conclusion;
+mod finding;
 mod gates;
 mod gatherer;
 mod left_pieces;
 mod outcome;
 mod shared;
+mod status;
 
 pub use answers::{Answer, SolveError};
 pub use conclusion::conclude;
+pub use finding::Finding;
 pub use gates::{Gate, News, NoGate};
 pub use gatherer::{GatherError, Gatherer};
 pub use outcome::{Finished, Left, Outcome, Searched};
 pub use shared::Shared;
+pub use status::Status;

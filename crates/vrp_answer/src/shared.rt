@@ -1,13 +1,14 @@
 //! What all workers read.
 ghost use Rattle.std.specs.Prelude.{◌≡◌, ◌⊎◌, ◌*◌, ◌-◌, ◌^◌, ◌≤◌, IsTrue, min};
 ghost use Rattle.std.specs.Option.{ForSome, option_map};
+ghost use Rattle.vrp_model.specs.Cheapest.{cost_of};
 ghost use Rattle.vrp_model.specs.Route.{IsPlanOf};
 
 use crate::gates::Gate;
 use std::alloc::Global;
 use std::marker::Model;
 use vrp_bound::Tables;
-use vrp_model::{Instance, Plan};
+use vrp_model::{Instance, Plan, plans_cost_less};
 use vrp_tree::Prices;
 
 /// What is searched, and what was made before; how many partial plans may be looked at in each of this many pieces, and what is told
@@ -41,8 +42,13 @@ impl<'a, R, G: Gate> Model for Shared<'a, R, G> {
 
     ghost Value = { Search };
 
-    ghost view = { λ s. record
-        { problem = s.instance.now; pieces = s.pieces; budget = s.budget; may_stop = G.may_stop s.gate.now } };
+    ghost view = { λ s. record {
+      problem = s.instance.now;
+      first = option_map (λ plan. plan.now) s.first;
+      pieces = s.pieces;
+      budget = s.budget;
+      may_stop = G.may_stop s.gate.now;
+    } };
 
     ghost invariant = { λ s.
         (s.tables.now ≡ record { problem = s.instance.now; among = customers s.instance.now })
@@ -68,8 +74,13 @@ impl<'a, R, G: Gate> Shared<'a, R, G> {
         requires tables { tables.now ≡ record { problem = instance.now; among = customers instance.now } }
         requires first { ForSome (option_map (λ plan. plan.now) first) (IsPlanOf instance.now) }
         requires budget { 1 ≤ budget }
-        ensures { result ≡ record
-            { problem = instance.now; pieces = pieces; budget = budget; may_stop = G.may_stop gate.now } }
+        ensures { result ≡ record {
+          problem = instance.now;
+          first = option_map (λ plan. plan.now) first.entry;
+          pieces = pieces;
+          budget = budget;
+          may_stop = G.may_stop gate.now;
+        } }
     {
         Shared {
             rt,
@@ -87,7 +98,8 @@ impl<'a, R, G: Gate> Shared<'a, R, G> {
     /// The same search, which begins with this plan, if there is one, unless its own is before it.
     pub fn with_plan<'b>(&'b self, plan: Option<&'b Plan>) -> Shared<'b, R, G>
         requires { ForSome (option_map (λ plan. plan.now) plan) (IsPlanOf self.now.problem) }
-        ensures { result ≡ self.entry.now }
+        ensures same { result ≡ record self.entry.now { first = result.first } }
+        ensures no_dearer { cost_of result.first ≤ cost_of self.entry.now.first }
     {
         let first = first_of(self.instance, self.first, plan);
         Shared { first, ..*self }
@@ -123,18 +135,24 @@ impl<'a, R, G: Gate> Shared<'a, R, G> {
 
 // Of two plans the one that is before the other, or the one that is there.
 fn first_of<'b>(
-    _instance: &Instance,
+    instance: &Instance,
     one: Option<&'b Plan>,
     other: Option<&'b Plan>,
 ) -> Option<&'b Plan>
-    requires one { ForSome (option_map (λ plan. plan.now) one) (IsPlanOf _instance.now) }
-    requires other { ForSome (option_map (λ plan. plan.now) other) (IsPlanOf _instance.now) }
-    ensures { ForSome (option_map (λ plan. plan.now) result) (IsPlanOf _instance.now) }
+    requires one { ForSome (option_map (λ plan. plan.now) one) (IsPlanOf instance.now) }
+    requires other { ForSome (option_map (λ plan. plan.now) other) (IsPlanOf instance.now) }
+    ensures lawful { ForSome (option_map (λ plan. plan.now) result) (IsPlanOf instance.now) }
+    ensures no_dearer { cost_of (option_map (λ plan. plan.now) result)
+        ≤ cost_of (option_map (λ plan. plan.now) one.entry) }
 {
-    let is_first = match (one, other) {
-        (Some(plan), Some(than)) => plan.is_before(than),
-        (Some(_), None) => true,
-        (None, _) => false,
-    };
-    if is_first { one } else { other }
+    // A plan costs less than none.
+    plans_cost_less();
+    let _customers = instance.customers();
+    match one {
+        Some(plan) => match other {
+            Some(than) if !plan.is_before(than) => other,
+            _ => one,
+        },
+        None => other,
+    }
 }

@@ -1,36 +1,43 @@
--- Two runs that answer Proven print one report.
-use Rattle.std.proofs.Common.{◌≡◌, ◌∙◌, ℕ, Bool, Option, List, sym, ap, subst}
+-- Two runs that answer Proven tell the same.
+use Rattle.std.proofs.Common.{◌≡◌, ◌∙◌, ◌⊎◌, inl, inr, ℕ, Bool, Option, List, refl, sym, ap, subst}
+use Rattle.vrp_answer.specs.Finding.{FindingOf, finding_of, lawful_finding}
+use Rattle.vrp_answer.specs.declared.answers.Answer.{Answer}
+use Rattle.vrp_answer.specs.declared.answers.Answer.TheVariants as answer
+use Rattle.vrp_answer.specs.declared.status.Status.{Status}
+use Rattle.vrp_answer.specs.declared.status.Status.TheVariants as status
 use Rattle.vrp_model.specs.Order.{IsFirst}
 use Rattle.vrp_model.specs.Problem.{Problem}
 use Rattle.vrp_model.specs.Route.{PricedPlan}
 use Rattle.vrp_text.specs.Meaning.{MeansProblem}
 use Rattle.vrp_command.specs.Answer.{IsAnswerTo}
-use Rattle.vrp_streams.specs.Report.{report_of}
-use Rattle.vrp_command.specs.Run.{AnswersBytes, ReportsAnswer, limited, status_of}
+use Rattle.vrp_command.specs.Found.{IsFoundBy}
+use Rattle.vrp_command.specs.Program.{AnswersRequest}
+use Rattle.vrp_command.specs.Run.{AnswersBytes, ReportsAnswer, limited}
+use Rattle.vrp_command.specs.Same.{TellsSame, IsOfFindingAlone}
+use Rattle.vrp_command.specs.Text.{IsTextIn, IsTextOf, settings_of}
+use Rattle.vrp_export.specs.declared.json.Settings.{Settings}
+use Rattle.vrp_request.specs.declared.options.Format.{Format}
+use Rattle.vrp_request.specs.declared.options.Format.TheVariants as format
 use Rattle.vrp_request.specs.declared.options.Options.{Options}
-use Rattle.vrp_streams.specs.declared.status.Status.{Status}
-use Rattle.vrp_streams.specs.declared.status.Status.TheVariants as status
-use Rattle.vrp_answer.specs.declared.answers.Answer.{Answer}
-use Rattle.vrp_answer.specs.declared.answers.Answer.TheVariants as answer
+use Rattle.vrp_request.specs.declared.options.Request.{Request}
+use Rattle.vrp_streams.specs.Report.{report_of}
 
 abbrev code : Status → ℕ
 code status.Proven = 0
 code status.Open = 1
 code status.NoPlan = 2
+code status.Lawful = 3
 
--- a report that ends with Proven is that of the first plan
-record IsOfFirst (p : Problem) (report : List ℕ) : Type 0 where
+-- what is told is that the first plan is proven
+record IsOfFirst (p : Problem) (finding : FindingOf) : Type 0 where
   plan : PricedPlan
   first : IsFirst p plan
-  text : report ≡ report_of p (answer.Proven plan)
+  told : finding ≡ finding_of (answer.Proven plan)
 
-of_answer : (p : Problem) (pieces budget : ℕ) (may_stop : Bool) (found : Answer) (report : List ℕ) → IsAnswerTo p pieces budget may_stop found → report ≡ report_of p found → status_of found ≡ status.Proven → IsOfFirst p report
-of_answer p pieces budget may_stop (answer.Proven plan) report first text ends = record { plan = plan; first = first; text = text }
-of_answer p pieces budget may_stop (answer.Open plan low lowest) report left text ends = absurd (let never : 1 ≡ 0 = ap code ends in cc)
-of_answer p pieces budget may_stop answer.NoPlan report none text ends = absurd (let never : 2 ≡ 0 = ap code ends in cc)
-
-of_first : (options : Options) (may_stop : Bool) (p : Problem) (report : List ℕ) → ReportsAnswer options may_stop p report status.Proven → IsOfFirst p report
-of_first options may_stop p report reported = of_answer p options.pieces options.budget may_stop reported.found report reported.answer_is reported.text (sym reported.status)
+of_answer : (p : Problem) (pieces budget : ℕ) (may_stop : Bool) (found : Answer) → IsAnswerTo p pieces budget may_stop found → (finding_of found).status ≡ status.Proven → IsOfFirst p (finding_of found)
+of_answer p pieces budget may_stop (answer.Proven plan) first ends = record { plan = plan; first = first; told = refl }
+of_answer p pieces budget may_stop (answer.Open plan low lowest) left ends = absurd (let never : 1 ≡ 0 = ap code ends in cc)
+of_answer p pieces budget may_stop answer.NoPlan none ends = absurd (let never : 2 ≡ 0 = ap code ends in cc)
 
 abbrev pub OneMeaning : Type 0
 OneMeaning = (bytes : List ℕ) (chosen : Option ℕ) (p q : Problem) → MeansProblem bytes chosen p → MeansProblem bytes chosen q → p ≡ q
@@ -38,12 +45,58 @@ OneMeaning = (bytes : List ℕ) (chosen : Option ℕ) (p q : Problem) → MeansP
 abbrev pub OneFirst : Type 0
 OneFirst = (p : Problem) (plan other : PricedPlan) → IsFirst p plan → IsFirst p other → plan ≡ other
 
+-- a problem's first plan is one
+one_finding : OneFirst → (p : Problem) (finding other : FindingOf) → IsOfFirst p finding → IsOfFirst p other → finding ≡ other
+one_finding one p finding other here there = here.told ∙ ap (λ (plan : PricedPlan). finding_of (answer.Proven plan)) (one p here.plan there.plan here.first there.first) ∙ sym there.told
+
+-- the same bytes mean one problem, and with as many trucks it is one too
+one_problem : OneMeaning → (options others : Options) (bytes : List ℕ) (p q : Problem) → options.depot ≡ others.depot → options.trucks ≡ others.trucks → MeansProblem bytes options.depot p → MeansProblem bytes others.depot q → limited others.trucks q ≡ limited options.trucks p
+one_problem meaning options others bytes p q depots trucks means also =
+    let same : q ≡ p = meaning bytes options.depot q p (subst (λ depot. MeansProblem bytes depot q) (sym depots) also) means in
+    ap (λ most. limited most q) (sym trucks) ∙ ap (limited options.trucks) same
+
+-- ---- runs that print reports
+
 pub reports_agree : OneMeaning → OneFirst → (options others : Options) (may_stop others_may : Bool) (bytes report other : List ℕ) → options.depot ≡ others.depot → options.trucks ≡ others.trucks
     → AnswersBytes options may_stop bytes report status.Proven → AnswersBytes others others_may bytes other status.Proven → report ≡ other
 reports_agree meaning one options others may_stop others_may bytes report other depots trucks answers answered =
-    let same : answered.problem ≡ answers.problem = meaning bytes options.depot answered.problem answers.problem (subst (λ depot. MeansProblem bytes depot answered.problem) (sym depots) answered.meant) answers.meant in
     let p = limited options.trucks answers.problem in
-    let here = of_first options may_stop p report answers.reported in
-    let limits : limited others.trucks answered.problem ≡ p = ap (λ most. limited most answered.problem) (sym trucks) ∙ ap (limited options.trucks) same in
-    let there = subst (λ (q : Problem). IsOfFirst q other) limits (of_first others others_may (limited others.trucks answered.problem) other answered.reported) in
-    here.text ∙ ap (λ (plan : PricedPlan). report_of p (answer.Proven plan)) (one p here.plan there.plan here.first there.first) ∙ sym there.text
+    let q = limited others.trucks answered.problem in
+    let same : q ≡ p = one_problem meaning options others bytes answers.problem answered.problem depots trucks answers.meant answered.meant in
+    let first = answers.reported in
+    let second = answered.reported in
+    let here = of_answer p options.pieces options.budget may_stop first.found first.answer_is (sym first.status) in
+    let there = subst (λ (r : Problem). IsOfFirst r (finding_of second.found)) same (of_answer q others.pieces others.budget others_may second.found second.answer_is (sym second.status)) in
+    first.text ∙ ap (report_of p) (one_finding one p (finding_of first.found) (finding_of second.found) here there) ∙ sym (second.text ∙ ap (λ (r : Problem). report_of r (finding_of second.found)) same)
+
+-- ---- runs that are asked for
+
+of_found : (request : Request) (may_stop : Bool) (p : Problem) (start : Option PricedPlan) (finding : FindingOf) → IsFoundBy request may_stop p start finding → finding.status ≡ status.Proven → IsOfFirst p finding
+of_found request may_stop p start finding (inl checked) ends = absurd (let never : 3 ≡ 0 = ap code (ap (λ (f : FindingOf). f.status) (sym checked.told) ∙ ends) in cc)
+of_found request may_stop p start finding (inr searched) ends =
+    subst (IsOfFirst p) (sym searched.told) (of_answer p request.options.pieces request.options.budget may_stop searched.answer searched.answer_is (ap (λ (f : FindingOf). f.status) (sym searched.told) ∙ ends))
+
+same_text : (asked : Format) (settings others : Settings) (p : Problem) (finding : FindingOf) (text other : List ℕ) → IsOfFindingAlone asked → IsTextIn asked settings p finding text → IsTextIn asked others p finding other → text ≡ other
+same_text format.Report settings others p finding text other alone told also = told ∙ sym also
+same_text format.Solution settings others p finding text other alone told also = told ∙ sym also
+same_text format.Json settings others p finding text other alone told also = absurd alone
+same_text format.Picture settings others p finding text other alone told also = absurd alone
+
+pub requests_agree : OneMeaning → OneFirst → (request other : Request) (may_stop other_may : Bool) (bytes : List ℕ) (start other_start : Option (List ℕ)) (finding found : FindingOf) (text printed : List ℕ)
+    → request.options.depot ≡ other.options.depot → request.options.trucks ≡ other.options.trucks
+    → AnswersRequest request may_stop bytes start finding text → finding.status ≡ status.Proven → AnswersRequest other other_may bytes other_start found printed → found.status ≡ status.Proven
+    → TellsSame request other finding found text printed
+requests_agree meaning one request other may_stop other_may bytes start other_start finding found text printed depots trucks answers ends answered also =
+    let p = answers.problem in
+    let q = answered.problem in
+    let same : q ≡ p = answered.with_trucks ∙ one_problem meaning request.options other.options bytes answers.meant answered.meant depots trucks answers.means answered.means ∙ sym answers.with_trucks in
+    let here = of_found request may_stop p answers.start finding answers.found ends in
+    let there = subst (λ (r : Problem). IsOfFirst r found) same (of_found other other_may q answered.start found answered.found also) in
+    let tells = one_finding one p finding found here there in
+    record {
+      same = tells;
+      as_text = λ forms alone.
+          (let second = subst (λ (f : Format). IsTextIn f (settings_of other) p finding printed) (sym forms)
+          (subst (λ (g : FindingOf). IsTextOf other p g printed) (sym tells) (subst (λ (r : Problem). IsTextOf other r found printed) same answered.told)) in
+          same_text request.format (settings_of request) (settings_of other) p finding text printed alone answers.told second);
+    }

@@ -1,4 +1,9 @@
 pub mod Answer
+pub mod Form
+pub mod Found
+pub mod Inner
 pub mod Program
 pub mod Run
+pub mod Same
 pub mod Start
+pub mod Text

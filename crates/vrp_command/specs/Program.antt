@@ -1,93 +1,140 @@
--- How the program ends.
+-- How a request is answered.
 use Rattle.std.specs.Io.KnownBytes.{Appends}
-use Rattle.std.specs.Prelude.{◌≡◌, ◌⊎◌, ℕ, Bool, true, Option, Some, None, Ok, List}
-use Rattle.vrp_command.specs.Answer.{IsAnswerTo}
-use Rattle.vrp_streams.specs.Fault.{exit_code}
-use Rattle.vrp_request.specs.Options.{AreInRange}
-use Rattle.vrp_streams.specs.Report.{lawful_report}
-use Rattle.vrp_command.specs.Run.{PrintsAnswer, ReadsProblem, WritesAnswer, status_of}
+use Rattle.std.specs.Prelude.{◌≡◌, ◌≢◌, ◌⊎◌, ℕ, ◌<◌, ◌≤◌, Bool, true, IsTrue, IsSomeAnd, Option, Some, None, Result, Ok, Err, List, length, ⊤}
+use Rattle.vrp_answer.specs.Finding.{FindingOf}
+use Rattle.vrp_answer.specs.declared.status.Status.{Status}
+use Rattle.vrp_command.specs.Found.{IsFoundBy}
+use Rattle.vrp_command.specs.Run.{OnRefusedFile, ReadsProblem, limited}
+use Rattle.vrp_command.specs.Start.{start_code}
+use Rattle.vrp_command.specs.Text.{IsTextOf}
+use Rattle.vrp_command.specs.declared.fault.RequestError.{RequestError}
+use Rattle.vrp_command.specs.declared.fault.RequestError.TheVariants as reason
+use Rattle.vrp_command.specs.declared.start.StartError.{StartError}
+use Rattle.vrp_command.specs.declared.start.StartError.TheVariants as start_fault
+use Rattle.vrp_command.specs.declared.start.StartFile.{StartFile}
+use Rattle.vrp_command.specs.declared.start.StartFile.TheVariants.{Opened, Unopened}
+use Rattle.vrp_lexer.specs.declared.limits.TheConstants.{MAX_BYTES}
 use Rattle.vrp_model.specs.Problem.{Problem}
-use Rattle.vrp_model.specs.Route.{IsPlanOf, PricedPlan}
-use Rattle.vrp_answer.specs.declared.answers.Answer.{Answer}
-use Rattle.vrp_request.specs.declared.options.Options.{Options}
-use Rattle.vrp_streams.specs.declared.status.Status.{Status}
+use Rattle.vrp_model.specs.Route.{PricedPlan}
+use Rattle.vrp_request.specs.declared.options.Format.TheVariants as format
+use Rattle.vrp_request.specs.declared.options.Request.{Request}
+use Rattle.vrp_solution.specs.Solution.{GivesPlan, IsRefusedFor}
+use Rattle.vrp_solution.specs.declared.error.SolutionError.TheVariants as solution
+use Rattle.vrp_streams.specs.Fault.{exit_code}
+use Rattle.vrp_streams.specs.Input.{IsInput}
+use Rattle.vrp_streams.specs.Output.{AppendsPart}
+use Rattle.vrp_text.specs.Meaning.{MeansProblem}
+use Rattle.vrp_text.specs.declared.error.TextError.{TextError}
 
 -- whether a search may be stopped: where it has a limit of seconds, and where its gate may stop it
 abbrev pub may_stop_by : Option ℕ → Bool → Bool
 may_stop_by None gate = gate
 may_stop_by (Some seconds) gate = true
 
--- what was written are the lines of a lawful plan of the problem, with its true cost, and the verdict that it is lawful
-pub record WritesLawful (problem : Problem) (written_old written_new : Option (List ℕ)) : Type 0 where
-  pub plan : PricedPlan
-  pub lawful : IsPlanOf problem plan
-  pub output : Appends written_old written_new (lawful_report problem plan)
+-- the plan to begin with is the one that its file's text gives, if there is a file
+abbrev pub GivesStart : Problem → Option (List ℕ) → Option PricedPlan → Type 0
+GivesStart p None start = start ≡ None
+GivesStart p (Some text) start = IsSomeAnd start (GivesPlan p text)
 
--- what was read means a problem, and such a plan of it was written, with the trucks that some options ask for
-pub record ChecksPlan (unread_old unread_new written_old written_new : Option (List ℕ)) : Type 0 where
-  pub options : Options
-  pub in_range : AreInRange options
+-- The bytes mean a problem, and the start file's text, if there is one, gives a plan of it. This is what the request finds of the
+-- problem, with the trucks that it asks for, and a text tells it in the form that it asks for
+pub record AnswersRequest (request : Request) (may_stop : Bool) (bytes : List ℕ) (start_text : Option (List ℕ)) (finding : FindingOf) (text : List ℕ) : Type 0 where
+  pub meant : Problem
+  pub means : MeansProblem bytes request.options.depot meant
   pub problem : Problem
-  pub read : ReadsProblem options unread_old unread_new problem
-  pub written : WritesLawful problem written_old written_new
+  pub with_trucks : problem ≡ limited request.options.trucks meant
+  pub start : Option PricedPlan
+  pub gives : GivesStart problem start_text start
+  pub found : IsFoundBy request may_stop problem start finding
+  pub told : IsTextOf request problem finding text
 
--- an answer to the problem was found, and this is the exit status of its verdict
-pub record FindsAnswer (options : Options) (may_stop : Bool) (problem : Problem) (code : ℕ) : Type 0 where
-  pub found : Answer
-  pub answer_is : IsAnswerTo problem options.pieces options.budget may_stop found
-  pub code_is : code ≡ exit_code (Ok (status_of found))
+-- all that a file has, by what is known of its bytes
+pub record IsFile (unread : Option (List ℕ)) (text : List ℕ) : Type 0 where
+  pub after : Option (List ℕ)
+  pub input : IsInput unread after text
+  pub bounded : length text ≤ MAX_BYTES
 
--- this is the status of an answer to the problem
-abbrev pub IsOfAnswer : Options → Bool → Problem → Status → Type 0
-IsOfAnswer options may_stop problem ended = FindsAnswer options may_stop problem (exit_code (Ok ended))
+-- the text of the plan to begin with is all that its file has, if one is given
+abbrev pub ReadsStart : {S : Type 0} → (S → Option (List ℕ)) → Option (StartFile S) → Option (List ℕ) → Type 0
+ReadsStart unread None text = text ≡ None
+ReadsStart unread (Some Unopened) text = ⊥
+ReadsStart unread (Some (Opened file)) text = IsSomeAnd text (IsFile (unread file))
 
--- what was read means a problem, and such an answer to it was found, as some options ask for it and some limit of seconds or none
-pub record FindsForBytes (gate : Bool) (unread_old unread_new : Option (List ℕ)) (code : ℕ) : Type 0 where
-  pub options : Options
-  pub seconds : Option ℕ
-  pub in_range : AreInRange options
+-- What was read answers a request, and what was written is the text of the answer, and nothing else. What is known of a reader's
+-- bytes, and of a writer's, comes before the call and after it.
+pub record PrintsRequest {S : Type 0} (request : Request) (may_stop : Bool) (unread_start : S → Option (List ℕ)) (start : Option (StartFile S))
+    (unread_old unread_new written_old written_new : Option (List ℕ)) (ended : Status) : Type 0 where
+  pub bytes : List ℕ
+  pub input : IsInput unread_old unread_new bytes
+  pub start_text : Option (List ℕ)
+  pub start_read : ReadsStart unread_start start start_text
+  pub finding : FindingOf
+  pub text : List ℕ
+  pub answers : AnswersRequest request may_stop bytes start_text finding text
+  pub status : ended ≡ finding.status
+  pub output : Appends written_old written_new text
+
+-- the same, but what was written is a part of the text, from its first byte on
+pub record PrintsPartOfRequest {S : Type 0} (request : Request) (may_stop : Bool) (unread_start : S → Option (List ℕ)) (start : Option (StartFile S))
+    (unread_old unread_new written_old written_new : Option (List ℕ)) : Type 0 where
+  pub bytes : List ℕ
+  pub input : IsInput unread_old unread_new bytes
+  pub start_text : Option (List ℕ)
+  pub start_read : ReadsStart unread_start start start_text
+  pub finding : FindingOf
+  pub text : List ℕ
+  pub answers : AnswersRequest request may_stop bytes start_text finding text
+  pub output : AppendsPart written_old written_new text
+
+-- the plan to begin with, if one is given, is the one that its file's text gives
+pub record BeginsWith {S : Type 0} (p : Problem) (unread : S → Option (List ℕ)) (file : Option (StartFile S)) (start : Option PricedPlan) : Type 0 where
+  pub text : Option (List ℕ)
+  pub read : ReadsStart unread file text
+  pub gives : GivesStart p text start
+
+-- why a file with this text is refused
+abbrev pub RefusesStartText : Problem → List ℕ → StartError → Type 0
+RefusesStartText p text (start_fault.Refused error) = (error ≢ solution.OutOfMemory) × IsRefusedFor p text error
+RefusesStartText p text start_fault.TooLong = MAX_BYTES < length text
+RefusesStartText p text start_fault.Read = ⊥
+RefusesStartText p text start_fault.OutOfMemory = ⊥
+
+-- a file was read, no further than to one byte more than a file may have, and is refused for this
+pub record RefusesFile (p : Problem) (unread : Option (List ℕ)) (error : StartError) : Type 0 where
+  pub text : List ℕ
+  pub after : Option (List ℕ)
+  pub input : IsInput unread after text
+  pub refused : RefusesStartText p text error
+
+-- A fact on the refusal of a plan to begin with. A read that fails, and want of memory, are none
+abbrev pub OnRefusedStart : StartError → (StartError → Type 0) → Type 0
+OnRefusedStart (start_fault.Refused error) P = P (start_fault.Refused error)
+OnRefusedStart start_fault.TooLong P = P start_fault.TooLong
+OnRefusedStart start_fault.Read P = ⊤
+OnRefusedStart start_fault.OutOfMemory P = ⊤
+
+-- the file of a plan to begin with is so refused
+abbrev pub RefusesStartFile : {S : Type 0} → Problem → (S → Option (List ℕ)) → Option (StartFile S) → StartError → Type 0
+RefusesStartFile p unread None error = ⊥
+RefusesStartFile p unread (Some Unopened) error = ⊥
+RefusesStartFile p unread (Some (Opened file)) error = RefusesFile p (unread file) error
+
+-- what was read means a problem, and the plan to begin with is refused for this
+pub record RefusesStart {S : Type 0} (request : Request) (unread_start : S → Option (List ℕ)) (start : Option (StartFile S)) (unread_old unread_new : Option (List ℕ)) (error : StartError) : Type 0 where
   pub problem : Problem
-  pub read : ReadsProblem options unread_old unread_new problem
-  pub found : FindsAnswer options (may_stop_by seconds gate) problem code
+  pub read : ReadsProblem request.options unread_old unread_new problem
+  pub refused : RefusesStartFile problem unread_start start error
 
--- some plan of the problem is lawful
-abbrev pub HasPlan : Problem → Type 0
-HasPlan problem = (plan : PricedPlan) × IsPlanOf problem plan
+-- A fact on each refusal: of the file, of the plan to begin with, and of a picture of a file without coordinates. Want of memory, and
+-- reads and writes that fail, are none
+abbrev pub OnRefusal : RequestError → (TextError → Type 0) → (StartError → Type 0) → Type 0 → Type 0
+OnRefusal (reason.Run fault) File Start Picture = OnRefusedFile fault File
+OnRefusal (reason.Start error) File Start Picture = OnRefusedStart error Start
+OnRefusal reason.NoPoints File Start Picture = Picture
 
--- what was read means a problem that has a lawful plan, with the trucks that some options ask for
-pub record HasPlanForBytes (unread_old unread_new : Option (List ℕ)) : Type 0 where
-  pub options : Options
-  pub in_range : AreInRange options
-  pub problem : Problem
-  pub read : ReadsProblem options unread_old unread_new problem
-  pub has_plan : HasPlan problem
-
--- the report of an answer to the problem was written, and this is the exit status of its verdict
-pub record WritesStatus (options : Options) (may_stop : Bool) (problem : Problem) (written_old written_new : Option (List ℕ)) (code : ℕ) : Type 0 where
-  pub ended : Status
-  pub written : WritesAnswer options may_stop problem written_old written_new ended
-  pub code_is : code ≡ exit_code (Ok ended)
-
--- A run as some options ask for it, each in its range, and some limit of seconds or none, printed a report, and this is the exit status of its verdict. What is known
--- of a reader's bytes, and of a writer's, comes before the call and after it.
-pub record PrintsReport (gate : Bool) (unread_old unread_new written_old written_new : Option (List ℕ)) (code : ℕ) : Type 0 where
-  pub options : Options
-  pub seconds : Option ℕ
-  pub in_range : AreInRange options
-  pub ended : Status
-  pub printed : PrintsAnswer options (may_stop_by seconds gate) unread_old unread_new written_old written_new ended
-  pub code_is : code ≡ exit_code (Ok ended)
-
--- How a run on a problem ends well: it prints the report of an answer; where a plan is only checked, that it is lawful; or the same in another form.
-abbrev pub EndsOn : (Checks Exports : Type 0) → Options → Bool → Problem → Option (List ℕ) → Option (List ℕ) → ℕ → Type 0
-EndsOn Checks Exports options may_stop problem written_old written_new code =
-    WritesStatus options may_stop problem written_old written_new code
-    ⊎ ((Checks × WritesLawful problem written_old written_new)
-    ⊎ (Exports × (FindsAnswer options may_stop problem code ⊎ (Checks × HasPlan problem))))
-
--- the same, said of the bytes that mean the problem
-abbrev pub EndsWell : (Checks Exports : Type 0) → Bool → Option (List ℕ) → Option (List ℕ) → Option (List ℕ) → Option (List ℕ) → ℕ → Type 0
-EndsWell Checks Exports gate unread_old unread_new written_old written_new code =
-    PrintsReport gate unread_old unread_new written_old written_new code
-    ⊎ ((Checks × ChecksPlan unread_old unread_new written_old written_new)
-    ⊎ (Exports × (FindsForBytes gate unread_old unread_new code ⊎ (Checks × HasPlanForBytes unread_old unread_new))))
+-- the exit status of a run that was asked for
+abbrev pub request_code : Result Status RequestError → ℕ
+request_code (Ok ended) = exit_code (Ok ended)
+request_code (Err (reason.Run fault)) = exit_code (Err fault)
+request_code (Err (reason.Start error)) = start_code error
+request_code (Err reason.NoPoints) = 3

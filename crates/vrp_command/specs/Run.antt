@@ -12,16 +12,13 @@ use Rattle.vrp_streams.specs.Report.{report_of}
 use Rattle.vrp_streams.specs.declared.fault.RunError.{RunError}
 use Rattle.vrp_streams.specs.declared.fault.RunError.TheVariants as fault
 use Rattle.vrp_request.specs.declared.options.Options.{Options}
-use Rattle.vrp_streams.specs.declared.status.Status.{Status}
-use Rattle.vrp_streams.specs.declared.status.Status.TheVariants as status
+use Rattle.vrp_answer.specs.Finding.{finding_of}
 use Rattle.vrp_answer.specs.declared.answers.Answer.{Answer}
-use Rattle.vrp_answer.specs.declared.answers.Answer.TheVariants as answer
+use Rattle.vrp_answer.specs.declared.status.Status.{Status}
 
 -- the status of a run that prints this answer
 abbrev pub status_of : Answer → Status
-status_of (answer.Proven plan) = status.Proven
-status_of (answer.Open plan low first) = status.Open
-status_of answer.NoPlan = status.NoPlan
+status_of answer = (finding_of answer).status
 
 -- the problem with this many trucks, if a number was asked for
 abbrev pub limited : Option ℕ → Problem → Problem
@@ -32,7 +29,7 @@ limited (Some trucks) problem = record problem { trucks = Some trucks }
 pub record ReportsAnswer (options : Options) (may_stop : Bool) (problem : Problem) (report : List ℕ) (ended : Status) : Type 0 where
   pub found : Answer
   pub answer_is : IsAnswerTo problem options.pieces options.budget may_stop found
-  pub text : report ≡ report_of problem found
+  pub text : report ≡ report_of problem (finding_of found)
   pub status : ended ≡ status_of found
 
 -- the bytes mean a problem, and this is the report of such an answer to it, with the trucks that were asked for
@@ -48,19 +45,6 @@ pub record ReadsProblem (options : Options) (unread_old unread_new : Option (Lis
   pub meant : Problem
   pub means : MeansProblem bytes options.depot meant
   pub with_trucks : problem ≡ limited options.trucks meant
-
--- what was written is the report of an answer to the problem, and nothing else
-pub record WritesAnswer (options : Options) (may_stop : Bool) (problem : Problem) (written_old written_new : Option (List ℕ)) (ended : Status) : Type 0 where
-  pub report : List ℕ
-  pub reported : ReportsAnswer options may_stop problem report ended
-  pub output : Appends written_old written_new report
-
--- what was written is a part of the report of an answer to the problem, from its first byte on
-pub record WritesPart (options : Options) (may_stop : Bool) (problem : Problem) (written_old written_new : Option (List ℕ)) : Type 0 where
-  pub report : List ℕ
-  pub ended : Status
-  pub reported : ReportsAnswer options may_stop problem report ended
-  pub output : AppendsPart written_old written_new report
 
 -- What was written is the report of an answer to what was read, and nothing else. What is known of a reader's bytes, and of a
 -- writer's, comes before the call and after it.

@@ -1,10 +1,10 @@
 -- The exit status where there is no plan to begin with.
 use Rattle.std.specs.Prelude.{ℕ}
 use Rattle.vrp_command.specs.declared.start.StartError.{StartError}
-use Rattle.vrp_command.specs.declared.start.StartError.TheVariants as start
+use Rattle.vrp_command.specs.declared.start.StartError.TheVariants as start_fault
 
 abbrev pub start_code : StartError → ℕ
-start_code (start.Refused _) = 3
-start_code start.TooLong = 3
-start_code start.OutOfMemory = 4
-start_code start.Read = 5
+start_code (start_fault.Refused _) = 3
+start_code start_fault.TooLong = 3
+start_code start_fault.OutOfMemory = 4
+start_code start_fault.Read = 5

@@ -1,18 +1,27 @@
-//! A run: from the bytes of a file to the bytes of a report.
+//! A run: from the bytes of a file to the bytes of a report, or of an answer in another form.
 ghost use Rattle.std.specs.Prelude.{◌≡◌, ◌≢◌, ◌+◌, false, IfOk, IfErr};
 ghost use Rattle.std.specs.Io.KnownBytes.{Keeps};
 ghost use Rattle.vrp_request.specs.Options.{AreInRange};
+ghost use Rattle.vrp_command.specs.Program.{OnRefusal, PrintsRequest, PrintsPartOfRequest, RefusesStart, may_stop_by};
 ghost use Rattle.vrp_command.specs.Run.{PrintsAnswer, PrintsPart, RefusesInput, OnRefusedFile};
 ghost use Rattle.vrp_streams.specs.Input.{TakesAtMost};
 
-use crate::outcome::print_answer;
+use crate::answer::cut_and_solve;
+use crate::answering::answer_request;
+use crate::deadline::Deadline;
+use crate::fault::RequestError;
+use crate::form::{Form, print_finding};
 use crate::problem::read_problem;
+use crate::progress::Progress;
+use crate::start::StartFile;
 use std::alloc::Global;
-use std::io::{Read, Write};
+use std::io::{Eprint, Read, Write};
 use std::sync::Wait;
 use std::thread::Threads;
-use vrp_pool::NoGate;
-use vrp_request::Options;
+use std::time::Clock;
+use vrp_answer::Finding;
+use vrp_pool::{Gate, NoGate};
+use vrp_request::{Format, Options, Request};
 use vrp_streams::{RunError, Status};
 use vrp_text::MAX_BYTES;
 
@@ -41,5 +50,60 @@ pub fn run<T: Threads + Wait + Sync, R: Read, W: Write>(
         (W.contents output.old) (W.contents output.new)) }
 {
     let problem = read_problem(alloc, options, false, input)?;
-    print_answer(rt, alloc, &problem.instance, None, options, output, &NoGate)
+    let instance = &problem.instance;
+    let answer = cut_and_solve(rt, alloc, instance, None, options, &NoGate)?;
+    print_finding(
+        alloc,
+        instance,
+        &Finding::of_answer(&answer),
+        Form::Report,
+        output,
+    )
+}
+
+/// Does what a request asks for: reads a CVRP file, and a plan to begin with from a second one, if there is one; then it writes, in the
+/// form that is asked for, what it finds of the problem that the first file means: that the plan is lawful, where it is only to be
+/// checked, and else an answer, whose plan costs no more. It reads and writes as `run` does. A limit of seconds stops the search, and so
+/// may the gate, which is told before each piece.
+///
+/// To `errors` goes that the second file states another cost than its plan's, that a solution has no plan to be printed, and the last
+/// line of how the run went; to `rt` the lines before it. What these say is left open.
+pub fn run_request<
+    T: Threads + Wait + Clock + Eprint + Sync,
+    S: Read + Drop,
+    R: Read,
+    W: Write,
+    E: Write,
+    G: Gate + Sync,
+>(
+    rt: &T,
+    alloc: Global,
+    request: Request<'_>,
+    start: Option<StartFile<S>>,
+    input: &mut R,
+    output: &mut W,
+    errors: &mut E,
+    gate: &G,
+) -> Result<Status, RequestError>
+    requires { AreInRange request.options }
+    ensures printed { IfOk result (PrintsRequest request.entry (may_stop_by request.entry.seconds (G.may_stop gate.now))
+        (λ file. S.remaining file) start (R.remaining input.old) (R.remaining input.new) (W.contents output.old) (W.contents output.new)) }
+    ensures refused { IfErr result (λ error. OnRefusal error
+        (RefusesInput request.entry.options.depot (R.remaining input.old) (R.remaining input.new))
+        (RefusesStart request.entry (λ file. S.remaining file) start (R.remaining input.old) (R.remaining input.new))
+        (request.entry.format ≡ Format.Picture)) }
+    ensures begun { IfErr result (λ error. error ≡ RequestError.Run RunError.Write →
+        PrintsPartOfRequest request.entry (may_stop_by request.entry.seconds (G.may_stop gate.now)) (λ file. S.remaining file) start
+        (R.remaining input.old) (R.remaining input.new) (W.contents output.old) (W.contents output.new)) }
+    ensures failed { IfErr result (λ error. error ≡ RequestError.Run RunError.Read → TakesAtMost MAX_BYTES
+        (R.remaining input.old) (R.remaining input.new)) }
+    ensures taken { TakesAtMost (MAX_BYTES + 1) (R.remaining input.old) (R.remaining input.new) }
+    ensures silent { IfErr result (λ error. error ≢ RequestError.Run RunError.Write → Keeps
+        (W.contents output.old) (W.contents output.new)) }
+{
+    let deadline = Deadline::new(rt, request.seconds, gate);
+    let progress = Progress::new(rt, request.progress, &deadline);
+    let outcome = answer_request(rt, alloc, request, start, input, output, errors, &progress);
+    progress.tell_end(&outcome, errors);
+    outcome
 }

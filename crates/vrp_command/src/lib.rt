@@ -2,22 +2,26 @@
 #![tactic(auto)]
 
 mod answer;
+mod answering;
 mod command;
 mod deadline;
-mod export;
+mod fault;
+mod form;
+mod found;
 mod law;
 mod line;
-mod outcome;
 mod problem;
 mod program;
 mod progress;
 mod start;
 
-pub use command::run;
+pub use command::{run, run_request};
 pub use deadline::Deadline;
-pub use law::one_report;
+pub use fault::{RequestError, end};
+pub use law::{one_answer, one_report};
 pub use line::{Line, Stage};
-pub use program::{end, end_without_run, run_words};
+pub use program::{end_without_run, run_words};
+pub use start::{StartError, StartFile, open_start};
 pub use vrp_pool::{Gate, MAX_WORKERS, News, NoGate};
 pub use vrp_request::{
     Format, LineFault, MAX_BUDGET, MAX_SECONDS, Options, Request, line_fault, line_status,

@@ -29,9 +29,7 @@ impl fmt::Display for Stage {
             Stage::FirstPlan => "first plan",
             Stage::Prices => "prices",
             Stage::Search => "search",
-            Stage::Ended(Status::Proven) => "Proven",
-            Stage::Ended(Status::Open) => "Open",
-            Stage::Ended(Status::NoPlan) => "NoPlan",
+            Stage::Ended(status) => status.as_str(),
         })
     }
 }

@@ -1,12 +1,13 @@
 //! A gate that tells on standard error how a run goes.
 ghost use Rattle.std.specs.Prelude.{◌≡◌};
 
+use crate::fault::RequestError;
 use crate::line::{Line, Stage};
-use std::io::Eprint;
+use std::io::{Eprint, Write};
 use std::sync::atomic::{AtomicU64, Ordering};
 use std::time::{Clock, Instant};
 use vrp_pool::{Gate, News};
-use vrp_streams::{RunError, Status};
+use vrp_streams::Status;
 
 // What stands for no cost.
 const NO_PLAN: u64 = u64::MAX;
@@ -59,16 +60,24 @@ impl<'a, T: Clock + Eprint, G: Gate> Progress<'a, T, G> {
         }
     }
 
-    /// The last line, where the run has come to a verdict. No plan costs less than one that is proven.
-    pub(crate) fn tell_end(&self, outcome: &Result<Status, RunError>) {
+    /// The last line, where a search has come to a verdict: it goes to `errors`. No plan costs less than one that is proven.
+    pub(crate) fn tell_end<E: Write>(
+        &self,
+        outcome: &Result<Status, RequestError>,
+        errors: &mut E,
+    ) {
         let Ok(status) = outcome else {
             return;
         };
+        if !self.tells || *status == Status::Lawful {
+            return;
+        }
         if *status == Status::Proven {
             self.bound
                 .store(self.cost.load(Ordering::Relaxed), Ordering::Relaxed);
         }
-        self.tell(Stage::Ended(*status));
+        // Nobody is told where it can't be written.
+        let _ = writeln!(errors, "{}", self.line(Stage::Ended(*status)));
     }
 
     // How many seconds have passed, if the clock tells.
@@ -78,12 +87,17 @@ impl<'a, T: Clock + Eprint, G: Gate> Progress<'a, T, G> {
 
     // Writes a line.
     fn tell(&self, stage: Stage) {
-        if !self.tells {
-            return;
+        if self.tells {
+            // Nobody is told where it can't be written.
+            let _ = self.rt.eprintln(self.line(stage));
         }
+    }
+
+    // What is known at a stage.
+    fn line(&self, stage: Stage) -> Line {
         let cost = self.cost.load(Ordering::Relaxed);
         let bound = self.bound.load(Ordering::Relaxed);
-        let line = Line {
+        Line {
             stage,
             seconds: self.seconds(),
             cost: if cost == NO_PLAN { None } else { Some(cost) },
@@ -91,9 +105,7 @@ impl<'a, T: Clock + Eprint, G: Gate> Progress<'a, T, G> {
             done: self.done.load(Ordering::Relaxed),
             pieces: self.pieces.load(Ordering::Relaxed),
             looked: self.looked.load(Ordering::Relaxed),
-        };
-        // Nobody is told where it can't be written.
-        let _ = self.rt.eprintln(line);
+        }
     }
 
     // Writes a line where none was written in this second.

@@ -1,26 +1,44 @@
 //! The plan to begin with, from a file.
-ghost use Rattle.std.specs.Prelude.{IfOk};
-ghost use Rattle.vrp_model.specs.Route.{IsPlanOf};
+ghost use Rattle.std.specs.Prelude.{◌≡◌, IfErr, IfOk};
+ghost use Rattle.vrp_command.specs.Inner.Starts.{GivesFilePlan, IsTooLongOrUnread, refused_for};
+ghost use Rattle.vrp_command.specs.Program.{BeginsWith, IsFile, OnRefusedStart, RefusesFile, RefusesStartFile};
 
-use std::alloc::{AllocError, Global};
+use std::alloc::Global;
 use std::fs;
-use std::io::Write;
+use std::io::{Read, Write};
 use std::rt::Files;
 use vrp_model::{Instance, Plan};
 use vrp_solution::{Solution, SolutionError};
 use vrp_streams::{RunError, read_input};
 use vrp_text::MAX_BYTES;
 
+/// The file of a plan to begin with.
+#[derive(Drop)]
+pub enum StartFile<S> {
+    /// It can be read.
+    Opened(S),
+    /// It can't be opened.
+    Unopened,
+}
+
+/// The file of a plan to begin with, by its path. What it has no clause says.
+pub fn open_start<T: Files>(rt: &T, path: &str) -> StartFile<T::File> {
+    match fs::open(rt, path) {
+        Ok(file) => StartFile::Opened(file),
+        Err(_) => StartFile::Unopened,
+    }
+}
+
 /// Why there is no plan to begin with.
 #[derive(Clone, Copy, Debug, PartialEq, Eq, Drop, thiserror::Error)]
-pub(crate) enum StartError {
+pub enum StartError {
     /// The file can't be opened or read.
     #[error("start plan: read fault")]
     Read,
     /// The file has more bytes than a file may have.
     #[error("start plan: input too long")]
     TooLong,
-    /// The file is no solution, or none of a lawful plan.
+    /// The file is no solution, or none of a lawful plan. Never for want of memory.
     #[error("start plan: {0}")]
     Refused(SolutionError),
     /// A growth was refused.
@@ -28,51 +46,68 @@ pub(crate) enum StartError {
     OutOfMemory,
 }
 
-impl From<AllocError> for StartError {
-    fn from(_refusal: AllocError) -> StartError {
-        StartError::OutOfMemory
-    }
-}
-
-impl From<SolutionError> for StartError {
-    fn from(error: SolutionError) -> StartError {
-        match error {
-            SolutionError::OutOfMemory => StartError::OutOfMemory,
-            _ => StartError::Refused(error),
-        }
-    }
-}
-
-/// The lawful plan that a file has, as CVRPLIB writes it. Where the file states another cost than its true one, that goes to `errors`.
-pub(crate) fn start_plan<T: Files, E: Write>(
-    rt: &T,
+/// The plan to begin with, if there is a file for it: the lawful one that its text gives.
+pub(crate) fn start_plan<S: Read + Drop, E: Write>(
     alloc: Global,
     instance: &Instance,
-    path: &str,
+    start: Option<StartFile<S>>,
+    errors: &mut E,
+) -> Result<Option<Plan>, StartError>
+    ensures begins { IfOk result (BeginsWith instance.now (λ file. S.remaining file) start) }
+    ensures refused { IfErr result (λ error. OnRefusedStart error
+        (RefusesStartFile instance.now (λ file. S.remaining file) start)) }
+{
+    match start {
+        None => Ok(None),
+        Some(StartFile::Unopened) => Err(StartError::Read),
+        Some(StartFile::Opened(file)) => Ok(Some(plan_in(alloc, instance, file, errors)?)),
+    }
+}
+
+// The lawful plan that a file has, as CVRPLIB writes it. Where the file states another cost than its true one, that goes to `errors`.
+fn plan_in<S: Read + Drop, E: Write>(
+    alloc: Global,
+    instance: &Instance,
+    file: S,
     errors: &mut E,
 ) -> Result<Plan, StartError>
-    ensures { IfOk result (IsPlanOf instance.now) }
+    ensures gives { IfOk result (GivesFilePlan instance.now (S.remaining file)) }
+    ensures refused { IfErr result (λ error. OnRefusedStart error (RefusesFile instance.now (S.remaining file))) }
 {
-    let text = read_file(rt, alloc, path)?;
-    let solution = Solution::read(alloc, &text, instance)?;
-    let cost = solution.plan.cost();
-    if solution.states_other_cost {
-        // Nobody is told where it can't be written.
-        let _ = writeln!(
-            errors,
-            "cvrp: start plan: it states another cost than its true one, {cost}"
-        );
+    let text = read_file(alloc, file)?;
+    match Solution::read(alloc, &text, instance) {
+        Ok(solution) => {
+            let cost = solution.plan.cost();
+            if solution.states_other_cost {
+                // Nobody is told where it can't be written.
+                let _ = writeln!(
+                    errors,
+                    "cvrp: start plan: it states another cost than its true one, {cost}"
+                );
+            }
+            Ok(solution.plan)
+        }
+        Err(refusal) => Err(refused(refusal)),
     }
-    Ok(solution.plan)
+}
+
+// Why there is no plan to begin with where a solution is refused.
+fn refused(refusal: SolutionError) -> StartError
+    ensures { result ≡ refused_for refusal }
+{
+    match refusal {
+        SolutionError::OutOfMemory => StartError::OutOfMemory,
+        _ => StartError::Refused(refusal),
+    }
 }
 
 // All bytes of a file.
-fn read_file<T: Files>(rt: &T, alloc: Global, path: &str) -> Result<Vec<u8>, StartError> {
-    let Ok(mut file) = fs::open(rt, path) else {
-        return Err(StartError::Read);
-    };
+fn read_file<S: Read + Drop>(alloc: Global, mut file: S) -> Result<Vec<u8>, StartError>
+    ensures read { IfOk result (λ text. IsFile (S.remaining file) text.items) }
+    ensures refused { IfErr result (λ error. IsTooLongOrUnread (S.remaining file) error) }
+{
     match read_input(alloc, &mut file) {
-        Ok(bytes) if bytes.len() <= MAX_BYTES => Ok(bytes),
+        Ok(text) if text.len() <= MAX_BYTES => Ok(text),
         Ok(_) => Err(StartError::TooLong),
         Err(RunError::OutOfMemory) => Err(StartError::OutOfMemory),
         Err(_) => Err(StartError::Read),

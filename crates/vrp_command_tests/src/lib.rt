@@ -20,6 +20,8 @@ mod outcomes;
 #[cfg(test)]
 mod plans;
 #[cfg(test)]
+mod requests;
+#[cfg(test)]
 mod runs;
 #[cfg(test)]
 mod trucks;

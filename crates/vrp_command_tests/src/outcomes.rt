@@ -2,8 +2,11 @@
 use crate::fixture::{REPORT, SMALL, assert_same};
 use std::alloc::Global;
 use std::process::Abort;
-use vrp_command::{Options, RunError, Status, end, exit_status, fault_line, run};
+use vrp_command::{
+    Options, RequestError, RunError, StartError, Status, end, exit_status, fault_line, run,
+};
 use vrp_model::InstanceError;
+use vrp_solution::SolutionError;
 use vrp_text::{Key, TextError};
 
 #[test]
@@ -23,6 +26,7 @@ const OUTCOMES: &[(Result<Status, RunError>, u8, &str)] = &[
     (Ok(Status::Proven), 0, ""),
     (Ok(Status::NoPlan), 0, ""),
     (Ok(Status::Open), 1, ""),
+    (Ok(Status::Lawful), 0, ""),
     (
         Err(RunError::Text(TextError::TooLong)),
         3,
@@ -38,7 +42,47 @@ fn outcomes(rt: HostRuntime) {
     for &(outcome, status, told) in OUTCOMES {
         let mut errors = Vec::new(rt.alloc());
         assert_same(&rt, exit_status(&outcome), status, told);
-        assert_same(&rt, end(rt.alloc(), &outcome, &mut errors), status, told);
+        let asked = outcome.map_err(RequestError::Run);
+        assert_same(&rt, end(rt.alloc(), &asked, &mut errors), status, told);
+        assert_same(&rt, errors.as_slice(), told.as_bytes(), told);
+    }
+}
+
+// Why a request is not answered though its file is read, the status, and what is told of it.
+const NOT_ANSWERED: &[(RequestError, u8, &str)] = &[
+    (
+        RequestError::Start(StartError::Read),
+        5,
+        "cvrp: start plan: read fault\n",
+    ),
+    (
+        RequestError::Start(StartError::TooLong),
+        3,
+        "cvrp: start plan: input too long\n",
+    ),
+    (
+        RequestError::Start(StartError::Refused(SolutionError::NotServed(2))),
+        3,
+        "cvrp: start plan: customer 2 is not served\n",
+    ),
+    (
+        RequestError::Start(StartError::OutOfMemory),
+        4,
+        "cvrp: out of memory\n",
+    ),
+    (
+        RequestError::NoPoints,
+        3,
+        "cvrp: no picture: the file has no whole coordinates for each node\n",
+    ),
+];
+
+#[test]
+fn not_answered(rt: HostRuntime) {
+    for &(error, status, told) in NOT_ANSWERED {
+        let mut errors = Vec::new(rt.alloc());
+        let ended = end(rt.alloc(), &Err(error), &mut errors);
+        assert_same(&rt, ended, status, told);
         assert_same(&rt, errors.as_slice(), told.as_bytes(), told);
     }
 }

@@ -1,11 +1,11 @@
 //! A plan laid out on a page: its routes, its places and what stands below them.
 ghost use Rattle.vrp_export.specs.Stops.{HaveStopsIn};
 
-use crate::finding::Finding;
 use crate::frame::Frame;
 use crate::points::{Point, Points};
 use crate::route::{cost, load};
 use std::alloc::{AllocError, Global};
+use vrp_answer::Finding;
 use vrp_model::{Instance, Plan};
 
 /// A route on the page.
@@ -85,7 +85,7 @@ pub(crate) fn marks(
 
 /// What stands below the map: the cost and the verdict.
 pub(crate) fn caption(alloc: Global, finding: &Finding<'_>) -> Result<String, AllocError> {
-    let verdict = finding.verdict;
+    let verdict = finding.status;
     let Some(plan) = finding.plan else {
         return format!(in alloc; "{verdict}");
     };

@@ -1,16 +1,23 @@
-//! What is known of an instance, as JSON (RFC 8259).
+//! What is told of an instance, as JSON (RFC 8259).
 ghost use Rattle.std.specs.Option.{ForSome, option_map};
+ghost use Rattle.std.specs.Prelude.{◌≡◌, ◌≤◌, ℕ, IfOk, map, string_bytes};
+ghost use Rattle.serde_json.specs.Data.{array, depth};
+ghost use Rattle.serde_json.specs.View.{items_view, view};
+ghost use Rattle.vrp_answer.specs.Finding.{told_by};
+ghost use Rattle.vrp_export.specs.Inner.Document.{document_of, route_object};
+ghost use Rattle.vrp_export.specs.Inner.Routes.{AreRoutes};
+ghost use Rattle.vrp_export.specs.Json.{IsJsonOf, IsLineOf, nodes_of, number_or_null, options_told, routes_told};
 ghost use Rattle.vrp_export.specs.Stops.{ArePlaces, HaveStopsIn};
 ghost use Rattle.vrp_model.specs.Route.{IsPlanOf};
 
-use crate::finding::{Finding, Verdict};
 use crate::route::{cost, load};
-use serde::Serialize;
+use serde_json::{Value, json};
 use std::alloc::{AllocError, Global};
+use vrp_answer::Finding;
 use vrp_model::{Instance, NoMemory, Plan};
 
 /// How the run was asked for.
-#[derive(Clone, Copy, Debug, PartialEq, Eq, Drop, Serialize)]
+#[derive(Clone, Copy, Debug, PartialEq, Eq, Drop)]
 pub struct Settings {
     /// Threads that searched.
     pub workers: u32,
@@ -26,62 +33,123 @@ pub struct Settings {
     pub trucks: Option<u16>,
 }
 
-/// What is known of an instance as one JSON object and a line feed. It has the members `verdict`, `cost`, `lower_bound`, `customers`,
-/// `capacity`, `depot`, `routes`, each of them with its `nodes`, `load` and `cost`, and `options`. Nodes have the file's numbers. What
-/// isn't known is `null`, and without a plan there are no routes.
+/// What is told of an instance as one JSON object and a line feed. It has the members `capacity`, `cost`, `customers`, `depot`,
+/// `lower_bound`, `options`, `routes`, each of them with its `cost`, `load` and `nodes`, and `verdict`. Nodes have the file's numbers.
+/// What isn't known is `null`, and without a plan there are no routes.
 ///
-/// The text is left open.
+/// What stands in `load` and `cost` of a route is left open.
 pub fn json_text(
     alloc: Global,
+    instance: &Instance,
     finding: &Finding<'_>,
     settings: Settings,
 ) -> Result<String, NoMemory>
-    requires { ForSome (option_map (λ plan. plan.now) finding.now.plan)
-        (IsPlanOf finding.now.instance.now) }
+    requires { ForSome (option_map (λ plan. plan.now) finding.now.plan) (IsPlanOf instance.now) }
+    ensures { IfOk result (λ text. IsJsonOf instance.now (told_by finding.now) settings (string_bytes text)) }
 {
-    let routes = match finding.plan {
-        Some(plan) => routes_of(alloc, finding.instance, plan)?,
-        None => Vec::new(alloc),
-    };
-    let document = Document {
-        verdict: finding.verdict,
-        cost: finding.plan.map(Plan::cost),
-        lower_bound: finding.lower_bound,
-        customers: finding.instance.customers(),
-        capacity: finding.instance.capacity(),
-        depot: finding.instance.node(0),
-        routes,
-        options: settings,
-    };
-    let mut text = serde_json::to_string(alloc, &document).map_err(|_| AllocError)?;
+    let routes = routes_of(alloc, instance, finding.plan)?;
+    let options = options_of(alloc, settings)?;
+    let document = document(alloc, instance, finding, routes, options)?;
+    Ok(line_of(alloc, document)?)
+}
+
+// The line of an object.
+fn line_of(alloc: Global, object: Value) -> Result<String, AllocError>
+    ensures { IfOk result (λ text. depth (view object) ≤ 4 → IsLineOf (view object) (string_bytes text)) }
+{
+    let text = object.to_string(alloc);
+    drop(object);
+    let mut text = text?;
     text.push_str("\n")?;
     Ok(text)
 }
 
-// The whole text.
-#[derive(Drop, Serialize)]
-struct Document {
-    verdict: Verdict,
-    cost: Option<u64>,
-    lower_bound: Option<u64>,
-    customers: u16,
-    capacity: u64,
-    depot: u16,
-    routes: Vec<Route>,
-    options: Settings,
+// The object, with these routes and options.
+fn document(
+    alloc: Global,
+    instance: &Instance,
+    finding: &Finding<'_>,
+    routes: Vec<Value>,
+    options: Value,
+) -> Result<Value, AllocError>
+    ensures { IfOk result (λ value. view value
+        ≡ document_of instance.now (told_by finding.now) (map view routes.items) (view options)) }
+{
+    let verdict = finding.status.as_str();
+    let cost = or_null(cost_of(finding.plan));
+    let lower_bound = or_null(finding.lower_bound);
+    let customers = instance.customers();
+    let capacity = instance.capacity();
+    let depot = instance.node(0);
+    json!(in alloc; {
+        "verdict": verdict,
+        "cost": cost,
+        "lower_bound": lower_bound,
+        "customers": customers,
+        "capacity": capacity,
+        "depot": depot,
+        "routes": routes,
+        "options": options,
+    })
 }
 
-// One route.
-#[derive(Drop, Serialize)]
-struct Route {
-    nodes: Vec<u16>,
-    load: u64,
-    cost: u64,
+// What a plan costs, if there is one.
+fn cost_of(plan: Option<&Plan>) -> Option<u64>
+    ensures { result ≡ option_map (λ plan. plan.cost) (option_map (λ plan. plan.now) plan.entry) }
+{
+    match plan {
+        Some(plan) => Some(plan.cost()),
+        None => None,
+    }
+}
+
+// A number, or `null` where there is none.
+fn or_null(number: Option<u64>) -> Value
+    ensures { view result ≡ number_or_null number }
+{
+    match number {
+        Some(number) => Value::from(number),
+        None => Value::Null,
+    }
+}
+
+// How the run was asked for, as an object.
+fn options_of(alloc: Global, settings: Settings) -> Result<Value, AllocError>
+    ensures { IfOk result (λ value. view value ≡ options_told settings) }
+{
+    let seconds = Value::from(settings.seconds);
+    let depot = Value::from(settings.depot);
+    let trucks = Value::from(settings.trucks);
+    json!(in alloc; {
+        "workers": settings.workers,
+        "pieces": settings.pieces,
+        "budget": settings.budget,
+        "seconds": seconds,
+        "depot": depot,
+        "trucks": trucks,
+    })
+}
+
+// The routes of a plan, if there is one.
+fn routes_of(
+    alloc: Global,
+    instance: &Instance,
+    plan: Option<&Plan>,
+) -> Result<Vec<Value>, AllocError>
+    requires { ForSome (option_map (λ plan. plan.now) plan) (IsPlanOf instance.now) }
+    ensures { IfOk result (λ routes. AreRoutes instance.now (routes_told (option_map (λ plan. plan.now) plan.entry))
+        (map view routes.items)) }
+{
+    match plan {
+        Some(plan) => objects_of(alloc, instance, plan),
+        None => Ok(Vec::new(alloc)),
+    }
 }
 
 // The routes of a plan.
-fn routes_of(alloc: Global, instance: &Instance, plan: &Plan) -> Result<Vec<Route>, AllocError>
+fn objects_of(alloc: Global, instance: &Instance, plan: &Plan) -> Result<Vec<Value>, AllocError>
     requires { HaveStopsIn instance.now plan.now.routes }
+    ensures { IfOk result (λ routes. AreRoutes instance.now plan.now.routes (map view routes.items)) }
 {
     let mut routes = Vec::new(alloc);
     for index in 0..plan.routes() {
@@ -91,16 +159,25 @@ fn routes_of(alloc: Global, instance: &Instance, plan: &Plan) -> Result<Vec<Rout
 }
 
 // A route with these stops.
-fn route_of(alloc: Global, instance: &Instance, stops: &[u16]) -> Result<Route, AllocError>
+fn route_of(alloc: Global, instance: &Instance, stops: &[u16]) -> Result<Value, AllocError>
     requires { ArePlaces instance.now stops.now }
+    ensures { IfOk result (λ route. (cost load : ℕ)
+        × (view route ≡ route_object cost load (nodes_of instance.now stops.now))) }
+{
+    let cost = cost(instance, stops);
+    let load = load(instance, stops);
+    let nodes = node_numbers(alloc, instance, stops)?;
+    json!(in alloc; {"nodes": nodes, "load": load, "cost": cost})
+}
+
+// The file's node numbers of these stops.
+fn node_numbers(alloc: Global, instance: &Instance, stops: &[u16]) -> Result<Vec<Value>, AllocError>
+    requires { ArePlaces instance.now stops.now }
+    ensures { IfOk result (λ nodes. array (items_view nodes.items) ≡ nodes_of instance.now stops.now) }
 {
     let mut nodes = Vec::with_capacity(alloc, stops.len())?;
     for place in stops {
-        nodes.push(instance.node(*place))?;
+        nodes.push(Value::from(instance.node(*place)))?;
     }
-    Ok(Route {
-        nodes,
-        load: load(instance, stops),
-        cost: cost(instance, stops),
-    })
+    Ok(nodes)
 }

@@ -4,13 +4,13 @@ ghost use Rattle.std.specs.Option.{ForSome, option_map};
 ghost use Rattle.vrp_model.specs.Route.{IsPlanOf};
 
 use crate::drawing::{Mark, Track, caption, marks, tracks};
-use crate::finding::Finding;
 use crate::frame::{Frame, MARGIN, SIDE};
 use crate::points::{Point, Points};
 use crate::style::{color, dashes};
 use std::alloc::Global;
 use std::fmt;
-use vrp_model::NoMemory;
+use vrp_answer::Finding;
+use vrp_model::{Instance, NoMemory};
 
 // The most customers whose nodes are written beside them.
 const MOST_LABELS: usize = 150;
@@ -30,22 +30,23 @@ const LIST_STEP: i64 = 320;
 /// The text is left open.
 pub fn picture_text(
     alloc: Global,
+    instance: &Instance,
     finding: &Finding<'_>,
     points: &Points,
 ) -> Result<String, NoMemory>
     requires { ForSome (option_map (λ plan. plan.now) finding.now.plan)
-        (IsPlanOf finding.now.instance.now) }
+        (IsPlanOf instance.now) }
 {
     let frame = Frame::around(points.by_place());
     let tracks = match finding.plan {
-        Some(plan) => tracks(alloc, finding.instance, plan, points, frame)?,
+        Some(plan) => tracks(alloc, instance, plan, points, frame)?,
         None => Vec::new(alloc),
     };
     let picture = Picture {
         height: frame.height(),
-        capacity: finding.instance.capacity(),
+        capacity: instance.capacity(),
         tracks,
-        marks: marks(alloc, finding.instance, points, frame)?,
+        marks: marks(alloc, instance, points, frame)?,
         caption: caption(alloc, finding)?,
     };
     Ok(picture.to_string(alloc)?)

@@ -4,9 +4,11 @@ ghost use Rattle.vrp_model.specs.Route.{IsPlanOf};
 use std::alloc::Global;
 use std::process::Abort;
 use std::test::*;
-use vrp_export::{Finding, Points, Settings, Verdict, json_text, picture_text, solution_text};
+use vrp_answer::{Finding, Status};
+use vrp_export::{Points, Settings, json_text, picture_text};
 use vrp_model::{Instance, MAX_NODES, Plan};
 use vrp_solution::Solution;
+use vrp_streams::solution_text;
 
 // Three customers around a depot that is node 2. A truck carries ten.
 const FOUR: &str =
@@ -38,6 +40,15 @@ fn plan(rt: &impl Abort, alloc: Global, instance: &Instance, text: &str) -> Plan
         .plan
 }
 
+// What is told of a plan, if there is one.
+fn told(plan: Option<&Plan>, status: Status, lower_bound: Option<u64>) -> Finding<'_> {
+    Finding {
+        plan,
+        status,
+        lower_bound,
+    }
+}
+
 // Asserts a text.
 fn assert_text(rt: &impl Abort, text: &str, wanted: &str) {
     assert!(rt; text == wanted, "{text}");
@@ -49,26 +60,26 @@ fn solutions(rt: HostRuntime) {
     let alloc = rt.alloc();
     let four = instance(&rt, alloc, FOUR);
     let plan = plan(&rt, alloc, &four, TWO_ROUTES);
-    let text = solution_text(alloc, &plan).expect(&rt, "memory");
+    let text = solution_text(alloc, &Finding::lawful(&plan)).expect(&rt, "memory");
     assert_text(&rt, text.as_str(), TWO_ROUTES);
 }
 
 const TWO_ROUTES_JSON: &str =
-    "{\"verdict\":\"Open\",\"cost\":18,\"lower_bound\":17,\"customers\":3,\"capacity\":10,\"depot\":2,\"routes\":[{\"nodes\":[1,3],\"load\":9,\"cost\":12},{\"nodes\":[4],\"load\":7,\"cost\":6}],\"options\":{\"workers\":2,\"pieces\":64,\"budget\":1000,\"seconds\":null,\"depot\":2,\"trucks\":null}}\n";
+    "{\"capacity\":10,\"cost\":18,\"customers\":3,\"depot\":2,\"lower_bound\":17,\"options\":{\"budget\":1000,\"depot\":2,\"pieces\":64,\"seconds\":null,\"trucks\":null,\"workers\":2},\"routes\":[{\"cost\":12,\"load\":9,\"nodes\":[1,3]},{\"cost\":6,\"load\":7,\"nodes\":[4]}],\"verdict\":\"Open\"}\n";
 
 const NO_PLAN_JSON: &str =
-    "{\"verdict\":\"NoPlan\",\"cost\":null,\"lower_bound\":null,\"customers\":3,\"capacity\":10,\"depot\":2,\"routes\":[],\"options\":{\"workers\":2,\"pieces\":64,\"budget\":1000,\"seconds\":null,\"depot\":2,\"trucks\":null}}\n";
+    "{\"capacity\":10,\"cost\":null,\"customers\":3,\"depot\":2,\"lower_bound\":null,\"options\":{\"budget\":1000,\"depot\":2,\"pieces\":64,\"seconds\":null,\"trucks\":null,\"workers\":2},\"routes\":[],\"verdict\":\"NoPlan\"}\n";
 
 #[test]
 fn objects(rt: HostRuntime) {
     let alloc = rt.alloc();
     let four = instance(&rt, alloc, FOUR);
     let plan = plan(&rt, alloc, &four, TWO_ROUTES);
-    let open = Finding::new(&four, Some(&plan), Verdict::Open, Some(17));
-    let text = json_text(alloc, &open, SETTINGS).expect(&rt, "memory");
+    let open = told(Some(&plan), Status::Open, Some(17));
+    let text = json_text(alloc, &four, &open, SETTINGS).expect(&rt, "memory");
     assert_text(&rt, text.as_str(), TWO_ROUTES_JSON);
-    let none = Finding::new(&four, None, Verdict::NoPlan, None);
-    let text = json_text(alloc, &none, SETTINGS).expect(&rt, "memory");
+    let none = told(None, Status::NoPlan, None);
+    let text = json_text(alloc, &four, &none, SETTINGS).expect(&rt, "memory");
     assert_text(&rt, text.as_str(), NO_PLAN_JSON);
 }
 
@@ -112,38 +123,38 @@ fn drawn(
     rt: &impl Abort,
     alloc: Global,
     sections: &str,
-    verdict: Verdict,
+    status: Status,
     lower_bound: Option<u64>,
 ) -> Option<String> {
     let four = instance(rt, alloc, FOUR);
     let plan = plan(rt, alloc, &four, TWO_ROUTES);
     let points = Points::read(alloc, sections.as_bytes(), &four).expect(rt, "memory")?;
-    let finding = Finding::new(&four, Some(&plan), verdict, lower_bound);
-    Some(picture_text(alloc, &finding, &points).expect(rt, "memory"))
+    let finding = told(Some(&plan), status, lower_bound);
+    Some(picture_text(alloc, &four, &finding, &points).expect(rt, "memory"))
 }
 
 #[test]
 fn pictures(rt: HostRuntime) {
-    let text = drawn(&rt, rt.alloc(), FOUR, Verdict::Open, Some(17));
+    let text = drawn(&rt, rt.alloc(), FOUR, Status::Open, Some(17));
     let text = text.expect(&rt, "a picture");
     assert_text(&rt, text.as_str(), TWO_ROUTES_SVG);
 }
 
 // What is known, and what stands below the map.
-const CAPTIONS: &[(Verdict, Option<u64>, &str)] = &[
-    (Verdict::Proven, Some(18), ">Cost 18, Proven</text>\n"),
+const CAPTIONS: &[(Status, Option<u64>, &str)] = &[
+    (Status::Proven, Some(18), ">Cost 18, Proven</text>\n"),
     (
-        Verdict::Open,
+        Status::Open,
         Some(0),
         ">Cost 18, lower bound 0, Open</text>\n",
     ),
-    (Verdict::Lawful, None, ">Cost 18, Lawful</text>\n"),
+    (Status::Lawful, None, ">Cost 18, Lawful</text>\n"),
 ];
 
 #[test]
 fn captions(rt: HostRuntime) {
-    for (verdict, lower_bound, caption) in CAPTIONS {
-        let text = drawn(&rt, rt.alloc(), FOUR, *verdict, *lower_bound);
+    for (status, lower_bound, caption) in CAPTIONS {
+        let text = drawn(&rt, rt.alloc(), FOUR, *status, *lower_bound);
         let text = text.expect(&rt, "a picture");
         assert!(&rt; text.as_str().contains(*caption), "{}", text.as_str());
     }
@@ -160,8 +171,8 @@ fn no_plan(rt: HostRuntime) {
     let alloc = rt.alloc();
     let four = instance(&rt, alloc, FOUR);
     let points = points(&rt, alloc, FOUR, &four);
-    let none = Finding::new(&four, None, Verdict::NoPlan, None);
-    let text = picture_text(alloc, &none, &points).expect(&rt, "memory");
+    let none = told(None, Status::NoPlan, None);
+    let text = picture_text(alloc, &four, &none, &points).expect(&rt, "memory");
     let text = text.as_str();
     assert!(&rt; text.contains(">NoPlan</text>"), "{text}");
     assert!(&rt;
@@ -209,7 +220,7 @@ const SECTIONS: &[(&str, bool)] = &[
 #[test]
 fn coordinates(rt: HostRuntime) {
     for (sections, wanted) in SECTIONS {
-        let text = drawn(&rt, rt.alloc(), sections, Verdict::Lawful, None);
+        let text = drawn(&rt, rt.alloc(), sections, Status::Lawful, None);
         assert!(&rt; text.is_some() == *wanted, "{sections}");
         if let Some(text) = text {
             assert!(&rt; text.as_str().contains(CORNERS), "{sections}");
@@ -246,13 +257,13 @@ fn largest(rt: HostRuntime) {
         .expect(&rt, "memory")
         .expect(&rt, "trucks");
     let points = points(&rt, alloc, file.as_str(), &instance);
-    let finding = Finding::new(&instance, Some(&plan), Verdict::Open, Some(0));
-    let text = solution_text(alloc, &plan).expect(&rt, "memory");
+    let finding = told(Some(&plan), Status::Open, Some(0));
+    let text = solution_text(alloc, &finding).expect(&rt, "memory");
     assert!(&rt; text.as_str().ends_with("\nRoute #1199: 1199\nCost 0\n"));
     assert!(&rt; count(text.as_str(), "Route #") == 1_199);
-    let text = json_text(alloc, &finding, SETTINGS).expect(&rt, "memory");
-    assert!(&rt; count(text.as_str(), "{\"nodes\":[") == 1_199);
-    let text = picture_text(alloc, &finding, &points).expect(&rt, "memory");
+    let text = json_text(alloc, &instance, &finding, SETTINGS).expect(&rt, "memory");
+    assert!(&rt; count(text.as_str(), "\"nodes\":[") == 1_199);
+    let text = picture_text(alloc, &instance, &finding, &points).expect(&rt, "memory");
     assert!(&rt; count(text.as_str(), "<circle") == 1_199);
     assert!(&rt; count(text.as_str(), "<path") == 1_199);
     assert!(&rt; count(text.as_str(), "<text") == 1);

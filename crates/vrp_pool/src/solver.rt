@@ -1,13 +1,14 @@
 //! The search of an instance by several workers.
 ghost use Rattle.std.specs.Prelude.{◌≡◌, ◌+◌, ◌*◌, ◌≤◌, IfOk, IfSome, length, vec_len};
 ghost use Rattle.std.specs.Option.{ForSome, option_map};
+ghost use Rattle.vrp_model.specs.Cheapest.{cost_of};
 ghost use Rattle.vrp_model.specs.Problem.{place_count};
 ghost use Rattle.vrp_model.specs.Route.{IsPlanOf};
 ghost use Rattle.vrp_pile.specs.Pile.{IsNewPile};
 ghost use Rattle.vrp_tree.specs.Cutting.{IsCutting};
 ghost use Rattle.vrp_tree.specs.declared.cutting.TheConstants.{MAX_REFINED};
 ghost use Rattle.vrp_pool.specs.declared.solver.TheConstants.{MAX_WORKERS};
-ghost use Rattle.vrp_answer.specs.Answer.{AnswersAll, IsAnswer};
+ghost use Rattle.vrp_answer.specs.Answer.{AnswersAll, IsAnswer, known_plan};
 ghost use Rattle.vrp_answer.specs.Outcomes.{words_of};
 
 use crate::preparation::{LEAST_PREPARED_BUDGET, first_plan, prices_found};
@@ -65,8 +66,8 @@ pub fn solve<'a, R: Threads + Wait + Sync, G: Gate + Sync>(
 /// plan is looked for: by savings, and with no less than 100,000 partial plans for all pieces also by ruin and recreate. And prices
 /// are made, if there is a plan and prices are found: then the search of a piece prunes by them.
 ///
-/// Before the pieces are searched the plan to begin with is offered, if one is given, or the first plan where that is before it. That
-/// the answer's plan costs no more than the plan to begin with is left open.
+/// Before the pieces are searched the plan to begin with is offered, if one is given, or the first plan where that is before it. The
+/// answer's plan costs no more than the plan to begin with.
 pub fn solve_from<'a, R: Threads + Wait + Sync, G: Gate + Sync>(
     rt: &'a R,
     alloc: Global,
@@ -83,7 +84,9 @@ pub fn solve_from<'a, R: Threads + Wait + Sync, G: Gate + Sync>(
     requires some_worker { 1 ≤ workers }
     requires few_workers { workers ≤ MAX_WORKERS }
     requires budget { 1 ≤ budget }
-    ensures { IfOk result (IsAnswer instance.now cutting budget (G.may_stop gate.now)) }
+    ensures answer { IfOk result (IsAnswer instance.now cutting budget (G.may_stop gate.now)) }
+    ensures no_dearer { IfOk result (λ answer. cost_of (known_plan answer)
+        ≤ cost_of (option_map (λ plan. plan.now) start.entry)) }
 {
     let tables = Tables::over_all(alloc, instance)?;
     let pieces = cutting.pieces().len() as u32;
@@ -105,7 +108,8 @@ fn solve_shared<R: Threads + Wait + Sync, G: Gate + Sync>(
     requires pieces { shared.now.pieces ≡ length cutting }
     requires some_worker { 1 ≤ workers }
     requires few_workers { workers ≤ MAX_WORKERS }
-    ensures { IfOk result (IsAnswer shared.now.problem cutting shared.now.budget shared.now.may_stop) }
+    ensures answer { IfOk result (IsAnswer shared.now.problem cutting shared.now.budget shared.now.may_stop) }
+    ensures no_dearer { IfOk result (λ answer. cost_of (known_plan answer) ≤ cost_of shared.now.first) }
 {
     hear_plan(shared.gate, shared.first);
     if let Some(answer) = looked_at(shared)? {
@@ -129,7 +133,8 @@ fn solve_prepared<R: Threads + Wait + Sync, G: Gate + Sync>(
     requires pieces { shared.now.pieces ≡ length cutting }
     requires some_worker { 1 ≤ workers }
     requires few_workers { workers ≤ MAX_WORKERS }
-    ensures { IfOk result (IsAnswer shared.now.problem cutting shared.now.budget shared.now.may_stop) }
+    ensures answer { IfOk result (IsAnswer shared.now.problem cutting shared.now.budget shared.now.may_stop) }
+    ensures no_dearer { IfOk result (λ answer. cost_of (known_plan answer) ≤ cost_of shared.now.first) }
 {
     match prices_found(shared)? {
         Some(FoundPrices { relaxation, memory }) => {
@@ -145,7 +150,8 @@ fn solve_prepared<R: Threads + Wait + Sync, G: Gate + Sync>(
 fn looked_at<R: Threads + Wait + Sync, G: Gate>(
     shared: &Shared<'_, R, G>,
 ) -> Result<Option<Answer>, NoMemory>
-    ensures { IfOk result (λ found. IfSome found (AnswersAll shared.now.problem)) }
+    ensures answer { IfOk result (λ found. IfSome found (AnswersAll shared.now.problem)) }
+    ensures no_dearer { IfOk result (λ found. IfSome found (λ answer. cost_of (known_plan answer) ≤ cost_of shared.now.first)) }
 {
     if shared.budget < LEAST_PREPARED_BUDGET {
         return Ok(None);
@@ -183,7 +189,8 @@ fn solve_by_prices<R: Threads + Wait + Sync, G: Gate + Sync>(
     requires pieces { shared.now.pieces ≡ length cutting }
     requires some_worker { 1 ≤ workers }
     requires few_workers { workers ≤ MAX_WORKERS }
-    ensures { IfOk result (IsAnswer shared.now.problem cutting shared.now.budget shared.now.may_stop) }
+    ensures answer { IfOk result (IsAnswer shared.now.problem cutting shared.now.budget shared.now.may_stop) }
+    ensures no_dearer { IfOk result (λ answer. cost_of (known_plan answer) ≤ cost_of shared.now.first) }
 {
     let prices = Prices::new(shared.alloc, relaxation, memory)?;
     shared.gate.hears(News::Bound(prices.lower_bound()));
@@ -203,7 +210,8 @@ fn solve_pieces<R: Threads + Wait + Sync, G: Gate + Sync>(
     requires pieces { shared.now.pieces ≡ length cutting }
     requires some_worker { 1 ≤ workers }
     requires few_workers { workers ≤ MAX_WORKERS }
-    ensures { IfOk result (IsAnswer shared.now.problem cutting shared.now.budget shared.now.may_stop) }
+    ensures answer { IfOk result (IsAnswer shared.now.problem cutting shared.now.budget shared.now.may_stop) }
+    ensures no_dearer { IfOk result (λ answer. cost_of (known_plan answer) ≤ cost_of shared.now.first) }
 {
     shared.gate.hears(News::Pieces(shared.pieces));
     let (owner, thieves) = Pile::new(shared.alloc, cutting, workers - 1)?;
@@ -224,7 +232,8 @@ fn solve_pile<L: Ledger + Send + Sync, R: Threads + Wait + Sync, G: Gate + Sync>
     requires name { blank.name ≡ L.name }
     requires parts { blank.parts ≡ L.parts }
     requires as_many { blank.parts ≡ vec_len thieves + 1 }
-    ensures { IfOk result (IsAnswer shared.now.problem (words_of owner.put) shared.now.budget shared.now.may_stop) }
+    ensures answer { IfOk result (IsAnswer shared.now.problem (words_of owner.put) shared.now.budget shared.now.may_stop) }
+    ensures no_dearer { IfOk result (λ answer. cost_of (known_plan answer) ≤ cost_of shared.now.first) }
 {
     let singles = Plan::singles(shared.alloc, shared.instance)?;
     let opening = copied(shared.alloc, singles.as_ref())?;

@@ -3,8 +3,8 @@ use Rattle.std.specs.Prelude.{ℕ, List, Result, Ok, Err, codes}
 use Rattle.vrp_text.specs.declared.error.TextError.{TextError}
 use Rattle.vrp_text.specs.declared.error.TextError.TheVariants as text
 use Rattle.vrp_streams.specs.Refusal.{refusal_text}
-use Rattle.vrp_streams.specs.declared.status.Status.{Status}
-use Rattle.vrp_streams.specs.declared.status.Status.TheVariants as status
+use Rattle.vrp_answer.specs.declared.status.Status.{Status}
+use Rattle.vrp_answer.specs.declared.status.Status.TheVariants as status
 use Rattle.vrp_streams.specs.declared.fault.RunError.{RunError}
 use Rattle.vrp_streams.specs.declared.fault.RunError.TheVariants as fault
 
@@ -18,6 +18,7 @@ abbrev pub exit_code : Result Status RunError → ℕ
 exit_code (Ok status.Proven) = 0
 exit_code (Ok status.Open) = 1
 exit_code (Ok status.NoPlan) = 0
+exit_code (Ok status.Lawful) = 0
 exit_code (Err (fault.Text _)) = 3
 exit_code (Err fault.OutOfMemory) = 4
 exit_code (Err fault.Read) = 5

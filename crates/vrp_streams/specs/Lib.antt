@@ -1,5 +1,6 @@
 pub mod Fault
 pub mod Input
+pub mod Numbering
 pub mod Output
 pub mod Refusal
 pub mod Report

@@ -4,11 +4,10 @@ ghost use Rattle.vrp_streams.specs.Fault.{fault_text, exit_code, refusal_fault};
 ghost use Rattle.vrp_streams.specs.declared.fault.RunError.TheVariants.{OutOfMemory};
 
 use crate::refusal::Refusal;
-use crate::status::Status;
 use std::alloc::{AllocError, Global};
 use std::error::Error;
 use std::fmt;
-use vrp_answer::SolveError;
+use vrp_answer::{SolveError, Status};
 use vrp_model::NoMemory;
 use vrp_text::TextError;
 
@@ -77,12 +76,12 @@ impl From<TextError> for RunError {
     }
 }
 
-/// The exit status of an outcome: 0 proven or no plan, 1 open, 3 a refused file, 4 no memory, 5 a read or write fault.
+/// The exit status of an outcome: 0 proven, no plan or lawful, 1 open, 3 a refused file, 4 no memory, 5 a read or write fault.
 pub fn exit_status(outcome: &Result<Status, RunError>) -> u8
     ensures { result ≡ exit_code outcome.now }
 {
     match outcome {
-        Ok(Status::Proven | Status::NoPlan) => 0,
+        Ok(Status::Proven | Status::NoPlan | Status::Lawful) => 0,
         Ok(Status::Open) => 1,
         Err(RunError::Text(_)) => 3,
         Err(RunError::OutOfMemory) => 4,

@@ -6,10 +6,9 @@ mod input;
 mod output;
 mod refusal;
 mod report;
-mod status;
 
 pub use fault::{RunError, exit_status, fault_line};
 pub use input::read_input;
 pub use output::write_report;
-pub use report::{lawful_report_text, report_text};
-pub use status::Status;
+pub use report::{report_text, solution_text};
+pub use vrp_answer::Status;

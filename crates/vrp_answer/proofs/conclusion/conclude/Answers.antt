@@ -7,7 +7,7 @@ use Rattle.vrp_answer.specs.Inner.Conclusion.{AreSettling, IsNoLater, IsVerdict}
 use Rattle.vrp_answer.specs.Outcomes.{Search, words_of}
 use Rattle.vrp_answer.proofs.BestPlan.{costs_no_more, no_later_transitive}
 use Rattle.vrp_answer.proofs.DrawnPieces.{are_apart}
-use Rattle.vrp_answer.proofs.Verdicts.{answer_is, none_settled}
+use Rattle.vrp_answer.proofs.Verdicts.{answer_is, best_answered, none_settled}
 use Rattle.vrp_answer.proofs.conclusion.conclude.Goals as goal
 
 pub opened-requires-clause-singles : goal.opened-requires-clause-singles
@@ -27,8 +27,8 @@ settled-requires g c =
     let gathered = c.in_ok-book-2.ensures.all c.requires.searched.least drawn c.requires.searched.kept apart in
     λ k d lt. (gathered.are_left k d lt).1
 
-pub returns : goal.returns
-returns g c =
+pub returns-clause-answer : goal.returns-clause-answer
+returns-clause-answer g c =
     let s = c.args.shared.now in
     let p = s.problem in
     let singles = c.args.singles in
@@ -53,3 +53,19 @@ returns g c =
     let settled = c.in_ok-settling.ensures (words_of put) kept (subst (λ n. AreSettling s (words_of put) kept (record { gatherer = added; cost = n; low = n }) left) (sym cost) known) in
     answer_is c.one_piece.ensures c.plans_have_words.ensures less s (words_of put) singles kept c.in_ok-settling.settling c.verdict.result problem c.requires.cutting gathered.plan_of c.requires.some than_singles settled
     (subst (λ (plan : Option PricedPlan). IsVerdict plan c.in_ok-settling.settling c.verdict.result) c.into_plan-plan.ensures c.verdict.ensures)
+
+pub returns-clause-no_dearer : goal.returns-clause-no_dearer
+returns-clause-no_dearer g c =
+    let s = c.args.shared.now in
+    let p = s.problem in
+    let drawn = c.args.searched.pile.drawn in
+    let problem = subst (λ (t : Search). IsProblem t.problem) c.shared.view_is c.customers-customers.ensures.problem in
+    let opened = c.in_ok-book.book.plan in
+    let kept = c.in_ok-book-2.field-0.book.plan in
+    let noted = c.in_ok-book-2.ensures in
+    let apart = are_apart s drawn c.args.searched.pile.put c.requires.numbers c.requires.searched.all c.requires.pieces in
+    let gathered = noted.all c.requires.searched.least drawn c.requires.searched.kept apart in
+    let than_first = no_later_transitive kept opened s.first noted.later c.in_ok-book.ensures.than_first in
+    let falls = costs_no_more c.plans_cost_less.ensures p kept s.first problem gathered.plan_of than_first in
+    let verdict = subst (λ (plan : Option PricedPlan). IsVerdict plan c.in_ok-settling.settling c.verdict.result) c.into_plan-plan.ensures c.verdict.ensures in
+    subst (λ (plan : Option PricedPlan). cost_of plan ≤ cost_of s.first) (sym (best_answered kept c.in_ok-settling.settling c.verdict.result verdict)) falls

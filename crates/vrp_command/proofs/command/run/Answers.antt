@@ -1,19 +1,23 @@
 use Rattle.std.proofs.Common.{false}
-use Rattle.vrp_command.proofs.ReadProblems.{on_err, on_ok, prints_answer, prints_part}
+use Rattle.vrp_answer.specs.Finding.{told_by}
+use Rattle.vrp_command.proofs.LawfulAnswers.{told_lawful}
+use Rattle.vrp_command.proofs.ReadProblems.{prints_answer, prints_part}
 use Rattle.vrp_command.proofs.command.run.Goals as goal
+
+pub print_finding-requires : goal.print_finding-requires
+print_finding-requires g c =
+    told_lawful c.in_ok-problem.problem.instance c.args.options.pieces c.args.options.budget false c.in_ok-answer.answer (told_by c.of_answer.result) c.of_answer.ensures c.in_ok-answer.ensures.answer
 
 pub returns-clause-printed : goal.returns-clause-printed
 returns-clause-printed g c =
     let left = g.R.Read.remaining in
     let held = g.W.Write.contents in
-    let printed =
-    prints_answer c.args.options false (left c.args.input.now) (left c.read_problem.new.input) (held c.args.output.now) (held c.print_answer.new.output) c.in_ok-problem.problem.instance in
-    on_ok c.print_answer.result (λ ended written. printed ended c.in_ok-problem.ensures.read written) c.print_answer.ensures.printed
+    prints_answer c.args.options false (left c.args.input.now) (left c.read_problem.new.input) (held c.args.output.now) (held c.print_finding.new.output) c.in_ok-problem.problem.instance c.in_ok-answer.answer (told_by c.of_answer.result)
+    c.of_answer.ensures c.in_ok-answer.ensures.answer c.in_ok-problem.ensures.read c.print_finding.result c.print_finding.ensures.printed c.print_finding.ensures.status
 
 pub returns-clause-begun : goal.returns-clause-begun
 returns-clause-begun g c =
     let left = g.R.Read.remaining in
     let held = g.W.Write.contents in
-    let part =
-    prints_part c.args.options false (left c.args.input.now) (left c.read_problem.new.input) (held c.args.output.now) (held c.print_answer.new.output) c.in_ok-problem.problem.instance in
-    on_err c.print_answer.result (λ fault known is. part c.in_ok-problem.ensures.read (known is)) c.print_answer.ensures.begun
+    prints_part c.args.options false (left c.args.input.now) (left c.read_problem.new.input) (held c.args.output.now) (held c.print_finding.new.output) c.in_ok-problem.problem.instance c.in_ok-answer.answer (told_by c.of_answer.result)
+    c.of_answer.ensures c.in_ok-answer.ensures.answer c.in_ok-problem.ensures.read c.print_finding.result c.print_finding.ensures.begun

@@ -1,9 +1,20 @@
-use Rattle.std.proofs.Common.{ap}
-use Rattle.std.specs.Option.{option_map}
-use Rattle.vrp_export.proofs.Places.{stops_within}
+use Rattle.std.proofs.Common.{◌≡◌, ◌∙◌, ◌≤◌, ap, subst, sym}
+use Rattle.std.specs.Prelude.{map}
+use Rattle.serde_json.specs.Data.{Data, depth}
+use Rattle.serde_json.specs.View.{view}
+use Rattle.vrp_answer.specs.Finding.{told_by}
+use Rattle.vrp_export.specs.Inner.Document.{document_of}
+use Rattle.vrp_export.specs.Json.{options_told, routes_told}
+use Rattle.vrp_export.proofs.Documents.{document_shallow, is_document}
 use Rattle.vrp_export.proofs.json.json_text.Goals as goal
 
-pub routes_of-requires : goal.routes_of-requires
-routes_of-requires c =
-    let plan = c.in-Some.plan.now in
-    stops_within c.args.finding.now.instance.now plan.routes (c.requires plan (ap (option_map (λ plan. plan.now)) c.in-Some.is)).lawful
+pub returns : goal.returns
+returns c =
+    let p = c.args.instance.now in
+    let finding = told_by c.args.finding.now in
+    let asked = c.args.settings in
+    let objects = map view c.in_ok-routes.routes.items in
+    let object = view c.in_ok-document.document in
+    let is : object ≡ document_of p finding objects (options_told asked) = c.in_ok-document.ensures ∙ ap (document_of p finding objects) c.in_ok-options.ensures in
+    let shallow = subst (λ (d : Data). depth d ≤ 4) (sym is) (document_shallow p finding asked (routes_told finding.plan) objects c.in_ok-routes.ensures) in
+    record { object = object; line = c.in_ok-line_of.ensures shallow; document = is_document p finding asked objects object is c.in_ok-routes.ensures }

@@ -6,4 +6,4 @@ use Rattle.vrp_export.proofs.picture.picture_text.Goals as goal
 pub tracks-requires : goal.tracks-requires
 tracks-requires c =
     let plan = c.in-Some.plan.now in
-    stops_within c.args.finding.now.instance.now plan.routes (c.requires plan (ap (option_map (λ plan. plan.now)) c.in-Some.is)).lawful
+    stops_within c.args.instance.now plan.routes (c.requires plan (ap (option_map (λ plan. plan.now)) c.in-Some.is)).lawful

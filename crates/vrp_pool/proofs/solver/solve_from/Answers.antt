@@ -1,6 +1,7 @@
-use Rattle.std.proofs.Common.{subst, sym}
+use Rattle.std.proofs.Common.{◌≤◌, subst, sym}
+use Rattle.vrp_model.specs.Cheapest.{cost_of}
 use Rattle.vrp_tree.specs.Cutting.{IsCutting}
-use Rattle.vrp_answer.specs.Answer.{IsAnswer}
+use Rattle.vrp_answer.specs.Answer.{IsAnswer, known_plan}
 use Rattle.vrp_answer.specs.Outcomes.{Search}
 use Rattle.vrp_pool.proofs.solver.solve_from.Goals as goal
 
@@ -25,5 +26,8 @@ solve_shared-answer-requires-clause-some_worker g c κs within = c.requires.some
 pub solve_shared-answer-requires-clause-few_workers : goal.solve_shared-answer-requires-clause-few_workers
 solve_shared-answer-requires-clause-few_workers g c κs within = c.requires.few_workers
 
-pub returns : goal.returns
-returns g c = subst (λ (s : Search). IsAnswer s.problem c.args.cutting s.budget s.may_stop c.in_ok-answer.field-0) c.new-shared.ensures (c.in_ok-answer.ensures)
+pub returns-clause-answer : goal.returns-clause-answer
+returns-clause-answer g c = subst (λ (s : Search). IsAnswer s.problem c.args.cutting s.budget s.may_stop c.in_ok-answer.field-0) c.new-shared.ensures c.in_ok-answer.ensures.answer
+
+pub returns-clause-no_dearer : goal.returns-clause-no_dearer
+returns-clause-no_dearer g c = subst (λ (s : Search). cost_of (known_plan c.in_ok-answer.field-0) ≤ cost_of s.first) c.new-shared.ensures c.in_ok-answer.ensures.no_dearer

@@ -7,7 +7,7 @@ use Rattle.vrp_pool.proofs.solver.solve_pieces.Goals as goal
 pub solve_pile-requires-clause-cutting : goal.solve_pile-requires-clause-cutting
 solve_pile-requires-clause-cutting g c κs within = subst (IsCutting c.args.shared.now.problem) (sym c.in_ok-owner.ensures.pieces) c.requires.cutting
 
-pub returns : goal.returns
-returns g c =
+pub returns-clause-answer : goal.returns-clause-answer
+returns-clause-answer g c =
     let s = c.args.shared.now in
-    subst (λ (words : List (List ℕ)). IfOk c.solve_pile.result (IsAnswer s.problem words s.budget s.may_stop)) c.in_ok-owner.ensures.pieces c.solve_pile.ensures
+    subst (λ (words : List (List ℕ)). IfOk c.solve_pile.result (IsAnswer s.problem words s.budget s.may_stop)) c.in_ok-owner.ensures.pieces c.solve_pile.ensures.answer

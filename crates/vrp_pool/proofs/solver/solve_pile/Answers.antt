@@ -54,5 +54,5 @@ conclude-answer-requires-clause-pieces g c = c.requires.pieces ∙ ap length (sy
 pub conclude-answer-requires-clause-some : goal.conclude-answer-requires-clause-some
 conclude-answer-requires-clause-some g c = subst (λ (t : Search). IsTrue (is_some c.in_ok-singles.singles) ↔ HasTrucks t.problem (length (customers t.problem))) c.shared.view_is c.in_ok-singles.ensures.some
 
-pub returns : goal.returns
-returns g c = subst (λ (put : List NumberedWord). IfOk c.conclude-answer.result (IsAnswer c.args.shared.now.problem (words_of put) c.args.shared.now.budget c.args.shared.now.may_stop)) c.in_ok-callers.ensures.put c.conclude-answer.ensures
+pub returns-clause-answer : goal.returns-clause-answer
+returns-clause-answer g c = subst (λ (put : List NumberedWord). IfOk c.conclude-answer.result (IsAnswer c.args.shared.now.problem (words_of put) c.args.shared.now.budget c.args.shared.now.may_stop)) c.in_ok-callers.ensures.put c.conclude-answer.ensures.answer

@@ -1,13 +1,19 @@
-use Rattle.std.proofs.Common.{Option, subst}
+use Rattle.std.proofs.Common.{◌≤◌, Option, subst}
 use Rattle.std.specs.Prelude.{IfSome}
-use Rattle.vrp_answer.specs.Answer.{AnswersAll}
+use Rattle.vrp_model.specs.Cheapest.{cost_of}
+use Rattle.vrp_answer.specs.Answer.{AnswersAll, known_plan}
 use Rattle.vrp_answer.specs.declared.answers.Answer.{Answer}
 use Rattle.vrp_pool.proofs.solver.solve_shared.Goals as goal
 
-pub returns-in-Some : goal.returns-in-Some
-returns-in-Some g c =
+pub returns-in-Some-clause-answer : goal.returns-in-Some-clause-answer
+returns-in-Some-clause-answer g c =
     let s = c.args.shared.now in
-    subst (λ (found : Option Answer). IfSome found (AnswersAll s.problem)) c.in-Some.is c.in_ok-answer.ensures c.args.cutting s.budget s.may_stop
+    subst (λ (found : Option Answer). IfSome found (AnswersAll s.problem)) c.in-Some.is c.in_ok-answer.ensures.answer c.args.cutting s.budget s.may_stop
+
+pub returns-in-Some-clause-no_dearer : goal.returns-in-Some-clause-no_dearer
+returns-in-Some-clause-no_dearer g c =
+    let s = c.args.shared.now in
+    subst (λ (found : Option Answer). IfSome found (λ answer. cost_of (known_plan answer) ≤ cost_of s.first)) c.in-Some.is c.in_ok-answer.ensures.no_dearer
 
 pub solve_prepared-answer-requires-clause-few : goal.solve_prepared-answer-requires-clause-few
 solve_prepared-answer-requires-clause-few g c κs within = c.requires.few

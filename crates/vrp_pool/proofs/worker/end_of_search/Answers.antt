@@ -49,7 +49,7 @@ returns-in-None-clause-later g c = c.search.ensures.keeps c.args.board.now (late
 pub returns-in-Some-clause-ended : goal.returns-in-Some-clause-ended
 returns-in-Some-clause-ended g c =
     let p = c.shared.inside.instance.now in
-    let s : Search = record { problem = p; pieces = c.shared.inside.pieces; budget = c.shared.inside.budget; may_stop = g.G.Gate.may_stop c.shared.inside.gate.now } in
+    let s : Search = record { problem = p; first = option_map (λ plan. plan.now) c.shared.inside.first; pieces = c.shared.inside.pieces; budget = c.shared.inside.budget; may_stop = g.G.Gate.may_stop c.shared.inside.gate.now } in
     let floor = floor_of c.search_by_prices.new.board in
     let stops = c.search_by_prices.new.board.may_stop in
     let budget = c.piece_budget-budget.result in
@@ -66,7 +66,7 @@ returns-in-Some-clause-ended g c =
 pub returns-in-None-clause-ended : goal.returns-in-None-clause-ended
 returns-in-None-clause-ended g c =
     let p = c.shared.inside.instance.now in
-    let s : Search = record { problem = p; pieces = c.shared.inside.pieces; budget = c.shared.inside.budget; may_stop = g.G.Gate.may_stop c.shared.inside.gate.now } in
+    let s : Search = record { problem = p; first = option_map (λ plan. plan.now) c.shared.inside.first; pieces = c.shared.inside.pieces; budget = c.shared.inside.budget; may_stop = g.G.Gate.may_stop c.shared.inside.gate.now } in
     let floor = floor_of c.search.new.board in
     let stops = c.search.new.board.may_stop in
     let budget = c.piece_budget-budget.result in

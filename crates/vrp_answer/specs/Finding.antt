@@ -1,0 +1,36 @@
+-- What is told of a problem, in whatever form.
+use Rattle.std.specs.Option.{option_map}
+use Rattle.std.specs.Prelude.{ℕ, Option, None, Some, List, codes}
+use Rattle.vrp_model.specs.Route.{PricedPlan}
+use Rattle.vrp_answer.specs.declared.answers.Answer.{Answer}
+use Rattle.vrp_answer.specs.declared.answers.Answer.TheVariants as answer
+use Rattle.vrp_answer.specs.declared.finding.Finding.{Finding}
+use Rattle.vrp_answer.specs.declared.status.Status.{Status}
+use Rattle.vrp_answer.specs.declared.status.Status.TheVariants as status
+
+-- the plan, if one is known, the verdict on it, and a number below which no lawful plan costs, where one is known
+pub record FindingOf : Type 0 where
+  pub plan : Option PricedPlan
+  pub status : Status
+  pub lower_bound : Option ℕ
+
+-- what an answer says: of a plan that is proven the bound is its cost
+abbrev pub finding_of : Answer → FindingOf
+finding_of (answer.Proven plan) = record { plan = Some plan; status = status.Proven; lower_bound = Some plan.cost }
+finding_of (answer.Open plan low first) = record { plan = plan; status = status.Open; lower_bound = Some low }
+finding_of answer.NoPlan = record { plan = None; status = status.NoPlan; lower_bound = None }
+
+-- what is told of a lawful plan that was not searched for
+abbrev pub lawful_finding : PricedPlan → FindingOf
+lawful_finding plan = record { plan = Some plan; status = status.Lawful; lower_bound = None }
+
+-- what a `Finding` tells
+abbrev pub told_by : Finding → FindingOf
+told_by finding = record { plan = option_map (λ plan. plan.now) finding.plan; status = finding.status; lower_bound = finding.lower_bound }
+
+-- a verdict in one word
+abbrev pub status_text : Status → List ℕ
+status_text status.Proven = codes "Proven"
+status_text status.Open = codes "Open"
+status_text status.NoPlan = codes "NoPlan"
+status_text status.Lawful = codes "Lawful"

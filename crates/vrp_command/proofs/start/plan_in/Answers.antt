@@ -1,0 +1,12 @@
+use Rattle.std.proofs.Common.{subst, sym}
+use Rattle.vrp_command.specs.Program.{OnRefusedStart, RefusesFile}
+use Rattle.vrp_command.specs.declared.start.StartError.{StartError}
+use Rattle.vrp_command.proofs.Starts.{on_refused}
+use Rattle.vrp_command.proofs.start.plan_in.Goals as goal
+
+pub returns-clause-refused : goal.returns-clause-refused
+returns-clause-refused g c =
+    let p = c.args.instance.now in
+    let unread = g.S.Read.remaining c.args.file in
+    subst (λ (error : StartError). OnRefusedStart error (RefusesFile p unread)) (sym c.refused.ensures)
+    (on_refused p unread c.in_ok-text.text.items c.in-Err.refusal c.in_ok-text.ensures.read (rw c.deref.ensures.value at c.in-Err.ensures.refused))

@@ -1,0 +1,50 @@
+-- What a request finds of a problem, and what is written of it.
+use Rattle.std.specs.Io.KnownBytes.{Appends}
+use Rattle.std.specs.Prelude.{◌≡◌, ◌⊎◌, ℕ, ◌≤◌, Bool, IsTrue, Option, Some, None, List}
+use Rattle.vrp_answer.specs.Answer.{known_plan}
+use Rattle.vrp_answer.specs.Finding.{FindingOf, finding_of, lawful_finding}
+use Rattle.vrp_answer.specs.declared.answers.Answer.{Answer}
+use Rattle.vrp_answer.specs.declared.status.Status.{Status}
+use Rattle.vrp_command.specs.Answer.{IsAnswerTo}
+use Rattle.vrp_command.specs.Text.{IsTextOf}
+use Rattle.vrp_model.specs.Cheapest.{cost_of}
+use Rattle.vrp_model.specs.Problem.{Problem}
+use Rattle.vrp_model.specs.Route.{PricedPlan}
+use Rattle.vrp_request.specs.declared.options.Request.{Request}
+use Rattle.vrp_streams.specs.Output.{AppendsPart}
+
+-- the plan to begin with is only to be checked: it is lawful
+pub record IsChecked (request : Request) (start : Option PricedPlan) (finding : FindingOf) : Type 0 where
+  pub asked : IsTrue request.check
+  pub plan : PricedPlan
+  pub given : start ≡ Some plan
+  pub told : finding ≡ lawful_finding plan
+
+-- an answer was searched for, as the options ask for it, and its plan costs no more than the one to begin with
+pub record IsSearchedFor (request : Request) (may_stop : Bool) (problem : Problem) (start : Option PricedPlan) (finding : FindingOf) : Type 0 where
+  pub unchecked : IsTrue request.check → start ≡ None
+  pub answer : Answer
+  pub answer_is : IsAnswerTo problem request.options.pieces request.options.budget may_stop answer
+  pub no_dearer : cost_of (known_plan answer) ≤ cost_of start
+  pub told : finding ≡ finding_of answer
+
+-- what a request finds of a problem, with a plan to begin with or without
+abbrev pub IsFoundBy : Request → Bool → Problem → Option PricedPlan → FindingOf → Type 0
+IsFoundBy request may_stop problem start finding = IsChecked request start finding ⊎ IsSearchedFor request may_stop problem start finding
+
+-- a text that tells such a finding in the form that is asked for was written, and nothing else
+pub record WritesFound (request : Request) (may_stop : Bool) (problem : Problem) (start : Option PricedPlan) (written_old written_new : Option (List ℕ)) (ended : Status) : Type 0 where
+  pub finding : FindingOf
+  pub found : IsFoundBy request may_stop problem start finding
+  pub status : ended ≡ finding.status
+  pub text : List ℕ
+  pub told : IsTextOf request problem finding text
+  pub output : Appends written_old written_new text
+
+-- a part of such a text was written, from its first byte on
+pub record WritesFoundPart (request : Request) (may_stop : Bool) (problem : Problem) (start : Option PricedPlan) (written_old written_new : Option (List ℕ)) : Type 0 where
+  pub finding : FindingOf
+  pub found : IsFoundBy request may_stop problem start finding
+  pub text : List ℕ
+  pub told : IsTextOf request problem finding text
+  pub output : AppendsPart written_old written_new text

@@ -1,0 +1,18 @@
+-- What two runs have in common that answer Proven over the same bytes.
+use Rattle.std.specs.Prelude.{◌≡◌, ℕ, List, ⊤}
+use Rattle.vrp_answer.specs.Finding.{FindingOf}
+use Rattle.vrp_request.specs.declared.options.Format.{Format}
+use Rattle.vrp_request.specs.declared.options.Format.TheVariants as format
+use Rattle.vrp_request.specs.declared.options.Request.{Request}
+
+-- in this form nothing is printed but what was found: JSON also has how the run was asked for, and of a picture nothing is known
+abbrev pub IsOfFindingAlone : Format → Type 0
+IsOfFindingAlone format.Report = ⊤
+IsOfFindingAlone format.Solution = ⊤
+IsOfFindingAlone format.Json = ⊥
+IsOfFindingAlone format.Picture = ⊥
+
+-- they find the same, plan, verdict and bound; and where both print it in one such form they print the same bytes
+pub record TellsSame (request other : Request) (finding found : FindingOf) (text printed : List ℕ) : Type 0 where
+  pub same : finding ≡ found
+  pub as_text : request.format ≡ other.format → IsOfFindingAlone request.format → text ≡ printed

@@ -1,0 +1,108 @@
+//! The form in which a finding is printed.
+ghost use Rattle.std.specs.Io.KnownBytes.{Keeps};
+ghost use Rattle.std.specs.Option.{ForSome, option_map};
+ghost use Rattle.std.specs.Prelude.{◌≡◌, ◌≢◌, ◌⊎◌, IfOk, IfErr, OnErr, OnOk, string_bytes};
+ghost use Rattle.vrp_answer.specs.Finding.{told_by};
+ghost use Rattle.vrp_command.specs.Form.{IsFormOf, IsTextAs, WritesPart, WritesText};
+ghost use Rattle.vrp_command.specs.Text.{settings_of};
+ghost use Rattle.vrp_model.specs.Route.{IsPlanOf};
+
+use crate::problem::Problem;
+use std::alloc::Global;
+use std::io::Write;
+use vrp_answer::Finding;
+use vrp_export::{Points, Settings, json_text, picture_text};
+use vrp_model::{Instance, NoMemory};
+use vrp_request::{Format, Request};
+use vrp_streams::{RunError, Status, report_text, solution_text, write_report};
+
+/// A form, and what is needed for it.
+#[derive(Clone, Copy)]
+pub(crate) enum Form<'a> {
+    Report,
+    Solution,
+    Json(Settings),
+    Picture(&'a Points),
+}
+
+/// A picture was asked for, and the file has no coordinates to draw.
+#[derive(Drop)]
+pub(crate) struct NoPoints;
+
+/// The form in which a problem's plan is asked for.
+pub(crate) fn form_of<'a>(request: &Request<'_>, problem: &'a Problem) -> Result<Form<'a>, NoPoints>
+    ensures form { IfOk result (IsFormOf request.now) }
+    ensures picture { OnErr result (request.now.format ≡ Format.Picture) }
+{
+    match (request.format, &problem.points) {
+        (Format::Report, _) => Ok(Form::Report),
+        (Format::Solution, _) => Ok(Form::Solution),
+        (Format::Json, _) => Ok(Form::Json(settings(request))),
+        (Format::Picture, Some(points)) => Ok(Form::Picture(points)),
+        (Format::Picture, None) => Err(NoPoints),
+    }
+}
+
+// How the run was asked for, as it is printed.
+fn settings(request: &Request<'_>) -> Settings
+    ensures { result ≡ settings_of request.now }
+{
+    Settings {
+        workers: request.options.workers,
+        pieces: request.options.pieces,
+        budget: request.options.budget,
+        seconds: request.seconds,
+        depot: request.options.depot,
+        trucks: request.options.trucks,
+    }
+}
+
+/// Prints a finding in a form, and answers its verdict. On a fault other than `Write` nothing is written; on that one a part of the text
+/// is, from its first byte on.
+pub(crate) fn print_finding<W: Write>(
+    alloc: Global,
+    instance: &Instance,
+    finding: &Finding<'_>,
+    form: Form<'_>,
+    output: &mut W,
+) -> Result<Status, RunError>
+    requires { ForSome (option_map (λ plan. plan.now) finding.now.plan) (IsPlanOf instance.now) }
+    ensures status { IfOk result (λ status. status ≡ finding.now.status) }
+    ensures printed { OnOk result (WritesText form.entry instance.now (told_by finding.now)
+        (W.contents output.old) (W.contents output.new)) }
+    ensures begun { IfErr result (λ fault. fault ≡ RunError.Write → WritesPart form.entry instance.now
+        (told_by finding.now) (W.contents output.old) (W.contents output.new)) }
+    ensures silent { IfErr result (λ fault. fault ≢ RunError.Write → Keeps
+        (W.contents output.old) (W.contents output.new)) }
+    ensures faults { IfErr result (λ fault. (fault ≡ RunError.OutOfMemory) ⊎ (fault ≡ RunError.Write)) }
+{
+    let text = text_of(alloc, instance, finding, form)?;
+    write_report(output, text.as_bytes())?;
+    Ok(finding.status)
+}
+
+// The text of a finding in a form.
+fn text_of(
+    alloc: Global,
+    instance: &Instance,
+    finding: &Finding<'_>,
+    form: Form<'_>,
+) -> Result<String, NoMemory>
+    requires { ForSome (option_map (λ plan. plan.now) finding.now.plan) (IsPlanOf instance.now) }
+    ensures { IfOk result (λ text. IsTextAs form.entry instance.now (told_by finding.now) (string_bytes text)) }
+{
+    match form {
+        Form::Report => Ok(report_text(alloc, instance, finding)?),
+        Form::Solution => Ok(solution_text(alloc, finding)?),
+        Form::Json(settings) => json_text(alloc, instance, finding, settings),
+        Form::Picture(points) => picture_text(alloc, instance, finding, points),
+    }
+}
+
+/// Tells `errors` where a solution is asked for and there is no plan: the text is empty then. Where that can't be written nothing more is
+/// done.
+pub(crate) fn tell_missing_plan<E: Write>(finding: &Finding<'_>, form: Form<'_>, errors: &mut E) {
+    if let (Form::Solution, None) = (form, finding.plan) {
+        let _ = writeln!(errors, "cvrp: no plan to print: {}", finding.status);
+    }
+}

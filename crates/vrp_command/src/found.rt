@@ -1,0 +1,120 @@
+//! What a request finds of an instance is printed.
+ghost use Rattle.std.specs.Io.KnownBytes.{Keeps};
+ghost use Rattle.std.specs.Option.{ForSome, option_map};
+ghost use Rattle.std.specs.Prelude.{◌≡◌, ◌≢◌, ◌⊎◌, None, Some, IfOk, IfErr, IsTrue, MatchOption, OnOk};
+ghost use Rattle.vrp_answer.specs.Answer.{known_plan};
+ghost use Rattle.vrp_answer.specs.Finding.{finding_of};
+ghost use Rattle.vrp_model.specs.Route.{IsPlanOf};
+ghost use Rattle.vrp_request.specs.Options.{AreInRange};
+ghost use Rattle.vrp_command.specs.Found.{WritesFound, WritesFoundPart};
+ghost use Rattle.vrp_command.specs.Form.{IsFormOf, WritesPart, WritesText};
+
+use crate::answer::cut_and_solve;
+use crate::form::{Form, print_finding, tell_missing_plan};
+use std::alloc::Global;
+use std::io::Write;
+use std::sync::Wait;
+use std::thread::Threads;
+use vrp_answer::{Answer, Finding};
+use vrp_model::{Instance, Plan};
+use vrp_pool::Gate;
+use vrp_request::Request;
+use vrp_streams::{RunError, Status};
+
+/// Prints what a request finds of an instance: that the plan to begin with is lawful, where it is only to be checked, or an answer.
+pub(crate) fn print_found<T: Threads + Wait + Sync, W: Write, E: Write, G: Gate + Sync>(
+    rt: &T,
+    alloc: Global,
+    instance: &Instance,
+    start: Option<&Plan>,
+    request: Request<'_>,
+    form: Form<'_>,
+    output: &mut W,
+    errors: &mut E,
+    gate: &G,
+) -> Result<Status, RunError>
+    requires options { AreInRange request.options }
+    requires start { ForSome (option_map (λ plan. plan.now) start) (IsPlanOf instance.now) }
+    requires form { IsFormOf request form }
+    ensures printed { IfOk result (WritesFound request.entry (G.may_stop gate.now) instance.now
+        (option_map (λ plan. plan.now) start.entry) (W.contents output.old) (W.contents output.new)) }
+    ensures begun { IfErr result (λ fault. fault ≡ RunError.Write → WritesFoundPart request.entry (G.may_stop gate.now)
+        instance.now (option_map (λ plan. plan.now) start.entry) (W.contents output.old) (W.contents output.new)) }
+    ensures silent { IfErr result (λ fault. fault ≢ RunError.Write → Keeps
+        (W.contents output.old) (W.contents output.new)) }
+    ensures faults { IfErr result (λ fault. (fault ≡ RunError.OutOfMemory) ⊎ (fault ≡ RunError.Write)) }
+{
+    match to_be_checked(&request, start) {
+        Some(plan) => print_finding(alloc, instance, &Finding::lawful(plan), form, output),
+        None => print_searched(
+            rt, alloc, instance, start, request, form, output, errors, gate,
+        ),
+    }
+}
+
+// The plan to begin with, where it is only to be checked.
+fn to_be_checked<'a>(request: &Request<'_>, start: Option<&'a Plan>) -> Option<&'a Plan>
+    ensures { MatchOption result
+        (IsTrue request.now.check → option_map (λ plan. plan.now) start.entry ≡ None)
+        (λ plan. IsTrue request.now.check × (option_map (λ plan. plan.now) start.entry ≡ Some plan.now)) }
+{
+    if request.check { start } else { None }
+}
+
+// Searches for an answer, and prints it.
+fn print_searched<T: Threads + Wait + Sync, W: Write, E: Write, G: Gate + Sync>(
+    rt: &T,
+    alloc: Global,
+    instance: &Instance,
+    start: Option<&Plan>,
+    request: Request<'_>,
+    form: Form<'_>,
+    output: &mut W,
+    errors: &mut E,
+    gate: &G,
+) -> Result<Status, RunError>
+    requires options { AreInRange request.options }
+    requires start { ForSome (option_map (λ plan. plan.now) start) (IsPlanOf instance.now) }
+    requires form { IsFormOf request form }
+    requires unchecked { IsTrue request.check → option_map (λ plan. plan.now) start ≡ None }
+    ensures printed { IfOk result (WritesFound request.entry (G.may_stop gate.now) instance.now
+        (option_map (λ plan. plan.now) start.entry) (W.contents output.old) (W.contents output.new)) }
+    ensures begun { IfErr result (λ fault. fault ≡ RunError.Write → WritesFoundPart request.entry (G.may_stop gate.now)
+        instance.now (option_map (λ plan. plan.now) start.entry) (W.contents output.old) (W.contents output.new)) }
+    ensures silent { IfErr result (λ fault. fault ≢ RunError.Write → Keeps
+        (W.contents output.old) (W.contents output.new)) }
+    ensures faults { IfErr result (λ fault. (fault ≡ RunError.OutOfMemory) ⊎ (fault ≡ RunError.Write)) }
+{
+    let answer = cut_and_solve(rt, alloc, instance, start, request.options, gate)?;
+    let printed = print_answer(alloc, instance, &answer, form, output, errors);
+    // By a call: what is let go by itself is let go field by field, and each step is proved.
+    drop(answer);
+    printed
+}
+
+// Prints an answer. Where it has no plan for a solution `errors` is told so.
+fn print_answer<W: Write, E: Write>(
+    alloc: Global,
+    instance: &Instance,
+    answer: &Answer,
+    form: Form<'_>,
+    output: &mut W,
+    errors: &mut E,
+) -> Result<Status, RunError>
+    requires { ForSome (known_plan answer.now) (IsPlanOf instance.now) }
+    ensures status { IfOk result (λ status. status ≡ (finding_of answer.now).status) }
+    ensures printed { OnOk result (WritesText form.entry instance.now (finding_of answer.now)
+        (W.contents output.old) (W.contents output.new)) }
+    ensures begun { IfErr result (λ fault. fault ≡ RunError.Write → WritesPart form.entry instance.now
+        (finding_of answer.now) (W.contents output.old) (W.contents output.new)) }
+    ensures silent { IfErr result (λ fault. fault ≢ RunError.Write → Keeps
+        (W.contents output.old) (W.contents output.new)) }
+    ensures faults { IfErr result (λ fault. (fault ≡ RunError.OutOfMemory) ⊎ (fault ≡ RunError.Write)) }
+{
+    let finding = Finding::of_answer(answer);
+    let printed = print_finding(alloc, instance, &finding, form, output);
+    if printed.is_ok() {
+        tell_missing_plan(&finding, form, errors);
+    }
+    printed
+}

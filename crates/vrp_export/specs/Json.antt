@@ -1,0 +1,56 @@
+-- What is told of a problem, as JSON (RFC 8259).
+use Rattle.std.specs.Option.{option_map}
+use Rattle.std.specs.Prelude.{◌≡◌, ℕ, ◌-◌, Option, None, Some, List, [], ◌++◌, codes, map}
+use Rattle.serde_json.specs.Data.{Data, array, member, no_members, null, number, object, string, unsigned}
+use Rattle.serde_json.specs.Find.{get}
+use Rattle.serde_json.specs.Read.{read}
+use Rattle.serde_json.specs.View.{items_of}
+use Rattle.vrp_answer.specs.Finding.{FindingOf, status_text}
+use Rattle.vrp_export.specs.declared.json.Settings.{Settings}
+use Rattle.vrp_model.specs.Problem.{Problem, node_of, place_count}
+use Rattle.vrp_model.specs.Route.{PricedPlan}
+
+-- the number, or `null` where there is none
+abbrev pub number_or_null : Option ℕ → Data
+number_or_null None = null
+number_or_null (Some n) = number (unsigned n)
+
+-- the file's node numbers of a route's stops
+abbrev pub nodes_of : Problem → List ℕ → Data
+nodes_of p stops = array (items_of (map (λ place. number (unsigned (node_of p place))) stops))
+
+-- the routes of a plan, if there is one
+abbrev pub routes_told : Option PricedPlan → List (List ℕ)
+routes_told None = []
+routes_told (Some plan) = plan.routes
+
+-- how the run was asked for
+abbrev pub options_told : Settings → Data
+options_told asked =
+    object (member (codes "budget") (number (unsigned asked.budget)) (member (codes "depot") (number_or_null asked.depot) (member (codes "pieces") (number (unsigned asked.pieces))
+    (member (codes "seconds") (number_or_null asked.seconds) (member (codes "trucks") (number_or_null asked.trucks) (member (codes "workers") (number (unsigned asked.workers)) no_members))))))
+
+-- the object's verdict, cost and lower bound, the nodes of each route, what is told of the problem, and how the run was asked for
+pub record IsDocument (p : Problem) (finding : FindingOf) (asked : Settings) (object : Data) : Type 0 where
+  pub verdict : get (codes "verdict") object ≡ Some (string (status_text finding.status))
+  pub cost : get (codes "cost") object ≡ Some (number_or_null (option_map (λ plan. plan.cost) finding.plan))
+  pub lower_bound : get (codes "lower_bound") object ≡ Some (number_or_null finding.lower_bound)
+  pub routes : List Data
+  pub listed : get (codes "routes") object ≡ Some (array (items_of routes))
+  pub nodes : map (get (codes "nodes")) routes ≡ map (λ stops. Some (nodes_of p stops)) (routes_told finding.plan)
+  pub customers : get (codes "customers") object ≡ Some (number (unsigned (place_count p - 1)))
+  pub capacity : get (codes "capacity") object ≡ Some (number (unsigned p.capacity))
+  pub depot : get (codes "depot") object ≡ Some (number (unsigned (node_of p 0)))
+  pub options : get (codes "options") object ≡ Some (options_told asked)
+
+-- a text that reads as the object, and a line feed
+pub record IsLineOf (object : Data) (text : List ℕ) : Type 0 where
+  pub line : List ℕ
+  pub ends : text ≡ line ++ codes "\n"
+  pub reads : read line ≡ Some object
+
+-- the line of such an object
+pub record IsJsonOf (p : Problem) (finding : FindingOf) (asked : Settings) (text : List ℕ) : Type 0 where
+  pub object : Data
+  pub line : IsLineOf object text
+  pub document : IsDocument p finding asked object
