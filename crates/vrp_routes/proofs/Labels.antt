@@ -23,7 +23,7 @@ use Rattle.vrp_prices.specs.Relaxation.{Bounds, IsLimit, RelaxationOf}
 use Rattle.vrp_memory.specs.Near.{near_in}
 use Rattle.vrp_bound.specs.Remembering.{IsMemoryBound, IsRememberingBound}
 use Rattle.vrp_bound.specs.Tables.{MemoryTablesOf}
-use Rattle.vrp_routes.specs.Label.{IsBeginning, IsClosed, IsLabel, IsSetting, SettingOf, set_of}
+use Rattle.vrp_routes.specs.Label.{IsBeginning, IsLabel, IsSetting, SettingOf, set_of}
 use Rattle.vrp_routes.specs.Useful.{BeginsUseful, IsUseful}
 use Rattle.vrp_routes.specs.declared.label.Label.{Label}
 use Rattle.vrp_routes.proofs.CheapBeginnings.{cheap_beginning, cheap_route, useful_begins, useful_begins_relaxed}
@@ -215,13 +215,7 @@ dear_closed s tables most whole label relaxed_cost rest answer known relaxed_cos
 pub backward : (s : SettingOf) (label : Label) → label.last < label.first → IsSymmetric s.relaxation.problem → (stops : List ℕ) → IsLabel s stops label → IsUseful s.relaxation.problem s.limit stops → ⊥
 backward s label turned symmetric stops is useful = let forward = useful_runs_forward s.relaxation.problem s.limit stops useful symmetric in omega (arith, forward, turned, is.first, is.last)
 
-pub closed_is : (s : SettingOf) (stops : List ℕ) (label : Label) (cost relaxed_cost : ℕ) → IsLabel s stops label → cost ≡ label.cost + weight_of s.relaxation.problem label.last 0 → relaxed_cost ≡ label.relaxed_cost + weight_of s.relaxation.relaxed label.last 0
-    → IsClosed s stops (record { set = label.set; cost = cost; relaxed_cost = relaxed_cost })
-closed_is s stops label cost relaxed_cost is cost_is relaxed_cost_is =
+pub closed_cost : (s : SettingOf) (stops : List ℕ) (label : Label) (cost : ℕ) → IsLabel s stops label → cost ≡ label.cost + weight_of s.relaxation.problem label.last 0 → cost ≡ route_cost s.relaxation.problem stops
+closed_cost s stops label cost is cost_is =
     let way : cost ≡ label.cost + weight_of s.relaxation.problem (last_symbol stops) 0 = cost_is ∙ ap (λ at. label.cost + weight_of s.relaxation.problem at 0) is.last in
-    let priced : relaxed_cost ≡ label.relaxed_cost + weight_of s.relaxation.relaxed (last_symbol stops) 0 = relaxed_cost_is ∙ ap (λ at. label.relaxed_cost + weight_of s.relaxation.relaxed at 0) is.last in
-    record {
-      set = is.set;
-      cost = omega (arith, way, is.cost, cost_with s.relaxation.problem stops 0);
-      relaxed_cost = omega (arith, priced, is.relaxed_cost, cost_with s.relaxation.relaxed stops 0);
-    }
+    omega (arith, way, is.cost, cost_with s.relaxation.problem stops 0)

@@ -3,11 +3,10 @@ use Rattle.std.specs.Prelude.{◌≡◌, ◌≢◌, ℕ, ◌*◌, ◌^◌, ◌�
 use Rattle.std.specs.Int.RustNames.{bit_or}
 use Rattle.std.specs.List.{All, AllPairs, Contains}
 use Rattle.vrp_model.specs.Problem.{IsProblem, Problem, customers, place_count}
-use Rattle.vrp_model.specs.Route.{load_of, route_cost}
+use Rattle.vrp_model.specs.Route.{load_of}
 use Rattle.vrp_model.specs.Word.{last_symbol, word_cost}
 use Rattle.vrp_model.specs.declared.limits.TheConstants.{MAX_WEIGHT}
 use Rattle.vrp_prices.specs.Relaxation.{Bounds, IsLimit, RelaxationOf}
-use Rattle.vrp_routes.specs.declared.label.Closed.{Closed}
 use Rattle.vrp_routes.specs.declared.label.Label.{Label}
 
 -- the stops as bits
@@ -49,9 +48,3 @@ pub record IsLabel (s : SettingOf) (stops : List ℕ) (label : Label) : Type 0 w
   pub light : label.relaxed_load ≤ s.relaxation.relaxed.capacity
   pub small_cost : label.cost ≤ MAX_WEIGHT * length stops
   pub small_relaxed_cost : label.relaxed_cost ≤ MAX_WEIGHT * length stops
-
--- so much is known of a route with these stops
-pub record IsClosed (s : SettingOf) (stops : List ℕ) (closed : Closed) : Type 0 where
-  pub set : closed.set ≡ set_of stops
-  pub cost : closed.cost ≡ route_cost s.relaxation.problem stops
-  pub relaxed_cost : closed.relaxed_cost ≡ route_cost s.relaxation.relaxed stops

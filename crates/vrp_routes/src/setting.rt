@@ -1,12 +1,13 @@
 //! What stays the same in all labels.
 ghost use Rattle.std.specs.Prelude.{◌≡◌, ◌≢◌, ◌≤◌, ◌<◌, List, [], ◌∷◌, ◌++◌, MatchOption, IfNone, IfSome, ℕ};
 ghost use Rattle.vrp_model.specs.Problem.{IsProblem, place_count};
+ghost use Rattle.vrp_model.specs.Route.{route_cost};
 ghost use Rattle.vrp_model.specs.declared.limits.TheConstants.{NO_COST};
 ghost use Rattle.vrp_prices.specs.Relaxation.{RelaxationOf};
-ghost use Rattle.vrp_routes.specs.Label.{IsClosed, IsLabel, SettingOf};
+ghost use Rattle.vrp_routes.specs.Label.{IsLabel, SettingOf};
 ghost use Rattle.vrp_routes.specs.Useful.{BeginsUseful, IsUseful};
 
-use crate::label::{Closed, Label};
+use crate::label::Label;
 use std::marker::Model;
 use vrp_bound::MemoryTables;
 use vrp_prices::Relaxation;
@@ -73,11 +74,11 @@ impl<'a> Setting<'a> {
         self.relaxation.problem().customers() + 1
     }
 
-    /// The route that a beginning is when it is closed. `None` where it is no useful route.
-    pub fn close(&self, label: &Label) -> Option<Closed>
+    /// What the route costs that a beginning is when it is closed. `None` where it is no useful route.
+    pub fn close(&self, label: &Label) -> Option<u64>
         requires label { (stops : List ℕ) × IsLabel self.now stops label.now × (stops ≢ []) }
-        ensures closed { IfSome result (λ closed. (stops : List ℕ) → IsLabel self.now stops label.now
-            → IsClosed self.now stops closed) }
+        ensures cost { IfSome result (λ cost. (stops : List ℕ) → IsLabel self.now stops label.now
+            → cost ≡ route_cost self.now.relaxation.problem stops) }
         ensures none { IfNone result ((stops : List ℕ) → IsLabel self.now stops label.now
             → IsUseful self.now.relaxation.problem self.now.limit stops → ⊥) }
     {
@@ -95,15 +96,12 @@ impl<'a> Setting<'a> {
             return None;
         }
         let cost = label.cost + problem.weight(label.last, 0);
-        Some(Closed {
-            set: label.set,
-            cost,
-            relaxed_cost,
-        })
+        Some(cost)
     }
 
-    /// The label of a beginning with one more stop. `None` where no useful route begins so.
-    pub fn child(&self, label: &Label, stop: u16, parent: usize) -> Option<Label>
+    /// The label of a beginning with one more customer. `None` where no useful route begins so.
+    #[inline(always)]
+    pub fn extended(&self, label: &Label, stop: u16, parent: u32) -> Option<Label>
         requires label { (stops : List ℕ) × IsLabel self.now stops label.now }
         requires some { 0 < stop }
         requires place { stop < place_count self.now.relaxation.problem }
@@ -137,14 +135,14 @@ impl<'a> Setting<'a> {
         }
         let cost = label.cost + problem.weight(label.last, stop);
         Some(Label {
-            first: label.first_with(stop),
-            last: stop,
-            parent,
             set: label.set | (1 << stop),
             load,
             cost,
             relaxed_load,
             relaxed_cost,
+            parent,
+            first: label.first_with(stop),
+            last: stop,
         })
     }
 }

@@ -1,7 +1,7 @@
 use Rattle.std.proofs.Common.{List, ◌≡◌, ◌∙◌, ℕ, ◌+◌, ◌-◌, ◌<◌, None, Some, ap, sym, subst, arith}
 use Rattle.vrp_model.specs.Problem.{IsSymmetric, Problem, place_count, weight_of}
 use Rattle.vrp_routes.specs.Label.{IsLabel, IsSetting, SettingOf}
-use Rattle.vrp_routes.proofs.Labels.{backward, closed_is, closed_within, dear_closed, label_place, label_small}
+use Rattle.vrp_routes.proofs.Labels.{backward, closed_cost, closed_within, dear_closed, label_place, label_small}
 use Rattle.vrp_routes.proofs.setting.Setting.close.Goals as goal
 
 -- the instances that were read are those of the setting
@@ -89,12 +89,10 @@ overflow_add-cost c =
     let small = label_small s tabled c.self.inside.relaxed_limit c.self.inside.whole_demand c.args.label.now k requires in
     omega (arith, small.0, c.weight-2.ensures.small)
 
-pub returns-clause-closed : goal.returns-clause-closed
-returns-clause-closed c = λ stops is.
+pub returns-clause-cost : goal.returns-clause-cost
+returns-clause-cost c = λ stops is.
     let s = c.args.self.now in
     let label = c.args.label.now in
     let d = the_problem s _ c.problem-problem.result.now c.self.view_is c.problem-problem.ensures in
-    let e = the_relaxed s _ c.relaxed-relaxed.result.now c.self.view_is c.relaxed-relaxed.ensures.value in
-    closed_is s stops label (label.cost + c.weight-2.result) (label.relaxed_cost + c.weight.result) is
+    closed_cost s stops label (label.cost + c.weight-2.result) is
     (ap (λ n. label.cost + n) (c.weight-2.ensures.value ∙ ap (λ (q : Problem). weight_of q label.last 0) d))
-    (ap (λ n. label.relaxed_cost + n) (c.weight.ensures.value ∙ ap (λ (q : Problem). weight_of q label.last 0) e))
