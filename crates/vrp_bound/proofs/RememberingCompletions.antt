@@ -181,7 +181,7 @@ last_is_served p front i d lt same =
     no_last [] k none some same = omega (arith, some, same)
     no_last (symbol ∷ word) k none some same = omega (arith, none)
 
-distinct_behind : (xs ys : List ℕ) → AreDistinct (xs ++ ys) → AreDistinct ys
+pub distinct_behind : (xs ys : List ℕ) → AreDistinct (xs ++ ys) → AreDistinct ys
 distinct_behind xs ys distinct i j d less within same =
     distinct (length xs + i) (length xs + j) d (omega (arith, less)) (omega (arith, within, length-append xs ys)) (get_or-append-add xs ys i d ∙ same ∙ sym (get_or-append-add xs ys j d))
 

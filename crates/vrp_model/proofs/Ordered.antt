@@ -67,7 +67,7 @@ no_later_transitive word other third (inr earlier) (inl level) = inr (subst (IsE
 no_later_transitive word other third (inr earlier) (inr later) = inr (earlier_transitive word other third earlier later)
 
 -- the same symbols before two words change nothing
-earlier_behind : (front word other : List ℕ) → IsEarlier word other → IsEarlier (front ++ word) (front ++ other)
+pub earlier_behind : (front word other : List ℕ) → IsEarlier word other → IsEarlier (front ++ word) (front ++ other)
 earlier_behind [] word other earlier = earlier
 earlier_behind (k ∷ front) word other earlier = inr (refl, earlier_behind front word other earlier)
 

@@ -35,7 +35,7 @@ none_below_relaxation p q scale charges rewards front more among ins answer rela
     (none_below q front more among ins answer problem (relaxation.lawful (front ++ more) lawful) covered is_ins bound)
 
 -- where tables are made, they answer no more than any completion by walks that remember costs
-remembering_below : (q : Problem) (near : ℕ → List ℕ) (among : List ℕ) (at load rest : ℕ) (answer : Option ℕ) (home : List ℕ) (tours : List (List ℕ)) → IsRememberingBound q near among at load rest answer → IsRememberingRelaxed q near among at load rest home tours
+pub remembering_below : (q : Problem) (near : ℕ → List ℕ) (among : List ℕ) (at load rest : ℕ) (answer : Option ℕ) (home : List ℕ) (tours : List (List ℕ)) → IsRememberingBound q near among at load rest answer → IsRememberingRelaxed q near among at load rest home tours
     → MatchOption answer ⊥ (λ least. least ≤ relaxed_cost q at home tours)
 remembering_below q near among at load rest None home tours is relaxed = let never = is.none_made (λ made. is.made made home tours relaxed) in cc
 remembering_below q near among at load rest (Some least) home tours is relaxed = elim (cases_lt (relaxed_cost q at home tours) least) [

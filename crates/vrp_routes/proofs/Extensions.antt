@@ -1,0 +1,345 @@
+-- The extensions of a level's labels, as they are offered one by one.
+use Rattle.std.proofs.Common.{◌≡◌, ℕ, zero, suc, ◌+◌, ◌<◌, ◌≤◌, ◌==◌, ◌&&◌, append_assoc, Bool, true, false, if◌then◌else◌, inl, inr, None, Some, List, [], ◌∷◌, ◌++◌, length, length-append, get_or, refl, sym, ap, subst, ◌∙◌, arith}
+use Rattle.std.specs.List.{All, AllPairs, Contains}
+use Rattle.std.specs.Map.{lookup}
+use Rattle.std.proofs.lemmas.Bool.{cases_Bool, cases_lt, eqb-true, false≢true}
+use Rattle.std.proofs.lemmas.Bool.Decides.{nat_tests}
+use Rattle.std.proofs.lemmas.List.{get_or_append_left, get_or_default, nil_from_length}
+use Rattle.std.proofs.lemmas.List.Elements.{All-append, All-cons, All-nil}
+use Rattle.std.proofs.lemmas.List.Quantifiers.{all_pairs_push}
+use Rattle.vrp_model.specs.Order.{ComesBefore, IsEarlier}
+use Rattle.vrp_model.specs.Problem.{Problem, customers, place_count}
+use Rattle.vrp_model.specs.Word.{word_cost}
+use Rattle.vrp_model.proofs.CustomerPlaces.{customer_below, customer_is_some}
+use Rattle.vrp_model.proofs.Ordered.{earlier_behind}
+use Rattle.vrp_routes.specs.Label.{IsLabel, SettingOf}
+use Rattle.vrp_routes.specs.Candidates.{HasExtensions, IsBefore, IsGrown, IsKept, IsKeyed, IsOffered, IsRefused, IsTaken, kept_for, key_of, label_at, no_label, same_key}
+use Rattle.vrp_routes.specs.Level.{IsLevel, sequences, stops_of}
+use Rattle.vrp_routes.specs.Useful.{BeginsUseful, IsUseful}
+use Rattle.vrp_routes.specs.declared.label.Label.{Label}
+use Rattle.vrp_routes.specs.declared.candidates.Candidates.{Candidates}
+use Rattle.vrp_routes.proofs.CheapBeginnings.{ends_at, useful_begins}
+use Rattle.vrp_routes.proofs.Replaced.{earlier_longer, no_better_beginning}
+use Rattle.vrp_routes.proofs.Sets.{same_set}
+
+-- ---- keys
+
+both_true : (a b : Bool) → (a && b) ≡ true → (a ≡ true) × (b ≡ true)
+both_true true b is = (refl, is)
+both_true false b is = absurd (false≢true is)
+
+pub keys_same : (key other : ℕ × ℕ) → same_key key other ≡ true → key ≡ other
+keys_same key other is =
+    let (one, two) = both_true (key.0 == other.0) (key.1 == other.1) is in
+    let left : key.0 ≡ other.0 = eqb-true key.0 other.0 one in
+    let right : key.1 ≡ other.1 = eqb-true key.1 other.1 two in
+    λ i. (left i, right i)
+
+pub key_itself : (key : ℕ × ℕ) → same_key key key ≡ true
+key_itself key =
+    let one : (key.0 == key.0) ≡ true = grind (arith, nat_tests) in
+    let two : (key.1 == key.1) ≡ true = grind (arith, nat_tests) in
+    rw (one, two) refl
+
+pub some_same : (j k : ℕ) → Some j ≡ Some k → j ≡ k
+some_same j k same = cc
+
+-- two labels with one key are of rearrangements that end at the same stop: the one that comes before isn't of a useful beginning's rival
+pub no_rival : (s : SettingOf) (xs ys : List ℕ) (one other : Label) → IsLabel s xs one → IsLabel s ys other → key_of one ≡ key_of other → BeginsUseful s.relaxation.problem s.limit ys → ComesBefore one.cost xs other.cost ys → ⊥
+no_rival s xs ys one other is also same useful before =
+    let p = s.relaxation.problem in
+    let sets = sym also.set ∙ sym (ap (λ (key : ℕ × ℕ). key.0) same) ∙ is.set in
+    let ends = sym is.last ∙ ap (λ (key : ℕ × ℕ). key.1) same ∙ also.last in
+    no_better_beginning p s.limit ys xs useful (same_set ys xs also.begins.once is.begins.once sets) ends
+    (subst (λ n. ComesBefore (word_cost p xs) xs n ys) also.cost (subst (λ n. ComesBefore n xs other.cost ys) is.cost before))
+
+-- ---- a label more
+
+label_first : (old new : Candidates) (label : Label) (at : ℕ) → new.labels.items ≡ old.labels.items ++ label ∷ [] → at < length old.labels.items → label_at new at ≡ label_at old at
+label_first old new label at longer lt = ap (λ (ls : List Label). get_or ls at no_label) longer ∙ get_or_append_left old.labels.items (label ∷ []) no_label at lt
+
+pub at_end : {X : Type 0} (xs : List X) (x d : X) → get_or (xs ++ x ∷ []) (length xs) d ≡ x
+at_end [] x d = refl
+at_end (y ∷ xs) x d = at_end xs x d
+
+pub label_last : (old new : Candidates) (label : Label) → new.labels.items ≡ old.labels.items ++ label ∷ [] → label_at new (length old.labels.items) ≡ label
+label_last old new label longer = ap (λ (ls : List Label). get_or ls (length old.labels.items) no_label) longer ∙ at_end old.labels.items label _
+
+-- what is kept for a key once the label is taken
+kept_if : (old new : Candidates) (label : Label) (key : ℕ × ℕ) → IsTaken old label new → same_key (key_of label) key ≡ true → kept_for new key ≡ Some (length old.labels.items)
+kept_if old new label key taken same = taken.kept key ∙ ap (λ b. if b then Some (length old.labels.items) else kept_for old key) same
+
+kept_else : (old new : Candidates) (label : Label) (key : ℕ × ℕ) → IsTaken old label new → same_key (key_of label) key ≡ false → kept_for new key ≡ kept_for old key
+kept_else old new label key taken other = taken.kept key ∙ ap (λ b. if b then Some (length old.labels.items) else kept_for old key) other
+
+pub keyed_taken : (old new : Candidates) (label : Label) → IsKeyed old → IsTaken old label new → IsKeyed new
+keyed_taken old new label keyed taken key at is =
+    let long : length new.labels.items ≡ length old.labels.items + 1 = ap length taken.longer ∙ length-append old.labels.items (label ∷ []) in
+    elim (cases_Bool (same_key (key_of label) key)) [
+      | inl same ↦
+          let here : length old.labels.items ≡ at = some_same (length old.labels.items) at (sym (kept_if old new label key taken same) ∙ is) in
+          (omega (arith, long, here), ap (λ n. key_of (label_at new n)) (sym here) ∙ ap key_of (label_last old new label taken.longer) ∙ keys_same (key_of label) key same)
+      | inr other ↦
+          let (within, of_key) = keyed key at (sym (kept_else old new label key taken other) ∙ is) in
+          (omega (arith, long, within), ap key_of (label_first old new label at taken.longer within) ∙ of_key)
+    ]
+
+pub keyed_offered : (old new : Candidates) (label : Label) → IsKeyed old → IsOffered old label new → IsKeyed new
+keyed_offered old new label keyed (inl refused) = subst IsKeyed (sym refused.same) keyed
+keyed_offered old new label keyed (inr taken) = keyed_taken old new label keyed taken
+
+-- ---- the stops of labels
+
+pub length_sequences : (before : List (List ℕ)) (labels : List Label) → length (sequences before labels) ≡ length labels
+length_sequences before [] = refl
+length_sequences before (label ∷ labels) = ap suc (length_sequences before labels)
+
+sequences_with : (before : List (List ℕ)) (labels : List Label) (label : Label) → sequences before (labels ++ label ∷ []) ≡ sequences before labels ++ stops_of before label ∷ []
+sequences_with before [] label = refl
+sequences_with before (other ∷ labels) label = ap (λ (xs : List (List ℕ)). stops_of before other ∷ xs) (sequences_with before labels label)
+
+pub sequence_at : (before : List (List ℕ)) (labels : List Label) (at : ℕ) (d : List ℕ) (e : Label) → at < length labels → get_or (sequences before labels) at d ≡ stops_of before (get_or labels at e)
+sequence_at before [] at d e lt = absurd (omega (arith, lt))
+sequence_at before (label ∷ labels) zero d e lt = refl
+sequence_at before (label ∷ labels) (suc at) d e lt = sequence_at before labels at d e (omega (arith, lt))
+
+-- ---- extensions
+
+extensions_rise : (k : ℕ) (stops : List (List ℕ)) (i c j d : ℕ) → All (λ xs. length xs ≡ k) stops → AllPairs IsEarlier stops → i < length stops → j < length stops → IsBefore i c j d
+    → IsEarlier (get_or stops i [] ++ c ∷ []) (get_or stops j [] ++ d ∷ [])
+extensions_rise k stops i c j d size rising lt within (inl less) = earlier_longer (get_or stops i []) (get_or stops j []) (c ∷ []) (d ∷ []) (size i [] lt ∙ sym (size j [] within)) (rising i j [] less within)
+extensions_rise k stops i c j d size rising lt within (inr (same, less)) =
+    subst (λ (n : ℕ). IsEarlier (get_or stops n [] ++ c ∷ []) (get_or stops j [] ++ d ∷ [])) (sym same) (earlier_behind (get_or stops j []) (c ∷ []) (d ∷ []) (inl less))
+
+-- what comes before changes, where no useful beginning comes between
+pub moved : (s : SettingOf) (k : ℕ) (stops : List (List ℕ)) (i c j d : ℕ) (level : Candidates) → HasExtensions s k stops i c level
+    → ((m n : ℕ) → IsBefore m n i c → IsBefore m n j d)
+    → ((m n : ℕ) → IsBefore m n j d → m < length stops → BeginsUseful s.relaxation.problem s.limit (get_or stops m [] ++ n ∷ []) → IsBefore m n i c)
+    → HasExtensions s k stops j d level
+moved s k stops i c j d level has on back = record {
+  size = has.size;
+  rising = has.rising;
+  are = has.are;
+  before = λ at e lt. (on _ _ (has.before at e lt).0, (has.before at e lt).1);
+  every = λ m n before lt useful. has.every m n (back m n before lt useful) lt useful;
+}
+
+-- an extension that isn't offered is of no useful beginning
+pub passed : (s : SettingOf) (k : ℕ) (stops : List (List ℕ)) (i c : ℕ) (level : Candidates) → HasExtensions s k stops i c level → (BeginsUseful s.relaxation.problem s.limit (get_or stops i [] ++ c ∷ []) → ⊥) → HasExtensions s k stops i (c + 1) level
+passed s k stops i c level has none = moved s k stops i c i (c + 1) level has on back
+  where
+    on : (m n : ℕ) → IsBefore m n i c → IsBefore m n i (c + 1)
+    on m n (inl less) = inl less
+    on m n (inr (same, less)) = inr (same, omega (arith, less))
+
+    back : (m n : ℕ) → IsBefore m n i (c + 1) → m < length stops → BeginsUseful s.relaxation.problem s.limit (get_or stops m [] ++ n ∷ []) → IsBefore m n i c
+    back m n (inl less) lt useful = inl less
+    back m n (inr (same, less)) lt useful =
+        elim (cases_lt n c) [
+          | inl below ↦ inr (same, below)
+          | inr above ↦ absurd (none (subst (λ (n : ℕ). BeginsUseful s.relaxation.problem s.limit (get_or stops i [] ++ n ∷ [])) (let is : n ≡ c = omega (arith, above, less) in is) (subst (λ (m : ℕ). BeginsUseful s.relaxation.problem s.limit (get_or stops m [] ++ n ∷ [])) same useful)))
+        ]
+
+-- the last stop of a useful beginning is a customer
+last_customer : (p : Problem) (limit : ℕ) (xs : List ℕ) (k : ℕ) → BeginsUseful p limit (xs ++ k ∷ []) → Contains (customers p) k
+last_customer p limit xs k useful = subst (Contains (customers p)) (at_end xs k 0) ((useful_begins p limit (xs ++ k ∷ []) useful).known (length xs) 0 (omega (arith, length-append xs (k ∷ []))))
+
+-- a label has no extensions from the last place on
+pub all_extensions : (s : SettingOf) (k : ℕ) (stops : List (List ℕ)) (i c : ℕ) (level : Candidates) → place_count s.relaxation.problem ≤ c → HasExtensions s k stops i c level → HasExtensions s k stops (i + 1) 0 level
+all_extensions s k stops i c level all has = moved s k stops i c (i + 1) 0 level has on back
+  where
+    on : (m n : ℕ) → IsBefore m n i c → IsBefore m n (i + 1) 0
+    on m n (inl less) = inl (omega (arith, less))
+    on m n (inr (same, less)) = inl (omega (arith, same))
+
+    back : (m n : ℕ) → IsBefore m n (i + 1) 0 → m < length stops → BeginsUseful s.relaxation.problem s.limit (get_or stops m [] ++ n ∷ []) → IsBefore m n i c
+    back m n (inr (same, less)) lt useful = absurd (omega (arith, less))
+    back m n (inl less) lt useful =
+        elim (cases_lt m i) [
+          | inl below ↦ inl below
+          | inr above ↦ inr (omega (arith, less, above), (let place = customer_below s.relaxation.problem n (last_customer s.relaxation.problem s.limit (get_or stops m []) n useful) in omega (arith, place, all)))
+        ]
+
+-- and none at the depot
+pub first_extension : (s : SettingOf) (k : ℕ) (stops : List (List ℕ)) (i : ℕ) (level : Candidates) → HasExtensions s k stops i 0 level → HasExtensions s k stops i 1 level
+first_extension s k stops i level has = passed s k stops i 0 level has (λ useful. (let some = customer_is_some s.relaxation.problem 0 (last_customer s.relaxation.problem s.limit (get_or stops i []) 0 useful) in omega (arith, some)))
+
+shorter : (p : Problem) (limit : ℕ) (xs : List ℕ) (k : ℕ) → BeginsUseful p limit (xs ++ k ∷ []) → BeginsUseful p limit xs
+shorter p limit xs k (more, useful) = (k ∷ more, subst (IsUseful p limit) (simp append_assoc) useful)
+
+-- what was kept stays so, where it is useful
+still_kept : (s : SettingOf) (before : List (List ℕ)) (old new : Candidates) (label : Label) (xs : List ℕ) → ((at : ℕ) (d : Label) → at < length (sequences before old.labels.items) → IsLabel s (get_or (sequences before old.labels.items) at []) (get_or old.labels.items at d))
+    → IsTaken old label new → IsLabel s (stops_of before label) label → BeginsUseful s.relaxation.problem s.limit xs → IsKept (sequences before old.labels.items) old xs → IsKept (sequences before new.labels.items) new xs
+still_kept s before old new label xs each taken is_label useful kept =
+    let olds = sequences before old.labels.items in
+    let all : sequences before new.labels.items ≡ olds ++ stops_of before label ∷ [] = ap (sequences before) taken.longer ∙ sequences_with before old.labels.items label in
+    let within : kept.at < length old.labels.items = subst (λ n. kept.at < n) (length_sequences before old.labels.items) kept.within in
+    let same : label_at new kept.at ≡ label_at old kept.at = label_first old new label kept.at taken.longer within in
+    let key = key_of (label_at old kept.at) in
+    let is_old : IsLabel s xs (label_at old kept.at) = subst (λ (ys : List ℕ). IsLabel s ys (label_at old kept.at)) kept.is (each kept.at no_label kept.within) in
+    let there : kept_for new key ≡ Some kept.at = elim (cases_Bool (same_key (key_of label) key)) [
+      | inl same ↦ absurd (
+          let one = keys_same (key_of label) key same in
+          no_rival s (stops_of before label) xs label (label_at old kept.at) is_label is_old one useful (inl (taken.cheaper kept.at (ap (kept_for old) one ∙ kept.kept))))
+      | inr other ↦ kept_else old new label key taken other ∙ kept.kept
+    ] in
+    record {
+      at = kept.at;
+      within = subst (λ (zs : List (List ℕ)). kept.at < length zs) (sym all) (omega (arith, kept.within, length-append olds (stops_of before label ∷ [])));
+      is = ap (λ (zs : List (List ℕ)). get_or zs kept.at []) all ∙ get_or_append_left olds (stops_of before label ∷ []) [] kept.at kept.within ∙ kept.is;
+      kept = ap (λ (l : Label). kept_for new (key_of l)) same ∙ there;
+    }
+
+taken_extension : (s : SettingOf) (k : ℕ) (stops : List (List ℕ)) (old new : Candidates) (child : Label) → HasExtensions s k stops child.parent child.last old → child.parent < length stops → IsLabel s (stops_of stops child) child → IsTaken old child new
+    → HasExtensions s k stops child.parent (child.last + 1) new
+taken_extension s k stops old new child has lt is taken = record {
+  size = has.size;
+  rising = has.rising;
+  are = record {
+    long = ap (λ (ls : List Label). length (sequences stops ls)) refl ∙ length_sequences stops new.labels.items;
+    each = λ at d within. subst (IsLabel s (get_or (sequences stops new.labels.items) at [])) (get_or_default new.labels.items at no_label d (omega (arith, within, length_sequences stops new.labels.items))) (each at within);
+    size = subst (All (λ xs. length xs ≡ k + 1)) (sym all) (All-append (λ xs. length xs ≡ k + 1) olds (mine ∷ []) has.are.size (All-cons (λ xs. length xs ≡ k + 1) mine [] (length-append (get_or stops child.parent []) (child.last ∷ []) ∙ ap (λ n. n + 1) (has.size child.parent [] lt)) (All-nil _)));
+    rising = subst (AllPairs IsEarlier) (sym all) (all_pairs_push IsEarlier olds mine has.are.rising (λ at d within. rises at d within));
+  };
+  before = subst (All Before) (sym taken.longer) (All-append Before old.labels.items (child ∷ []) (λ at e within. (longer _ _ (has.before at e within).0, (has.before at e within).1)) (All-cons Before child [] (inr (refl, omega arith), lt) (All-nil _)));
+  every = λ i c before within useful. every i c before within useful;
+}
+  where
+    olds : List (List ℕ)
+    olds = sequences stops old.labels.items
+
+    mine : List ℕ
+    mine = stops_of stops child
+
+    Before : Label → Type 0
+    Before label = IsBefore label.parent label.last child.parent (child.last + 1) × (label.parent < length stops)
+
+    all : sequences stops new.labels.items ≡ olds ++ mine ∷ []
+    all = ap (sequences stops) taken.longer ∙ sequences_with stops old.labels.items child
+
+    longer : (m n : ℕ) → IsBefore m n child.parent child.last → IsBefore m n child.parent (child.last + 1)
+    longer m n (inl less) = inl less
+    longer m n (inr (same, less)) = inr (same, omega (arith, less))
+
+    many : length (olds ++ mine ∷ []) ≡ length olds + 1
+    many = length-append olds (mine ∷ [])
+
+    count : length olds ≡ length old.labels.items
+    count = length_sequences stops old.labels.items
+
+    each : (at : ℕ) → at < length (sequences stops new.labels.items) → IsLabel s (get_or (sequences stops new.labels.items) at []) (label_at new at)
+    each at within =
+        elim (cases_lt at (length olds)) [
+          | inl first ↦ subst (IsLabel s (get_or (sequences stops new.labels.items) at [])) (sym (label_first old new child at taken.longer (omega (arith, first, count))))
+              (subst (λ (xs : List ℕ). IsLabel s xs (label_at old at)) (sym (ap (λ (zs : List (List ℕ)). get_or zs at []) all ∙ get_or_append_left olds (mine ∷ []) [] at first)) (has.are.each at no_label first))
+          | inr last ↦
+              let end : at ≡ length olds = omega (arith, last, within, ap length all, many) in
+              subst (λ (n : ℕ). IsLabel s (get_or (sequences stops new.labels.items) n []) (label_at new n)) (sym end)
+              (subst (λ (xs : List ℕ). IsLabel s xs (label_at new (length olds))) (sym (ap (λ (zs : List (List ℕ)). get_or zs (length olds) []) all ∙ at_end olds mine []))
+              (subst (IsLabel s mine) (sym (ap (label_at new) count ∙ label_last old new child taken.longer)) is))
+        ]
+
+    rises : (at : ℕ) (d : List ℕ) → at < length olds → IsEarlier (get_or olds at d) mine
+    rises at d within =
+        let inside : at < length old.labels.items = omega (arith, within, count) in
+        let before = has.before at child inside in
+        subst (λ (xs : List ℕ). IsEarlier xs mine) (sym (sequence_at stops old.labels.items at d child inside))
+        (extensions_rise k stops (get_or old.labels.items at child).parent (get_or old.labels.items at child).last child.parent child.last has.size has.rising before.1 lt before.0)
+
+    every : (i c : ℕ) → IsBefore i c child.parent (child.last + 1) → i < length stops → BeginsUseful s.relaxation.problem s.limit (get_or stops i [] ++ c ∷ []) → IsKept (sequences stops new.labels.items) new (get_or stops i [] ++ c ∷ [])
+    every i c (inl less) within useful = still_kept s stops old new child (get_or stops i [] ++ c ∷ []) has.are.each taken is useful (has.every i c (inl less) within useful)
+    every i c (inr (same, less)) within useful =
+        elim (cases_lt c child.last) [
+          | inl below ↦ still_kept s stops old new child (get_or stops i [] ++ c ∷ []) has.are.each taken is useful (has.every i c (inr (same, below)) within useful)
+          | inr above ↦
+              let here : c ≡ child.last = omega (arith, above, less) in
+              let word : get_or stops i [] ++ c ∷ [] ≡ mine = ap (λ (n : ℕ). get_or stops n [] ++ c ∷ []) same ∙ ap (λ (n : ℕ). get_or stops child.parent [] ++ n ∷ []) here in
+              subst (IsKept (sequences stops new.labels.items) new) (sym word) (record {
+                at = length olds;
+                within = omega (arith, ap length all, many);
+                is = ap (λ (zs : List (List ℕ)). get_or zs (length olds) []) all ∙ at_end olds mine [];
+                kept = ap (λ (l : Label). kept_for new (key_of l)) (ap (label_at new) count ∙ label_last old new child taken.longer) ∙ kept_if old new child (key_of child) taken (key_itself (key_of child)) ∙ ap Some (sym count);
+              })
+        ]
+
+refused_extension : (s : SettingOf) (k : ℕ) (stops : List (List ℕ)) (old new : Candidates) (child : Label) → HasExtensions s k stops child.parent child.last old → IsKeyed old → child.parent < length stops → IsLabel s (stops_of stops child) child → IsRefused old child new
+    → HasExtensions s k stops child.parent (child.last + 1) new
+refused_extension s k stops old new child has keyed lt is refused =
+    subst (HasExtensions s k stops child.parent (child.last + 1)) (sym refused.same) (passed s k stops child.parent child.last old has (λ useful.
+    let olds = sequences stops old.labels.items in
+    let (within, of_key) = keyed (key_of child) refused.at refused.kept in
+    let inside : refused.at < length olds = omega (arith, within, length_sequences stops old.labels.items) in
+    let before = has.before refused.at child within in
+    let earlier : IsEarlier (get_or olds refused.at []) (stops_of stops child) = subst (λ (xs : List ℕ). IsEarlier xs (stops_of stops child)) (sym (sequence_at stops old.labels.items refused.at [] child within))
+    (extensions_rise k stops (get_or old.labels.items refused.at child).parent (get_or old.labels.items refused.at child).last child.parent child.last has.size has.rising before.1 lt before.0) in
+    no_rival s (get_or olds refused.at []) (stops_of stops child) (label_at old refused.at) child (has.are.each refused.at no_label inside) is of_key useful (no_dearer_before (label_at old refused.at).cost child.cost (get_or olds refused.at []) (stops_of stops child) refused.no_dearer earlier)))
+  where
+    no_dearer_before : (cost other : ℕ) (xs ys : List ℕ) → cost ≤ other → IsEarlier xs ys → ComesBefore cost xs other ys
+    no_dearer_before cost other xs ys no_more earlier = elim (cases_lt cost other) [
+      | inl less ↦ inl less
+      | inr more ↦ inr (omega (arith, no_more, more), earlier)
+    ]
+
+pub offered_extension : (s : SettingOf) (k : ℕ) (stops : List (List ℕ)) (old new : Candidates) (child : Label) → HasExtensions s k stops child.parent child.last old → IsKeyed old → child.parent < length stops → IsLabel s (stops_of stops child) child → IsOffered old child new
+    → HasExtensions s k stops child.parent (child.last + 1) new
+offered_extension s k stops old new child has keyed lt is (inl refused) = refused_extension s k stops old new child has keyed lt is refused
+offered_extension s k stops old new child has keyed lt is (inr taken) = taken_extension s k stops old new child has lt is taken
+
+-- ---- a level
+
+pub no_extensions : (s : SettingOf) (k : ℕ) (stops : List (List ℕ)) (labels : List Label) (next : Candidates) → IsLevel s k stops labels → next.labels.items ≡ [] → HasExtensions s k stops 0 0 next
+no_extensions s k stops labels next is none = record {
+  size = is.are.size;
+  rising = is.are.rising;
+  are = record {
+    long = length_sequences stops next.labels.items;
+    each = λ at d lt. absurd (omega (arith, lt, length_sequences stops next.labels.items, ap length none));
+    size = λ at d lt. absurd (omega (arith, lt, length_sequences stops next.labels.items, ap length none));
+    rising = λ i j d less lt. absurd (omega (arith, lt, length_sequences stops next.labels.items, ap length none));
+  };
+  before = λ at d lt. absurd (omega (arith, lt, ap length none));
+  every = λ i c before lt useful. absurd (never i c before);
+}
+  where
+    never : (i c : ℕ) → IsBefore i c 0 0 → ⊥
+    never i c (inl less) = omega (arith, less)
+    never i c (inr (same, less)) = omega (arith, less)
+
+pub all_grown : (s : SettingOf) (k : ℕ) (stops : List (List ℕ)) (labels : List Label) (next : Candidates) (i : ℕ) → IsLevel s k stops labels → length stops ≤ i → HasExtensions s k stops i 0 next → IsGrown s (k + 1) (sequences stops next.labels.items) next
+all_grown s k stops labels next i is all has = record {
+  are = has.are;
+  every = λ xs long useful.
+      let e = ends_at xs (λ none. (let short = ap length none in omega (arith, long, short))) in
+      let whole : BeginsUseful s.relaxation.problem s.limit (e.front ++ e.last ∷ []) = subst (BeginsUseful s.relaxation.problem s.limit) e.is useful in
+      let size : length e.front ≡ k = omega (arith, ap length e.is, length-append e.front (e.last ∷ []), long) in
+      let (at, within, there) = is.every e.front size (shorter s.relaxation.problem s.limit e.front e.last whole) in
+      let front : get_or stops at [] ≡ e.front = get_or_default stops at [] e.front within ∙ there in
+      let same : get_or stops at [] ++ e.last ∷ [] ≡ xs = ap (λ (ys : List ℕ). ys ++ e.last ∷ []) front ∙ sym e.is in
+      let goes_on : IsKept (sequences stops next.labels.items) next (get_or stops at [] ++ e.last ∷ []) = (has.every at e.last (inl (omega (arith, within, all))) within (subst (BeginsUseful s.relaxation.problem s.limit) (sym same) useful)) in
+      subst (IsKept (sequences stops next.labels.items) next) same goes_on;
+}
+
+-- ---- none so far
+
+none_kept : (level : Candidates) (key : ℕ × ℕ) → level.kept.entries ≡ [] → kept_for level key ≡ None
+none_kept level key empty = ap (lookup (same_key key)) empty
+
+pub empty_is_keyed : (level : Candidates) → level.kept.entries ≡ [] → IsKeyed level
+empty_is_keyed level empty key at is = absurd (let never : None ≡ Some at = sym (none_kept level key empty) ∙ is in cc)
+
+-- ---- the level of no stops
+
+pub root_level : (s : SettingOf) (root : Label) → IsLabel s [] root → IsLevel s 0 ([] ∷ []) (root ∷ [])
+root_level s root is = record {
+  are = record {
+    long = refl;
+    each = each;
+    size = All-cons (λ xs. length xs ≡ 0) [] [] refl (All-nil _);
+    rising = λ i j d less lt. absurd (omega (arith, less, lt));
+  };
+  every = λ xs long useful. (0, omega arith, sym (nil_from_length xs long));
+}
+  where
+    each : (at : ℕ) (d : Label) → at < 1 → IsLabel s (get_or ([] ∷ []) at []) (get_or (root ∷ []) at d)
+    each zero d lt = is
+    each (suc at) d lt = absurd (omega (arith, lt))

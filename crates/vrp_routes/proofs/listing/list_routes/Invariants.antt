@@ -1,0 +1,7 @@
+use Rattle.std.proofs.Common.{◌-◌}
+use Rattle.vrp_routes.specs.Listing.{IsListing}
+use Rattle.vrp_routes.proofs.listing.list_routes.Given as goal
+
+-- the levels so far are listed
+abbrev pub invariant-loop-level : goal.invariant-loop-level
+invariant-loop-level g l = IsListing l.setting (l._level - 1) l.listing

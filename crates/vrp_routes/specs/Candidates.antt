@@ -1,0 +1,75 @@
+-- The labels of one length as they are found: which of two with the same customers and the same last one is kept.
+use Rattle.std.specs.Prelude.{◌≡◌, ◌⊎◌, ℕ, ◌+◌, ◌<◌, ◌≤◌, ◌==◌, ◌&&◌, if◌then◌else◌, Bool, Option, Some, List, [], ◌∷◌, ◌++◌, length, slice_index_or}
+use Rattle.std.specs.HashMap.{get}
+use Rattle.std.specs.List.{All, AllPairs}
+use Rattle.vrp_model.specs.Order.{IsEarlier}
+use Rattle.vrp_routes.specs.Label.{SettingOf}
+use Rattle.vrp_routes.specs.Level.{AreLabels, sequences}
+use Rattle.vrp_routes.specs.Useful.{BeginsUseful}
+use Rattle.vrp_routes.specs.declared.candidates.Candidates.{Candidates}
+use Rattle.vrp_routes.specs.declared.label.Label.{Label}
+
+-- the set and the last stop
+abbrev pub key_of : Label → ℕ × ℕ
+key_of label = (label.set, label.last)
+
+abbrev pub same_key : ℕ × ℕ → ℕ × ℕ → Bool
+same_key key other = (key.0 == other.0) && (key.1 == other.1)
+
+-- which label is kept for a key
+abbrev pub kept_for : Candidates → ℕ × ℕ → Option ℕ
+kept_for found key = get same_key found.kept key
+
+abbrev pub no_label : Label
+no_label = record { set = 0; load = 0; cost = 0; relaxed_load = 0; relaxed_cost = 0; parent = 0; first = 0; last = 0 }
+
+abbrev pub label_at : Candidates → ℕ → Label
+label_at found at = slice_index_or found.labels.items at no_label
+
+-- which label is kept for the key of this one
+abbrev pub kept_at : Candidates → ℕ → Option ℕ
+kept_at found at = kept_for found (key_of (label_at found at))
+
+-- what is kept for a key is a label with that key
+abbrev pub IsKeyed : Candidates → Type 0
+IsKeyed found = (key : ℕ × ℕ) (at : ℕ) → kept_for found key ≡ Some at → (at < length found.labels.items) × (key_of (label_at found at) ≡ key)
+
+-- a label was offered: refused where one is kept for its key that costs no more, and else kept in its stead
+pub record IsRefused (old : Candidates) (label : Label) (new : Candidates) : Type 0 where
+  pub same : new ≡ old
+  pub at : ℕ
+  pub kept : kept_for old (key_of label) ≡ Some at
+  pub no_dearer : (label_at old at).cost ≤ label.cost
+
+pub record IsTaken (old : Candidates) (label : Label) (new : Candidates) : Type 0 where
+  pub longer : new.labels.items ≡ old.labels.items ++ label ∷ []
+  pub cheaper : (at : ℕ) → kept_for old (key_of label) ≡ Some at → label.cost < (label_at old at).cost
+  pub kept : (key : ℕ × ℕ) → kept_for new key ≡ (if same_key (key_of label) key then Some (length old.labels.items) else kept_for old key)
+
+abbrev pub IsOffered : Candidates → Label → Candidates → Type 0
+IsOffered old label new = IsRefused old label new ⊎ IsTaken old label new
+
+-- these stops are those of a label that is kept
+pub record IsKept (stops : List (List ℕ)) (found : Candidates) (xs : List ℕ) : Type 0 where
+  pub at : ℕ
+  pub within : at < length stops
+  pub is : slice_index_or stops at [] ≡ xs
+  pub kept : kept_at found at ≡ Some at
+
+-- the label of each useful beginning with this many stops is kept
+pub record IsGrown (s : SettingOf) (k : ℕ) (stops : List (List ℕ)) (found : Candidates) : Type 0 where
+  pub are : AreLabels s k stops found.labels.items
+  pub every : (xs : List ℕ) → length xs ≡ k → BeginsUseful s.relaxation.problem s.limit xs → IsKept stops found xs
+
+-- an extension comes before the one of this parent by this stop
+abbrev pub IsBefore : ℕ → ℕ → ℕ → ℕ → Type 0
+IsBefore parent stop i c = (parent < i) ⊎ ((parent ≡ i) × (stop < c))
+
+-- the same of the extensions that come before that one, where these are the stops of their parents
+pub record HasExtensions (s : SettingOf) (k : ℕ) (stops : List (List ℕ)) (parent stop : ℕ) (found : Candidates) : Type 0 where
+  pub size : All (λ xs. length xs ≡ k) stops
+  pub rising : AllPairs IsEarlier stops
+  pub are : AreLabels s (k + 1) (sequences stops found.labels.items) found.labels.items
+  pub before : All (λ label. IsBefore label.parent label.last parent stop × (label.parent < length stops)) found.labels.items
+  pub every : (i c : ℕ) → IsBefore i c parent stop → i < length stops → BeginsUseful s.relaxation.problem s.limit (slice_index_or stops i [] ++ c ∷ [])
+      → IsKept (sequences stops found.labels.items) found (slice_index_or stops i [] ++ c ∷ [])

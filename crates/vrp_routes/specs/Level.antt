@@ -1,0 +1,26 @@
+-- The labels of one length, in the order of their stops.
+use Rattle.std.specs.Prelude.{◌≡◌, ℕ, ◌<◌, List, [], ◌∷◌, ◌++◌, length, map, slice_index_or}
+use Rattle.std.specs.List.{All, AllPairs, Contains}
+use Rattle.vrp_model.specs.Order.{IsEarlier}
+use Rattle.vrp_routes.specs.Label.{IsLabel, SettingOf}
+use Rattle.vrp_routes.specs.Useful.{BeginsUseful}
+use Rattle.vrp_routes.specs.declared.label.Label.{Label}
+
+-- the stops of a label, where these are those of the labels that it may go on from
+abbrev pub stops_of : List (List ℕ) → Label → List ℕ
+stops_of before label = slice_index_or before label.parent [] ++ label.last ∷ []
+
+abbrev pub sequences : List (List ℕ) → List Label → List (List ℕ)
+sequences before labels = map (stops_of before) labels
+
+-- each label is of its stops, of which there are this many, and they rise symbol by symbol
+pub record AreLabels (s : SettingOf) (k : ℕ) (stops : List (List ℕ)) (labels : List Label) : Type 0 where
+  pub long : length stops ≡ length labels
+  pub each : (at : ℕ) (d : Label) → at < length stops → IsLabel s (slice_index_or stops at []) (slice_index_or labels at d)
+  pub size : All (λ xs. length xs ≡ k) stops
+  pub rising : AllPairs IsEarlier stops
+
+-- so they are, and each useful beginning with this many stops has its label
+pub record IsLevel (s : SettingOf) (k : ℕ) (stops : List (List ℕ)) (labels : List Label) : Type 0 where
+  pub are : AreLabels s k stops labels
+  pub every : (xs : List ℕ) → length xs ≡ k → BeginsUseful s.relaxation.problem s.limit xs → Contains stops xs

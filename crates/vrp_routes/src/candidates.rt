@@ -1,0 +1,110 @@
+//! The labels of one length as they are found, and which of them are kept.
+ghost use Rattle.std.specs.Prelude.{◌≡◌, ◌+◌, ◌<◌, ◌≤◌, ℕ, List, [], OnOk, IfOk, IsTrue, Some, ◌↔◌, length, slice_index_or};
+ghost use Rattle.std.specs.List.{All, Contains};
+ghost use Rattle.vrp_routes.specs.Candidates.{HasExtensions, IsGrown, IsKeyed, IsOffered, kept_at};
+ghost use Rattle.vrp_routes.specs.Label.{IsLabel, SettingOf};
+ghost use Rattle.vrp_routes.specs.Level.{IsLevel, sequences};
+
+use crate::label::Label;
+use crate::setting::Setting;
+use std::alloc::Global;
+use std::collections::HashMap;
+use vrp_model::NoMemory;
+
+/// Labels of one length, in the order of their stops, symbol by symbol. Of those with the same customers and the same last one the
+/// cheapest is kept, and of equal ones the earliest.
+#[derive(Drop)]
+pub struct Candidates {
+    labels: Vec<Label>,
+    // By set and last customer, which label is kept.
+    kept: HashMap<(u128, u16), usize>,
+}
+
+impl Candidates {
+    /// None so far.
+    pub fn new(alloc: Global) -> Candidates
+        ensures empty { result.labels.items ≡ [] }
+        ensures keyed { IsKeyed result }
+    {
+        Candidates {
+            labels: Vec::new(alloc),
+            kept: HashMap::new(alloc),
+        }
+    }
+
+    /// How many there are, those that aren't kept among them.
+    pub fn len(&self) -> usize
+        ensures { result ≡ length self.now.labels.items }
+    {
+        self.labels.len()
+    }
+
+    /// Offers each extension of a label by one customer.
+    pub fn offer_extensions(
+        &mut self,
+        setting: &Setting<'_>,
+        label: &Label,
+        parent: u32,
+    ) -> Result<(), NoMemory>
+        requires label { (stops : List ℕ) × IsLabel setting.now stops label.now }
+        requires keyed { IsKeyed self.old }
+        ensures extensions { OnOk result ((k : ℕ) (stops : List (List ℕ)) → parent < length stops
+            → IsLabel setting.now (slice_index_or stops parent []) label.now
+            → HasExtensions setting.now k stops parent 0 self.old
+            → HasExtensions setting.now k stops (parent + 1) 0 self.new) }
+        ensures keyed { OnOk result (IsKeyed self.new) }
+    {
+        for stop in 1..setting.places() {
+            if let Some(extended) = setting.extended(label, stop, parent) {
+                self.offer(extended)?;
+            }
+        }
+        Ok(())
+    }
+
+    /// Those that are kept, in their order.
+    pub fn undominated(&self, alloc: Global) -> Result<Vec<Label>, NoMemory>
+        ensures level { IfOk result (λ labels. (s : SettingOf) (k : ℕ) (before : List (List ℕ))
+            → IsGrown s k (sequences before self.now.labels.items) self.now
+            → IsLevel s k (sequences before labels.items) labels.items) }
+        ensures among { IfOk result (λ labels. All (Contains self.now.labels.items) labels.items) }
+        ensures few { IfOk result (λ labels. length labels.items ≤ length self.now.labels.items) }
+    {
+        let mut labels = Vec::new(alloc);
+        for at in 0..self.labels.len() {
+            if self.keeps(at) {
+                labels.push(self.labels[at])?;
+            }
+        }
+        Ok(labels)
+    }
+
+    // Whether a label is kept.
+    fn keeps(&self, at: usize) -> bool
+        requires { at < length self.now.labels.items }
+        ensures { IsTrue result ↔ (kept_at self.now at ≡ Some at) }
+    {
+        let label = self.labels[at];
+        match self.kept.get(&(label.set, label.last)) {
+            Some(kept) => *kept == at,
+            None => false,
+        }
+    }
+
+    // Takes a label, unless one with the same customers and the same last one costs no more.
+    fn offer(&mut self, label: Label) -> Result<(), NoMemory>
+        requires keyed { IsKeyed self.old }
+        ensures offered { OnOk result (IsOffered self.old label self.new) }
+        ensures keyed { OnOk result (IsKeyed self.new) }
+    {
+        let key = (label.set, label.last);
+        if let Some(at) = self.kept.get(&key) {
+            if self.labels[*at].cost <= label.cost {
+                return Ok(());
+            }
+        }
+        self.kept.insert(key, self.labels.len())?;
+        self.labels.push(label)?;
+        Ok(())
+    }
+}

@@ -1,0 +1,135 @@
+//! The list of useful routes, level by level: the enumeration of routes of Baldacci, Christofides and Mingozzi (2008).
+ghost use Rattle.std.specs.Prelude.{◌≡◌, ◌+◌, ◌≤◌, ◌↔◌, ℕ, IfNone, IfOk, IsTrue};
+ghost use Rattle.vrp_model.specs.Problem.{IsProblem, place_count};
+ghost use Rattle.vrp_model.specs.declared.limits.TheConstants.{NO_COST};
+ghost use Rattle.vrp_routes.specs.Label.{SettingOf};
+ghost use Rattle.vrp_routes.specs.Listing.{IfPool, IsListing};
+ghost use Rattle.vrp_routes.specs.Pool.{IsPool};
+
+use crate::closed::{ClosedRoute, close_level};
+use crate::label::Label;
+use crate::level::{Extended, Limit, extend_level};
+use crate::pool::RoutePool;
+use crate::sequences::Sequences;
+use crate::setting::Setting;
+use std::alloc::Global;
+use vrp_bound::MemoryTables;
+use vrp_model::{Instance, NoMemory};
+use vrp_prices::Relaxation;
+
+/// So many customers an instance may have, since a set has a bit for each place.
+pub const MOST_CUSTOMERS: u16 = 127;
+
+/// The pool of routes, or the limit that was met.
+#[derive(Drop)]
+pub enum Listed {
+    Pool(RoutePool),
+    Met(Limit),
+}
+
+/// Whether an instance has so few customers that its routes can be listed.
+pub fn can_list(instance: &Instance) -> bool
+    ensures { IsTrue result ↔ (place_count instance.now ≤ MOST_CUSTOMERS + 1) }
+{
+    instance.customers() <= MOST_CUSTOMERS
+}
+
+/// The routes that may stand in the first plan of the relaxation's instance, where that costs no more than the limit. The tables are of
+/// the relaxed instance, whoever is near which place. Beginnings of routes are extended customer by customer; one is dropped where it
+/// and its least completion by the tables are above the limit, or where another with the same customers and the same last one costs
+/// less, or as much and is earlier. At most `most_labels` beginnings are kept at once. Now and then it is asked whether to go on. Which
+/// limit is met, and when, is left open.
+pub fn list_routes<F: Fn() -> bool>(
+    alloc: Global,
+    relaxation: &Relaxation<'_>,
+    tables: &MemoryTables<'_>,
+    limit: u64,
+    most_labels: u32,
+    goes_on: &F,
+) -> Result<Listed, NoMemory>
+    requires tables { tables.now.problem ≡ relaxation.now.relaxed }
+    requires few { place_count relaxation.now.problem ≤ MOST_CUSTOMERS + 1 }
+    requires limit { limit ≤ NO_COST }
+    requires goes_on { F.IsAlwaysCallable goes_on.now }
+    ensures { IfOk result (λ listed. IfPool listed (IsPool relaxation.now.problem limit)) }
+{
+    let Some(setting) = Setting::new(relaxation, tables, limit) else {
+        return Ok(Listed::Pool(RoutePool::empty(alloc)));
+    };
+    let mut listing = Listing::new(alloc)?;
+    for _level in 1..setting.places() {
+        if let Some(limit) = listing.step(alloc, &setting, most_labels, goes_on)? {
+            return Ok(Listed::Met(limit));
+        }
+    }
+    Ok(Listed::Pool(listing.into_pool()))
+}
+
+// How far the list has come: the labels of one length, the sequences of all labels so far, and the routes up to that length.
+#[derive(Drop)]
+pub struct Listing {
+    sequences: Sequences,
+    labels: Vec<Label>,
+    // The number of the first label's sequence.
+    start: u32,
+    routes: Vec<ClosedRoute>,
+}
+
+impl Listing {
+    // The label of no customers.
+    fn new(alloc: Global) -> Result<Listing, NoMemory>
+        ensures { IfOk result (λ listing. (s : SettingOf) → IsListing s 0 listing) }
+    {
+        let mut labels = Vec::new(alloc);
+        labels.push(Label::root())?;
+        Ok(Listing {
+            sequences: Sequences::new(alloc),
+            labels,
+            start: 0,
+            routes: Vec::new(alloc),
+        })
+    }
+
+    // Goes on to the labels that are one customer longer.
+    fn step<F: Fn() -> bool>(
+        &mut self,
+        alloc: Global,
+        setting: &Setting<'_>,
+        most_labels: u32,
+        goes_on: &F,
+    ) -> Result<Option<Limit>, NoMemory>
+        requires listing { (k : ℕ) × IsListing setting.now k self.old }
+        requires goes_on { F.IsAlwaysCallable goes_on.now }
+        ensures { IfOk result (λ met. IfNone met ((k : ℕ)
+            → IsListing setting.now k self.old → IsListing setting.now (k + 1) self.new)) }
+    {
+        let start = self.sequences.len() as u32;
+        let room = most_labels.saturating_sub(start) as usize;
+        let labels = match extend_level(alloc, setting, &self.labels, room, goes_on)? {
+            Extended::Labels(labels) => labels,
+            Extended::Met(limit) => return Ok(Some(limit)),
+        };
+        self.sequences.push_level(self.start, &labels)?;
+        let routes = close_level(alloc, setting, &labels, start)?;
+        self.routes.extend_from_slice(&routes)?;
+        self.labels = labels;
+        self.start = start;
+        Ok(None)
+    }
+
+    // The routes that are listed.
+    fn into_pool(self) -> RoutePool
+        requires { (s : SettingOf) × (k : ℕ) × IsListing s k self }
+        ensures { (s : SettingOf) (k : ℕ) → IsListing s k self
+            → IsProblem s.relaxation.problem → place_count s.relaxation.problem ≤ k + 1
+            → IsPool s.relaxation.problem s.limit result }
+    {
+        let Listing {
+            sequences,
+            labels: _labels,
+            start: _start,
+            routes,
+        } = self;
+        RoutePool::new(sequences, routes)
+    }
+}

@@ -1,0 +1,100 @@
+//! Sequences of customers, each of which goes on from an earlier one.
+ghost use Rattle.std.specs.Prelude.{◌≡◌, ◌+◌, ◌^◌, ◌<◌, ◌≤◌, ℕ, List, [], ◌∷◌, ◌++◌, OnOk, IfOk, drop, length, slice_index_or};
+ghost use Rattle.std.specs.List.{All};
+ghost use Rattle.vrp_routes.specs.Level.{sequences};
+ghost use Rattle.vrp_routes.specs.Sequences.{GoOn, sequences_by};
+
+use crate::label::Label;
+use std::alloc::Global;
+use std::marker::Model;
+use vrp_model::NoMemory;
+
+/// How a sequence goes on from an earlier one.
+#[derive(Clone, Copy, Debug)]
+pub struct Step {
+    // The earlier one's number. That of no customers has the number 0.
+    pub parent: u32,
+    pub last: u16,
+}
+
+/// Sequences of customers, numbered from 0, the first of which has none. Eight bytes are kept of each.
+#[derive(Drop)]
+pub struct Sequences {
+    steps: Vec<Step>,
+}
+
+impl Model for Sequences {
+    ghost use Rattle.std.specs.Prelude.{ℕ, List};
+    ghost use Rattle.vrp_routes.specs.Sequences.{GoOn, sequences_by};
+
+    ghost Value = { List (List ℕ) };
+
+    ghost view = { λ a. sequences_by a.steps.items };
+
+    ghost invariant = { λ a. GoOn a.steps.items };
+}
+
+impl Sequences {
+    /// The one that has no customers.
+    pub fn new(alloc: Global) -> Sequences
+        ensures { result ≡ [] ∷ [] }
+    {
+        Sequences {
+            steps: Vec::new(alloc),
+        }
+    }
+
+    /// How many there are.
+    pub fn len(&self) -> usize
+        ensures { result ≡ length self.now }
+    {
+        self.steps.len() + 1
+    }
+
+    /// Adds those of labels, whose parents are the sequences from `start` on, in their order.
+    pub fn push_level(&mut self, start: u32, labels: &[Label]) -> Result<(), NoMemory>
+        requires parents { All (λ label. label.parent < length (drop start self.old)) labels.now }
+        requires few { length self.old < 2 ^ 32 }
+        ensures { OnOk result (self.new ≡ self.old ++ sequences (drop start self.old) labels.now) }
+    {
+        for label in labels {
+            self.push(start + label.parent, label.last)?;
+        }
+        Ok(())
+    }
+
+    /// The customers of a sequence.
+    pub fn stops(&self, alloc: Global, number: u32) -> Result<Vec<u16>, NoMemory>
+        requires { number < length self.now }
+        ensures { IfOk result (λ stops. stops.items ≡ slice_index_or self.now number []) }
+    {
+        stops_by(alloc, &self.steps, number)
+    }
+
+    // Adds the one that goes on from this one by a last customer.
+    fn push(&mut self, parent: u32, last: u16) -> Result<(), NoMemory>
+        requires { parent < length self.old }
+        ensures { OnOk result (self.new
+            ≡ self.old ++ (slice_index_or self.old parent [] ++ last ∷ []) ∷ []) }
+    {
+        self.steps.push(Step { parent, last })?;
+        Ok(())
+    }
+}
+
+// The customers of a sequence, from the last on back to the first.
+fn stops_by(alloc: Global, steps: &[Step], number: u32) -> Result<Vec<u16>, NoMemory>
+    requires steps { GoOn steps.now }
+    requires number { number ≤ length steps.now }
+    ensures { IfOk result (λ stops. stops.items ≡ slice_index_or (sequences_by steps.now) number []) }
+{
+    let mut stops = Vec::new(alloc);
+    let mut number = number as usize;
+    while number > 0 {
+        let step = steps[number - 1];
+        stops.push(step.last)?;
+        number = step.parent as usize;
+    }
+    stops.reverse();
+    Ok(stops)
+}

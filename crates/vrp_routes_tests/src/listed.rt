@@ -1,0 +1,74 @@
+//! Routes listed by given prices.
+ghost use Rattle.std.specs.Prelude.{◌≡◌, ◌≤◌};
+ghost use Rattle.vrp_memory.specs.declared.memory.TheConstants.{MOST_NEAR};
+ghost use Rattle.vrp_model.specs.Problem.{place_count};
+
+use std::alloc::Global;
+use std::process::Abort;
+use vrp_bound::MemoryTables;
+use vrp_memory::{MOST_NEAR, Memory};
+use vrp_model::{Instance, NO_COST, NoMemory};
+use vrp_prices::Relaxation;
+use vrp_routes::{Limit, Listed, RoutePool, can_list, list_routes};
+
+/// How prices are made of an instance, and what walks remember.
+#[derive(Clone, Copy, Debug)]
+pub(crate) struct Setup<'a> {
+    pub(crate) scale: u64,
+    pub(crate) unit: u64,
+    pub(crate) prices: &'a [i64],
+    pub(crate) near: usize,
+}
+
+/// What comes of listing, where there are such prices.
+pub(crate) fn listed(
+    rt: &impl Abort,
+    alloc: Global,
+    instance: &Instance,
+    setup: Setup<'_>,
+    limit: u64,
+    most_labels: u32,
+) -> Option<Listed> {
+    let Setup {
+        scale,
+        unit,
+        prices,
+        near,
+    } = setup;
+    assert!(rt; 1 <= scale && scale <= 1_000 && 1 <= unit && near <= MOST_NEAR);
+    assert!(rt; prices.len() == usize::from(instance.customers()) + 1);
+    assert!(rt; can_list(instance) && limit <= NO_COST);
+    let made = Relaxation::new(alloc, instance, scale, unit, prices, &[]).expect(rt, "memory");
+    let relaxation = made?;
+    let memory = Memory::nearest(alloc, relaxation.relaxed(), near).expect(rt, "memory");
+    Some(by_memory(alloc, &relaxation, memory, limit, most_labels, true).expect(rt, "memory"))
+}
+
+/// What comes of it where walks have this memory, and whether to go on is always answered so.
+pub(crate) fn by_memory(
+    alloc: Global,
+    relaxation: &Relaxation<'_>,
+    memory: Memory,
+    limit: u64,
+    most_labels: u32,
+    goes_on: bool,
+) -> Result<Listed, NoMemory>
+    requires places { memory.places ≡ place_count relaxation.now.relaxed }
+    requires few { place_count relaxation.now.problem ≤ 128 }
+    requires limit { limit ≤ NO_COST }
+{
+    let tables = MemoryTables::new(alloc, relaxation.relaxed(), memory)?;
+    list_routes(alloc, relaxation, &tables, limit, most_labels, &|| goes_on)
+}
+
+/// The pool, where no limit was met.
+pub(crate) fn pool_of(rt: &impl Abort, listed: Listed) -> RoutePool {
+    match listed {
+        Listed::Pool(pool) => pool,
+        Listed::Met(limit) => stopped(rt, limit),
+    }
+}
+
+fn stopped(rt: &impl Abort, limit: Limit) -> RoutePool {
+    panic!(rt; "{limit:?} was met")
+}

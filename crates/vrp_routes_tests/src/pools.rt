@@ -1,0 +1,219 @@
+//! Pools of small instances by hand, and limits that are met.
+ghost use Rattle.std.specs.Prelude.{◌≤◌};
+
+use crate::assertion::assert_same;
+use crate::instances::{FOUR, LINE, at_points, with_ways};
+use crate::listed::{Setup, by_memory, listed, pool_of};
+use std::alloc::Global;
+use std::process::Abort;
+use vrp_memory::Memory;
+use vrp_model::{Instance, NO_COST};
+use vrp_prices::Relaxation;
+use vrp_routes::{Limit, Listed, RoutePool, can_list};
+
+// A route: its customers, their set, its load and its cost.
+type Told<'a> = (&'a [u16], u128, u64, u64);
+
+const NO_PRICES: Setup<'_> = Setup {
+    scale: 10,
+    unit: 1,
+    prices: &[0, 0, 0],
+    near: 2,
+};
+
+// The plan of one route costs 20. Of the labels 1, 2, 12 and 21 the last can't be closed, since it runs backward. At 19 no label is
+// left; at 20 a tour to customer 2 and another to customer 1 is too dear.
+const ON_A_LINE: &[(u64, usize, &[Told<'_>])] = &[
+    (19, 0, &[]),
+    (20, 4, &[(&[1], 0b010, 1, 10), (&[1, 2], 0b110, 2, 20)]),
+    (
+        1_000,
+        4,
+        &[
+            (&[1], 0b010, 1, 10),
+            (&[2], 0b100, 1, 20),
+            (&[1, 2], 0b110, 2, 20),
+        ],
+    ),
+];
+
+#[test]
+fn three_nodes(rt: HostRuntime) {
+    let instance = at_points(&rt, rt.alloc(), LINE, &[0, 1, 1], 2);
+    for &(limit, labels, routes) in ON_A_LINE {
+        let pool = pool(&rt, rt.alloc(), &instance, NO_PRICES, limit);
+        assert_pool(&rt, rt.alloc(), &pool, labels, routes);
+    }
+}
+
+// Three labels of one customer, six of two; no truck carries all three.
+const IN_A_PLANE: &[Told<'_>] = &[
+    (&[1], 0b0010, 1, 10),
+    (&[2], 0b0100, 2, 20),
+    (&[3], 0b1000, 1, 26),
+    (&[1, 2], 0b0110, 3, 20),
+    (&[1, 3], 0b1010, 2, 34),
+    (&[2, 3], 0b1100, 3, 43),
+];
+
+#[test]
+fn four_nodes(rt: HostRuntime) {
+    let instance = at_points(&rt, rt.alloc(), FOUR, &[0, 1, 2, 1], 3);
+    let setup = Setup {
+        prices: &[0, 0, 0, 0],
+        ..NO_PRICES
+    };
+    let pool = pool(&rt, rt.alloc(), &instance, setup, 1_000);
+    assert_pool(&rt, rt.alloc(), &pool, 9, IN_A_PLANE);
+}
+
+const LEVEL: &[u64] = &[0, 1, 1, 1, 1, 0, 1, 1, 1, 1, 0, 1, 1, 1, 1, 0];
+
+const ONE_WAY: &[u64] = &[0, 3, 9, 4, 8, 0, 2, 7, 5, 6, 0, 1, 9, 3, 8, 0];
+
+// Three labels of one customer, six of two, and of three customers one for each last: of two the earlier. With ways that differ the
+// cheapest round is by 3, 1 and then 2, at 14.
+const ROUNDS: &[(&[u64], &[Told<'_>])] = &[
+    (
+        LEVEL,
+        &[
+            (&[1], 0b0010, 1, 2),
+            (&[2], 0b0100, 1, 2),
+            (&[3], 0b1000, 1, 2),
+            (&[1, 2], 0b0110, 2, 3),
+            (&[1, 3], 0b1010, 2, 3),
+            (&[2, 3], 0b1100, 2, 3),
+            (&[1, 2, 3], 0b1110, 3, 4),
+        ],
+    ),
+    (
+        ONE_WAY,
+        &[
+            (&[1], 0b0010, 1, 11),
+            (&[2], 0b0100, 1, 14),
+            (&[3], 0b1000, 1, 13),
+            (&[1, 2], 0b0110, 2, 10),
+            (&[3, 1], 0b1010, 2, 15),
+            (&[3, 2], 0b1100, 2, 17),
+            (&[3, 1, 2], 0b1110, 3, 14),
+        ],
+    ),
+];
+
+#[test]
+fn rounds_of_three(rt: HostRuntime) {
+    let setup = Setup {
+        prices: &[0, 0, 0, 0],
+        ..NO_PRICES
+    };
+    for &(ways, routes) in ROUNDS {
+        let instance = with_ways(&rt, rt.alloc(), ways, &[0, 1, 1, 1], 3);
+        let pool = pool(&rt, rt.alloc(), &instance, setup, 1_000);
+        assert_pool(&rt, rt.alloc(), &pool, 12, routes);
+    }
+}
+
+fn pool(
+    rt: &impl Abort,
+    alloc: Global,
+    instance: &Instance,
+    setup: Setup<'_>,
+    limit: u64,
+) -> RoutePool {
+    let found = listed(rt, alloc, instance, setup, limit, u32::MAX);
+    pool_of(rt, found.expect(rt, "prices"))
+}
+
+fn assert_pool(
+    rt: &impl Abort,
+    alloc: Global,
+    pool: &RoutePool,
+    labels: usize,
+    routes: &[Told<'_>],
+) {
+    assert_same(rt, pool.labels(), labels, "labels");
+    assert_same(rt, pool.len(), routes.len(), "routes");
+    assert_same(rt, pool.is_empty(), routes.is_empty(), "no routes");
+    for (at, &(stops, set, load, cost)) in routes.iter().enumerate() {
+        assert!(rt; at < pool.len());
+        let found = pool.stops(alloc, at).expect(rt, "memory");
+        assert!(rt; found.as_slice() == stops, "{found:?} at {at}");
+        let told = (pool.set(at), pool.load(at), pool.cost(at));
+        assert_same(rt, told, (set, load, cost), at);
+    }
+}
+
+// How many labels may be made, that of no customers among them, whether to go on, and which limit is met.
+const LIMITS: &[(u32, bool, Option<Limit>)] = &[
+    (5, true, None),
+    (4, true, Some(Limit::Labels)),
+    (2, true, Some(Limit::Labels)),
+    (0, true, Some(Limit::Labels)),
+    (5, false, Some(Limit::Stopped)),
+    (0, false, Some(Limit::Stopped)),
+];
+
+#[test]
+fn limits_that_are_met(rt: HostRuntime) {
+    let (rt, alloc) = (&rt, rt.alloc());
+    let instance = at_points(rt, alloc, LINE, &[0, 1, 1], 2);
+    for &(most, goes_on, wanted) in LIMITS {
+        let met = met(rt, alloc, &instance, most, goes_on);
+        assert_same(rt, met, wanted, (most, goes_on));
+    }
+}
+
+fn met(
+    rt: &impl Abort,
+    alloc: Global,
+    instance: &Instance,
+    most_labels: u32,
+    goes_on: bool,
+) -> Option<Limit> {
+    assert!(rt; can_list(instance) && instance.customers() == 2);
+    let made = Relaxation::new(alloc, instance, 1, 1, &[0, 0, 0], &[]).expect(rt, "memory");
+    let relaxation = made.expect(rt, "prices");
+    let memory = Memory::nearest(alloc, relaxation.relaxed(), 0).expect(rt, "memory");
+    let found = by_memory(alloc, &relaxation, memory, 1_000, most_labels, goes_on);
+    match found.expect(rt, "memory") {
+        Listed::Pool(_) => None,
+        Listed::Met(limit) => Some(limit),
+    }
+}
+
+// With 127 customers sets have as many bits as there are; with 128 there is one too many. A truck carries one customer.
+#[test]
+fn customers_at_the_limit(rt: HostRuntime) {
+    let (rt, alloc) = (&rt, rt.alloc());
+    let last = in_a_row(rt, alloc, 128);
+    assert_same(rt, can_list(&last), true, "127 customers");
+    assert_same(
+        rt,
+        can_list(&in_a_row(rt, alloc, 129)),
+        false,
+        "128 customers",
+    );
+    let prices = vec![in alloc; 0i64; 128].expect(rt, "memory");
+    let setup = Setup {
+        prices: &prices,
+        near: 0,
+        ..NO_PRICES
+    };
+    let pool = pool(rt, alloc, &last, setup, NO_COST);
+    assert!(rt; pool.len() == 127);
+    assert_same(rt, pool.set(126), 1 << 127, "the last customer's set");
+    assert_same(rt, pool.cost(126), 254, "the last customer's cost");
+    let stops = pool.stops(alloc, 126).expect(rt, "memory");
+    assert!(rt; stops.as_slice() == [127].as_slice());
+}
+
+// So many places on a line, 1 apart, each customer with a demand of 1.
+fn in_a_row(rt: &impl Abort, alloc: Global, places: u16) -> Instance {
+    let mut points = Vec::new(alloc);
+    let mut demands = Vec::new(alloc);
+    for place in 0..places {
+        points.push((i64::from(place), 0)).expect(rt, "memory");
+        demands.push(u64::from(place.min(1))).expect(rt, "memory");
+    }
+    at_points(rt, alloc, &points, &demands, 1)
+}
