@@ -352,27 +352,45 @@ const LINE: &str =
 #[test]
 fn by_workers(rt: HostRuntime) {
     for (workers, wanted) in [("1", 1), ("2", 2), ("3", 3), ("64", 64)] {
-        let gate = HoldsAll {
-            wanted,
-            begun: AtomicU64::new(0),
-            let_go: AtomicU64::new(0),
-        };
         let words = ["--workers", workers, "--budget", "1"];
-        let mut input = LINE.as_bytes();
-        let mut output = Vec::new(rt.alloc());
-        let mut errors = Vec::new(rt.alloc());
-        let ended = run_words(
-            &rt,
-            rt.alloc(),
-            &words,
-            &mut input,
-            &mut output,
-            &mut errors,
-            &gate,
-        );
-        assert_same(&rt, ended, 1, workers);
-        assert_same(&rt, gate.let_go.load(Ordering::SeqCst), 0, workers);
+        assert_all_begin(&rt, rt.alloc(), &words, wanted);
     }
+}
+
+// One worker never makes two, however long it waits: this test has to fail.
+#[test]
+#[should_panic(expected = "1 is not 0")]
+fn one_worker_waits_for_two(rt: HostRuntime) {
+    let words = ["--workers", "1", "--budget", "1", "--pieces", "1"];
+    assert_all_begin(&rt, rt.alloc(), &words, 2);
+}
+
+// Asserts that so many pieces are begun before any is let go, where these words ask for it.
+fn assert_all_begin<R: Abort + Files + Threads + Wait + Clock + Eprint + Sync>(
+    rt: &R,
+    alloc: Global,
+    words: &[&str],
+    wanted: u64,
+) {
+    let gate = HoldsAll {
+        wanted,
+        begun: AtomicU64::new(0),
+        let_go: AtomicU64::new(0),
+    };
+    let mut input = LINE.as_bytes();
+    let mut output = Vec::new(alloc);
+    let mut errors = Vec::new(alloc);
+    let ended = run_words(
+        rt,
+        alloc,
+        words,
+        &mut input,
+        &mut output,
+        &mut errors,
+        &gate,
+    );
+    assert_same(rt, ended, 1, wanted);
+    assert_same(rt, gate.let_go.load(Ordering::SeqCst), 0, wanted);
 }
 
 // Sixty customers on a lattice, and a truck that can serve them all.

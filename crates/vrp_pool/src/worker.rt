@@ -94,13 +94,23 @@ impl<'a, D: Draws, R: Wait, L: Ledger, G: Gate> Worker<'a, D, R, L, G> {
         Ok(self)
     }
 
-    /// Works as a helper, and takes note where memory is refused. Where there is no room for the outcomes of all pieces it draws
-    /// none.
+    /// Works as a helper, and takes note where memory is refused in a search. Where there is no room for the outcomes of all pieces it
+    /// draws none: the others go on without it.
     pub(crate) fn help(&mut self, shared: &Shared<'_, R, G>)
         requires { CanWork shared.now self.old }
         ensures { HasHelped shared.now self.old self.new }
     {
-        self.refused = self.work(shared).err();
+        if !self.makes_room(shared) {
+            return;
+        }
+        self.refused = self.draw_all(shared).err();
+    }
+
+    // Makes room for the outcomes of all pieces, and answers whether there is any.
+    fn makes_room(&mut self, shared: &Shared<'_, R, G>) -> bool
+        ensures { self.new ≡ self.old }
+    {
+        self.outcomes.reserve(shared.pieces as usize).is_ok()
     }
 
     /// Makes room for the outcomes of all pieces, and draws.
