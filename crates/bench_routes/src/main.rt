@@ -1,13 +1,14 @@
 //! How many useful routes there are, and how fast they are listed. The command line names a CVRP file, the steps that may be taken to
-//! find prices, and the cost that the first plan has at most; 0 stands for what the first plan of the program costs. What was found goes
-//! to standard output, and how long it took to standard error.
+//! find prices, the cost that the first plan has at most, 0 standing for what the first plan of the program costs, and how many workers
+//! list. What was found goes to standard output, and how long it took to standard error.
 #![tactic(auto)]
 
-ghost use Rattle.std.specs.Prelude.{◌≡◌, ◌+◌, ◌≤◌, IfOk};
+ghost use Rattle.std.specs.Prelude.{◌≡◌, ◌+◌, ◌<◌, ◌≤◌, IfOk};
 ghost use Rattle.vrp_model.specs.Problem.{place_count};
 
 use anyhow::{Context, Result, ensure};
 use std::rt::{Clock, Files};
+use std::thread::Threads;
 use std::time::{Duration, Instant};
 use std::{env, fs};
 use vrp_ascent::{FoundPrices, find_prices};
@@ -24,6 +25,11 @@ fn main(rt: HostRuntime) -> Result<()> {
     let name = words.next().context("no file is named")?;
     let steps = words.next().context("no steps are named")?.parse::<u64>()?;
     let limit = words.next().context("no limit is named")?.parse::<u64>()?;
+    let workers = words
+        .next()
+        .context("no workers are named")?
+        .parse::<u16>()?;
+    ensure!(workers > 0, "no workers");
     let instance = read(&rt, name.as_str())?;
     ensure!(can_list(&instance), "more than {MOST_CUSTOMERS} customers");
     let limit = match limit {
@@ -31,7 +37,7 @@ fn main(rt: HostRuntime) -> Result<()> {
         limit => limit,
     };
     let found = timed_prices(&rt, &instance, limit, steps)?;
-    print_routes(&rt, name.as_str(), found, limit.min(NO_COST))
+    print_routes(&rt, name.as_str(), found, limit.min(NO_COST), workers)
 }
 
 // The instance in a file.
@@ -63,12 +69,14 @@ fn timed_prices<'a, R: Clock + Eprint + AllocGlobal>(
 }
 
 // Lists the routes by these prices, and prints how many there are and how long it took.
-fn print_routes<R: Clock + Print + Eprint + AllocGlobal>(
+fn print_routes<R: Clock + Print + Eprint + AllocGlobal + Threads + Sync>(
     rt: &R,
     name: &str,
     found: FoundPrices<'_>,
     limit: u64,
+    workers: u16,
 ) -> Result<()>
+    requires workers { 0 < workers }
     requires few { place_count found.relaxation.problem ≤ MOST_CUSTOMERS + 1 }
     requires memory { found.memory.places ≡ place_count found.relaxation.problem }
     requires limit { limit ≤ NO_COST }
@@ -76,7 +84,16 @@ fn print_routes<R: Clock + Print + Eprint + AllocGlobal>(
     let FoundPrices { relaxation, memory } = found;
     let tables = MemoryTables::new(rt.alloc(), relaxation.relaxed(), memory)?;
     let start = Instant::now(rt)?;
-    let listed = list_routes(rt.alloc(), &relaxation, &tables, limit, u32::MAX, &|| true)?;
+    let listed = list_routes(
+        rt,
+        rt.alloc(),
+        &relaxation,
+        &tables,
+        limit,
+        workers,
+        u32::MAX,
+        &|| true,
+    )?;
     print_time(rt, "routes", start.elapsed(rt)?)?;
     match listed {
         Listed::Pool(pool) => {

@@ -5,16 +5,18 @@ use Rattle.std.specs.Map.{lookup}
 use Rattle.std.proofs.lemmas.Bool.{cases_Bool, cases_lt, eqb-true, false≢true}
 use Rattle.std.proofs.lemmas.Bool.Decides.{nat_tests}
 use Rattle.std.proofs.lemmas.List.{get_or_append_left, get_or_default, nil_from_length}
-use Rattle.std.proofs.lemmas.List.Elements.{All-append, All-cons, All-nil}
+use Rattle.std.proofs.lemmas.List.Elements.{All-cons, All-nil, All-push}
 use Rattle.std.proofs.lemmas.List.Quantifiers.{all_pairs_push}
 use Rattle.vrp_model.specs.Order.{ComesBefore, IsEarlier}
 use Rattle.vrp_model.specs.Problem.{Problem, customers, place_count}
-use Rattle.vrp_model.specs.Word.{word_cost}
+use Rattle.vrp_model.specs.Word.{last_symbol, word_cost}
 use Rattle.vrp_model.proofs.CustomerPlaces.{customer_below, customer_is_some}
+use Rattle.vrp_model.proofs.LastRoute.{last_symbol_with}
 use Rattle.vrp_model.proofs.Ordered.{earlier_behind}
 use Rattle.vrp_routes.specs.Label.{IsLabel, SettingOf}
 use Rattle.vrp_routes.specs.Candidates.{HasExtensions, IsBefore, IsGrown, IsKept, IsKeyed, IsOffered, IsRefused, IsTaken, kept_for, key_of, label_at, no_label, same_key}
-use Rattle.vrp_routes.specs.Level.{IsLevel, sequences, stops_of}
+use Rattle.vrp_routes.specs.Level.{AreExtensions, ComesFirst, IsLevel, IsShare, sequences, stops_of}
+use Rattle.vrp_routes.specs.Share.{is_in}
 use Rattle.vrp_routes.specs.Useful.{BeginsUseful, IsUseful}
 use Rattle.vrp_routes.specs.declared.label.Label.{Label}
 use Rattle.vrp_routes.specs.declared.candidates.Candidates.{Candidates}
@@ -111,33 +113,33 @@ extensions_rise k stops i c j d size rising lt within (inl less) = earlier_longe
 extensions_rise k stops i c j d size rising lt within (inr (same, less)) =
     subst (λ (n : ℕ). IsEarlier (get_or stops n [] ++ c ∷ []) (get_or stops j [] ++ d ∷ [])) (sym same) (earlier_behind (get_or stops j []) (c ∷ []) (d ∷ []) (inl less))
 
--- what comes before changes, where no useful beginning comes between
+-- what comes before changes, where no useful beginning of the share comes between
 pub moved : (s : SettingOf) (k : ℕ) (stops : List (List ℕ)) (i c j d : ℕ) (level : Candidates) → HasExtensions s k stops i c level
     → ((m n : ℕ) → IsBefore m n i c → IsBefore m n j d)
-    → ((m n : ℕ) → IsBefore m n j d → m < length stops → BeginsUseful s.relaxation.problem s.limit (get_or stops m [] ++ n ∷ []) → IsBefore m n i c)
+    → ((m n : ℕ) → IsBefore m n j d → m < length stops → is_in level.share n ≡ true → BeginsUseful s.relaxation.problem s.limit (get_or stops m [] ++ n ∷ []) → IsBefore m n i c)
     → HasExtensions s k stops j d level
 moved s k stops i c j d level has on back = record {
   size = has.size;
   rising = has.rising;
   are = has.are;
-  before = λ at e lt. (on _ _ (has.before at e lt).0, (has.before at e lt).1);
-  every = λ m n before lt useful. has.every m n (back m n before lt useful) lt useful;
+  before = λ at e lt. on _ _ (has.before at e lt);
+  every = λ m n before lt mine useful. has.every m n (back m n before lt mine useful) lt mine useful;
 }
 
--- an extension that isn't offered is of no useful beginning
-pub passed : (s : SettingOf) (k : ℕ) (stops : List (List ℕ)) (i c : ℕ) (level : Candidates) → HasExtensions s k stops i c level → (BeginsUseful s.relaxation.problem s.limit (get_or stops i [] ++ c ∷ []) → ⊥) → HasExtensions s k stops i (c + 1) level
+-- an extension that isn't offered is of no useful beginning, or of another share
+pub passed : (s : SettingOf) (k : ℕ) (stops : List (List ℕ)) (i c : ℕ) (level : Candidates) → HasExtensions s k stops i c level → (is_in level.share c ≡ true → BeginsUseful s.relaxation.problem s.limit (get_or stops i [] ++ c ∷ []) → ⊥) → HasExtensions s k stops i (c + 1) level
 passed s k stops i c level has none = moved s k stops i c i (c + 1) level has on back
   where
     on : (m n : ℕ) → IsBefore m n i c → IsBefore m n i (c + 1)
     on m n (inl less) = inl less
     on m n (inr (same, less)) = inr (same, omega (arith, less))
 
-    back : (m n : ℕ) → IsBefore m n i (c + 1) → m < length stops → BeginsUseful s.relaxation.problem s.limit (get_or stops m [] ++ n ∷ []) → IsBefore m n i c
-    back m n (inl less) lt useful = inl less
-    back m n (inr (same, less)) lt useful =
+    back : (m n : ℕ) → IsBefore m n i (c + 1) → m < length stops → is_in level.share n ≡ true → BeginsUseful s.relaxation.problem s.limit (get_or stops m [] ++ n ∷ []) → IsBefore m n i c
+    back m n (inl less) lt mine useful = inl less
+    back m n (inr (same, less)) lt mine useful =
         elim (cases_lt n c) [
           | inl below ↦ inr (same, below)
-          | inr above ↦ absurd (none (subst (λ (n : ℕ). BeginsUseful s.relaxation.problem s.limit (get_or stops i [] ++ n ∷ [])) (let is : n ≡ c = omega (arith, above, less) in is) (subst (λ (m : ℕ). BeginsUseful s.relaxation.problem s.limit (get_or stops m [] ++ n ∷ [])) same useful)))
+          | inr above ↦ (let is : n ≡ c = omega (arith, above, less) in absurd (none (subst (λ n. is_in level.share n ≡ true) is mine) (subst (λ (n : ℕ). BeginsUseful s.relaxation.problem s.limit (get_or stops i [] ++ n ∷ [])) is (subst (λ (m : ℕ). BeginsUseful s.relaxation.problem s.limit (get_or stops m [] ++ n ∷ [])) same useful))))
         ]
 
 -- the last stop of a useful beginning is a customer
@@ -152,9 +154,9 @@ all_extensions s k stops i c level all has = moved s k stops i c (i + 1) 0 level
     on m n (inl less) = inl (omega (arith, less))
     on m n (inr (same, less)) = inl (omega (arith, same))
 
-    back : (m n : ℕ) → IsBefore m n (i + 1) 0 → m < length stops → BeginsUseful s.relaxation.problem s.limit (get_or stops m [] ++ n ∷ []) → IsBefore m n i c
-    back m n (inr (same, less)) lt useful = absurd (omega (arith, less))
-    back m n (inl less) lt useful =
+    back : (m n : ℕ) → IsBefore m n (i + 1) 0 → m < length stops → is_in level.share n ≡ true → BeginsUseful s.relaxation.problem s.limit (get_or stops m [] ++ n ∷ []) → IsBefore m n i c
+    back m n (inr (same, less)) lt mine useful = absurd (omega (arith, less))
+    back m n (inl less) lt mine useful =
         elim (cases_lt m i) [
           | inl below ↦ inl below
           | inr above ↦ inr (omega (arith, less, above), (let place = customer_below s.relaxation.problem n (last_customer s.relaxation.problem s.limit (get_or stops m []) n useful) in omega (arith, place, all)))
@@ -162,13 +164,17 @@ all_extensions s k stops i c level all has = moved s k stops i c (i + 1) 0 level
 
 -- and none at the depot
 pub first_extension : (s : SettingOf) (k : ℕ) (stops : List (List ℕ)) (i : ℕ) (level : Candidates) → HasExtensions s k stops i 0 level → HasExtensions s k stops i 1 level
-first_extension s k stops i level has = passed s k stops i 0 level has (λ useful. (let some = customer_is_some s.relaxation.problem 0 (last_customer s.relaxation.problem s.limit (get_or stops i []) 0 useful) in omega (arith, some)))
+first_extension s k stops i level has = passed s k stops i 0 level has (λ mine useful. (let some = customer_is_some s.relaxation.problem 0 (last_customer s.relaxation.problem s.limit (get_or stops i []) 0 useful) in omega (arith, some)))
 
 shorter : (p : Problem) (limit : ℕ) (xs : List ℕ) (k : ℕ) → BeginsUseful p limit (xs ++ k ∷ []) → BeginsUseful p limit xs
 shorter p limit xs k (more, useful) = (k ∷ more, subst (IsUseful p limit) (simp append_assoc) useful)
 
+-- the stops of a label that is found
+found_stops : (stops : List (List ℕ)) (found : Candidates) (at : ℕ) → at < length found.labels.items → get_or (sequences stops found.labels.items) at [] ≡ stops_of stops (label_at found at)
+found_stops stops found at lt = sequence_at stops found.labels.items at [] no_label lt
+
 -- what was kept stays so, where it is useful
-still_kept : (s : SettingOf) (before : List (List ℕ)) (old new : Candidates) (label : Label) (xs : List ℕ) → ((at : ℕ) (d : Label) → at < length (sequences before old.labels.items) → IsLabel s (get_or (sequences before old.labels.items) at []) (get_or old.labels.items at d))
+still_kept : (s : SettingOf) (before : List (List ℕ)) (old new : Candidates) (label : Label) (xs : List ℕ) → All (λ l. IsLabel s (stops_of before l) l) old.labels.items
     → IsTaken old label new → IsLabel s (stops_of before label) label → BeginsUseful s.relaxation.problem s.limit xs → IsKept (sequences before old.labels.items) old xs → IsKept (sequences before new.labels.items) new xs
 still_kept s before old new label xs each taken is_label useful kept =
     let olds = sequences before old.labels.items in
@@ -176,8 +182,9 @@ still_kept s before old new label xs each taken is_label useful kept =
     let within : kept.at < length old.labels.items = subst (λ n. kept.at < n) (length_sequences before old.labels.items) kept.within in
     let same : label_at new kept.at ≡ label_at old kept.at = label_first old new label kept.at taken.longer within in
     let key = key_of (label_at old kept.at) in
-    let is_old : IsLabel s xs (label_at old kept.at) = subst (λ (ys : List ℕ). IsLabel s ys (label_at old kept.at)) kept.is (each kept.at no_label kept.within) in
-    let there : kept_for new key ≡ Some kept.at = elim (cases_Bool (same_key (key_of label) key)) [
+    let there : stops_of before (label_at old kept.at) ≡ xs = sym (found_stops before old kept.at within) ∙ kept.is in
+    let is_old : IsLabel s xs (label_at old kept.at) = subst (λ (ys : List ℕ). IsLabel s ys (label_at old kept.at)) there (each kept.at no_label within) in
+    let place : kept_for new key ≡ Some kept.at = elim (cases_Bool (same_key (key_of label) key)) [
       | inl same ↦ absurd (
           let one = keys_same (key_of label) key same in
           no_rival s (stops_of before label) xs label (label_at old kept.at) is_label is_old one useful (inl (taken.cheaper kept.at (ap (kept_for old) one ∙ kept.kept))))
@@ -187,77 +194,58 @@ still_kept s before old new label xs each taken is_label useful kept =
       at = kept.at;
       within = subst (λ (zs : List (List ℕ)). kept.at < length zs) (sym all) (omega (arith, kept.within, length-append olds (stops_of before label ∷ [])));
       is = ap (λ (zs : List (List ℕ)). get_or zs kept.at []) all ∙ get_or_append_left olds (stops_of before label ∷ []) [] kept.at kept.within ∙ kept.is;
-      kept = ap (λ (l : Label). kept_for new (key_of l)) same ∙ there;
+      kept = ap (λ (l : Label). kept_for new (key_of l)) same ∙ place;
     }
 
-taken_extension : (s : SettingOf) (k : ℕ) (stops : List (List ℕ)) (old new : Candidates) (child : Label) → HasExtensions s k stops child.parent child.last old → child.parent < length stops → IsLabel s (stops_of stops child) child → IsTaken old child new
+taken_extension : (s : SettingOf) (k : ℕ) (stops : List (List ℕ)) (old new : Candidates) (child : Label) → HasExtensions s k stops child.parent child.last old → child.parent < length stops → is_in old.share child.last ≡ true → IsLabel s (stops_of stops child) child → IsTaken old child new
     → HasExtensions s k stops child.parent (child.last + 1) new
-taken_extension s k stops old new child has lt is taken = record {
+taken_extension s k stops old new child has lt mine is taken = record {
   size = has.size;
   rising = has.rising;
-  are = record {
-    long = ap (λ (ls : List Label). length (sequences stops ls)) refl ∙ length_sequences stops new.labels.items;
-    each = λ at d within. subst (IsLabel s (get_or (sequences stops new.labels.items) at [])) (get_or_default new.labels.items at no_label d (omega (arith, within, length_sequences stops new.labels.items))) (each at within);
-    size = subst (All (λ xs. length xs ≡ k + 1)) (sym all) (All-append (λ xs. length xs ≡ k + 1) olds (mine ∷ []) has.are.size (All-cons (λ xs. length xs ≡ k + 1) mine [] (length-append (get_or stops child.parent []) (child.last ∷ []) ∙ ap (λ n. n + 1) (has.size child.parent [] lt)) (All-nil _)));
-    rising = subst (AllPairs IsEarlier) (sym all) (all_pairs_push IsEarlier olds mine has.are.rising (λ at d within. rises at d within));
-  };
-  before = subst (All Before) (sym taken.longer) (All-append Before old.labels.items (child ∷ []) (λ at e within. (longer _ _ (has.before at e within).0, (has.before at e within).1)) (All-cons Before child [] (inr (refl, omega arith), lt) (All-nil _)));
-  every = λ i c before within useful. every i c before within useful;
+  are = subst (λ share. AreExtensions s (is_in share) stops new.labels.items) (sym taken.share) (subst (AreExtensions s (is_in old.share) stops) (sym taken.longer) (record {
+    each = All-push (λ l. IsLabel s (stops_of stops l) l) old.labels.items child has.are.each is;
+    parents = All-push (λ l. l.parent < length stops) old.labels.items child has.are.parents lt;
+    own = All-push (λ l. is_in old.share l.last ≡ true) old.labels.items child has.are.own mine;
+    ordered = all_pairs_push ComesFirst old.labels.items child has.are.ordered has.before;
+  }));
+  before = subst (All Before) (sym taken.longer) (All-push Before old.labels.items child (λ at e within. longer _ _ (has.before at e within)) (inr (refl, omega arith)));
+  every = λ i c before within own useful. every i c before within (subst (λ share. is_in share c ≡ true) taken.share own) useful;
 }
   where
     olds : List (List ℕ)
     olds = sequences stops old.labels.items
 
-    mine : List ℕ
-    mine = stops_of stops child
+    own_stops : List ℕ
+    own_stops = stops_of stops child
 
     Before : Label → Type 0
-    Before label = IsBefore label.parent label.last child.parent (child.last + 1) × (label.parent < length stops)
+    Before label = IsBefore label.parent label.last child.parent (child.last + 1)
 
-    all : sequences stops new.labels.items ≡ olds ++ mine ∷ []
+    all : sequences stops new.labels.items ≡ olds ++ own_stops ∷ []
     all = ap (sequences stops) taken.longer ∙ sequences_with stops old.labels.items child
 
     longer : (m n : ℕ) → IsBefore m n child.parent child.last → IsBefore m n child.parent (child.last + 1)
     longer m n (inl less) = inl less
     longer m n (inr (same, less)) = inr (same, omega (arith, less))
 
-    many : length (olds ++ mine ∷ []) ≡ length olds + 1
-    many = length-append olds (mine ∷ [])
+    many : length (olds ++ own_stops ∷ []) ≡ length olds + 1
+    many = length-append olds (own_stops ∷ [])
 
     count : length olds ≡ length old.labels.items
     count = length_sequences stops old.labels.items
 
-    each : (at : ℕ) → at < length (sequences stops new.labels.items) → IsLabel s (get_or (sequences stops new.labels.items) at []) (label_at new at)
-    each at within =
-        elim (cases_lt at (length olds)) [
-          | inl first ↦ subst (IsLabel s (get_or (sequences stops new.labels.items) at [])) (sym (label_first old new child at taken.longer (omega (arith, first, count))))
-              (subst (λ (xs : List ℕ). IsLabel s xs (label_at old at)) (sym (ap (λ (zs : List (List ℕ)). get_or zs at []) all ∙ get_or_append_left olds (mine ∷ []) [] at first)) (has.are.each at no_label first))
-          | inr last ↦
-              let end : at ≡ length olds = omega (arith, last, within, ap length all, many) in
-              subst (λ (n : ℕ). IsLabel s (get_or (sequences stops new.labels.items) n []) (label_at new n)) (sym end)
-              (subst (λ (xs : List ℕ). IsLabel s xs (label_at new (length olds))) (sym (ap (λ (zs : List (List ℕ)). get_or zs (length olds) []) all ∙ at_end olds mine []))
-              (subst (IsLabel s mine) (sym (ap (label_at new) count ∙ label_last old new child taken.longer)) is))
-        ]
-
-    rises : (at : ℕ) (d : List ℕ) → at < length olds → IsEarlier (get_or olds at d) mine
-    rises at d within =
-        let inside : at < length old.labels.items = omega (arith, within, count) in
-        let before = has.before at child inside in
-        subst (λ (xs : List ℕ). IsEarlier xs mine) (sym (sequence_at stops old.labels.items at d child inside))
-        (extensions_rise k stops (get_or old.labels.items at child).parent (get_or old.labels.items at child).last child.parent child.last has.size has.rising before.1 lt before.0)
-
-    every : (i c : ℕ) → IsBefore i c child.parent (child.last + 1) → i < length stops → BeginsUseful s.relaxation.problem s.limit (get_or stops i [] ++ c ∷ []) → IsKept (sequences stops new.labels.items) new (get_or stops i [] ++ c ∷ [])
-    every i c (inl less) within useful = still_kept s stops old new child (get_or stops i [] ++ c ∷ []) has.are.each taken is useful (has.every i c (inl less) within useful)
-    every i c (inr (same, less)) within useful =
+    every : (i c : ℕ) → IsBefore i c child.parent (child.last + 1) → i < length stops → is_in old.share c ≡ true → BeginsUseful s.relaxation.problem s.limit (get_or stops i [] ++ c ∷ []) → IsKept (sequences stops new.labels.items) new (get_or stops i [] ++ c ∷ [])
+    every i c (inl less) within own useful = still_kept s stops old new child (get_or stops i [] ++ c ∷ []) has.are.each taken is useful (has.every i c (inl less) within own useful)
+    every i c (inr (same, less)) within own useful =
         elim (cases_lt c child.last) [
-          | inl below ↦ still_kept s stops old new child (get_or stops i [] ++ c ∷ []) has.are.each taken is useful (has.every i c (inr (same, below)) within useful)
+          | inl below ↦ still_kept s stops old new child (get_or stops i [] ++ c ∷ []) has.are.each taken is useful (has.every i c (inr (same, below)) within own useful)
           | inr above ↦
               let here : c ≡ child.last = omega (arith, above, less) in
-              let word : get_or stops i [] ++ c ∷ [] ≡ mine = ap (λ (n : ℕ). get_or stops n [] ++ c ∷ []) same ∙ ap (λ (n : ℕ). get_or stops child.parent [] ++ n ∷ []) here in
+              let word : get_or stops i [] ++ c ∷ [] ≡ own_stops = ap (λ (n : ℕ). get_or stops n [] ++ c ∷ []) same ∙ ap (λ (n : ℕ). get_or stops child.parent [] ++ n ∷ []) here in
               subst (IsKept (sequences stops new.labels.items) new) (sym word) (record {
                 at = length olds;
                 within = omega (arith, ap length all, many);
-                is = ap (λ (zs : List (List ℕ)). get_or zs (length olds) []) all ∙ at_end olds mine [];
+                is = ap (λ (zs : List (List ℕ)). get_or zs (length olds) []) all ∙ at_end olds own_stops [];
                 kept = ap (λ (l : Label). kept_for new (key_of l)) (ap (label_at new) count ∙ label_last old new child taken.longer) ∙ kept_if old new child (key_of child) taken (key_itself (key_of child)) ∙ ap Some (sym count);
               })
         ]
@@ -265,14 +253,11 @@ taken_extension s k stops old new child has lt is taken = record {
 refused_extension : (s : SettingOf) (k : ℕ) (stops : List (List ℕ)) (old new : Candidates) (child : Label) → HasExtensions s k stops child.parent child.last old → IsKeyed old → child.parent < length stops → IsLabel s (stops_of stops child) child → IsRefused old child new
     → HasExtensions s k stops child.parent (child.last + 1) new
 refused_extension s k stops old new child has keyed lt is refused =
-    subst (HasExtensions s k stops child.parent (child.last + 1)) (sym refused.same) (passed s k stops child.parent child.last old has (λ useful.
-    let olds = sequences stops old.labels.items in
+    subst (HasExtensions s k stops child.parent (child.last + 1)) (sym refused.same) (passed s k stops child.parent child.last old has (λ mine useful.
     let (within, of_key) = keyed (key_of child) refused.at refused.kept in
-    let inside : refused.at < length olds = omega (arith, within, length_sequences stops old.labels.items) in
-    let before = has.before refused.at child within in
-    let earlier : IsEarlier (get_or olds refused.at []) (stops_of stops child) = subst (λ (xs : List ℕ). IsEarlier xs (stops_of stops child)) (sym (sequence_at stops old.labels.items refused.at [] child within))
-    (extensions_rise k stops (get_or old.labels.items refused.at child).parent (get_or old.labels.items refused.at child).last child.parent child.last has.size has.rising before.1 lt before.0) in
-    no_rival s (get_or olds refused.at []) (stops_of stops child) (label_at old refused.at) child (has.are.each refused.at no_label inside) is of_key useful (no_dearer_before (label_at old refused.at).cost child.cost (get_or olds refused.at []) (stops_of stops child) refused.no_dearer earlier)))
+    let other = label_at old refused.at in
+    let earlier : IsEarlier (stops_of stops other) (stops_of stops child) = extensions_rise k stops other.parent other.last child.parent child.last has.size has.rising (has.are.parents refused.at no_label within) lt (has.before refused.at no_label within) in
+    no_rival s (stops_of stops other) (stops_of stops child) other child (has.are.each refused.at no_label within) is of_key useful (no_dearer_before other.cost child.cost (stops_of stops other) (stops_of stops child) refused.no_dearer earlier)))
   where
     no_dearer_before : (cost other : ℕ) (xs ys : List ℕ) → cost ≤ other → IsEarlier xs ys → ComesBefore cost xs other ys
     no_dearer_before cost other xs ys no_more earlier = elim (cases_lt cost other) [
@@ -280,10 +265,14 @@ refused_extension s k stops old new child has keyed lt is refused =
       | inr more ↦ inr (omega (arith, no_more, more), earlier)
     ]
 
-pub offered_extension : (s : SettingOf) (k : ℕ) (stops : List (List ℕ)) (old new : Candidates) (child : Label) → HasExtensions s k stops child.parent child.last old → IsKeyed old → child.parent < length stops → IsLabel s (stops_of stops child) child → IsOffered old child new
+pub offered_extension : (s : SettingOf) (k : ℕ) (stops : List (List ℕ)) (old new : Candidates) (child : Label) → HasExtensions s k stops child.parent child.last old → IsKeyed old → child.parent < length stops → is_in old.share child.last ≡ true → IsLabel s (stops_of stops child) child → IsOffered old child new
     → HasExtensions s k stops child.parent (child.last + 1) new
-offered_extension s k stops old new child has keyed lt is (inl refused) = refused_extension s k stops old new child has keyed lt is refused
-offered_extension s k stops old new child has keyed lt is (inr taken) = taken_extension s k stops old new child has lt is taken
+offered_extension s k stops old new child has keyed lt mine is (inl refused) = refused_extension s k stops old new child has keyed lt is refused
+offered_extension s k stops old new child has keyed lt mine is (inr taken) = taken_extension s k stops old new child has lt mine is taken
+
+pub share_stays : (old new : Candidates) (label : Label) → IsOffered old label new → new.share ≡ old.share
+share_stays old new label (inl refused) = ap (λ (found : Candidates). found.share) refused.same
+share_stays old new label (inr taken) = taken.share
 
 -- ---- a level
 
@@ -291,32 +280,54 @@ pub no_extensions : (s : SettingOf) (k : ℕ) (stops : List (List ℕ)) (labels 
 no_extensions s k stops labels next is none = record {
   size = is.are.size;
   rising = is.are.rising;
-  are = record {
-    long = length_sequences stops next.labels.items;
-    each = λ at d lt. absurd (omega (arith, lt, length_sequences stops next.labels.items, ap length none));
-    size = λ at d lt. absurd (omega (arith, lt, length_sequences stops next.labels.items, ap length none));
-    rising = λ i j d less lt. absurd (omega (arith, lt, length_sequences stops next.labels.items, ap length none));
-  };
-  before = λ at d lt. absurd (omega (arith, lt, ap length none));
-  every = λ i c before lt useful. absurd (never i c before);
+  are = subst (AreExtensions s (is_in next.share) stops) (sym none) (record {
+    each = All-nil _;
+    parents = All-nil _;
+    own = All-nil _;
+    ordered = λ i j d less lt. absurd (omega (arith, lt));
+  });
+  before = subst (All (λ label. IsBefore label.parent label.last 0 0)) (sym none) (All-nil _);
+  every = λ i c before lt mine useful. absurd (never i c before);
 }
   where
     never : (i c : ℕ) → IsBefore i c 0 0 → ⊥
     never i c (inl less) = omega (arith, less)
     never i c (inr (same, less)) = omega (arith, less)
 
-pub all_grown : (s : SettingOf) (k : ℕ) (stops : List (List ℕ)) (labels : List Label) (next : Candidates) (i : ℕ) → IsLevel s k stops labels → length stops ≤ i → HasExtensions s k stops i 0 next → IsGrown s (k + 1) (sequences stops next.labels.items) next
+pub all_grown : (s : SettingOf) (k : ℕ) (stops : List (List ℕ)) (labels : List Label) (next : Candidates) (i : ℕ) → IsLevel s k stops labels → length stops ≤ i → HasExtensions s k stops i 0 next → IsGrown s (k + 1) stops next
 all_grown s k stops labels next i is all has = record {
   are = has.are;
-  every = λ xs long useful.
+  every = λ xs long mine useful.
       let e = ends_at xs (λ none. (let short = ap length none in omega (arith, long, short))) in
       let whole : BeginsUseful s.relaxation.problem s.limit (e.front ++ e.last ∷ []) = subst (BeginsUseful s.relaxation.problem s.limit) e.is useful in
       let size : length e.front ≡ k = omega (arith, ap length e.is, length-append e.front (e.last ∷ []), long) in
       let (at, within, there) = is.every e.front size (shorter s.relaxation.problem s.limit e.front e.last whole) in
       let front : get_or stops at [] ≡ e.front = get_or_default stops at [] e.front within ∙ there in
       let same : get_or stops at [] ++ e.last ∷ [] ≡ xs = ap (λ (ys : List ℕ). ys ++ e.last ∷ []) front ∙ sym e.is in
-      let goes_on : IsKept (sequences stops next.labels.items) next (get_or stops at [] ++ e.last ∷ []) = (has.every at e.last (inl (omega (arith, within, all))) within (subst (BeginsUseful s.relaxation.problem s.limit) (sym same) useful)) in
+      let last : last_symbol xs ≡ e.last = ap last_symbol e.is ∙ last_symbol_with e.front e.last in
+      let goes_on : IsKept (sequences stops next.labels.items) next (get_or stops at [] ++ e.last ∷ []) = (has.every at e.last (inl (omega (arith, within, all))) within (subst (λ n. is_in next.share n ≡ true) last mine) (subst (BeginsUseful s.relaxation.problem s.limit) (sym same) useful)) in
       subst (IsKept (sequences stops next.labels.items) next) same goes_on;
+}
+
+-- the labels of all shares together are a level
+pub whole_level : (s : SettingOf) (k : ℕ) (mine : ℕ → Bool) (stops : List (List ℕ)) (before labels : List Label) → IsLevel s k stops before → ((c : ℕ) → mine c ≡ true) → IsShare s (k + 1) mine stops labels → IsLevel s (k + 1) (sequences stops labels) labels
+whole_level s k mine stops before labels is every share = record {
+  are = record {
+    long = length_sequences stops labels;
+    each = λ at d lt. (let inside : at < length labels = omega (arith, lt, length_sequences stops labels) in subst (λ (xs : List ℕ). IsLabel s xs (get_or labels at d)) (sym (sequence_at stops labels at [] d inside)) (share.are.each at d inside));
+    size = λ at d lt. (let inside : at < length labels = omega (arith, lt, length_sequences stops labels) in
+        let label = get_or labels at no_label in
+        ap length (sequence_at stops labels at d no_label inside) ∙ length-append (get_or stops label.parent []) (label.last ∷ []) ∙ ap (λ n. n + 1) (is.are.size label.parent [] (share.are.parents at no_label inside)));
+    rising = λ i j d less lt.
+        let within : j < length labels = omega (arith, lt, length_sequences stops labels) in
+        let inside : i < length labels = omega (arith, less, within) in
+        let one = get_or labels i no_label in
+        let other = get_or labels j no_label in
+        let rises = extensions_rise k stops one.parent one.last other.parent other.last is.are.size is.are.rising (share.are.parents i no_label inside) (share.are.parents j no_label within) (share.are.ordered i j no_label less within) in
+        subst (λ (xs : List ℕ). IsEarlier (get_or (sequences stops labels) i d) xs) (sym (sequence_at stops labels j d no_label within))
+        (subst (λ (xs : List ℕ). IsEarlier xs (stops_of stops other)) (sym (sequence_at stops labels i d no_label inside)) rises);
+  };
+  every = λ xs long useful. share.every xs long (every (last_symbol xs)) useful;
 }
 
 -- ---- none so far

@@ -1,10 +1,12 @@
 -- The labels of one length as they are found: which of two with the same customers and the same last one is kept.
-use Rattle.std.specs.Prelude.{◌≡◌, ◌⊎◌, ℕ, ◌+◌, ◌<◌, ◌≤◌, ◌==◌, ◌&&◌, if◌then◌else◌, Bool, Option, Some, List, [], ◌∷◌, ◌++◌, length, slice_index_or}
+use Rattle.std.specs.Prelude.{◌≡◌, ◌⊎◌, ℕ, ◌<◌, ◌≤◌, ◌==◌, ◌&&◌, if◌then◌else◌, Bool, true, Option, Some, List, [], ◌∷◌, ◌++◌, length, slice_index_or}
 use Rattle.std.specs.HashMap.{get}
 use Rattle.std.specs.List.{All, AllPairs}
 use Rattle.vrp_model.specs.Order.{IsEarlier}
+use Rattle.vrp_model.specs.Word.{last_symbol}
 use Rattle.vrp_routes.specs.Label.{SettingOf}
-use Rattle.vrp_routes.specs.Level.{AreLabels, sequences}
+use Rattle.vrp_routes.specs.Level.{AreExtensions, sequences}
+use Rattle.vrp_routes.specs.Share.{is_in}
 use Rattle.vrp_routes.specs.Useful.{BeginsUseful}
 use Rattle.vrp_routes.specs.declared.candidates.Candidates.{Candidates}
 use Rattle.vrp_routes.specs.declared.label.Label.{Label}
@@ -42,6 +44,7 @@ pub record IsRefused (old : Candidates) (label : Label) (new : Candidates) : Typ
   pub no_dearer : (label_at old at).cost ≤ label.cost
 
 pub record IsTaken (old : Candidates) (label : Label) (new : Candidates) : Type 0 where
+  pub share : new.share ≡ old.share
   pub longer : new.labels.items ≡ old.labels.items ++ label ∷ []
   pub cheaper : (at : ℕ) → kept_for old (key_of label) ≡ Some at → label.cost < (label_at old at).cost
   pub kept : (key : ℕ × ℕ) → kept_for new key ≡ (if same_key (key_of label) key then Some (length old.labels.items) else kept_for old key)
@@ -56,10 +59,10 @@ pub record IsKept (stops : List (List ℕ)) (found : Candidates) (xs : List ℕ)
   pub is : slice_index_or stops at [] ≡ xs
   pub kept : kept_at found at ≡ Some at
 
--- the label of each useful beginning with this many stops is kept
-pub record IsGrown (s : SettingOf) (k : ℕ) (stops : List (List ℕ)) (found : Candidates) : Type 0 where
-  pub are : AreLabels s k stops found.labels.items
-  pub every : (xs : List ℕ) → length xs ≡ k → BeginsUseful s.relaxation.problem s.limit xs → IsKept stops found xs
+-- the label of each useful beginning with this many stops is kept, where its last one is in the share
+pub record IsGrown (s : SettingOf) (k : ℕ) (before : List (List ℕ)) (found : Candidates) : Type 0 where
+  pub are : AreExtensions s (is_in found.share) before found.labels.items
+  pub every : (xs : List ℕ) → length xs ≡ k → is_in found.share (last_symbol xs) ≡ true → BeginsUseful s.relaxation.problem s.limit xs → IsKept (sequences before found.labels.items) found xs
 
 -- an extension comes before the one of this parent by this stop
 abbrev pub IsBefore : ℕ → ℕ → ℕ → ℕ → Type 0
@@ -69,7 +72,7 @@ IsBefore parent stop i c = (parent < i) ⊎ ((parent ≡ i) × (stop < c))
 pub record HasExtensions (s : SettingOf) (k : ℕ) (stops : List (List ℕ)) (parent stop : ℕ) (found : Candidates) : Type 0 where
   pub size : All (λ xs. length xs ≡ k) stops
   pub rising : AllPairs IsEarlier stops
-  pub are : AreLabels s (k + 1) (sequences stops found.labels.items) found.labels.items
-  pub before : All (λ label. IsBefore label.parent label.last parent stop × (label.parent < length stops)) found.labels.items
-  pub every : (i c : ℕ) → IsBefore i c parent stop → i < length stops → BeginsUseful s.relaxation.problem s.limit (slice_index_or stops i [] ++ c ∷ [])
+  pub are : AreExtensions s (is_in found.share) stops found.labels.items
+  pub before : All (λ label. IsBefore label.parent label.last parent stop) found.labels.items
+  pub every : (i c : ℕ) → IsBefore i c parent stop → i < length stops → is_in found.share c ≡ true → BeginsUseful s.relaxation.problem s.limit (slice_index_or stops i [] ++ c ∷ [])
       → IsKept (sequences stops found.labels.items) found (slice_index_or stops i [] ++ c ∷ [])

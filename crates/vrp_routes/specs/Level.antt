@@ -1,7 +1,8 @@
 -- The labels of one length, in the order of their stops.
-use Rattle.std.specs.Prelude.{◌≡◌, ℕ, ◌<◌, List, [], ◌∷◌, ◌++◌, length, map, slice_index_or}
+use Rattle.std.specs.Prelude.{◌≡◌, ◌⊎◌, ℕ, ◌<◌, Bool, true, List, [], ◌∷◌, ◌++◌, length, map, slice_index_or}
 use Rattle.std.specs.List.{All, AllPairs, Contains}
 use Rattle.vrp_model.specs.Order.{IsEarlier}
+use Rattle.vrp_model.specs.Word.{last_symbol}
 use Rattle.vrp_routes.specs.Label.{IsLabel, SettingOf}
 use Rattle.vrp_routes.specs.Useful.{BeginsUseful}
 use Rattle.vrp_routes.specs.declared.label.Label.{Label}
@@ -24,3 +25,19 @@ pub record AreLabels (s : SettingOf) (k : ℕ) (stops : List (List ℕ)) (labels
 pub record IsLevel (s : SettingOf) (k : ℕ) (stops : List (List ℕ)) (labels : List Label) : Type 0 where
   pub are : AreLabels s k stops labels
   pub every : (xs : List ℕ) → length xs ≡ k → BeginsUseful s.relaxation.problem s.limit xs → Contains stops xs
+
+-- one goes on from an earlier label, or from the same one by a lower stop
+abbrev pub ComesFirst : Label → Label → Type 0
+ComesFirst label other = (label.parent < other.parent) ⊎ ((label.parent ≡ other.parent) × (label.last < other.last))
+
+-- labels that go on from these stops, in their order, by stops that pass the test
+pub record AreExtensions (s : SettingOf) (mine : ℕ → Bool) (before : List (List ℕ)) (labels : List Label) : Type 0 where
+  pub each : All (λ label. IsLabel s (stops_of before label) label) labels
+  pub parents : All (λ label. label.parent < length before) labels
+  pub own : All (λ label. mine label.last ≡ true) labels
+  pub ordered : AllPairs ComesFirst labels
+
+-- so they are, and each useful beginning with this many stops whose last one passes the test has its label
+pub record IsShare (s : SettingOf) (k : ℕ) (mine : ℕ → Bool) (before : List (List ℕ)) (labels : List Label) : Type 0 where
+  pub are : AreExtensions s mine before labels
+  pub every : (xs : List ℕ) → length xs ≡ k → mine (last_symbol xs) ≡ true → BeginsUseful s.relaxation.problem s.limit xs → Contains (sequences before labels) xs

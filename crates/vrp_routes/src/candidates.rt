@@ -1,32 +1,37 @@
 //! The labels of one length as they are found, and which of them are kept.
-ghost use Rattle.std.specs.Prelude.{◌≡◌, ◌+◌, ◌<◌, ◌≤◌, ℕ, List, [], OnOk, IfOk, IsTrue, Some, ◌↔◌, length, slice_index_or};
-ghost use Rattle.std.specs.List.{All, Contains};
+ghost use Rattle.std.specs.Prelude.{◌≡◌, ◌+◌, ◌^◌, ◌<◌, ◌≤◌, ℕ, List, [], OnOk, IfOk, IsTrue, Some, ◌↔◌, length, slice_index_or};
 ghost use Rattle.vrp_routes.specs.Candidates.{HasExtensions, IsGrown, IsKeyed, IsOffered, kept_at};
 ghost use Rattle.vrp_routes.specs.Label.{IsLabel, SettingOf};
-ghost use Rattle.vrp_routes.specs.Level.{IsLevel, sequences};
+ghost use Rattle.vrp_routes.specs.Level.{IsLevel, IsShare};
+ghost use Rattle.vrp_routes.specs.Share.{is_in};
+ghost use Rattle.vrp_routes.specs.Shares.{IsFurther, IsPart};
 
 use crate::label::Label;
 use crate::setting::Setting;
+use crate::share::Share;
 use std::alloc::Global;
 use std::collections::HashMap;
 use vrp_model::NoMemory;
 
-/// Labels of one length, in the order of their stops, symbol by symbol. Of those with the same customers and the same last one the
+/// Labels of one length, in the order of their stops, symbol by symbol, whose last customer is in a share. Of those with the same customers and the same last one the
 /// cheapest is kept, and of equal ones the earliest.
 #[derive(Drop)]
 pub struct Candidates {
+    share: Share,
     labels: Vec<Label>,
     // By set and last customer, which label is kept.
     kept: HashMap<(u128, u16), usize>,
 }
 
 impl Candidates {
-    /// None so far.
-    pub fn new(alloc: Global) -> Candidates
+    /// None so far, of a share.
+    pub fn new(alloc: Global, share: Share) -> Candidates
+        ensures share { result.share ≡ share }
         ensures empty { result.labels.items ≡ [] }
         ensures keyed { IsKeyed result }
     {
         Candidates {
+            share,
             labels: Vec::new(alloc),
             kept: HashMap::new(alloc),
         }
@@ -39,8 +44,29 @@ impl Candidates {
         self.labels.len()
     }
 
-    /// Offers each extension of a label by one customer.
-    pub fn offer_extensions(
+    /// Offers the extensions of these labels, which are numbered from `from` on.
+    pub fn extended(
+        mut self,
+        setting: &Setting<'_>,
+        labels: &[Label],
+        from: usize,
+        to: usize,
+    ) -> Result<Candidates, NoMemory>
+        requires level { (k : ℕ) × (stops : List (List ℕ)) × IsLevel setting.now k stops labels.now }
+        requires keyed { IsKeyed self }
+        requires from { from ≤ to }
+        requires to { to ≤ length labels.now }
+        requires few { length labels.now < 2 ^ 32 }
+        ensures { IfOk result (IsFurther setting.now labels.now from to self) }
+    {
+        for parent in from..to {
+            self.offer_extensions(setting, &labels[parent], parent as u32)?;
+        }
+        Ok(self)
+    }
+
+    // Offers each extension of a label by a customer of the share.
+    fn offer_extensions(
         &mut self,
         setting: &Setting<'_>,
         label: &Label,
@@ -53,10 +79,13 @@ impl Candidates {
             → HasExtensions setting.now k stops parent 0 self.old
             → HasExtensions setting.now k stops (parent + 1) 0 self.new) }
         ensures keyed { OnOk result (IsKeyed self.new) }
+        ensures share { OnOk result (self.new.share ≡ self.old.share) }
     {
         for stop in 1..setting.places() {
-            if let Some(extended) = setting.extended(label, stop, parent) {
-                self.offer(extended)?;
+            if self.share.has(stop) {
+                if let Some(extended) = setting.extended(label, stop, parent) {
+                    self.offer(extended)?;
+                }
             }
         }
         Ok(())
@@ -64,11 +93,7 @@ impl Candidates {
 
     /// Those that are kept, in their order.
     pub fn undominated(&self, alloc: Global) -> Result<Vec<Label>, NoMemory>
-        ensures level { IfOk result (λ labels. (s : SettingOf) (k : ℕ) (before : List (List ℕ))
-            → IsGrown s k (sequences before self.now.labels.items) self.now
-            → IsLevel s k (sequences before labels.items) labels.items) }
-        ensures among { IfOk result (λ labels. All (Contains self.now.labels.items) labels.items) }
-        ensures few { IfOk result (λ labels. length labels.items ≤ length self.now.labels.items) }
+        ensures { IfOk result (IsPart self.now) }
     {
         let mut labels = Vec::new(alloc);
         for at in 0..self.labels.len() {

@@ -1,5 +1,5 @@
 //! The list of useful routes, level by level: the enumeration of routes of Baldacci, Christofides and Mingozzi (2008).
-ghost use Rattle.std.specs.Prelude.{◌≡◌, ◌+◌, ◌≤◌, ◌↔◌, ℕ, IfNone, IfOk, IsTrue};
+ghost use Rattle.std.specs.Prelude.{◌≡◌, ◌+◌, ◌<◌, ◌≤◌, ◌↔◌, ℕ, IfNone, IfOk, IsTrue};
 ghost use Rattle.vrp_model.specs.Problem.{IsProblem, place_count};
 ghost use Rattle.vrp_model.specs.declared.limits.TheConstants.{NO_COST};
 ghost use Rattle.vrp_routes.specs.Label.{SettingOf};
@@ -13,6 +13,7 @@ use crate::pool::RoutePool;
 use crate::sequences::Sequences;
 use crate::setting::Setting;
 use std::alloc::Global;
+use std::thread::Threads;
 use vrp_bound::MemoryTables;
 use vrp_model::{Instance, NoMemory};
 use vrp_prices::Relaxation;
@@ -37,16 +38,20 @@ pub fn can_list(instance: &Instance) -> bool
 /// The routes that may stand in the first plan of the relaxation's instance, where that costs no more than the limit. The tables are of
 /// the relaxed instance, whoever is near which place. Beginnings of routes are extended customer by customer; one is dropped where it
 /// and its least completion by the tables are above the limit, or where another with the same customers and the same last one costs
-/// less, or as much and is earlier. At most `most_labels` beginnings are kept at once. Now and then it is asked whether to go on. Which
-/// limit is met, and when, is left open.
-pub fn list_routes<F: Fn() -> bool>(
+/// less, or as much and is earlier. At most `most_labels` beginnings are made, the one of no customers and those of the next length that
+/// are dropped later counted. Now and then it is asked whether to go on. Which limit is met, and when, is left open, and so is that the
+/// pool is the same for every number of workers.
+pub fn list_routes<R: Threads + Sync, F: Fn() -> bool>(
+    rt: &R,
     alloc: Global,
     relaxation: &Relaxation<'_>,
     tables: &MemoryTables<'_>,
     limit: u64,
+    workers: u16,
     most_labels: u32,
     goes_on: &F,
 ) -> Result<Listed, NoMemory>
+    requires workers { 0 < workers }
     requires tables { tables.now.problem ≡ relaxation.now.relaxed }
     requires few { place_count relaxation.now.problem ≤ MOST_CUSTOMERS + 1 }
     requires limit { limit ≤ NO_COST }
@@ -58,7 +63,7 @@ pub fn list_routes<F: Fn() -> bool>(
     };
     let mut listing = Listing::new(alloc)?;
     for _level in 1..setting.places() {
-        if let Some(limit) = listing.step(alloc, &setting, most_labels, goes_on)? {
+        if let Some(limit) = listing.step(rt, alloc, &setting, workers, most_labels, goes_on)? {
             return Ok(Listed::Met(limit));
         }
     }
@@ -91,13 +96,16 @@ impl Listing {
     }
 
     // Goes on to the labels that are one customer longer.
-    fn step<F: Fn() -> bool>(
+    fn step<R: Threads + Sync, F: Fn() -> bool>(
         &mut self,
+        rt: &R,
         alloc: Global,
         setting: &Setting<'_>,
+        workers: u16,
         most_labels: u32,
         goes_on: &F,
     ) -> Result<Option<Limit>, NoMemory>
+        requires workers { 0 < workers }
         requires listing { (k : ℕ) × IsListing setting.now k self.old }
         requires goes_on { F.IsAlwaysCallable goes_on.now }
         ensures { IfOk result (λ met. IfNone met ((k : ℕ)
@@ -105,7 +113,7 @@ impl Listing {
     {
         let start = self.sequences.len() as u32;
         let room = most_labels.saturating_sub(start) as usize;
-        let labels = match extend_level(alloc, setting, &self.labels, room, goes_on)? {
+        let labels = match extend_level(rt, alloc, setting, &self.labels, workers, room, goes_on)? {
             Extended::Labels(labels) => labels,
             Extended::Met(limit) => return Ok(Some(limit)),
         };

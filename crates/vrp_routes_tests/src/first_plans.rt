@@ -6,6 +6,7 @@ use crate::listed::{Setup, listed, pool_of};
 use crate::slow::{First, first_plan};
 use std::alloc::Global;
 use std::process::Abort;
+use std::thread::Threads;
 use vrp_model::Instance;
 use vrp_routes::RoutePool;
 
@@ -34,36 +35,42 @@ const SETUPS: &[Setup<'_>] = &[
         unit: 1,
         prices: &[0, 0, 0, 0, 0],
         near: 0,
+        workers: 1,
     },
     Setup {
         scale: 10,
         unit: 1,
         prices: &[0, 12, -5, 3, 8],
         near: 2,
+        workers: 2,
     },
     Setup {
         scale: 10,
         unit: 2,
         prices: &[0, 0, 0, 0, 0],
         near: 3,
+        workers: 3,
     },
     Setup {
         scale: 100,
         unit: 1,
         prices: &[-900, -20, 30, 0, 40],
         near: 1,
+        workers: 1,
     },
     Setup {
         scale: 100,
         unit: 7,
         prices: &[7, 100, 200, 300, -50],
         near: 3,
+        workers: 2,
     },
     Setup {
         scale: 1_000,
         unit: 1_000_000_000,
         prices: &[0, 900, 400, -100, 5],
         near: 2,
+        workers: 4,
     },
 ];
 
@@ -86,7 +93,7 @@ fn first_plans_are_in_pools(rt: HostRuntime) {
 }
 
 // How many pools there are, by all prices, for limits at the first plan's cost, above it and below it.
-fn pools_of(rt: &impl Abort, alloc: Global, instance: &Instance) -> u64 {
+fn pools_of<R: Abort + Threads + Sync>(rt: &R, alloc: Global, instance: &Instance) -> u64 {
     let first = first_plan(rt, alloc, instance);
     let cost = first.as_ref().map_or(30, |plan| plan.cost.min(1_000_000));
     let mut pools = 0u64;

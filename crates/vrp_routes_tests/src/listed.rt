@@ -1,10 +1,11 @@
 //! Routes listed by given prices.
-ghost use Rattle.std.specs.Prelude.{◌≡◌, ◌≤◌};
+ghost use Rattle.std.specs.Prelude.{◌≡◌, ◌<◌, ◌≤◌};
 ghost use Rattle.vrp_memory.specs.declared.memory.TheConstants.{MOST_NEAR};
 ghost use Rattle.vrp_model.specs.Problem.{place_count};
 
 use std::alloc::Global;
 use std::process::Abort;
+use std::thread::Threads;
 use vrp_bound::MemoryTables;
 use vrp_memory::{MOST_NEAR, Memory};
 use vrp_model::{Instance, NO_COST, NoMemory};
@@ -18,11 +19,12 @@ pub(crate) struct Setup<'a> {
     pub(crate) unit: u64,
     pub(crate) prices: &'a [i64],
     pub(crate) near: usize,
+    pub(crate) workers: u16,
 }
 
 /// What comes of listing, where there are such prices.
-pub(crate) fn listed(
-    rt: &impl Abort,
+pub(crate) fn listed<R: Abort + Threads + Sync>(
+    rt: &R,
     alloc: Global,
     instance: &Instance,
     setup: Setup<'_>,
@@ -34,31 +36,54 @@ pub(crate) fn listed(
         unit,
         prices,
         near,
+        workers,
     } = setup;
     assert!(rt; 1 <= scale && scale <= 1_000 && 1 <= unit && near <= MOST_NEAR);
     assert!(rt; prices.len() == usize::from(instance.customers()) + 1);
-    assert!(rt; can_list(instance) && limit <= NO_COST);
+    assert!(rt; can_list(instance) && limit <= NO_COST && 0 < workers);
     let made = Relaxation::new(alloc, instance, scale, unit, prices, &[]).expect(rt, "memory");
     let relaxation = made?;
     let memory = Memory::nearest(alloc, relaxation.relaxed(), near).expect(rt, "memory");
-    Some(by_memory(alloc, &relaxation, memory, limit, most_labels, true).expect(rt, "memory"))
+    let found = by_memory(
+        rt,
+        alloc,
+        &relaxation,
+        memory,
+        limit,
+        workers,
+        most_labels,
+        true,
+    );
+    Some(found.expect(rt, "memory"))
 }
 
 /// What comes of it where walks have this memory, and whether to go on is always answered so.
-pub(crate) fn by_memory(
+pub(crate) fn by_memory<R: Threads + Sync>(
+    rt: &R,
     alloc: Global,
     relaxation: &Relaxation<'_>,
     memory: Memory,
     limit: u64,
+    workers: u16,
     most_labels: u32,
     goes_on: bool,
 ) -> Result<Listed, NoMemory>
     requires places { memory.places ≡ place_count relaxation.now.relaxed }
     requires few { place_count relaxation.now.problem ≤ 128 }
     requires limit { limit ≤ NO_COST }
+    requires workers { 0 < workers }
 {
     let tables = MemoryTables::new(alloc, relaxation.relaxed(), memory)?;
-    list_routes(alloc, relaxation, &tables, limit, most_labels, &|| goes_on)
+    list_routes(
+        rt,
+        alloc,
+        relaxation,
+        &tables,
+        limit,
+        workers,
+        most_labels,
+        &|| goes_on,
+    )
 }
 
 /// The pool, where no limit was met.

@@ -6,6 +6,7 @@ use crate::instances::{FOUR, LINE, at_points, with_ways};
 use crate::listed::{Setup, by_memory, listed, pool_of};
 use std::alloc::Global;
 use std::process::Abort;
+use std::thread::Threads;
 use vrp_memory::Memory;
 use vrp_model::{Instance, NO_COST};
 use vrp_prices::Relaxation;
@@ -19,6 +20,7 @@ const NO_PRICES: Setup<'_> = Setup {
     unit: 1,
     prices: &[0, 0, 0],
     near: 2,
+    workers: 1,
 };
 
 // The plan of one route costs 20. Of the labels 1, 2, 12 and 21 the last can't be closed, since it runs backward. At 19 no label is
@@ -113,8 +115,8 @@ fn rounds_of_three(rt: HostRuntime) {
     }
 }
 
-fn pool(
-    rt: &impl Abort,
+fn pool<R: Abort + Threads + Sync>(
+    rt: &R,
     alloc: Global,
     instance: &Instance,
     setup: Setup<'_>,
@@ -163,8 +165,8 @@ fn limits_that_are_met(rt: HostRuntime) {
     }
 }
 
-fn met(
-    rt: &impl Abort,
+fn met<R: Abort + Threads + Sync>(
+    rt: &R,
     alloc: Global,
     instance: &Instance,
     most_labels: u32,
@@ -174,10 +176,67 @@ fn met(
     let made = Relaxation::new(alloc, instance, 1, 1, &[0, 0, 0], &[]).expect(rt, "memory");
     let relaxation = made.expect(rt, "prices");
     let memory = Memory::nearest(alloc, relaxation.relaxed(), 0).expect(rt, "memory");
-    let found = by_memory(alloc, &relaxation, memory, 1_000, most_labels, goes_on);
+    let found = by_memory(
+        rt,
+        alloc,
+        &relaxation,
+        memory,
+        1_000,
+        2,
+        most_labels,
+        goes_on,
+    );
     match found.expect(rt, "memory") {
         Listed::Pool(_) => None,
         Listed::Met(limit) => Some(limit),
+    }
+}
+
+// Points of eleven customers; ways of the same length are among them.
+const ELEVEN: &[(i64, i64)] = &[
+    (0, 0),
+    (3, 4),
+    (-3, 4),
+    (6, 8),
+    (-6, 8),
+    (5, -12),
+    (-5, -12),
+    (9, 0),
+    (-9, 0),
+    (0, 7),
+    (0, -7),
+    (12, 5),
+];
+
+// Whoever works, the pool is the same: as many labels, and the same routes at the same places.
+#[test]
+fn pools_of_several_workers(rt: HostRuntime) {
+    let (rt, alloc) = (&rt, rt.alloc());
+    let demands = [0, 2, 1, 3, 2, 1, 1, 2, 3, 1, 2, 1];
+    let instance = at_points(rt, alloc, ELEVEN, &demands, 7);
+    let alone = Setup {
+        prices: &[0, 30, 20, 50, 10, 70, 60, 40, 45, 25, 35, 55],
+        ..NO_PRICES
+    };
+    let by_one = pool(rt, alloc, &instance, alone, 120);
+    assert!(rt; by_one.labels() > 500);
+    for workers in [2, 3, 11, 40] {
+        let together = Setup { workers, ..alone };
+        let by_all = pool(rt, alloc, &instance, together, 120);
+        assert_same(rt, by_all.labels(), by_one.labels(), workers);
+        assert_same_routes(rt, alloc, &by_all, &by_one);
+    }
+}
+
+fn assert_same_routes(rt: &impl Abort, alloc: Global, pool: &RoutePool, other: &RoutePool) {
+    assert!(rt; pool.len() == other.len());
+    for at in 0..pool.len() {
+        assert_same(rt, pool.set(at), other.set(at), at);
+        assert_same(rt, pool.load(at), other.load(at), at);
+        assert_same(rt, pool.cost(at), other.cost(at), at);
+        let stops = pool.stops(alloc, at).expect(rt, "memory");
+        let others = other.stops(alloc, at).expect(rt, "memory");
+        assert!(rt; stops.as_slice() == others.as_slice(), "at {at}");
     }
 }
 

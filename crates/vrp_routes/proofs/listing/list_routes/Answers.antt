@@ -17,7 +17,7 @@ pub loop-level-init : goal.loop-level-init
 loop-level-init g c = c.in_ok-listing.ensures c.in-Some.setting
 
 pub step-requires-clause-listing : goal.step-requires-clause-listing
-step-requires-clause-listing g c = (c.loop-level._level - 1, c.loop-level.invariant)
+step-requires-clause-listing g c = λ _ _. (c.loop-level._level - 1, c.loop-level.invariant)
 
 pub loop-level-preserved : goal.loop-level-preserved
 loop-level-preserved g c =

@@ -26,10 +26,11 @@ returns-then-index-label-clause-offered c =
 pub returns-clause-offered : goal.returns-clause-offered
 returns-clause-offered c =
     let old = c.args.self.now in
-    let new : Candidates = record { labels = c.push.new.self; kept = c.insert.new.self } in
+    let new : Candidates = record { share = c.match-get.self.share; labels = c.push.new.self; kept = c.insert.new.self } in
     let label = c.args.label in
     let count : c.match-get.self ≡ old → c.len.result ≡ length old.labels.items = λ same. (let long = ap (λ (l : Candidates). length l.labels.items) same in omega (arith, c.len.ensures, c.match-get.self.labels.ok, long)) in
     let taken : (c.match-get.self ≡ old) → ((at : ℕ) → kept_for old (key_of label) ≡ Some at → label.cost < (label_at old at).cost) → IsOffered old label new = λ same cheaper. inr (record {
+      share = ap (λ (l : Candidates). l.share) same;
       longer = c.in_ok-push.ensures.items ∙ ap (λ (l : Candidates). l.labels.items ++ label ∷ []) same;
       cheaper = cheaper;
       kept = λ key. c.in_ok-insert.ensures.updates.0 key ∙ ap (λ n. if same_key (key_of label) key then Some n else kept_for c.match-get.self key) (count same) ∙ ap (λ (l : Candidates). if same_key (key_of label) key then Some (length old.labels.items) else kept_for l key) same;

@@ -1,13 +1,17 @@
-use Rattle.std.proofs.Common.{◌≡◌, ◌+◌, ◌<◌, ◌++◌, ◌∷◌, [], length, get_or, sym, subst, arith}
-use Rattle.vrp_routes.specs.Label.{IsLabel}
+use Rattle.std.proofs.Common.{◌≡◌, ◌∙◌, ◌+◌, ◌<◌, ◌++◌, ◌∷◌, [], true, length, get_or, refl, ap, sym, subst, arith}
+use Rattle.std.proofs.lemmas.Bool.{false≢true}
 use Rattle.vrp_routes.specs.Candidates.{HasExtensions, IsKeyed}
-use Rattle.vrp_routes.proofs.Extensions.{all_extensions, first_extension, offered_extension, passed}
+use Rattle.vrp_routes.specs.Label.{IsLabel}
+use Rattle.vrp_routes.specs.Share.{is_in}
+use Rattle.vrp_routes.specs.declared.candidates.Candidates.{Candidates}
+use Rattle.vrp_routes.proofs.Extensions.{all_extensions, first_extension, offered_extension, passed, share_stays}
 use Rattle.vrp_routes.proofs.candidates.Candidates.offer_extensions.Goals as goal
-use Rattle.vrp_routes.proofs.candidates.Candidates.offer_extensions.Goals.{in-Some+in_ok-offer, in_default}
+use Rattle.vrp_routes.proofs.candidates.Candidates.offer_extensions.Goals.{then-has+in-Some+in_ok-offer, then-has+in_default, else-has}
 
 pub loop-stop-init : goal.loop-stop-init
 loop-stop-init c = record {
   keyed = c.requires.keyed;
+  share = refl;
   extensions = λ k stops lt is has. first_extension c.args.setting.now k stops c.args.parent c.args.self.now has;
 }
 
@@ -17,29 +21,41 @@ offer-requires c = record { keyed = c.loop-stop.invariant.keyed }
 pub loop-stop-preserved : goal.loop-stop-preserved
 loop-stop-preserved c =
     let s = c.args.setting.now in
-    elim c.match-extended.branch [
-      | in-Some+in_ok-offer w ↦ record {
+    let old = c.loop-stop.self in
+    let stop = c.loop-stop.stop in
+    elim c.if-has.branch [
+      | then-has+in-Some+in_ok-offer w ↦ record {
         keyed = subst IsKeyed (sym w.self-is) w.in_ok-offer.ensures.keyed;
+        share = ap (λ (found : Candidates). found.share) w.self-is ∙ share_stays old w.offer.new.self w.in-Some.extended w.in_ok-offer.ensures.offered ∙ c.loop-stop.invariant.share;
         extensions = λ k stops lt is has.
             let child = w.in-Some.extended in
             let parent : child.parent ≡ c.args.parent = w.in-Some.ensures.parent in
-            let last : child.last ≡ c.loop-stop.stop = w.in-Some.ensures.last in
+            let last : child.last ≡ stop = w.in-Some.ensures.last in
             let label : IsLabel s (get_or stops child.parent [] ++ child.last ∷ []) child =
             subst (λ n. IsLabel s (get_or stops n [] ++ child.last ∷ []) child) (sym parent)
             (subst (λ n. IsLabel s (get_or stops c.args.parent [] ++ n ∷ []) child) (sym last) (w.in-Some.ensures.label (get_or stops c.args.parent []) is)) in
-            let before : HasExtensions s k stops child.parent child.last c.loop-stop.self =
-            subst (λ n. HasExtensions s k stops n child.last c.loop-stop.self) (sym parent)
-            (subst (λ n. HasExtensions s k stops c.args.parent n c.loop-stop.self) (sym last) (c.loop-stop.invariant.extensions k stops lt is has)) in
-            let after = offered_extension s k stops c.loop-stop.self w.offer.new.self child before c.loop-stop.invariant.keyed (subst (λ n. n < length stops) (sym parent) lt) label w.in_ok-offer.ensures.offered in
-            subst (HasExtensions s k stops c.args.parent (c.loop-stop.stop + 1)) (sym w.self-is)
-            (subst (λ n. HasExtensions s k stops n (c.loop-stop.stop + 1) w.offer.new.self) parent
+            let before : HasExtensions s k stops child.parent child.last old =
+            subst (λ n. HasExtensions s k stops n child.last old) (sym parent)
+            (subst (λ n. HasExtensions s k stops c.args.parent n old) (sym last) (c.loop-stop.invariant.extensions k stops lt is has)) in
+            let mine : is_in old.share child.last ≡ true = ap (is_in old.share) last ∙ sym c.has.ensures ∙ w.if-has.true in
+            let after = offered_extension s k stops old w.offer.new.self child before c.loop-stop.invariant.keyed (subst (λ n. n < length stops) (sym parent) lt) mine label w.in_ok-offer.ensures.offered in
+            subst (HasExtensions s k stops c.args.parent (stop + 1)) (sym w.self-is)
+            (subst (λ n. HasExtensions s k stops n (stop + 1) w.offer.new.self) parent
             (subst (λ n. HasExtensions s k stops child.parent (n + 1) w.offer.new.self) last after));
       }
-      | in_default w ↦ record {
+      | then-has+in_default w ↦ record {
         keyed = subst IsKeyed (sym w.self-is) c.loop-stop.invariant.keyed;
+        share = ap (λ (found : Candidates). found.share) w.self-is ∙ c.loop-stop.invariant.share;
         extensions = λ k stops lt is has.
-            subst (HasExtensions s k stops c.args.parent (c.loop-stop.stop + 1)) (sym w.self-is)
-            (passed s k stops c.args.parent c.loop-stop.stop c.loop-stop.self (c.loop-stop.invariant.extensions k stops lt is has) (w.in_default.ensures.none (get_or stops c.args.parent []) is));
+            subst (HasExtensions s k stops c.args.parent (stop + 1)) (sym w.self-is)
+            (passed s k stops c.args.parent stop old (c.loop-stop.invariant.extensions k stops lt is has) (λ mine. w.in_default.ensures.none (get_or stops c.args.parent []) is));
+      }
+      | else-has w ↦ record {
+        keyed = subst IsKeyed (sym w.self-is) c.loop-stop.invariant.keyed;
+        share = ap (λ (found : Candidates). found.share) w.self-is ∙ c.loop-stop.invariant.share;
+        extensions = λ k stops lt is has.
+            subst (HasExtensions s k stops c.args.parent (stop + 1)) (sym w.self-is)
+            (passed s k stops c.args.parent stop old (c.loop-stop.invariant.extensions k stops lt is has) (λ mine useful. false≢true (sym w.if-has.false ∙ c.has.ensures ∙ mine)));
       }
     ]
 
@@ -49,3 +65,6 @@ returns-clause-extensions c = λ k stops lt is has.
 
 pub returns-clause-keyed : goal.returns-clause-keyed
 returns-clause-keyed c = c.loop-stop.invariant.keyed
+
+pub returns-clause-share : goal.returns-clause-share
+returns-clause-share c = c.loop-stop.invariant.share
