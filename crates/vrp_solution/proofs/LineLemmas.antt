@@ -14,9 +14,8 @@ use Rattle.vrp_lexer.specs.declared.fault.FaultyLine.{FaultyLine}
 use Rattle.vrp_lexer.specs.declared.fault.FaultyLine.TheVariants.{BadNumber, NotWhole}
 use Rattle.vrp_lexer.proofs.TokenLemmas.{split_whole}
 use Rattle.vrp_solution.specs.Line.{Number, Route, Unknown, cost_line, is_colon, number_token, parted_line, route_line}
-use Rattle.vrp_solution.specs.Solution.{HasBadNumber}
 use Rattle.vrp_solution.specs.Inner.Parted.{ArePartedAt}
-use Rattle.vrp_solution.specs.Inner.Read.{IsWrong, stops_written}
+use Rattle.vrp_solution.specs.Inner.Read.{HasNoNumber, IsWrong, stops_written}
 use Rattle.vrp_solution.specs.declared.line.LineError.{LineError}
 use Rattle.vrp_solution.specs.declared.line.LineError.TheVariants as bad
 use Rattle.vrp_solution.specs.declared.line.TheConstants.{MAX_NUMBER}
@@ -98,11 +97,11 @@ number_faults low high token fault is = fault_of_value low high (numeral_of toke
 -- ---- lines
 
 -- a cost that is no number
-pub bad_cost : (tokens rest : List (List ℕ)) (cost : List ℕ) (fault : FaultyLine) → tokens ≡ cost ∷ rest → rest ≡ [] → number_of (pos 0) MAX_NUMBER cost ≡ Err fault → (fault ≡ NotWhole → ⊥) → HasBadNumber (cost_line tokens)
+pub bad_cost : (tokens rest : List (List ℕ)) (cost : List ℕ) (fault : FaultyLine) → tokens ≡ cost ∷ rest → rest ≡ [] → number_of (pos 0) MAX_NUMBER cost ≡ Err fault → (fault ≡ NotWhole → ⊥) → HasNoNumber (cost_line tokens)
 bad_cost tokens rest cost fault is last number other =
     let bad : number_of (pos 0) MAX_NUMBER cost ≡ Err BadNumber = elim (number_faults (pos 0) MAX_NUMBER cost fault number) [ inl wrong ↦ number ∙ ap Err wrong | inr not_whole ↦ absurd (other not_whole) ] in
     let same : tokens ≡ cost ∷ [] = is ∙ ap (λ (l : List (List ℕ)). cost ∷ l) last in
-    subst (λ (l : List (List ℕ)). HasBadNumber (cost_line l)) (sym same) bad
+    subst (λ (l : List (List ℕ)). HasNoNumber (cost_line l)) (sym same) bad
 
 -- no colon
 pub no_colon : (text : List ℕ) → position is_colon text ≡ None → parted_line text ≡ Unknown
@@ -131,9 +130,9 @@ route_said text before behind digits heading stops number n parted tokens listed
     in_parts text before behind digits heading stops parted tokens listed token ∙ ap (λ (r : Number). Route r (stops_written stops)) (is ∙ ap Ok same)
 
 -- a route whose number is none
-pub bad_route : (text before behind digits : List ℕ) (heading : List (List ℕ)) → ArePartedAt is_colon text before behind → heading ≡ tokens_of before → Some digits ≡ number_token heading → IsErr (number_of (pos 0) MAX_NUMBER digits) → HasBadNumber (parted_line text)
+pub bad_route : (text before behind digits : List ℕ) (heading : List (List ℕ)) → ArePartedAt is_colon text before behind → heading ≡ tokens_of before → Some digits ≡ number_token heading → IsErr (number_of (pos 0) MAX_NUMBER digits) → HasNoNumber (parted_line text)
 bad_route text before behind digits heading parted tokens token wrong =
-    subst HasBadNumber (sym (in_parts text before behind digits heading (tokens_of behind) parted tokens refl token)) (0, number_of (pos 0) MAX_NUMBER digits, omega arith, refl, wrong)
+    subst HasNoNumber (sym (in_parts text before behind digits heading (tokens_of behind) parted tokens refl token)) wrong
 
 pub wrong_route : (text before behind digits : List ℕ) (heading : List (List ℕ)) (error : LineError) → ArePartedAt is_colon text before behind → heading ≡ tokens_of before → Some digits ≡ number_token heading
     → (error ≡ bad.BadNumber) × IsErr (number_of (pos 0) MAX_NUMBER digits) → IsWrong (parted_line text) error

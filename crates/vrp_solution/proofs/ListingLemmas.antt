@@ -1,16 +1,17 @@
 -- What is kept of lines with one line more, and what is wrong with a line among all.
-use Rattle.std.proofs.Common.{◌≡◌, ◌∙◌, ℕ, pos, zero, suc, ◌+◌, ◌<◌, ◌≤◌, ◌==◌, not, Bool, Option, Some, None, Result, Ok, Err, IsErr, List, [], ◌∷◌, ◌++◌, length, map, refl, sym, ap, subst, inl, inr, append-nil, arith}
-use Rattle.std.specs.Prelude.{IfErr, OnOk, slice_get, filter, Any}
-use Rattle.std.specs.List.{All, Contains}
+use Rattle.std.proofs.Common.{◌≡◌, ◌∙◌, ℕ, pos, suc, ◌+◌, ◌<◌, ◌≤◌, ◌==◌, not, Bool, Option, Some, None, Result, Ok, Err, List, [], ◌∷◌, ◌++◌, length, map, refl, sym, ap, subst, inl, inr, append-nil, arith}
+use Rattle.std.specs.Prelude.{IfErr, OnOk, slice_get, filter}
+use Rattle.std.specs.List.{All}
 use Rattle.std.proofs.lemmas.Bool.{cases_Bool}
 use Rattle.std.proofs.lemmas.List.{map-append}
-use Rattle.std.proofs.lemmas.List.Elements.{All-append, All-cons, All-filter, All-nil, All-push, Contains-append_right, filter-append}
-use Rattle.std.proofs.lemmas.Option.{slice_get_within}
+use Rattle.std.proofs.lemmas.List.Elements.{All-append, All-cons, All-filter, All-nil, All-push, filter-append}
+use Rattle.std.proofs.lemmas.Option.{get_or_from_slice_get, slice_get_within}
 use Rattle.vrp_model.specs.Problem.{Problem}
-use Rattle.vrp_solution.specs.Line.{Blank, Cost, Line, Number, Route, line_of}
-use Rattle.vrp_solution.specs.Solution.{GivenRoute, HasBadNumber, HaveFault, IsRepeatedCost, IsSaid, ListRoutes, SaysAt, is_cost, is_route, line_of_route, with_stops}
-use Rattle.vrp_solution.specs.Inner.Listing.{AreCustomers, IsCostAdded, IsRouteAdded, IsStopFault, Keeps, cost_lines, fault_at, given_routes}
-use Rattle.vrp_solution.specs.Inner.Read.{IsWrong, number_stated}
+use Rattle.vrp_solution.specs.Line.{Blank, Cost, Line, Number, Route, Unknown, line_of}
+use Rattle.vrp_solution.specs.Solution.{GivenRoute, HasBadNumber, HaveFault, IsFirstAtFault, IsRepeatedCost, IsSaid, ListRoutes, is_cost, is_route, line_of_route, with_stops}
+use Rattle.vrp_solution.specs.Inner.Listing.{IsCostAdded, IsRouteAdded, IsStopFault, Keeps, cost_lines, fault_at, given_routes}
+use Rattle.vrp_solution.specs.Solution.{AreCustomers}
+use Rattle.vrp_solution.specs.Inner.Read.{HasNoNumber, IsWrong, number_stated}
 use Rattle.vrp_solution.specs.declared.error.SolutionError.{SolutionError}
 use Rattle.vrp_solution.specs.declared.line.LineError.{LineError}
 use Rattle.vrp_solution.specs.declared.line.LineError.TheVariants as bad
@@ -18,20 +19,7 @@ use Rattle.vrp_solution.specs.declared.line.StatedCost.{StatedCost}
 use Rattle.vrp_solution.specs.declared.line.StatedCost.TheVariants.{Whole, Fraction}
 use Rattle.vrp_solution.specs.declared.listing.Listing.{Listing}
 
--- ---- where a line stands
-
--- behind others
-at_seam : (before behind : List Line) (line : Line) → slice_get (before ++ line ∷ behind) (length before) ≡ Some line
-at_seam [] behind line = refl
-at_seam (x ∷ before) behind line = at_seam before behind line
-
-stays_before : (before behind : List Line) (k : ℕ) (line : Line) → slice_get before k ≡ Some line → slice_get (before ++ behind) k ≡ Some line
-stays_before [] behind k line here = absurd (cc)
-stays_before (x ∷ before) behind zero line here = here
-stays_before (x ∷ before) behind (suc k) line here = stays_before before behind k line here
-
-says_here : (before behind : List Line) (line : Line) (number : ℕ) → number ≡ length before + 1 → SaysAt (before ++ line ∷ behind) number line
-says_here before behind line number is = (length before, is, at_seam before behind line)
+-- ---- what is kept
 
 -- what is kept stands among all
 pub kept_stands : (p : Line → Bool) (lines rest : List Line) (line : Line) → filter p lines ≡ line ∷ rest → (k : ℕ) × (slice_get lines k ≡ Some line)
@@ -48,41 +36,76 @@ kept_stands p (x ∷ lines) rest line kept =
           (suc there.0, there.1)
     ]
 
+few_costs : (cost : Option StatedCost) → length (cost_lines cost) ≤ 1
+few_costs None = omega arith
+few_costs (Some cost) = omega arith
+
+-- the lines list what is kept of them
+pub lists_kept : (p : Problem) (lines : List Line) (listing : Listing) → Keeps p lines listing → ListRoutes p lines (given_routes listing.routes.items)
+lists_kept p lines listing keeps = record {
+  said = keeps.said;
+  one_cost = omega (arith, ap length keeps.costs, few_costs listing.cost);
+  given = keeps.given;
+  listed = keeps.listed;
+  with_stops = keeps.kept;
+  customers = keeps.customers;
+}
+
 -- ---- what is wrong
 
-pub wrong_line : (p : Problem) (before behind : List Line) (line : Line) (number : ℕ) (wrong : LineError) → number ≡ length before + 1 → IsWrong line wrong → HaveFault p (before ++ line ∷ behind) (fault_at number wrong)
-wrong_line p before behind line number bad.Unknown is has = subst (λ (l : Line). SaysAt (before ++ line ∷ behind) number l) has (says_here before behind line number is)
-wrong_line p before behind line number bad.BadNumber is has = (line, says_here before behind line number is, has)
+-- the line behind those that are kept
+first_here : (p : Problem) (before behind : List Line) (line : Line) (listing : Listing) (number : ℕ) → Keeps p before listing → number ≡ length before + 1 → IsFirstAtFault p (before ++ line ∷ behind) number line
+first_here p before behind line listing number keeps is = record {
+  before = before;
+  behind = behind;
+  stands = refl;
+  numbered = is;
+  routes = given_routes listing.routes.items;
+  sound = lists_kept p before listing keeps;
+}
+
+bad_number : (p : Problem) (line : Line) → HasNoNumber line → HasBadNumber p line
+bad_number p Blank has = has
+bad_number p (Route number stops) has = inl has
+bad_number p (Cost cost) has = has
+bad_number p Unknown has = has
+
+pub wrong_line : (p : Problem) (before behind : List Line) (line : Line) (listing : Listing) (number : ℕ) (wrong : LineError) → Keeps p before listing → number ≡ length before + 1 → IsWrong line wrong → HaveFault p (before ++ line ∷ behind) (fault_at number wrong)
+wrong_line p before behind line listing number bad.Unknown keeps is has =
+    subst (λ (l : Line). IsFirstAtFault p (before ++ l ∷ behind) number Unknown) (sym has) (first_here p before behind Unknown listing number keeps is)
+wrong_line p before behind line listing number bad.BadNumber keeps is has = (line, first_here p before behind line listing number keeps is, bad_number p line has)
 
 pub repeated_cost : (p : Problem) (before behind : List Line) (line : Line) (listing : Listing) (number : ℕ) (first : StatedCost) (cost : Number) → Keeps p before listing → listing.cost ≡ Some first → line ≡ Cost cost → number ≡ length before + 1
-    → IsRepeatedCost (before ++ line ∷ behind) number
+    → IsRepeatedCost p (before ++ line ∷ behind) number
+unfolding first_here
 repeated_cost p before behind line listing number first cost keeps stated is numbered =
-    let there = kept_stands is_cost before [] (Cost (number_stated first)) (keeps.costs ∙ ap cost_lines stated) in
-    let within = slice_get_within before there.0 (Cost (number_stated first)) there.1 in
-    record {
-      cost = cost;
-      stated = subst (λ (l : Line). SaysAt (before ++ line ∷ behind) number l) is (says_here before behind line number numbered);
-      before = there.0 + 1;
-      earlier = omega (arith, within, numbered);
-      other = number_stated first;
-      stated_before = (there.0, refl, stays_before before (line ∷ behind) there.0 (Cost (number_stated first)) there.1);
-    }
-
-bad_stop : (number : Number) (stops : List Number) → Any IsErr stops → Any IsErr (number ∷ stops)
-bad_stop number stops (k, x, within, at, wrong) = (suc k, x, omega (arith, within), at, wrong)
-
-pub stop_fault : (p : Problem) (before behind : List Line) (line : Line) (number route : ℕ) (stops : List Number) (fault : SolutionError) → line ≡ Route (Ok (pos route)) stops → number ≡ length before + 1 → IsStopFault p number route stops fault
-    → HaveFault p (before ++ line ∷ behind) fault
-stop_fault p before behind line number route stops fault is numbered (inl (named, wrong)) =
-    subst (HaveFault p (before ++ line ∷ behind)) (sym named) (line, says_here before behind line number numbered, subst HasBadNumber (sym is) (bad_stop (Ok (pos route)) stops wrong))
-stop_fault p before behind line number route stops fault is numbered (inr (stop, named, stands, none)) =
-    subst (HaveFault p (before ++ line ∷ behind)) (sym named)
+    let earlier = Cost (number_stated first) in
+    let there = kept_stands is_cost before [] earlier (keeps.costs ∙ ap cost_lines stated) in
+    subst (λ (l : Line). IsRepeatedCost p (before ++ l ∷ behind) number) (sym is)
     (record {
+      cost = cost;
+      first = first_here p before behind (Cost cost) listing number keeps numbered;
+      other = number_stated first;
+      earlier = (there.0, slice_get_within before there.0 earlier there.1, get_or_from_slice_get before there.0 earlier earlier there.1);
+    })
+
+pub stop_fault : (p : Problem) (before behind : List Line) (line : Line) (listing : Listing) (number route : ℕ) (stops : List Number) (fault : SolutionError) → Keeps p before listing → line ≡ Route (Ok (pos route)) stops → number ≡ length before + 1 → IsStopFault p number route stops fault
+    → HaveFault p (before ++ line ∷ behind) fault
+stop_fault p before behind line listing number route stops fault keeps is numbered (inl (named, wrong)) =
+    let says = Route (Ok (pos route)) stops in
+    subst (λ (l : Line). HaveFault p (before ++ l ∷ behind) fault) (sym is)
+    (subst (HaveFault p (before ++ says ∷ behind)) (sym named) (says, first_here p before behind says listing number keeps numbered, inr wrong))
+stop_fault p before behind line listing number route stops fault keeps is numbered (inr (stop, named, stands, none)) =
+    let says = Route (Ok (pos route)) stops in
+    subst (λ (l : Line). HaveFault p (before ++ l ∷ behind) fault) (sym is)
+    (subst (HaveFault p (before ++ says ∷ behind)) (sym named)
+    (record {
+      line = number;
       stops = stops;
-      listed = subst (Contains (before ++ line ∷ behind)) is (Contains-append_right before (line ∷ behind) line (0, omega arith, refl));
+      first = first_here p before behind says listing number keeps numbered;
       stands = stands;
       none = none;
-    })
+    }))
 
 -- ---- one line more
 
@@ -134,22 +157,6 @@ keep_route p lines line number stops old new is customers added keeps =
           (All-filter (λ (r : GivenRoute). not (length r.stops == 0)) (λ (r : GivenRoute). AreCustomers p r.stops) (route ∷ []) served));
     })
 
--- ---- all lines
-
-few_costs : (cost : Option StatedCost) → length (cost_lines cost) ≤ 1
-few_costs None = omega arith
-few_costs (Some cost) = omega arith
-
--- the lines list what is kept of them
-pub lists_kept : (p : Problem) (lines : List Line) (listing : Listing) → Keeps p lines listing → ListRoutes lines (given_routes listing.routes.items)
-lists_kept p lines listing keeps = record {
-  said = keeps.said;
-  one_cost = omega (arith, ap length keeps.costs, few_costs listing.cost);
-  given = keeps.given;
-  listed = keeps.listed;
-  with_stops = keeps.kept;
-}
-
 -- ---- a line that is not blank
 
 some_byte : (text : List ℕ) → (line_of text ≡ Blank → ⊥) → 0 < length text
@@ -164,7 +171,7 @@ cost_has_bytes text cost is = some_byte text (λ blank. absurd (cc))
 
 wrong_is_not_blank : (line : Line) (wrong : LineError) → IsWrong line wrong → line ≡ Blank → ⊥
 wrong_is_not_blank line bad.Unknown is blank = absurd (cc)
-wrong_is_not_blank line bad.BadNumber is blank = subst HasBadNumber blank is
+wrong_is_not_blank line bad.BadNumber is blank = subst HasNoNumber blank is
 
 pub wrong_has_bytes : (text : List ℕ) (wrong : LineError) → IsWrong (line_of text) wrong → 0 < length text
 wrong_has_bytes text wrong is = some_byte text (wrong_is_not_blank (line_of text) wrong is)

@@ -14,7 +14,7 @@ use Rattle.vrp_model.specs.Route.{load_of}
 use Rattle.vrp_model.specs.Word.{stands_in}
 use Rattle.vrp_model.specs.declared.limits.TheConstants.{MAX_CAPACITY, MAX_NODES}
 use Rattle.vrp_model.proofs.DistinctWithin.{sum_among}
-use Rattle.vrp_solution.specs.Inner.Listing.{AreCustomers}
+use Rattle.vrp_solution.specs.Solution.{AreCustomers}
 use Rattle.vrp_solution.specs.Inner.Served.{AreDifferent, Marks, StandsTwice}
 
 -- ---- what stands where
@@ -71,11 +71,12 @@ pub passed_more : (passed stops : List ℕ) (i : ℕ) → i < length stops → (
 passed_more passed stops i here = append_assoc passed (take i stops) (get_or stops i 0 ∷ []) ∙ ap (λ (l : List ℕ). passed ++ l) (sym (take_more stops i 0 here))
 
 -- a stop that is marked already
-pub marked_twice : (flags : List Bool) (passed stops : List ℕ) (i k : ℕ) → Marks flags (passed ++ take i stops) → i < length stops → k ≡ get_or stops i 0 → k < length flags → get_or flags k false ≡ true → StandsTwice passed stops (get_or stops i 0)
-marked_twice flags passed stops i k marks here is within marked = record {
+pub marked_twice : (flags : List Bool) (passed stops : List ℕ) (i k : ℕ) → Marks flags (passed ++ take i stops) → AreDifferent (passed ++ take i stops) → i < length stops → k ≡ get_or stops i 0 → k < length flags → get_or flags k false ≡ true → StandsTwice passed stops (get_or stops i 0)
+marked_twice flags passed stops i k marks different here is within marked = record {
   before = take i stops;
   behind = drop (suc i) stops;
   stands = split_at stops i 0 here;
+  once = different;
   again = subst (Contains (passed ++ take i stops)) is (stands_contains (passed ++ take i stops) k (sym (marks k within) ∙ marked));
 }
 

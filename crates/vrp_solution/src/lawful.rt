@@ -3,7 +3,8 @@ ghost use Rattle.std.specs.Prelude.{◌≡◌, ◌<◌, ◌++◌, All, Contains,
 ghost use Rattle.vrp_model.specs.Problem.{customers, place_count};
 ghost use Rattle.vrp_model.specs.Route.{IsLawful, IsPlanOf};
 ghost use Rattle.vrp_model.specs.Word.{word_of};
-ghost use Rattle.vrp_solution.specs.Inner.Listing.{AreCustomers, given_routes};
+ghost use Rattle.vrp_solution.specs.Inner.Listing.{given_routes};
+ghost use Rattle.vrp_solution.specs.Solution.{AreCustomers};
 ghost use Rattle.vrp_solution.specs.Inner.Ordered.{AreOrdered, AreRoutesOf, turned};
 ghost use Rattle.vrp_solution.specs.Inner.Served.{AreDifferent, AreFaulty, AreServed, Marks, StandsTwice};
 
@@ -140,7 +141,8 @@ fn first_unserved(instance: &Instance, served: &[bool]) -> Option<u16>
     ensures { MatchOption result
         (All (λ k. slice_index_or served.now k false ≡ true) (customers instance.now))
         (λ customer. Contains (customers instance.now) customer
-        × (slice_index_or served.now customer false ≡ false)) }
+        × (slice_index_or served.now customer false ≡ false)
+        × ((k : ℕ) → 0 < k → k < customer → slice_index_or served.now k false ≡ true)) }
 {
     for customer in 1..instance.customers() + 1 {
         if !served[usize::from(customer)] {

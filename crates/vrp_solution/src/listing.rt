@@ -2,7 +2,8 @@
 ghost use Rattle.std.specs.Prelude.{◌≡◌, ◌≢◌, ◌+◌, ◌<◌, ◌↔◌, ℕ, List, [], ◌∷◌, ◌++◌, IfErr, IfOk, IsTrue, OnOk, Ok, Some, length, map, pos};
 ghost use Rattle.vrp_solution.specs.Line.{Line, line_of, lines_of};
 ghost use Rattle.vrp_solution.specs.Solution.{HaveFault, IsRefusedFor};
-ghost use Rattle.vrp_solution.specs.Inner.Listing.{AreCustomers, IsCostAdded, IsRouteAdded, IsStopFault, Keeps, fault_at};
+ghost use Rattle.vrp_solution.specs.Inner.Listing.{IsCostAdded, IsRouteAdded, IsStopFault, Keeps, fault_at};
+ghost use Rattle.vrp_solution.specs.Solution.{AreCustomers};
 ghost use Rattle.vrp_solution.specs.Inner.Read.{number_stated, stops_written};
 
 use crate::error::SolutionError;
@@ -132,7 +133,10 @@ fn read_stops(
 {
     let mut stops = Vec::new(alloc);
     while let Some(token) = tokens.next() {
-        let customer = whole(token, -MAX_NUMBER).map_err(|error| refused(line, error))?;
+        let customer = match whole(token, -MAX_NUMBER) {
+            Ok(customer) => customer,
+            Err(error) => return Err(refused(line, error)),
+        };
         if customer < 1 || i64::from(instance.customers()) < customer {
             return Err(SolutionError::NotACustomer { route, customer });
         }

@@ -1,7 +1,7 @@
 //! A route of a solution: its number and its stops.
 ghost use Rattle.std.specs.Prelude.{◌≡◌, ◌<◌, ◌∷◌, ◌++◌, [], IsTrue, OnOk, length};
 ghost use Rattle.vrp_model.specs.Route.{load_of};
-ghost use Rattle.vrp_solution.specs.Inner.Listing.{AreCustomers};
+ghost use Rattle.vrp_solution.specs.Solution.{AreCustomers};
 ghost use Rattle.vrp_solution.specs.Inner.Ordered.{start_of, turned};
 ghost use Rattle.vrp_solution.specs.Inner.Served.{AreDifferent};
 

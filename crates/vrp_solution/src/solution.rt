@@ -22,9 +22,7 @@ impl Solution {
     /// Reads a solution of an instance, as CVRPLIB writes it: for each route a line `Route #1: 5 2` and a line `Cost 521`. Customers
     /// have the numbers of their places: from 1 on by rising node, the depot left out. Lines end with a line feed, before which a
     /// carriage return may stand, or with the text. A line of the cost may be missing, and so may a route's stops. Where the plan is
-    /// not lawful, the error says why.
-    ///
-    /// Where several things are wrong, which of them is told is left open.
+    /// not lawful, the error says why: it is the first thing that is wrong, line by line and then route by route.
     pub fn read(alloc: Global, text: &[u8], instance: &Instance) -> Result<Solution, SolutionError>
         ensures read { IfOk result (λ solution. GivesPlan instance.now text.now solution.plan) }
         ensures lawful { IfOk result (λ solution. IsPlanOf instance.now solution.plan) }

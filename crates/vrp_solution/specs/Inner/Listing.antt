@@ -1,9 +1,9 @@
 -- What is kept of the lines of a text while they are read.
-use Rattle.std.specs.Prelude.{◌≡◌, ◌≢◌, ◌⊎◌, ℕ, ℤ, pos, Option, Some, None, Ok, IsErr, List, [], ◌∷◌, ◌++◌, Any, filter, map}
+use Rattle.std.specs.Prelude.{◌≡◌, ◌≢◌, ◌⊎◌, ℕ, ℤ, pos, Option, Some, None, Ok, IsErr, List, [], ◌∷◌, ◌++◌, filter, map}
 use Rattle.std.specs.List.{All, Contains}
 use Rattle.vrp_model.specs.Problem.{Problem, customers}
 use Rattle.vrp_solution.specs.Line.{Cost, Line, Number}
-use Rattle.vrp_solution.specs.Solution.{GivenRoute, IsSaid, is_cost, is_route, line_of_route, with_stops}
+use Rattle.vrp_solution.specs.Solution.{AreCustomers, FollowsCustomers, GivenRoute, IsSaid, is_cost, is_route, line_of_route, with_stops}
 use Rattle.vrp_solution.specs.Inner.Read.{number_stated}
 use Rattle.vrp_solution.specs.declared.error.SolutionError.{SolutionError}
 use Rattle.vrp_solution.specs.declared.error.SolutionError.TheVariants as error
@@ -24,10 +24,6 @@ abbrev pub cost_lines : Option StatedCost → List Line
 cost_lines None = []
 cost_lines (Some cost) = Cost (number_stated cost) ∷ []
 
--- all stops are customers
-abbrev pub AreCustomers : Problem → List ℕ → Type 0
-AreCustomers p stops = All (Contains (customers p)) stops
-
 -- nothing is wrong with these lines, and this is what they list
 pub record Keeps (p : Problem) (lines : List Line) (listing : Listing) : Type 0 where
   pub said : All IsSaid lines
@@ -37,11 +33,11 @@ pub record Keeps (p : Problem) (lines : List Line) (listing : Listing) : Type 0 
   pub kept : given_routes listing.routes.items ≡ with_stops given
   pub customers : All (λ route. AreCustomers p route.stops) (given_routes listing.routes.items)
 
--- a stop is no whole number, or no customer
+-- a stop behind customers is no whole number, or no customer
 abbrev pub IsStopFault : Problem → ℕ → ℕ → List Number → SolutionError → Type 0
 IsStopFault p line route stops fault =
-    ((fault ≡ error.BadNumber line) × Any IsErr stops)
-    ⊎ ((stop : ℤ) × (fault ≡ error.NotACustomer route stop) × Contains stops (Ok stop) × ((customer : ℕ) → Contains (customers p) customer → stop ≢ pos customer))
+    ((fault ≡ error.BadNumber line) × ((bad : Number) × IsErr bad × FollowsCustomers p stops bad))
+    ⊎ ((stop : ℤ) × (fault ≡ error.NotACustomer route stop) × FollowsCustomers p stops (Ok stop) × ((customer : ℕ) → Contains (customers p) customer → stop ≢ pos customer))
 
 -- a cost is stated for the first time
 pub record IsCostAdded (cost : StatedCost) (old new : Listing) : Type 0 where

@@ -1,9 +1,8 @@
 -- What is answered of a line, and what the line says.
-use Rattle.std.specs.Prelude.{◌≡◌, ℕ, pos, neg_ℤ, Result, Ok, Err, List, map}
+use Rattle.std.specs.Prelude.{◌≡◌, ℕ, pos, neg_ℤ, Result, Ok, Err, IsErr, List, map}
 use Rattle.vrp_lexer.specs.Numeral.{number_of}
-use Rattle.vrp_lexer.specs.declared.fault.FaultyLine.TheVariants.{NotWhole}
+use Rattle.vrp_lexer.specs.declared.fault.FaultyLine.TheVariants.{BadNumber, NotWhole}
 use Rattle.vrp_solution.specs.Line.{Blank, Cost, Line, Number, Route, Unknown}
-use Rattle.vrp_solution.specs.Solution.{HasBadNumber}
 use Rattle.vrp_solution.specs.declared.line.TheConstants.{MAX_NUMBER}
 use Rattle.vrp_solution.specs.declared.line.LineError.{LineError}
 use Rattle.vrp_solution.specs.declared.line.LineError.TheVariants as fault
@@ -17,10 +16,17 @@ abbrev pub number_stated : StatedCost → Number
 number_stated (Whole cost) = Ok (pos cost)
 number_stated Fraction = Err NotWhole
 
+-- a cost that is no number, or a route whose number is none
+abbrev pub HasNoNumber : Line → Type 0
+HasNoNumber Blank = ⊥
+HasNoNumber (Route number stops) = IsErr number
+HasNoNumber (Cost cost) = cost ≡ Err BadNumber
+HasNoNumber Unknown = ⊥
+
 -- what is wrong with a line
 abbrev pub IsWrong : Line → LineError → Type 0
 IsWrong line fault.Unknown = line ≡ Unknown
-IsWrong line fault.BadNumber = HasBadNumber line
+IsWrong line fault.BadNumber = HasNoNumber line
 
 -- what is read of the tokens behind the word of a cost
 abbrev pub IsCostRead : Line → Result StatedCost LineError → Type 0

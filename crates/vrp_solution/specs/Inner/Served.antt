@@ -15,11 +15,12 @@ AreDifferent stops = AllPairs (λ a b. a ≢ b) stops
 abbrev pub Marks : List Bool → List ℕ → Type 0
 Marks flags stops = (k : ℕ) → k < length flags → slice_index_or flags k false ≡ stands_in stops k
 
--- a stop stands among those that were passed, or earlier among these
+-- the first stop that stands among those that were passed, or earlier among these
 pub record StandsTwice (passed stops : List ℕ) (stop : ℕ) : Type 0 where
   pub before : List ℕ
   pub behind : List ℕ
   pub stands : stops ≡ before ++ stop ∷ behind
+  pub once : AreDifferent (passed ++ before)
   pub again : Contains (passed ++ before) stop
 
 -- nothing is wrong with these routes, and the flags tell whom they serve
@@ -35,7 +36,7 @@ AreFaulty p routes (error.UnknownLine line) = ⊥
 AreFaulty p routes (error.BadNumber line) = ⊥
 AreFaulty p routes (error.RepeatedCost line) = ⊥
 AreFaulty p routes (error.NotACustomer route customer) = ⊥
-AreFaulty p routes (error.ServedTwice route customer) = IsServedTwice routes route customer
+AreFaulty p routes (error.ServedTwice route customer) = IsServedTwice p routes route customer
 AreFaulty p routes (error.NotServed customer) = IsNotServed p routes customer
 AreFaulty p routes (error.Overloaded route load capacity) = IsOverloaded p routes route load capacity
 AreFaulty p routes (error.TooManyRoutes count) = AreTooMany p routes count

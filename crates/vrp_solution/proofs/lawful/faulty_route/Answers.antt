@@ -1,7 +1,7 @@
 use Rattle.std.proofs.Common.{get_or, take, subst, sym, arith}
 use Rattle.std.specs.List.{concat}
 use Rattle.vrp_model.proofs.CustomerPlaces.{customer_below}
-use Rattle.vrp_solution.specs.Inner.Listing.{AreCustomers}
+use Rattle.vrp_solution.specs.Solution.{AreCustomers}
 use Rattle.vrp_solution.specs.declared.route.Route.{Route}
 use Rattle.vrp_solution.proofs.FaultyRoutes.{different_stops, one_more_served, overloaded, served_twice, stops_in}
 use Rattle.vrp_solution.proofs.lawful.faulty_route.Goals as goal
@@ -18,7 +18,7 @@ pub returns-in-Some : goal.returns-in-Some
 returns-in-Some c =
     let i = c.loop-route.route-index in
     let passed = concat (stops_in (take i c.args.routes.now)) in
-    served_twice c.args.routes.now i c.route-item.result c.deref.result.now c.in-Some.customer c.loop-route-test.true c.route-item.is c.deref.ensures.value (c.in-Some.ensures passed c.loop-route.invariant.marks c.loop-route.invariant.once)
+    served_twice c.args.instance.now c.loop-route.served c.args.routes.now i c.route-item.result c.deref.result.now c.in-Some.customer c.loop-route-test.true c.route-item.is c.deref.ensures.value c.loop-route.invariant (c.in-Some.ensures passed c.loop-route.invariant.marks c.loop-route.invariant.once)
 
 pub load-load-requires-clause-customers : goal.load-load-requires-clause-customers
 load-load-requires-clause-customers c =
@@ -31,7 +31,10 @@ load-load-requires-clause-once c =
 
 pub returns-then-capacity-load : goal.returns-then-capacity-load
 returns-then-capacity-load c =
-    overloaded c.args.instance.now c.args.routes.now c.loop-route.route-index c.route-item.result c.load-load.result c.capacity-capacity.result c.loop-route-test.true c.route-item.is c.load-load.ensures c.capacity-capacity.ensures.value c.if-capacity-load.true
+    let passed = concat (stops_in (take c.loop-route.route-index c.args.routes.now)) in
+    let different = (c.in_default.ensures passed c.loop-route.invariant.marks c.loop-route.invariant.once).1 in
+    overloaded c.args.instance.now c.loop-route.served c.args.routes.now c.loop-route.route-index c.route-item.result c.deref.result.now c.load-load.result c.capacity-capacity.result c.loop-route-test.true c.route-item.is c.deref.ensures.value c.loop-route.invariant
+    different c.load-load.ensures c.capacity-capacity.ensures.value c.if-capacity-load.true
 
 pub loop-route-preserved : goal.loop-route-preserved
 loop-route-preserved c =

@@ -9,6 +9,7 @@ pub returns-then-not-served-from : goal.returns-then-not-served-from
 returns-then-not-served-from c = (
   is_customer c.args.instance.now c.loop-customer.customer (omega (arith, c.loop-customer.auto.customer)) (omega (arith, c.loop-customer-test.true, c.customers-customer-end.ensures.value)),
   ap (λ (k : ℕ). get_or c.args.served.now k false) (sym c.from.ensures) ∙ c.if-not-served-from.true,
+  c.loop-customer.invariant,
 )
 
 pub returns : goal.returns

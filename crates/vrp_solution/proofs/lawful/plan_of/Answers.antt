@@ -4,7 +4,7 @@ use Rattle.std.proofs.lemmas.List.Elements.{All-map, All-weaker}
 use Rattle.vrp_model.specs.Problem.{place_count}
 use Rattle.vrp_model.proofs.CustomerPlaces.{customer_is_some}
 use Rattle.vrp_model.proofs.Words.{IsStops, is_stop}
-use Rattle.vrp_solution.specs.Inner.Listing.{AreCustomers}
+use Rattle.vrp_solution.specs.Solution.{AreCustomers}
 use Rattle.vrp_solution.specs.declared.route.Route.{Route}
 use Rattle.vrp_solution.proofs.AnsweredPlans.{if_both, if_none}
 use Rattle.vrp_solution.proofs.OrderedRoutes.{routes_of_plan, word_is_lawful}

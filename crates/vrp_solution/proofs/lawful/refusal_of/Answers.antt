@@ -1,4 +1,4 @@
-use Rattle.std.proofs.Common.{◌≡◌, ◌∙◌, ℕ, Bool, false, true, List, ◌++◌, length, get_or, take, drop, subst, sym, arith}
+use Rattle.std.proofs.Common.{◌<◌, ◌≡◌, ◌∙◌, ℕ, Bool, false, true, List, ◌++◌, length, get_or, take, drop, subst, sym, arith}
 use Rattle.std.specs.List.{All}
 use Rattle.std.proofs.Math.Seq.{take-append_seam}
 use Rattle.vrp_model.specs.Problem.{customers}
@@ -24,7 +24,7 @@ returns c =
       | in-Some-first_unserved w ↦
           let told = w.in-Some-first_unserved.ensures in
           subst (AreFaulty p (given_routes routes)) (sym w.result-is)
-          (not_served p routes new w.in-Some-first_unserved.customer served told.0 (subst (λ (l : List Bool). get_or l w.in-Some-first_unserved.customer false ≡ false) flags told.1))
+          (not_served p routes new w.in-Some-first_unserved.customer served told.0 (subst (λ (l : List Bool). get_or l w.in-Some-first_unserved.customer false ≡ false) flags told.1) (subst (λ (l : List Bool). (k : ℕ) → 0 < k → k < w.in-Some-first_unserved.customer → get_or l k false ≡ true) flags told.2))
       | in-None w ↦
           subst (AreFaulty p (given_routes routes)) (sym w.result-is)
           (too_many p routes new served c.requires.customers c.requires.stops (subst (λ (l : List Bool). All (λ k. get_or l k false ≡ true) (customers p)) flags w.in-None.ensures) c.requires.refused)

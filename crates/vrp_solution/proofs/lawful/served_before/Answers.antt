@@ -9,7 +9,8 @@ pub returns-then-served-place : goal.returns-then-served-place
 returns-then-served-place c = λ passed marks different.
     let i = c.loop-stop.stop-index in
     let within : c.from-place.result < length c.loop-stop.served = omega (arith, c.requires i 0 c.loop-stop-test.true, c.from-place.ensures, c.loop-stop.auto.served) in
-    marked_twice c.loop-stop.served passed c.args.stops.now i c.from-place.result (c.loop-stop.invariant passed marks different).0 c.loop-stop-test.true c.from-place.ensures within c.if-served-place.true
+    let so_far = c.loop-stop.invariant passed marks different in
+    marked_twice c.loop-stop.served passed c.args.stops.now i c.from-place.result so_far.0 so_far.1 c.loop-stop-test.true c.from-place.ensures within c.if-served-place.true
 
 pub loop-stop-preserved : goal.loop-stop-preserved
 loop-stop-preserved c = λ passed marks different.

@@ -1,5 +1,5 @@
 use Rattle.std.proofs.Common.{◌≡◌, ◌++◌, Ok, length, map, pos}
-use Rattle.vrp_solution.specs.Inner.Listing.{AreCustomers}
+use Rattle.vrp_solution.specs.Solution.{AreCustomers}
 use Rattle.vrp_solution.specs.Inner.Read.{stops_written}
 use Rattle.vrp_solution.proofs.listing.read_stops.Given as goal
 

@@ -13,7 +13,7 @@ returns-in_err-stops-in-Ok-Route-clause-refused c =
     let written = stops_written c.in-Ok-Route.stops in
     let exit = err_from_is_err_and c.from_residual.result c.from_residual.ensures.1 in
     rw (exit.1, exit.2) (λ differs lines more keeps numbered.
-    stop_fault p lines more (line_of text) c.args.number c.in-Ok-Route.route written _ (rw c.in-Ok-Route.field-0-is at c.in-Ok-Route.ensures) (numbered (route_has_bytes text (Ok (pos c.in-Ok-Route.route)) written (rw c.in-Ok-Route.field-0-is at c.in-Ok-Route.ensures))) (c.in_err-stops-in-Ok-Route.ensures.refused differs))
+    stop_fault p lines more (line_of text) c.args.self.now c.args.number c.in-Ok-Route.route written _ keeps (rw c.in-Ok-Route.field-0-is at c.in-Ok-Route.ensures) (numbered (route_has_bytes text (Ok (pos c.in-Ok-Route.route)) written (rw c.in-Ok-Route.field-0-is at c.in-Ok-Route.ensures))) (c.in_err-stops-in-Ok-Route.ensures.refused differs))
 
 pub returns-in-Ok-Cost-clause-added : goal.returns-in-Ok-Cost-clause-added
 returns-in-Ok-Cost-clause-added c =
@@ -38,4 +38,4 @@ returns-in-Err-clause-refused c =
     let p = c.args.instance.now in
     let text = c.args.text.now in
     λ differs lines more keeps numbered.
-    subst (HaveFault p (lines ++ line_of text ∷ more)) (sym c.refused.ensures) (wrong_line p lines more (line_of text) c.args.number c.in-Err.error (numbered (wrong_has_bytes text c.in-Err.error c.in-Err.ensures)) c.in-Err.ensures)
+    subst (HaveFault p (lines ++ line_of text ∷ more)) (sym c.refused.ensures) (wrong_line p lines more (line_of text) c.args.self.now c.args.number c.in-Err.error keeps (numbered (wrong_has_bytes text c.in-Err.error c.in-Err.ensures)) c.in-Err.ensures)

@@ -1,6 +1,6 @@
 use Rattle.std.proofs.Common.{get_or, subst, sym, arith}
 use Rattle.vrp_model.proofs.CustomerPlaces.{customer_below}
-use Rattle.vrp_solution.specs.Inner.Listing.{AreCustomers}
+use Rattle.vrp_solution.specs.Solution.{AreCustomers}
 use Rattle.vrp_solution.specs.Inner.Served.{AreDifferent}
 use Rattle.vrp_solution.proofs.ServedStops.{load_fits}
 use Rattle.vrp_solution.proofs.route.Route.load.Goals as goal
