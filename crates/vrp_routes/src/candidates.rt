@@ -81,12 +81,15 @@ impl Candidates {
         ensures keyed { OnOk result (IsKeyed self.new) }
         ensures share { OnOk result (self.new.share ≡ self.old.share) }
     {
+        let share = self.share;
+        let mut rest = 1 % share.shares;
         for stop in 1..setting.places() {
-            if self.share.has(stop) {
+            if rest == share.rest {
                 if let Some(extended) = setting.extended(label, stop, parent) {
                     self.offer(extended)?;
                 }
             }
+            rest = share.next_rest(rest);
         }
         Ok(())
     }

@@ -1,5 +1,5 @@
 //! Which customers a worker extends labels by.
-ghost use Rattle.std.specs.Prelude.{◌≡◌, ◌<◌};
+ghost use Rattle.std.specs.Prelude.{◌≡◌, ◌+◌, ◌%◌, ◌<◌, ℕ};
 
 /// One of so many shares of the customers: those whose number leaves this rest.
 #[derive(Clone, Copy, Debug)]
@@ -10,13 +10,15 @@ pub struct Share {
 }
 
 impl Share {
-    ghost use Rattle.vrp_routes.specs.Share.{is_in};
-
-    /// Whether a customer is in it.
+    /// The rest of the customer behind one with this rest.
+    // Counted on, since a division for each customer would take most of the time.
     #[inline(always)]
-    pub fn has(&self, customer: u16) -> bool
-        ensures { result ≡ is_in self.now customer }
+    pub fn next_rest(&self, rest: u16) -> u16
+        requires { rest < self.now.shares }
+        ensures { (customer : ℕ) → rest ≡ customer % self.now.shares
+            → result ≡ (customer + 1) % self.now.shares }
     {
-        customer % self.shares == self.rest
+        let last = self.shares - 1;
+        if rest == last { 0 } else { rest + 1 }
     }
 }
