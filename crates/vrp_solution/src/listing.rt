@@ -36,8 +36,6 @@ impl Listing {
             routes: Vec::new(alloc),
             cost: None,
         };
-        // The length comes with a bound: a u64 numbers all lines that are not blank.
-        let _length = text.len();
         let mut rest = text;
         let mut number = 1u64;
         while let Some((line, behind)) = parted(rest, b'\n') {
