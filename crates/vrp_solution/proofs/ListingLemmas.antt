@@ -8,9 +8,8 @@ use Rattle.std.proofs.lemmas.List.Elements.{All-append, All-cons, All-filter, Al
 use Rattle.std.proofs.lemmas.Option.{get_or_from_slice_get, slice_get_within}
 use Rattle.vrp_model.specs.Problem.{Problem}
 use Rattle.vrp_solution.specs.Line.{Blank, Cost, Line, Number, Route, Unknown, line_of}
-use Rattle.vrp_solution.specs.Solution.{GivenRoute, HasBadNumber, HaveFault, IsFirstAtFault, IsRepeatedCost, IsSaid, ListRoutes, is_cost, is_route, line_of_route, with_stops}
+use Rattle.vrp_solution.specs.Solution.{AreCustomers, GivenRoute, HasBadNumber, HaveFault, IsFirstAtFault, IsRepeatedCost, IsSaid, ListRoutes, is_cost, is_route, line_of_route, with_stops}
 use Rattle.vrp_solution.specs.Inner.Listing.{IsCostAdded, IsRouteAdded, IsStopFault, Keeps, cost_lines, fault_at, given_routes}
-use Rattle.vrp_solution.specs.Solution.{AreCustomers}
 use Rattle.vrp_solution.specs.Inner.Read.{HasNoNumber, IsWrong, number_stated}
 use Rattle.vrp_solution.specs.declared.error.SolutionError.{SolutionError}
 use Rattle.vrp_solution.specs.declared.line.LineError.{LineError}
