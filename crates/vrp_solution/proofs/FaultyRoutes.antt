@@ -9,9 +9,8 @@ use Rattle.vrp_model.specs.Route.{IsLawful, OverloadsNoTruck, load_of}
 use Rattle.vrp_model.proofs.CustomerPlaces.{customer_below, customer_is_some}
 use Rattle.vrp_model.proofs.DistinctLists.{customers_distinct, same_elements}
 use Rattle.vrp_solution.specs.Line.{Line}
-use Rattle.vrp_solution.specs.Solution.{AreSound, AreTooMany, HaveFault, IsFirstRoute, IsNotServed, IsOverloaded, IsServedTwice}
+use Rattle.vrp_solution.specs.Solution.{AreCustomers, AreSound, AreTooMany, HaveFault, IsFirstRoute, IsNotServed, IsOverloaded, IsServedTwice}
 use Rattle.vrp_solution.specs.Inner.Listing.{Keeps, given_route, given_routes}
-use Rattle.vrp_solution.specs.Solution.{AreCustomers}
 use Rattle.vrp_solution.specs.Inner.Served.{AreDifferent, AreFaulty, AreServed, Marks, StandsTwice}
 use Rattle.vrp_solution.specs.declared.error.SolutionError.{SolutionError}
 use Rattle.vrp_solution.specs.declared.error.SolutionError.TheVariants as error

@@ -8,9 +8,8 @@ use Rattle.std.proofs.lemmas.List.Elements.{All-append, All-cons, All-filter, Al
 use Rattle.std.proofs.lemmas.Option.{get_or_from_slice_get, slice_get_within}
 use Rattle.vrp_model.specs.Problem.{Problem}
 use Rattle.vrp_solution.specs.Line.{Blank, Cost, Line, Number, Route, Unknown, line_of}
-use Rattle.vrp_solution.specs.Solution.{GivenRoute, HasBadNumber, HaveFault, IsFirstAtFault, IsRepeatedCost, IsSaid, ListRoutes, is_cost, is_route, line_of_route, with_stops}
+use Rattle.vrp_solution.specs.Solution.{AreCustomers, GivenRoute, HasBadNumber, HaveFault, IsFirstAtFault, IsRepeatedCost, IsSaid, ListRoutes, is_cost, is_route, line_of_route, with_stops}
 use Rattle.vrp_solution.specs.Inner.Listing.{IsCostAdded, IsRouteAdded, IsStopFault, Keeps, cost_lines, fault_at, given_routes}
-use Rattle.vrp_solution.specs.Solution.{AreCustomers}
 use Rattle.vrp_solution.specs.Inner.Read.{HasNoNumber, IsWrong, number_stated}
 use Rattle.vrp_solution.specs.declared.error.SolutionError.{SolutionError}
 use Rattle.vrp_solution.specs.declared.line.LineError.{LineError}
@@ -75,7 +74,11 @@ wrong_line p before behind line listing number bad.Unknown keeps is has =
     subst (λ (l : Line). IsFirstAtFault p (before ++ l ∷ behind) number Unknown) (sym has) (first_here p before behind Unknown listing number keeps is)
 wrong_line p before behind line listing number bad.BadNumber keeps is has = (line, first_here p before behind line listing number keeps is, bad_number p line has)
 
-pub repeated_cost : (p : Problem) (before behind : List Line) (line : Line) (listing : Listing) (number : ℕ) (first : StatedCost) (cost : Number) → Keeps p before listing → listing.cost ≡ Some first → line ≡ Cost cost → number ≡ length before + 1
+stated_is_said : (cost : StatedCost) → IsSaid (Cost (number_stated cost))
+stated_is_said (Whole cost) = λ is. absurd (cc)
+stated_is_said Fraction = λ is. absurd (cc)
+
+pub repeated_cost : (p : Problem) (before behind : List Line) (line : Line) (listing : Listing) (number : ℕ) (first cost : StatedCost) → Keeps p before listing → listing.cost ≡ Some first → line ≡ Cost (number_stated cost) → number ≡ length before + 1
     → IsRepeatedCost p (before ++ line ∷ behind) number
 unfolding first_here
 repeated_cost p before behind line listing number first cost keeps stated is numbered =
@@ -83,8 +86,9 @@ repeated_cost p before behind line listing number first cost keeps stated is num
     let there = kept_stands is_cost before [] earlier (keeps.costs ∙ ap cost_lines stated) in
     subst (λ (l : Line). IsRepeatedCost p (before ++ l ∷ behind) number) (sym is)
     (record {
-      cost = cost;
-      first = first_here p before behind (Cost cost) listing number keeps numbered;
+      cost = number_stated cost;
+      first = first_here p before behind (Cost (number_stated cost)) listing number keeps numbered;
+      said = stated_is_said cost;
       other = number_stated first;
       earlier = (there.0, slice_get_within before there.0 earlier there.1, get_or_from_slice_get before there.0 earlier earlier there.1);
     })
@@ -120,10 +124,6 @@ keep_nothing p lines line listing is keeps =
       kept = keeps.kept;
       customers = keeps.customers;
     })
-
-stated_is_said : (cost : StatedCost) → IsSaid (Cost (number_stated cost))
-stated_is_said (Whole cost) = λ is. absurd (cc)
-stated_is_said Fraction = λ is. absurd (cc)
 
 pub keep_cost : (p : Problem) (lines : List Line) (line : Line) (cost : StatedCost) (old new : Listing) → line ≡ Cost (number_stated cost) → IsCostAdded cost old new → Keeps p lines old → Keeps p (lines ++ line ∷ []) new
 keep_cost p lines line cost old new is added keeps =

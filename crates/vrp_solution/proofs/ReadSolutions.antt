@@ -12,9 +12,8 @@ use Rattle.vrp_model.specs.Problem.{Problem}
 use Rattle.vrp_model.specs.Route.{IsPlanOf, PricedPlan}
 use Rattle.vrp_model.proofs.DistinctLists.{behind_head}
 use Rattle.vrp_solution.specs.Line.{Cost, Line, Number, lines_of}
-use Rattle.vrp_solution.specs.Solution.{GivenRoute, GivesPlan, StatesOtherCost, is_cost, stops_of}
+use Rattle.vrp_solution.specs.Solution.{AreCustomers, GivenRoute, GivesPlan, StatesOtherCost, is_cost, stops_of}
 use Rattle.vrp_solution.specs.Inner.Listing.{Keeps, cost_lines, given_route, given_routes}
-use Rattle.vrp_solution.specs.Solution.{AreCustomers}
 use Rattle.vrp_solution.specs.Inner.Ordered.{AreRoutesOf}
 use Rattle.vrp_solution.specs.Inner.Read.{number_stated}
 use Rattle.vrp_solution.specs.declared.line.StatedCost.{StatedCost}

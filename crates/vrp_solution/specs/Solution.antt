@@ -81,24 +81,25 @@ pub record IsFirstAtFault (p : Problem) (lines : List Line) (number : ℕ) (line
   pub routes : List GivenRoute
   pub sound : ListRoutes p before routes
 
--- this is the first of a route's stops that is no number of a customer, or stands behind such
+-- this is one of a route's stops, and all before it are customers
 pub record FollowsCustomers (p : Problem) (stops : List Number) (next : Number) : Type 0 where
   pub passed : List ℕ
   pub behind : List Number
   pub stands : stops ≡ map (λ stop. Ok (pos stop)) passed ++ next ∷ behind
   pub customers : AreCustomers p passed
 
--- a cost that is no number, or a route with something else where a whole number should stand, behind stops that are customers
+-- A cost that is no number, or a route whose number is not whole, or one of its stops, where all before it are customers.
 abbrev pub HasBadNumber : Problem → Line → Type 0
 HasBadNumber p Blank = ⊥
 HasBadNumber p (Route number stops) = IsErr number ⊎ ((bad : Number) × IsErr bad × FollowsCustomers p stops bad)
 HasBadNumber p (Cost cost) = cost ≡ Err BadNumber
 HasBadNumber p Unknown = ⊥
 
--- a line states a cost, and so does an earlier one
+-- a line states a cost, which is a number, and so does an earlier one
 pub record IsRepeatedCost (p : Problem) (lines : List Line) (number : ℕ) : Type 0 where
   pub cost : Number
   pub first : IsFirstAtFault p lines number (Cost cost)
+  pub said : cost ≢ Err BadNumber
   pub other : Number
   pub earlier : Contains first.before (Cost other)
 
@@ -115,7 +116,7 @@ pub record AreSound (p : Problem) (routes : List GivenRoute) : Type 0 where
   pub once : AllPairs (λ a b. a ≢ b) (concat (stops_of routes))
   pub fits : OverloadsNoTruck p (stops_of routes)
 
--- this route has the number, and nothing is wrong with those before it
+-- a route with this number stands behind these, with which nothing is wrong
 pub record IsFirstRoute (p : Problem) (routes : List GivenRoute) (number : ℕ) (earlier : List GivenRoute) (route : GivenRoute) : Type 0 where
   pub later : List GivenRoute
   pub stands : routes ≡ earlier ++ route ∷ later

@@ -1,9 +1,8 @@
 //! The routes that a text lists, and the cost that it states.
 ghost use Rattle.std.specs.Prelude.{◌≡◌, ◌≢◌, ◌+◌, ◌<◌, ◌↔◌, ℕ, List, [], ◌∷◌, ◌++◌, IfErr, IfOk, IsTrue, OnOk, Ok, Some, length, map, pos};
 ghost use Rattle.vrp_solution.specs.Line.{Line, line_of, lines_of};
-ghost use Rattle.vrp_solution.specs.Solution.{HaveFault, IsRefusedFor};
+ghost use Rattle.vrp_solution.specs.Solution.{AreCustomers, HaveFault, IsRefusedFor};
 ghost use Rattle.vrp_solution.specs.Inner.Listing.{IsCostAdded, IsRouteAdded, IsStopFault, Keeps, fault_at};
-ghost use Rattle.vrp_solution.specs.Solution.{AreCustomers};
 ghost use Rattle.vrp_solution.specs.Inner.Read.{number_stated, stops_written};
 
 use crate::error::SolutionError;
@@ -36,8 +35,6 @@ impl Listing {
             routes: Vec::new(alloc),
             cost: None,
         };
-        // The length comes with a bound: a u64 numbers all lines that are not blank.
-        let _length = text.len();
         let mut rest = text;
         let mut number = 1u64;
         while let Some((line, behind)) = parted(rest, b'\n') {

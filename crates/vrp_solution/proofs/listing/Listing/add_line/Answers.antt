@@ -25,7 +25,7 @@ returns-in-Ok-Cost-clause-refused c =
     let text = c.args.text.now in
     let cost = number_stated c.in-Ok-Cost.cost in
     if_err c.add_cost.result _ _ (λ refused told differs lines more keeps numbered.
-    subst (HaveFault p (lines ++ line_of text ∷ more)) (sym told.0) (repeated_cost p lines more (line_of text) c.args.self.now c.args.number told.1.0 cost keeps told.1.1 (rw c.in-Ok-Cost.field-0-is at c.in-Ok-Cost.ensures) (numbered (cost_has_bytes text cost (rw c.in-Ok-Cost.field-0-is at c.in-Ok-Cost.ensures))))) c.add_cost.ensures.refused
+    subst (HaveFault p (lines ++ line_of text ∷ more)) (sym told.0) (repeated_cost p lines more (line_of text) c.args.self.now c.args.number told.1.0 c.in-Ok-Cost.cost keeps told.1.1 (rw c.in-Ok-Cost.field-0-is at c.in-Ok-Cost.ensures) (numbered (cost_has_bytes text cost (rw c.in-Ok-Cost.field-0-is at c.in-Ok-Cost.ensures))))) c.add_cost.ensures.refused
 
 pub returns-in_ok-stops-in-Ok-Route-clause-added : goal.returns-in_ok-stops-in-Ok-Route-clause-added
 returns-in_ok-stops-in-Ok-Route-clause-added c =
