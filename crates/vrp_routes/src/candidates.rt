@@ -13,8 +13,8 @@ use std::alloc::Global;
 use std::collections::HashMap;
 use vrp_model::NoMemory;
 
-/// Labels of one length, in the order of their stops, symbol by symbol, whose last customer is in a share. Of those with the same customers and the same last one the
-/// cheapest is kept, and of equal ones the earliest.
+/// Labels of one length whose last customer is in a share, in the order of their stops, symbol by symbol. Of those with the same
+/// customers and the same last one the cheapest is kept, and of equal ones the earliest.
 #[derive(Drop)]
 pub struct Candidates {
     share: Share,
