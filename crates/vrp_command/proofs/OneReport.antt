@@ -1,6 +1,6 @@
 -- Two runs that answer Proven tell the same.
-use Rattle.std.proofs.Common.{◌≡◌, ◌∙◌, ◌⊎◌, inl, inr, ℕ, Bool, Option, List, refl, sym, ap, subst}
-use Rattle.vrp_answer.specs.Finding.{FindingOf, finding_of, lawful_finding}
+use Rattle.std.proofs.Common.{◌≡◌, ◌∙◌, inl, inr, ℕ, Bool, Option, List, refl, sym, ap, subst}
+use Rattle.vrp_answer.specs.Finding.{FindingOf, finding_of}
 use Rattle.vrp_answer.specs.declared.answers.Answer.{Answer}
 use Rattle.vrp_answer.specs.declared.answers.Answer.TheVariants as answer
 use Rattle.vrp_answer.specs.declared.status.Status.{Status}
@@ -12,7 +12,7 @@ use Rattle.vrp_text.specs.Meaning.{MeansProblem}
 use Rattle.vrp_command.specs.Answer.{IsAnswerTo}
 use Rattle.vrp_command.specs.Found.{IsFoundBy}
 use Rattle.vrp_command.specs.Program.{AnswersRequest}
-use Rattle.vrp_command.specs.Run.{AnswersBytes, ReportsAnswer, limited}
+use Rattle.vrp_command.specs.Run.{AnswersBytes, limited}
 use Rattle.vrp_command.specs.Same.{TellsSame, IsOfFindingAlone}
 use Rattle.vrp_command.specs.Text.{IsTextIn, IsTextOf, settings_of}
 use Rattle.vrp_export.specs.declared.json.Settings.{Settings}

@@ -1,5 +1,5 @@
 -- What is found of a problem and written, said of the request and of the bytes that were read.
-use Rattle.std.proofs.Common.{◌≡◌, ◌∙◌, ◌≤◌, inl, inr, ℕ, Bool, None, Option, Some, List, Result, Ok, Err, IsTrue, OnOk, IfOk, IfErr, ap, subst, sym}
+use Rattle.std.proofs.Common.{◌≡◌, ◌∙◌, ◌≤◌, inl, inr, ℕ, Bool, None, Option, Some, List, Result, Ok, Err, IsTrue, OnOk, IfOk, IfErr, subst, sym}
 use Rattle.std.specs.Option.{ForSome}
 use Rattle.vrp_answer.specs.Answer.{known_plan}
 use Rattle.vrp_answer.specs.Finding.{FindingOf, finding_of, lawful_finding}

@@ -1,6 +1,6 @@
 -- The plan to begin with, step by step.
-use Rattle.std.proofs.Common.{◌≡◌, ◌<◌, ℕ, Option, Some, List, subst, sym, length}
-use Rattle.vrp_command.specs.Inner.Starts.{GivesFilePlan, IsTooLong, IsTooLongOrUnread, refused_for}
+use Rattle.std.proofs.Common.{◌≡◌, ℕ, Option, Some, List, subst, sym}
+use Rattle.vrp_command.specs.Inner.Starts.{GivesFilePlan, IsTooLongOrUnread, refused_for}
 use Rattle.vrp_command.specs.Program.{BeginsWith, IsFile, OnRefusedStart, RefusesFile}
 use Rattle.vrp_command.specs.declared.start.StartError.{StartError}
 use Rattle.vrp_command.specs.declared.start.StartError.TheVariants as start_fault

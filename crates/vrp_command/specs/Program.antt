@@ -1,6 +1,6 @@
 -- How a request is answered.
 use Rattle.std.specs.Io.KnownBytes.{Appends}
-use Rattle.std.specs.Prelude.{◌≡◌, ◌≢◌, ◌⊎◌, ℕ, ◌<◌, ◌≤◌, Bool, true, IsTrue, IsSomeAnd, Option, Some, None, Result, Ok, Err, List, length, ⊤}
+use Rattle.std.specs.Prelude.{◌≡◌, ◌≢◌, ℕ, ◌<◌, ◌≤◌, Bool, true, IsSomeAnd, Option, Some, None, Result, Ok, Err, List, length, ⊤}
 use Rattle.vrp_answer.specs.Finding.{FindingOf}
 use Rattle.vrp_answer.specs.declared.status.Status.{Status}
 use Rattle.vrp_command.specs.Found.{IsFoundBy}
@@ -16,7 +16,6 @@ use Rattle.vrp_command.specs.declared.start.StartFile.TheVariants.{Opened, Unope
 use Rattle.vrp_lexer.specs.declared.limits.TheConstants.{MAX_BYTES}
 use Rattle.vrp_model.specs.Problem.{Problem}
 use Rattle.vrp_model.specs.Route.{PricedPlan}
-use Rattle.vrp_request.specs.declared.options.Format.TheVariants as format
 use Rattle.vrp_request.specs.declared.options.Request.{Request}
 use Rattle.vrp_solution.specs.Solution.{GivesPlan, IsRefusedFor}
 use Rattle.vrp_solution.specs.declared.error.SolutionError.TheVariants as solution

@@ -5,7 +5,7 @@ use Rattle.std.specs.Prelude.{MatchOption, codes, map}
 use Rattle.std.specs.List.{slice_get}
 use Rattle.std.proofs.Math.Nat.{max-le}
 use Rattle.std.proofs.lemmas.List.{map-append}
-use Rattle.serde_json.specs.Data.{Data, array, depth, items_depth, null, number, unsigned}
+use Rattle.serde_json.specs.Data.{Data, depth, items_depth, null, number, unsigned}
 use Rattle.serde_json.specs.Find.{get}
 use Rattle.serde_json.specs.View.{items_of, view}
 use Rattle.serde_json.specs.declared.value.Value.{Value}
@@ -23,11 +23,11 @@ take_next [] index stops found = absurd (cc)
 take_next (first ∷ rest) zero stops found = let same : first ≡ stops = cc in rw same refl
 take_next (first ∷ rest) (suc index) stops found = ap (λ (xs : List (List ℕ)). first ∷ xs) (take_next rest index stops found)
 
-pub one_more : (p : Problem) (routes : List (List ℕ)) (objects : List Data) (stops : List ℕ) (object : Data) → AreRoutes p routes objects → IsRoute p stops object → AreRoutes p (routes ++ stops ∷ []) (objects ++ object ∷ [])
-one_more p [] [] stops object are is = (is, tt)
-one_more p [] (other ∷ objects) stops object are is = absurd are
-one_more p (first ∷ routes) [] stops object are is = absurd are
-one_more p (first ∷ routes) (other ∷ objects) stops object are is = (are.0, one_more p routes objects stops object are.1 is)
+pub one_more : (p : Problem) (routes : List (List ℕ)) (values : List Data) (stops : List ℕ) (value : Data) → AreRoutes p routes values → IsRoute p stops value → AreRoutes p (routes ++ stops ∷ []) (values ++ value ∷ [])
+one_more p [] [] stops value are is = (is, tt)
+one_more p [] (other ∷ values) stops value are is = absurd are
+one_more p (first ∷ routes) [] stops value are is = absurd are
+one_more p (first ∷ routes) (other ∷ values) stops value are is = (are.0, one_more p routes values stops value are.1 is)
 
 -- so it is when a route's object is pushed
 pub next_route : (p : Problem) (routes : List (List ℕ)) (index : ℕ) (stops : List ℕ) → slice_get routes index ≡ Some stops → (values : List Value) (value : Value) → AreRoutes p (take index routes) (map view values) → IsRoute p stops (view value)
@@ -45,14 +45,14 @@ numbers_shallow p (place ∷ stops) = ap (λ n. max 0 n) (numbers_shallow p stop
 route_depth : (p : Problem) (stops : List ℕ) (cost load : ℕ) → depth (route_object cost load (nodes_of p stops)) ≡ 2
 route_depth p stops cost load = ap (λ n. suc (max 0 (max 0 (max (suc n) 0)))) (numbers_shallow p stops)
 
-routes_shallow : (p : Problem) (routes : List (List ℕ)) (objects : List Data) → AreRoutes p routes objects → items_depth (items_of objects) ≤ 2
+routes_shallow : (p : Problem) (routes : List (List ℕ)) (values : List Data) → AreRoutes p routes values → items_depth (items_of values) ≤ 2
 routes_shallow p [] [] are = omega arith
-routes_shallow p [] (object ∷ objects) are = absurd are
+routes_shallow p [] (value ∷ values) are = absurd are
 routes_shallow p (stops ∷ routes) [] are = absurd are
-routes_shallow p (stops ∷ routes) (object ∷ objects) are =
+routes_shallow p (stops ∷ routes) (value ∷ values) are =
     let (cost, load, is) = are.0 in
-    let deep : depth object ≡ 2 = ap depth is ∙ route_depth p stops cost load in
-    max-le (omega (arith, deep)) (routes_shallow p routes objects are.1)
+    let deep : depth value ≡ 2 = ap depth is ∙ route_depth p stops cost load in
+    max-le (omega (arith, deep)) (routes_shallow p routes values are.1)
 
 number_depth : (n : Option ℕ) → depth (number_or_null n) ≡ 0
 number_depth None = refl
@@ -65,9 +65,9 @@ options_depth asked =
     let trucks = number_depth asked.trucks in
     rw (depot, seconds, trucks) (omega arith)
 
-pub document_shallow : (p : Problem) (finding : FindingOf) (asked : Settings) (routes : List (List ℕ)) (objects : List Data) → AreRoutes p routes objects → depth (document_of p finding objects (options_told asked)) ≤ 4
-document_shallow p finding asked routes objects are =
-    let few : suc (items_depth (items_of objects)) ≤ 3 = omega (arith, routes_shallow p routes objects are) in
+pub document_shallow : (p : Problem) (finding : FindingOf) (asked : Settings) (routes : List (List ℕ)) (values : List Data) → AreRoutes p routes values → depth (document_of p finding values (options_told asked)) ≤ 4
+document_shallow p finding asked routes values are =
+    let few : suc (items_depth (items_of values)) ≤ 3 = omega (arith, routes_shallow p routes values are) in
     let one : depth (number_or_null (option_map (λ plan. plan.cost) finding.plan)) ≤ 3 = omega (arith, number_depth (option_map (λ plan. plan.cost) finding.plan)) in
     let other : depth (number_or_null finding.lower_bound) ≤ 3 = omega (arith, number_depth finding.lower_bound) in
     let options : depth (options_told asked) ≤ 3 = omega (arith, options_depth asked) in
@@ -77,14 +77,14 @@ document_shallow p finding asked routes objects are =
 
 -- ---- what stands in it
 
-pub nodes_listed : (p : Problem) (routes : List (List ℕ)) (objects : List Data) → AreRoutes p routes objects → map (get (codes "nodes")) objects ≡ map (λ stops. Some (nodes_of p stops)) routes
+pub nodes_listed : (p : Problem) (routes : List (List ℕ)) (values : List Data) → AreRoutes p routes values → map (get (codes "nodes")) values ≡ map (λ stops. Some (nodes_of p stops)) routes
 nodes_listed p [] [] are = refl
-nodes_listed p [] (object ∷ objects) are = absurd are
+nodes_listed p [] (value ∷ values) are = absurd are
 nodes_listed p (stops ∷ routes) [] are = absurd are
-nodes_listed p (stops ∷ routes) (object ∷ objects) are =
+nodes_listed p (stops ∷ routes) (value ∷ values) are =
     let (cost, load, is) = are.0 in
-    let here : get (codes "nodes") object ≡ Some (nodes_of p stops) = ap (get (codes "nodes")) is in
-    let rest = nodes_listed p routes objects are.1 in
+    let here : get (codes "nodes") value ≡ Some (nodes_of p stops) = ap (get (codes "nodes")) is in
+    let rest = nodes_listed p routes values are.1 in
     cc
 
 -- an option of a small number
@@ -92,15 +92,15 @@ pub null_or_number : (n : Option ℕ) (value : Data) → MatchOption n (value �
 null_or_number None value is = is
 null_or_number (Some m) value is = is
 
-pub is_document : (p : Problem) (finding : FindingOf) (asked : Settings) (objects : List Data) (object : Data) → object ≡ document_of p finding objects (options_told asked) → AreRoutes p (routes_told finding.plan) objects → IsDocument p finding asked object
-is_document p finding asked objects object is are =
+pub is_document : (p : Problem) (finding : FindingOf) (asked : Settings) (values : List Data) (value : Data) → value ≡ document_of p finding values (options_told asked) → AreRoutes p (routes_told finding.plan) values → IsDocument p finding asked value
+is_document p finding asked values value is are =
     record {
       verdict = ap (get (codes "verdict")) is;
       cost = ap (get (codes "cost")) is;
       lower_bound = ap (get (codes "lower_bound")) is;
-      routes = objects;
+      routes = values;
       listed = ap (get (codes "routes")) is;
-      nodes = nodes_listed p (routes_told finding.plan) objects are;
+      nodes = nodes_listed p (routes_told finding.plan) values are;
       customers = ap (get (codes "customers")) is;
       capacity = ap (get (codes "capacity")) is;
       depot = ap (get (codes "depot")) is;

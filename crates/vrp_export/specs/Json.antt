@@ -31,26 +31,26 @@ options_told asked =
     (member (codes "seconds") (number_or_null asked.seconds) (member (codes "trucks") (number_or_null asked.trucks) (member (codes "workers") (number (unsigned asked.workers)) no_members))))))
 
 -- the object's verdict, cost and lower bound, the nodes of each route, what is told of the problem, and how the run was asked for
-pub record IsDocument (p : Problem) (finding : FindingOf) (asked : Settings) (object : Data) : Type 0 where
-  pub verdict : get (codes "verdict") object ≡ Some (string (status_text finding.status))
-  pub cost : get (codes "cost") object ≡ Some (number_or_null (option_map (λ plan. plan.cost) finding.plan))
-  pub lower_bound : get (codes "lower_bound") object ≡ Some (number_or_null finding.lower_bound)
+pub record IsDocument (p : Problem) (finding : FindingOf) (asked : Settings) (document : Data) : Type 0 where
+  pub verdict : get (codes "verdict") document ≡ Some (string (status_text finding.status))
+  pub cost : get (codes "cost") document ≡ Some (number_or_null (option_map (λ plan. plan.cost) finding.plan))
+  pub lower_bound : get (codes "lower_bound") document ≡ Some (number_or_null finding.lower_bound)
   pub routes : List Data
-  pub listed : get (codes "routes") object ≡ Some (array (items_of routes))
+  pub listed : get (codes "routes") document ≡ Some (array (items_of routes))
   pub nodes : map (get (codes "nodes")) routes ≡ map (λ stops. Some (nodes_of p stops)) (routes_told finding.plan)
-  pub customers : get (codes "customers") object ≡ Some (number (unsigned (place_count p - 1)))
-  pub capacity : get (codes "capacity") object ≡ Some (number (unsigned p.capacity))
-  pub depot : get (codes "depot") object ≡ Some (number (unsigned (node_of p 0)))
-  pub options : get (codes "options") object ≡ Some (options_told asked)
+  pub customers : get (codes "customers") document ≡ Some (number (unsigned (place_count p - 1)))
+  pub capacity : get (codes "capacity") document ≡ Some (number (unsigned p.capacity))
+  pub depot : get (codes "depot") document ≡ Some (number (unsigned (node_of p 0)))
+  pub options : get (codes "options") document ≡ Some (options_told asked)
 
--- a text that reads as the object, and a line feed
-pub record IsLineOf (object : Data) (text : List ℕ) : Type 0 where
+-- a text that reads as the value, and a line feed
+pub record IsLineOf (value : Data) (text : List ℕ) : Type 0 where
   pub line : List ℕ
   pub ends : text ≡ line ++ codes "\n"
-  pub reads : read line ≡ Some object
+  pub reads : read line ≡ Some value
 
 -- the line of such an object
 pub record IsJsonOf (p : Problem) (finding : FindingOf) (asked : Settings) (text : List ℕ) : Type 0 where
-  pub object : Data
-  pub line : IsLineOf object text
-  pub document : IsDocument p finding asked object
+  pub value : Data
+  pub line : IsLineOf value text
+  pub document : IsDocument p finding asked value

@@ -5,13 +5,13 @@ use Rattle.vrp_export.specs.Inner.Document.{route_object}
 use Rattle.vrp_export.specs.Json.{nodes_of}
 use Rattle.vrp_model.specs.Problem.{Problem}
 
--- an object of a route with these stops
+-- the object of a route with these stops
 abbrev pub IsRoute : Problem → List ℕ → Data → Type 0
 IsRoute p stops route = (cost : ℕ) × (load : ℕ) × (route ≡ route_object cost load (nodes_of p stops))
 
 -- one for each route, in order
 abbrev pub AreRoutes : Problem → List (List ℕ) → List Data → Type 0
 AreRoutes p [] [] = ⊤
-AreRoutes p [] (object ∷ objects) = ⊥
+AreRoutes p [] (value ∷ values) = ⊥
 AreRoutes p (stops ∷ routes) [] = ⊥
-AreRoutes p (stops ∷ routes) (object ∷ objects) = IsRoute p stops object × AreRoutes p routes objects
+AreRoutes p (stops ∷ routes) (value ∷ values) = IsRoute p stops value × AreRoutes p routes values

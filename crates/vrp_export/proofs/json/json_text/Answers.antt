@@ -17,4 +17,4 @@ returns c =
     let object = view c.in_ok-document.document in
     let is : object ≡ document_of p finding objects (options_told asked) = c.in_ok-document.ensures ∙ ap (document_of p finding objects) c.in_ok-options.ensures in
     let shallow = subst (λ (d : Data). depth d ≤ 4) (sym is) (document_shallow p finding asked (routes_told finding.plan) objects c.in_ok-routes.ensures) in
-    record { object = object; line = c.in_ok-line_of.ensures shallow; document = is_document p finding asked objects object is c.in_ok-routes.ensures }
+    record { value = object; line = c.in_ok-line_of.ensures shallow; document = is_document p finding asked objects object is c.in_ok-routes.ensures }
