@@ -14,6 +14,6 @@ pub use law::{
     prices_bound_choices,
 };
 pub use pool::{all_fit, apart, none_negative, reduced_costs, together, within_gap};
-pub use prices::{Cut, PriceOffer, Prices, SCALE};
+pub use prices::{Cut, MOST_CUSTOMERS, PriceOffer, Prices, SCALE};
 pub use route::Route;
 pub use search::{Chosen, Guide, NodeOutcome, cheapest_choice};

@@ -11,8 +11,8 @@ use std::marker::Model;
 /// How many units of a price there are in a unit of cost.
 pub const SCALE: u64 = 1 << 20;
 
-// How many customers a set may have, a bit for each.
-const MOST_CUSTOMERS: usize = 128;
+/// How many customers there may be, a bit for each.
+pub const MOST_CUSTOMERS: usize = 128;
 
 // How many cuts of each kind there may be.
 const MOST_CUTS: usize = 512;

@@ -10,7 +10,7 @@ ghost use Rattle.vrp_partition.specs.declared.prices.TheConstants.{SCALE};
 
 use crate::cover::{Column, cheapest_cover};
 use crate::pool::{apart, none_negative, reduced_costs, together, within_gap};
-use crate::prices::{PriceOffer, Prices, SCALE};
+use crate::prices::{MOST_CUSTOMERS, PriceOffer, Prices, SCALE};
 use crate::route::Route;
 use std::alloc::{AllocError, Global};
 
@@ -98,7 +98,8 @@ pub fn cheapest_choice<P: Guide>(
     }
 }
 
-// A node by the prices that are offered; where a reduced cost is negative, by duals lowered by it.
+// A node by the prices that are offered; where a reduced cost is negative, by duals lowered by it; where neither serve, by prices
+// of 0.
 fn price_node(
     alloc: Global,
     offer: PriceOffer,
@@ -114,10 +115,11 @@ fn price_node(
     ensures { IfOk result (IsOutcome demands.now capacity pool.items customers incumbent) }
 {
     if incumbent == 0 {
-        return Ok(NodeOutcome::Open(pool));
+        let routes = Vec::new(alloc);
+        return Ok(NodeOutcome::Solved(Chosen { cost: 0, routes }));
     }
     let Some(prices) = Prices::admit(offer, demands, capacity, customers) else {
-        return Ok(NodeOutcome::Open(pool));
+        return bound_by_nothing(alloc, demands, capacity, pool, customers, incumbent);
     };
     let costs = reduced_costs(alloc, &prices, pool.as_slice())?;
     if none_negative(costs.as_slice()) {
@@ -127,6 +129,38 @@ fn price_node(
     }
     let least = costs.iter().copied().min().unwrap_or(0);
     let Some(prices) = Prices::admit(prices.lowered(least), demands, capacity, customers) else {
+        return bound_by_nothing(alloc, demands, capacity, pool, customers, incumbent);
+    };
+    let costs = reduced_costs(alloc, &prices, pool.as_slice())?;
+    if none_negative(costs.as_slice()) {
+        return bound_node(
+            alloc, prices, costs, demands, capacity, pool, customers, incumbent,
+        );
+    }
+    bound_by_nothing(alloc, demands, capacity, pool, customers, incumbent)
+}
+
+// A node by prices of 0, by which each reduced cost is the cost itself.
+fn bound_by_nothing(
+    alloc: Global,
+    demands: &[u32],
+    capacity: u32,
+    pool: Vec<Route>,
+    customers: u128,
+    incumbent: u64,
+) -> Result<NodeOutcome, AllocError>
+    requires len { length demands.now ≡ 128 }
+    requires fit { AllFit demands.now capacity pool.items }
+    requires some { 1 ≤ incumbent }
+    requires incumbent { incumbent ≤ 2 ^ 32 }
+    ensures { IfOk result (IsOutcome demands.now capacity pool.items customers incumbent) }
+{
+    let offer = PriceOffer {
+        duals: vec![in alloc; 0; MOST_CUSTOMERS]?,
+        subset_rows: Vec::new(alloc),
+        capacity_cuts: Vec::new(alloc),
+    };
+    let Some(prices) = Prices::admit(offer, demands, capacity, customers) else {
         return Ok(NodeOutcome::Open(pool));
     };
     let costs = reduced_costs(alloc, &prices, pool.as_slice())?;
