@@ -1,5 +1,4 @@
 //! The cheapest choice by hand, and beside every choice of random pools, by guides that know nothing.
-ghost use Rattle.std.specs.Prelude.{◌≤◌, ◌^◌};
 
 use crate::assertion::assert_same;
 use crate::guides::{HABITS, Habit, Habitual};

@@ -1,5 +1,4 @@
 //! Reduced costs and lower bounds by hand, and which prices are refused.
-ghost use Rattle.std.specs.Prelude.{◌≡◌, length};
 
 use crate::assertion::assert_same;
 use std::alloc::Global;
