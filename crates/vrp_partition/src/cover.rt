@@ -101,12 +101,7 @@ fn rarest_customer(columns: &[Column], unserved: u128) -> u32
 {
     let mut counts = [0u32; 128];
     for column in columns {
-        let mut set = column.set;
-        while set != 0 {
-            let customer = set.trailing_zeros() as usize;
-            counts[customer] = counts[customer].saturating_add(1);
-            set &= set - 1;
-        }
+        count_customers(&mut counts, column.set);
     }
     let mut best = unserved.trailing_zeros();
     let mut others = unserved & (unserved - 1);
@@ -118,4 +113,14 @@ fn rarest_customer(columns: &[Column], unserved: u128) -> u32
         others &= others - 1;
     }
     best
+}
+
+// One more column for each customer of a set.
+fn count_customers(counts: &mut [u32; 128], set: u128) {
+    let mut left = set;
+    while left != 0 {
+        let customer = left.trailing_zeros() as usize;
+        counts[customer] = counts[customer].saturating_add(1);
+        left &= left - 1;
+    }
 }

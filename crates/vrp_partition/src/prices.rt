@@ -62,8 +62,8 @@ pub struct PriceOffer {
 
 impl Prices {
     /// The prices that are offered, if they bound: at most 512 cuts of each kind, prices of moderate size, no subset-row cut of
-    /// more than three customers, and no capacity cut that asks for more routes than its customers' demand does. Which offers are
-    /// refused beyond that, is left open. The demands are those of customers 0 to 127.
+    /// more than three customers, and no capacity cut that asks for more routes than its customers' demand does; else `None`. That
+    /// such prices are admitted, no clause says. The demands are those of customers 0 to 127.
     pub fn admit(
         offer: PriceOffer,
         demands: &[u32],

@@ -20,7 +20,8 @@ const MOST_COLUMNS: usize = 3_000;
 // How many nodes the exact cover may look at before its node is branched on.
 const MOST_COVER_NODES: u64 = 20_000;
 
-/// Who guides the search. None of it need be trusted: whatever is answered, the search answers the same, sooner or later.
+/// Who guides the search. Nothing that it answers need be trusted: the cost that the search finds is the same, if its budget
+/// suffices. An error ends the search.
 pub trait Guide {
     /// Prices for the routes of a node.
     fn offer(&mut self, pool: &[Route], customers: u128) -> Result<PriceOffer, AllocError>;

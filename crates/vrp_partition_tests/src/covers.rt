@@ -115,7 +115,7 @@ fn assert_parts(rt: &impl Abort, alloc: Global, found: &Cover, customers: u128, 
     }
 }
 
-// How much budget there is, and whether that suffices: a node for all customers, one for each column of the first customer, and so on.
+// How much budget there is, whether that suffices, and what is left: the search of two columns looks at three nodes.
 #[test]
 fn budgets_that_are_spent(rt: HostRuntime) {
     let (rt, alloc) = (&rt, rt.alloc());
