@@ -1,0 +1,4 @@
+pub mod Choice
+pub mod Prices
+pub mod Covering
+pub mod Outcome

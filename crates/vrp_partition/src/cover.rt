@@ -1,0 +1,126 @@
+//! The exact cover: the cheapest choice among a few columns, depth first, by the customer whom the fewest columns have.
+ghost use Rattle.std.specs.Prelude.{◌≡◌, ◌≤◌, ◌<◌, IfNone, IfOk, IfSome, filter};
+ghost use Rattle.std.specs.Int.{bit_at};
+ghost use Rattle.vrp_partition.specs.Covering.{IsLeast, is_inside};
+
+use std::alloc::{AllocError, Global};
+
+/// A column of the set partitioning: a route's customers, a bit for each, its reduced cost, which is not negative, and its cost.
+#[derive(Debug, Clone, Copy)]
+pub struct Column {
+    pub set: u128,
+    pub reduced_cost: u64,
+    pub cost: u32,
+}
+
+/// The columns of a choice, and what they cost. Where no choice below the incumbent was found, the cost is the incumbent's, and
+/// the columns are no choice.
+#[derive(Debug, Drop)]
+pub struct Cover {
+    pub cost: u64,
+    pub parts: Vec<Column>,
+}
+
+/// The least cost below the incumbent's of a choice that serves these customers, and a choice of that cost. Choices whose reduced
+/// costs add up to more than the gap need not be looked at; where no other is cheaper than the incumbent, the incumbent's cost.
+/// `None` where the budget is spent: each node of the search takes one of it.
+pub fn cheapest_cover(
+    alloc: Global,
+    columns: &[Column],
+    unserved: u128,
+    incumbent: u64,
+    gap: u64,
+    budget: &mut u64,
+) -> Result<Option<Cover>, AllocError>
+    ensures least { IfOk result (λ answer. IfSome answer (λ best.
+        IsLeast columns.now unserved incumbent gap best.cost best.parts.items)) }
+    ensures budget { budget.new ≤ budget.old }
+    ensures spent { IfOk result (λ answer. IfNone answer (budget.new ≡ 0)) }
+{
+    if *budget == 0 {
+        return Ok(None);
+    }
+    *budget -= 1;
+    let mut parts = Vec::new(alloc);
+    if unserved == 0 {
+        return Ok(Some(Cover { cost: 0, parts }));
+    }
+    let customer = rarest_customer(columns, unserved);
+    let mut found = incumbent;
+    for column in columns {
+        let cost = u64::from(column.cost);
+        if column.set >> customer & 1 == 1
+            && column.set & unserved == column.set
+            && column.reduced_cost <= gap
+            && cost < found
+        {
+            let (rest, under) = (unserved ^ column.set, gap - column.reduced_cost);
+            let inside = columns_inside(alloc, columns, rest, under)?;
+            let Some(more) = cheapest_cover(
+                alloc,
+                inside.as_slice(),
+                rest,
+                found - cost,
+                under,
+                budget,
+            )?
+            else {
+                return Ok(None);
+            };
+            if more.cost < found - cost {
+                found = cost + more.cost;
+                parts = more.parts;
+                parts.push(*column)?;
+            }
+        }
+    }
+    Ok(Some(Cover { cost: found, parts }))
+}
+
+// The columns that have no customer but these, and no greater reduced cost.
+fn columns_inside(
+    alloc: Global,
+    columns: &[Column],
+    unserved: u128,
+    gap: u64,
+) -> Result<Vec<Column>, AllocError>
+    ensures { IfOk result (λ kept. kept.items ≡ filter (is_inside unserved gap) columns.now) }
+{
+    columns
+        .iter()
+        .copied()
+        .filter(|column| column.set & unserved == column.set && column.reduced_cost <= gap)
+        .collect(alloc)
+}
+
+// One of these customers whom the fewest columns have.
+fn rarest_customer(columns: &[Column], unserved: u128) -> u32
+    requires { 0 < unserved }
+    ensures one { bit_at unserved result ≡ 1 }
+    ensures small { result < 128 }
+{
+    let mut counts = [0u32; 128];
+    for column in columns {
+        count_customers(&mut counts, column.set);
+    }
+    let mut best = unserved.trailing_zeros();
+    let mut others = unserved & (unserved - 1);
+    while others != 0 {
+        let customer = others.trailing_zeros();
+        if counts[customer as usize] < counts[best as usize] {
+            best = customer;
+        }
+        others &= others - 1;
+    }
+    best
+}
+
+// One more column for each customer of a set.
+fn count_customers(counts: &mut [u32; 128], set: u128) {
+    let mut left = set;
+    while left != 0 {
+        let customer = left.trailing_zeros() as usize;
+        counts[customer] = counts[customer].saturating_add(1);
+        left &= left - 1;
+    }
+}

@@ -1,0 +1,55 @@
+//! What is true of the definitions, whatever the code does: what prices say of the choices, and how choices branch.
+ghost use Rattle.std.specs.Prelude.{◌≡◌, ◌⊎◌, ◌<ℤ◌, ◌≤◌, ◌≤ℤ◌, ◌*◌, ◌+ℤ◌, pos, ℕ, List};
+ghost use Rattle.std.specs.List.{filter};
+ghost use Rattle.vrp_partition.specs.Choice.{IsChoice, NoneWithin, cost_of, is_apart, is_together, set_of};
+ghost use Rattle.vrp_partition.specs.Prices.{NoneNegative, AllFit, AreValid, IsNeeded, IsVisited, Prices, gap_of, is_within_gap, lower_bound_of, reduced_cost_of, total};
+ghost use Rattle.vrp_partition.specs.declared.prices.Cut.{Cut};
+ghost use Rattle.vrp_partition.specs.declared.route.Route.{Route};
+
+/// The law of prices: a choice costs at least the lower bound and the reduced costs of its routes. A route has its duals from the
+/// prices of its customers, of whom each choice has each once; of three customers one route of a choice at most has two or more
+/// (subset-row cuts); and to a set of customers come as many routes as it needs (strong capacity cuts).
+pub fn prices_bound_choices()
+    ensures { (prices : Prices) (scale customers : ℕ) (pool routes : List Route)
+        → AreValid prices pool customers
+        → IsChoice set_of pool customers routes
+        → (lower_bound_of prices customers +ℤ total (reduced_cost_of prices scale) routes)
+        ≤ℤ pos (scale * cost_of routes) }
+{}
+
+/// Where one truck less couldn't carry what the customers of a set demand, each choice has as many routes that come to the set as
+/// the cut says.
+pub fn demand_brings_routes()
+    ensures { (demands : List ℕ) (capacity customers : ℕ) (pool : List Route) (cut : Cut)
+        → AllFit demands capacity pool
+        → IsNeeded demands capacity customers cut
+        → IsVisited pool customers cut }
+{}
+
+/// Where no reduced cost is negative, a choice within a limit has no route whose reduced cost is above the gap: all its routes
+/// are among those that are kept.
+pub fn costly_routes_left_out()
+    ensures { (prices : Prices) (scale customers limit : ℕ) (pool routes : List Route)
+        → AreValid prices pool customers → NoneNegative prices scale pool
+        → IsChoice set_of pool customers routes → cost_of routes ≤ limit
+        → IsChoice set_of
+        (filter (is_within_gap prices scale (gap_of prices scale customers limit)) pool)
+        customers routes }
+{}
+
+/// Where no reduced cost is negative and the lower bound is above a limit, no choice is within the limit.
+pub fn no_choice_in_a_negative_gap()
+    ensures { (prices : Prices) (scale customers limit : ℕ) (pool : List Route)
+        → AreValid prices pool customers → NoneNegative prices scale pool
+        → gap_of prices scale customers limit <ℤ pos 0
+        → NoneWithin pool customers limit }
+{}
+
+/// A choice has a group of customers together in one route, or has no route with all of them. In the first case each other route
+/// has none of them. (For a pair this is the branching of Ryan and Foster, 1981.)
+pub fn choices_branch()
+    ensures { (group customers : ℕ) (pool routes : List Route)
+        → IsChoice set_of pool customers routes
+        → IsChoice set_of (filter (is_together group) pool) customers routes
+        ⊎ IsChoice set_of (filter (is_apart group) pool) customers routes }
+{}

@@ -1,0 +1,19 @@
+//! A set partitioning: the cheapest choice of routes that together serve each customer once.
+#![tactic(auto)]
+
+mod cover;
+mod law;
+mod pool;
+mod prices;
+mod route;
+mod search;
+
+pub use cover::{Column, Cover, cheapest_cover};
+pub use law::{
+    choices_branch, costly_routes_left_out, demand_brings_routes, no_choice_in_a_negative_gap,
+    prices_bound_choices,
+};
+pub use pool::{all_fit, apart, none_negative, reduced_costs, together, within_gap};
+pub use prices::{Cut, MOST_CUSTOMERS, PriceOffer, Prices, SCALE};
+pub use route::Route;
+pub use search::{Chosen, Guide, NodeOutcome, cheapest_choice};

@@ -1,0 +1,238 @@
+//! Prices of the rows of the set partitioning: of customers, and of two kinds of cuts; reduced costs and the lower bound by them.
+ghost use Rattle.std.specs.Prelude.{◌≡◌, ◌≤◌, ◌≤ℤ◌, ◌+ℤ◌, ◌*◌, ◌^◌, List, pos, length, unsigned_abs, IfSome, IsTrue};
+ghost use Rattle.std.specs.List.{All};
+ghost use Rattle.vrp_partition.specs.Prices.{AllFit, AreModerate, AreValid, IsSubsetRow, IsCapacityCut, load_of, charges, dual_sum, lower_bound_of, reduced_cost_of, rewards};
+ghost use Rattle.vrp_partition.specs.declared.prices.Cut.{Cut};
+ghost use Rattle.vrp_partition.specs.declared.route.Route.{Route};
+ghost use Rattle.vrp_partition.specs.declared.prices.TheConstants.{SCALE};
+
+use std::marker::Model;
+
+/// How many units of a price there are in a unit of cost.
+pub const SCALE: u64 = 1 << 20;
+
+/// How many customers there may be, a bit for each.
+pub const MOST_CUSTOMERS: usize = 128;
+
+// How many cuts of each kind there may be.
+const MOST_CUTS: usize = 512;
+
+// How far the price of a customer may be from 0.
+const MOST_DUAL: u64 = 1 << 52;
+
+// How high the price of a cut may be.
+const MOST_CUT_PRICE: u64 = 1 << 50;
+
+/// A cut, by a set of customers: its price is paid by each route that has two of three customers (a subset-row cut; Jepsen,
+/// Petersen, Spoorendonk and Pisinger 2008), or is paid to each route that comes to the set (a strong capacity cut; Baldacci,
+/// Christofides and Mingozzi 2008).
+#[derive(Debug, Clone, Copy)]
+pub struct Cut {
+    pub set: u128,
+    // How many routes have to come to the set at least; of a subset-row cut nobody reads it.
+    pub count: u32,
+    pub price: u64,
+}
+
+/// Prices by which a choice can be bounded: the duals of the customers, of any sign, and what the cuts cost.
+#[derive(Debug, Drop)]
+pub struct Prices {
+    duals: Vec<i64>,
+    subset_rows: Vec<Cut>,
+    capacity_cuts: Vec<Cut>,
+}
+
+impl Model for Prices {
+    ghost use Rattle.vrp_partition.specs.Prices.{AreModerate, Prices};
+
+    ghost Value = { Prices };
+
+    ghost view = { λ a. record { duals = a.duals.items; subset_rows = a.subset_rows.items; capacity_cuts = a.capacity_cuts.items } };
+
+    ghost invariant = { λ a. AreModerate (record { duals = a.duals.items; subset_rows = a.subset_rows.items; capacity_cuts = a.capacity_cuts.items }) };
+}
+
+/// Prices that need not be trusted. There are 128 duals, the first of which is customer 0's.
+#[derive(Debug, Drop)]
+pub struct PriceOffer {
+    pub duals: Vec<i64>,
+    pub subset_rows: Vec<Cut>,
+    pub capacity_cuts: Vec<Cut>,
+}
+
+impl Prices {
+    /// The prices that are offered, if they bound: at most 512 cuts of each kind, prices of moderate size, no subset-row cut of
+    /// more than three customers, and no capacity cut that asks for more routes than its customers' demand does; else `None`. That
+    /// such prices are admitted, no clause says. The demands are those of customers 0 to 127.
+    pub fn admit(
+        offer: PriceOffer,
+        demands: &[u32],
+        capacity: u32,
+        customers: u128,
+    ) -> Option<Prices>
+        requires { length demands.now ≡ 128 }
+        ensures { IfSome result (λ prices. (pool : List Route)
+            → AllFit demands.now capacity pool → AreValid prices pool customers) }
+    {
+        let PriceOffer {
+            duals,
+            subset_rows,
+            capacity_cuts,
+        } = offer;
+        if duals.len() == MOST_CUSTOMERS
+            && subset_rows.len() <= MOST_CUTS
+            && capacity_cuts.len() <= MOST_CUTS
+            && are_moderate(duals.as_slice())
+            && are_subset_rows(subset_rows.as_slice())
+            && are_capacity_cuts(capacity_cuts.as_slice(), demands, capacity, customers)
+        {
+            Some(Prices {
+                duals,
+                subset_rows,
+                capacity_cuts,
+            })
+        } else {
+            None
+        }
+    }
+
+    /// An offer of the same prices with `least` added to each dual: with the least reduced cost, which is negative, all reduced
+    /// costs rise at least to 0. Nothing is promised of it.
+    pub fn lowered(self, least: i64) -> PriceOffer {
+        let Prices {
+            mut duals,
+            subset_rows,
+            capacity_cuts,
+        } = self;
+        for price in duals.iter_mut() {
+            *price = price.saturating_add(least);
+        }
+        PriceOffer {
+            duals,
+            subset_rows,
+            capacity_cuts,
+        }
+    }
+
+    /// The reduced cost of a route: its cost, and the prices of the subset-row cuts of which it has two customers, less its duals
+    /// and the prices of the capacity cuts that it comes to.
+    pub fn reduced_cost(&self, set: u128, cost: u32) -> i64
+        ensures { result ≡ reduced_cost_of self.now SCALE (record { set = set; cost = cost }) }
+    {
+        let charged = charged(self.subset_rows.as_slice(), set) as i64;
+        let rewarded = rewarded(self.capacity_cuts.as_slice(), set) as i64;
+        let dual_sum = dual_sum_of(self.duals.as_slice(), set);
+        (SCALE * u64::from(cost)) as i64 + charged - dual_sum - rewarded
+    }
+
+    /// What each choice costs at least, in units of a price, where no reduced cost is negative. It is not below -2 ^ 60.
+    pub fn lower_bound(&self, customers: u128) -> i128
+        ensures value { result ≡ lower_bound_of self.now customers }
+        ensures small { pos 0 ≤ℤ (result +ℤ pos (2 ^ 60)) }
+    {
+        let dual_sum = dual_sum_of(self.duals.as_slice(), customers);
+        let mut due: u128 = 0;
+        for cut in &self.capacity_cuts {
+            due += u128::from(cut.count) * u128::from(cut.price);
+        }
+        let mut spent: u64 = 0;
+        for cut in &self.subset_rows {
+            spent += cut.price;
+        }
+        i128::from(dual_sum) + due as i128 - i128::from(spent)
+    }
+}
+
+// Whether no price is too far from 0.
+fn are_moderate(prices: &[i64]) -> bool
+    ensures { IsTrue result → All (λ price. unsigned_abs price ≤ 2 ^ 52) prices.now }
+{
+    prices.iter().all(|price| price.unsigned_abs() <= MOST_DUAL)
+}
+
+// Whether each has three customers at most, and no price that is too high.
+fn are_subset_rows(cuts: &[Cut]) -> bool
+    ensures { IsTrue result → All IsSubsetRow cuts.now }
+{
+    cuts.iter().all(|cut| cut.price <= MOST_CUT_PRICE && cut.set.count_ones() <= 3)
+}
+
+// Whether each lies among the customers, asks for no more routes than its demand does, and has no price that is too high.
+fn are_capacity_cuts(cuts: &[Cut], demands: &[u32], capacity: u32, customers: u128) -> bool
+    requires { length demands.now ≡ 128 }
+    ensures { IsTrue result → All (IsCapacityCut demands.now capacity customers) cuts.now }
+{
+    for cut in cuts {
+        if cut.price > MOST_CUT_PRICE || cut.set & customers != cut.set {
+            return false;
+        }
+        let load = demand_of(demands, cut.set);
+        if u64::from(cut.count) * u64::from(capacity) >= load + u64::from(capacity) {
+            return false;
+        }
+    }
+    true
+}
+
+// What the customers of a set demand.
+pub fn demand_of(demands: &[u32], set: u128) -> u64
+    requires { length demands.now ≡ 128 }
+    ensures value { result ≡ load_of demands.now set }
+    ensures small { result ≤ 2 ^ 39 }
+{
+    let mut left = set;
+    let mut total: u64 = 0;
+    while left != 0 {
+        total += u64::from(demands[left.trailing_zeros() as usize]);
+        left &= left - 1;
+    }
+    total
+}
+
+// The sum of the duals of a set of customers.
+fn dual_sum_of(prices: &[i64], set: u128) -> i64
+    requires len { length prices.now ≡ 128 }
+    requires moderate { All (λ price. unsigned_abs price ≤ 2 ^ 52) prices.now }
+    ensures value { result ≡ dual_sum prices.now set }
+    ensures small { unsigned_abs result ≤ 2 ^ 59 }
+{
+    let mut left = set;
+    let mut total = 0;
+    while left != 0 {
+        total += prices[left.trailing_zeros() as usize];
+        left &= left - 1;
+    }
+    total
+}
+
+// What the subset-row cuts cost a route with these customers.
+fn charged(cuts: &[Cut], set: u128) -> u64
+    requires few { length cuts.now ≤ 512 }
+    requires moderate { All (λ cut. cut.price ≤ 2 ^ 50) cuts.now }
+    ensures value { result ≡ charges cuts.now set }
+    ensures small { result ≤ 2 ^ 59 }
+{
+    let mut total = 0;
+    for cut in cuts {
+        if (set & cut.set).count_ones() >= 2 {
+            total += cut.price;
+        }
+    }
+    total
+}
+
+// What the capacity cuts pay to a route with these customers.
+fn rewarded(cuts: &[Cut], set: u128) -> u64
+    requires few { length cuts.now ≤ 512 }
+    requires moderate { All (λ cut. cut.price ≤ 2 ^ 50) cuts.now }
+    ensures value { result ≡ rewards cuts.now set }
+    ensures small { result ≤ 2 ^ 59 }
+{
+    let mut total = 0;
+    for cut in cuts {
+        if set & cut.set != 0 {
+            total += cut.price;
+        }
+    }
+    total
+}

@@ -1,0 +1,8 @@
+//! Routes, as a choice among them sees them.
+
+/// A route: its customers, a bit for each, and what it costs.
+#[derive(Debug, Clone, Copy)]
+pub struct Route {
+    pub set: u128,
+    pub cost: u32,
+}

@@ -1,0 +1,221 @@
+//! The cheapest choice by hand, and beside every choice of random pools, by guides that know nothing.
+
+use crate::assertion::assert_same;
+use crate::guides::{HABITS, Habit, Habitual};
+use crate::random::{Random, all_customers};
+use crate::slow::{cost_of_choice, least_cost};
+use std::alloc::Global;
+use std::process::Abort;
+use vrp_partition::{Chosen, MOST_CUSTOMERS, Route, all_fit, cheapest_choice};
+
+// A route: its customers and its cost.
+type Told = (u128, u32);
+
+const THREE: &[Told] = &[
+    (0b0010, 10),
+    (0b0100, 10),
+    (0b1000, 10),
+    (0b0110, 12),
+    (0b1100, 13),
+    (0b1010, 14),
+    (0b1110, 25),
+];
+
+const FOUR: &[Told] = &[
+    (0b00110, 5),
+    (0b11000, 5),
+    (0b01010, 4),
+    (0b10100, 7),
+    (0b10010, 3),
+    (0b01100, 6),
+];
+
+const MUCH: u64 = 1 << 32;
+
+// A pool, customers, the incumbent's cost and the least cost.
+const BY_HAND: &[(&[Told], u128, u64, u64)] = &[
+    (THREE, 0b1110, MUCH, 22),
+    (THREE, 0b1110, 23, 22),
+    (THREE, 0b1110, 22, 22),
+    (THREE, 0b1110, 0, 0),
+    (THREE, 0b1100, MUCH, 13),
+    (THREE, 0, MUCH, 0),
+    (THREE, 0b1_1110, MUCH, MUCH),
+    (FOUR, 0b11110, MUCH, 9),
+    (FOUR, 0b01110, MUCH, MUCH),
+    (&[], 0b0010, MUCH, MUCH),
+    (&[(0b1110, 9)], 0b1110, MUCH, 9),
+    (&[(u128::MAX, u32::MAX)], u128::MAX, MUCH, u32::MAX as u64),
+    (&[(0b0010, 1), (0b0010, 1), (0b0100, 1)], 0b0110, MUCH, 2),
+];
+
+#[test]
+fn choices_by_hand(rt: HostRuntime) {
+    let (rt, alloc) = (&rt, rt.alloc());
+    for &(told, customers, incumbent, cost) in BY_HAND {
+        for &habit in HABITS {
+            let mut pool = Vec::new(alloc);
+            for &(set, cost) in told {
+                pool.push(Route { set, cost }).expect(rt, "memory");
+            }
+            let found = choice(rt, alloc, habit, 128, pool, customers, incumbent, 100);
+            let found = found.expect(rt, "a budget that suffices");
+            assert_same(rt, found.cost, cost, (customers, incumbent));
+            assert_routes(rt, &found, customers, incumbent);
+        }
+    }
+}
+
+// Each customer demands 1.
+fn choice(
+    rt: &impl Abort,
+    alloc: Global,
+    habit: Habit,
+    capacity: u32,
+    pool: Vec<Route>,
+    customers: u128,
+    incumbent: u64,
+    nodes: u64,
+) -> Option<Chosen> {
+    let demands = [1u32; MOST_CUSTOMERS];
+    assert!(rt; all_fit(pool.as_slice(), &demands, capacity));
+    assert!(rt; incumbent <= MUCH);
+    let mut guide = Habitual {
+        alloc,
+        habit,
+        random: Random(nodes),
+    };
+    let mut budget = nodes;
+    let found = cheapest_choice(
+        alloc,
+        &mut guide,
+        &demands,
+        capacity,
+        pool,
+        customers,
+        incumbent,
+        &mut budget,
+    );
+    let found = found.expect(rt, "memory");
+    assert!(rt; found.is_some() || budget == 0, "{budget} nodes are left");
+    found
+}
+
+// Below the incumbent the routes are a choice of that cost.
+fn assert_routes(rt: &impl Abort, found: &Chosen, customers: u128, incumbent: u64) {
+    if found.cost < incumbent {
+        let cost = cost_of_choice(&found.routes, customers);
+        assert_same(rt, cost, Some(found.cost), customers);
+    } else {
+        assert_same(rt, found.cost, incumbent, customers);
+    }
+}
+
+// Many ties where costs are below 4; often no choice at all.
+#[test]
+fn choices_beside_every_choice(rt: HostRuntime) {
+    let (rt, alloc) = (&rt, rt.alloc());
+    let mut random = Random(2);
+    for round in 0..24u32 {
+        let capacity = 3 + round % 2 * 3;
+        let pool = fitting(
+            rt,
+            alloc,
+            &mut random,
+            4 + round % 9,
+            4 + round % 3 * 50,
+            capacity,
+        );
+        let least = least_cost(rt, &pool, all_customers());
+        for &habit in HABITS {
+            for incumbent in [MUCH, 40, 3] {
+                let routes = Vec::from_slice(alloc, &pool).expect(rt, "memory");
+                let found = choice(
+                    rt,
+                    alloc,
+                    habit,
+                    capacity,
+                    routes,
+                    all_customers(),
+                    incumbent,
+                    1_000,
+                );
+                let found = found.expect(rt, "a budget that suffices");
+                let wanted = least.unwrap_or(incumbent).min(incumbent);
+                assert_same(rt, found.cost, wanted, (round, habit, incumbent));
+                assert_routes(rt, &found, all_customers(), incumbent);
+            }
+        }
+    }
+}
+
+// Random routes that a truck can carry.
+fn fitting(
+    rt: &impl Abort,
+    alloc: Global,
+    random: &mut Random,
+    count: u32,
+    costs: u32,
+    capacity: u32,
+) -> Vec<Route> {
+    let mut pool = random.pool(rt, alloc, count, costs);
+    for route in &mut pool {
+        if route.set.count_ones() > capacity {
+            route.set &= route.set - 1;
+        }
+        if route.set.count_ones() > capacity {
+            route.set = 1;
+        }
+    }
+    pool
+}
+
+// More than any choice of cheap routes costs.
+const DEAR: u64 = 600;
+
+// Of each route there are so many costlier ones that a node is branched on before it is searched.
+#[test]
+fn pools_that_are_branched_on(rt: HostRuntime) {
+    let (rt, alloc) = (&rt, rt.alloc());
+    let mut random = Random(3);
+    for round in 0..8u32 {
+        let base = fitting(rt, alloc, &mut random, 8, 10, 3);
+        let least = least_cost(rt, &base, all_customers()).unwrap_or(DEAR);
+        for &habit in HABITS {
+            let pool = repeated(rt, alloc, &base, 400);
+            let found = choice(rt, alloc, habit, 3, pool, all_customers(), DEAR, 1_000);
+            let found = found.expect(rt, "a budget that suffices");
+            assert_same(rt, found.cost, least, (round, habit));
+            assert_routes(rt, &found, all_customers(), DEAR);
+        }
+        for nodes in [0, 1, 9] {
+            let pool = repeated(rt, alloc, &base, 400);
+            let found = choice(
+                rt,
+                alloc,
+                Habit::Idle,
+                3,
+                pool,
+                all_customers(),
+                MUCH,
+                nodes,
+            );
+            assert_same(rt, found.is_some(), false, nodes);
+        }
+    }
+}
+
+// Each of the routes, and so many times the same at a higher cost.
+fn repeated(rt: &impl Abort, alloc: Global, base: &[Route], times: u32) -> Vec<Route> {
+    let mut pool = Vec::from_slice(alloc, base).expect(rt, "memory");
+    for _ in 0..times {
+        for route in base {
+            let route = Route {
+                set: route.set,
+                cost: route.cost.saturating_add(590),
+            };
+            pool.push(route).expect(rt, "memory");
+        }
+    }
+    pool
+}

@@ -1,0 +1,94 @@
+//! Guides that know nothing.
+
+use crate::random::Random;
+use std::alloc::{AllocError, Global};
+use vrp_partition::{Cut, Guide, MOST_CUSTOMERS, PriceOffer, Route};
+
+/// What a guide answers.
+#[derive(Clone, Copy, Debug, PartialEq)]
+pub(crate) enum Habit {
+    /// Prices of 0.
+    Zeros,
+    /// Random prices and cuts, some of which are refused.
+    Random,
+    /// The highest duals and cuts that are admitted.
+    Highest,
+    /// The lowest duals.
+    Lowest,
+    /// Prices that are refused.
+    Refused,
+    /// Prices of 0, and groups of nobody.
+    Idle,
+}
+
+/// All of them that branch.
+pub(crate) const HABITS: &[Habit] = &[
+    Habit::Zeros,
+    Habit::Random,
+    Habit::Highest,
+    Habit::Lowest,
+    Habit::Refused,
+];
+
+/// A guide that answers so.
+#[derive(Drop)]
+pub(crate) struct Habitual {
+    pub(crate) alloc: Global,
+    pub(crate) habit: Habit,
+    pub(crate) random: Random,
+}
+
+impl Habitual {
+    fn dual(&mut self) -> i64 {
+        match self.habit {
+            Habit::Zeros | Habit::Idle => 0,
+            Habit::Random => i64::from(self.random.next() % (1 << 26)) - (1 << 24),
+            Habit::Highest => 1 << 52,
+            Habit::Lowest => -(1 << 52),
+            Habit::Refused => i64::MAX,
+        }
+    }
+
+    fn price(&mut self) -> u64 {
+        match self.habit {
+            Habit::Random => u64::from(self.random.next() % (1 << 24)),
+            Habit::Highest => 1 << 50,
+            _ => 0,
+        }
+    }
+
+    fn cuts(&mut self, counts: u32) -> Result<Vec<Cut>, AllocError> {
+        let mut cuts = Vec::new(self.alloc);
+        for _ in 0..2 {
+            let cut = Cut {
+                set: self.random.some_customers(),
+                count: self.random.next() % counts.max(1),
+                price: self.price(),
+            };
+            cuts.push(cut)?;
+        }
+        Ok(cuts)
+    }
+}
+
+impl Guide for Habitual {
+    fn offer(&mut self, _pool: &[Route], _customers: u128) -> Result<PriceOffer, AllocError> {
+        let mut duals = Vec::new(self.alloc);
+        for _ in 0..MOST_CUSTOMERS {
+            duals.push(self.dual())?;
+        }
+        Ok(PriceOffer {
+            duals,
+            subset_rows: self.cuts(1)?,
+            capacity_cuts: self.cuts(3)?,
+        })
+    }
+
+    fn group(&mut self, _pool: &[Route]) -> u128 {
+        if self.habit == Habit::Idle {
+            0
+        } else {
+            self.random.pair()
+        }
+    }
+}

@@ -1,0 +1,357 @@
+//! Reduced costs and lower bounds by hand, and which prices are refused.
+
+use crate::assertion::assert_same;
+use std::alloc::Global;
+use std::process::Abort;
+use vrp_partition::{
+    Cut, MOST_CUSTOMERS, PriceOffer, Prices, Route, SCALE, none_negative, reduced_costs, within_gap,
+};
+
+// A unit of cost, in units of a price.
+const UNIT: i64 = SCALE as i64;
+
+const THREE: u128 = 0b1110;
+
+// Each customer demands 1, and a truck carries 2.
+const CAPACITY: u32 = 2;
+
+fn offer(
+    rt: &impl Abort,
+    alloc: Global,
+    duals: &[i64],
+    subset_rows: &[Cut],
+    capacity_cuts: &[Cut],
+) -> PriceOffer {
+    let mut all = Vec::from_slice(alloc, duals).expect(rt, "memory");
+    for _ in duals.len()..MOST_CUSTOMERS {
+        all.push(0).expect(rt, "memory");
+    }
+    PriceOffer {
+        duals: all,
+        subset_rows: Vec::from_slice(alloc, subset_rows).expect(rt, "memory"),
+        capacity_cuts: Vec::from_slice(alloc, capacity_cuts).expect(rt, "memory"),
+    }
+}
+
+// A route, and its reduced cost in units of cost. Customers 1, 2 and 3 have prices 5, 7 and 8, their triple 2; they need two trucks, at
+// a price of 3 for each. So a choice costs at least 20 - 2 + 6 = 24.
+const REDUCED: &[(u128, u32, i64)] = &[
+    (0, 1, 1),
+    (0b0010, 10, 2),
+    (0b0100, 10, 0),
+    (0b1000, 11, 0),
+    (0b0110, 13, 0),
+    (0b1010, 14, 0),
+    (0b1100, 20, 4),
+    (0b1110, 21, 0),
+    (0b1_0000, 6, 6),
+    (0b1_0010, 9, 1),
+];
+
+#[test]
+fn reduced_costs_by_hand(rt: HostRuntime) {
+    let (rt, alloc) = (&rt, rt.alloc());
+    let triple = Cut {
+        set: THREE,
+        count: 0,
+        price: 2 * SCALE,
+    };
+    let visits = Cut {
+        set: THREE,
+        count: 2,
+        price: 3 * SCALE,
+    };
+    let duals = [0, 5 * UNIT, 7 * UNIT, 8 * UNIT];
+    let offer = offer(rt, alloc, &duals, &[triple], &[visits]);
+    let prices = Prices::admit(offer, &[1u32; MOST_CUSTOMERS], CAPACITY, THREE).expect(
+        rt, "prices",
+    );
+    assert_same(
+        rt,
+        prices.lower_bound(THREE),
+        i128::from(24 * UNIT),
+        "lower bound",
+    );
+    let mut pool = Vec::new(alloc);
+    for &(set, cost, reduced) in REDUCED {
+        assert_same(
+            rt,
+            prices.reduced_cost(set, cost),
+            reduced.saturating_mul(UNIT),
+            set,
+        );
+        pool.push(Route { set, cost }).expect(rt, "memory");
+    }
+    let costs = reduced_costs(alloc, &prices, &pool).expect(rt, "memory");
+    assert_same(rt, none_negative(&costs), true, "none is negative");
+    for (gap, kept) in [(6, 10), (4, 9), (1, 7), (0, 5)] {
+        let gap = gap * UNIT;
+        let at_gap = within_gap(alloc, &prices, &pool, &costs, gap).expect(rt, "memory");
+        assert_same(rt, at_gap.len(), kept, gap);
+    }
+}
+
+// The duals of an offer, how many cuts it has of each kind, and what they are.
+#[derive(Clone, Copy, Debug)]
+struct Offered {
+    dual: i64,
+    subset_rows: usize,
+    subset_row: Cut,
+    capacity_cuts: usize,
+    capacity_cut: Cut,
+}
+
+const HIGHEST: u64 = 1 << 50;
+
+const FARTHEST: i64 = 1 << 52;
+
+const GOOD: Offered = Offered {
+    dual: -FARTHEST,
+    subset_rows: 512,
+    subset_row: Cut {
+        set: THREE,
+        count: 0,
+        price: HIGHEST,
+    },
+    capacity_cuts: 512,
+    capacity_cut: Cut {
+        set: THREE,
+        count: 2,
+        price: HIGHEST,
+    },
+};
+
+const ADMITTED: &[(Offered, bool)] = &[
+    (GOOD, true),
+    (
+        Offered {
+            dual: FARTHEST,
+            ..GOOD
+        },
+        true,
+    ),
+    (
+        Offered {
+            dual: FARTHEST + 1,
+            ..GOOD
+        },
+        false,
+    ),
+    (
+        Offered {
+            dual: -FARTHEST - 1,
+            ..GOOD
+        },
+        false,
+    ),
+    (
+        Offered {
+            dual: i64::MIN,
+            ..GOOD
+        },
+        false,
+    ),
+    (
+        Offered {
+            subset_rows: 513,
+            ..GOOD
+        },
+        false,
+    ),
+    (
+        Offered {
+            subset_row: Cut {
+                set: THREE,
+                count: 0,
+                price: HIGHEST + 1,
+            },
+            ..GOOD
+        },
+        false,
+    ),
+    (
+        Offered {
+            subset_row: Cut {
+                set: 0b1111,
+                count: 0,
+                price: 1,
+            },
+            ..GOOD
+        },
+        false,
+    ),
+    (
+        Offered {
+            subset_row: Cut {
+                set: 1 << 127,
+                count: u32::MAX,
+                price: 1,
+            },
+            ..GOOD
+        },
+        true,
+    ),
+    (
+        Offered {
+            capacity_cuts: 513,
+            ..GOOD
+        },
+        false,
+    ),
+    (
+        Offered {
+            capacity_cut: Cut {
+                set: THREE,
+                count: 2,
+                price: HIGHEST + 1,
+            },
+            ..GOOD
+        },
+        false,
+    ),
+    (
+        Offered {
+            capacity_cut: Cut {
+                set: THREE,
+                count: 3,
+                price: 1,
+            },
+            ..GOOD
+        },
+        false,
+    ),
+    (
+        Offered {
+            capacity_cut: Cut {
+                set: 0b0110,
+                count: 2,
+                price: 1,
+            },
+            ..GOOD
+        },
+        false,
+    ),
+    (
+        Offered {
+            capacity_cut: Cut {
+                set: 0b0110,
+                count: 1,
+                price: 1,
+            },
+            ..GOOD
+        },
+        true,
+    ),
+    (
+        Offered {
+            capacity_cut: Cut {
+                set: 0b0111,
+                count: 1,
+                price: 1,
+            },
+            ..GOOD
+        },
+        false,
+    ),
+    (
+        Offered {
+            capacity_cut: Cut {
+                set: 0,
+                count: 1,
+                price: 1,
+            },
+            ..GOOD
+        },
+        false,
+    ),
+    (
+        Offered {
+            capacity_cut: Cut {
+                set: 0,
+                count: 0,
+                price: 1,
+            },
+            ..GOOD
+        },
+        true,
+    ),
+];
+
+#[test]
+fn prices_that_are_refused(rt: HostRuntime) {
+    let (rt, alloc) = (&rt, rt.alloc());
+    for &(offered, wanted) in ADMITTED {
+        let prices = admitted(rt, alloc, offered, &[1u32; MOST_CUSTOMERS], CAPACITY, THREE);
+        assert_same(rt, prices.is_some(), wanted, offered);
+    }
+    let short = PriceOffer {
+        duals: Vec::from_slice(alloc, &[0; 127]).expect(rt, "memory"),
+        subset_rows: Vec::new(alloc),
+        capacity_cuts: Vec::new(alloc),
+    };
+    let prices = Prices::admit(short, &[1u32; MOST_CUSTOMERS], CAPACITY, THREE);
+    assert_same(rt, prices.is_some(), false, "127 duals");
+}
+
+fn admitted(
+    rt: &impl Abort,
+    alloc: Global,
+    offered: Offered,
+    demands: &[u32; 128],
+    capacity: u32,
+    customers: u128,
+) -> Option<Prices> {
+    let duals = vec![in alloc; offered.dual; MOST_CUSTOMERS].expect(rt, "memory");
+    let subset_rows = vec![in alloc; offered.subset_row; offered.subset_rows].expect(rt, "memory");
+    let capacity_cuts = vec![in alloc; offered.capacity_cut; offered.capacity_cuts].expect(
+        rt, "memory",
+    );
+    let offer = PriceOffer {
+        duals,
+        subset_rows,
+        capacity_cuts,
+    };
+    Prices::admit(offer, demands, capacity, customers)
+}
+
+// The price of each customer, the lower bound and the reduced cost of a route with all 128 customers that costs 2 ^ 32 - 1. The cuts
+// of each kind cost 2 ^ 59 together, and each capacity cut asks for 2 ^ 32 - 1 routes.
+const AT_THE_LIMITS: &[(i64, i128, i64)] = &[
+    (
+        FARTHEST,
+        (1 << 91) - (1 << 59),
+        (1 << 52) - (1 << 20) - (1 << 59),
+    ),
+    (
+        -FARTHEST,
+        (1 << 91) - (3 << 59),
+        (1 << 52) - (1 << 20) + (1 << 59),
+    ),
+];
+
+#[test]
+fn prices_at_the_limits(rt: HostRuntime) {
+    let (rt, alloc) = (&rt, rt.alloc());
+    for &(dual, low, reduced) in AT_THE_LIMITS {
+        let offered = Offered {
+            dual,
+            capacity_cut: Cut {
+                set: u128::MAX,
+                count: u32::MAX,
+                price: HIGHEST,
+            },
+            ..GOOD
+        };
+        let prices = admitted(
+            rt,
+            alloc,
+            offered,
+            &[u32::MAX; MOST_CUSTOMERS],
+            1,
+            u128::MAX,
+        );
+        let prices = prices.expect(rt, "prices");
+        assert_same(rt, prices.lower_bound(u128::MAX), low, dual);
+        assert_same(rt, prices.reduced_cost(u128::MAX, u32::MAX), reduced, dual);
+    }
+}
