@@ -15,44 +15,70 @@ use vrp_command::{
 use vrp_solution::SolutionError;
 use vrp_text::TextError;
 
-// A plain run.
-const PLAIN: Request<'static> = Request {
-    options: OPTIONS,
-    seconds: None,
-    progress: false,
-    start: None,
+// How much may be searched.
+#[derive(Clone, Copy)]
+enum Search {
+    // As much as without options.
+    Default,
+    // One partial plan of one piece: the plan stays open.
+    Little,
+}
+
+impl Search {
+    ghost use Rattle.vrp_request.specs.Options.{AreInRange};
+
+    fn options(self) -> Options
+        ensures { AreInRange result }
+    {
+        match self {
+            Search::Default => Options {
+                workers: 1,
+                pieces: 64,
+                budget: 10_000_000,
+                depot: None,
+                trucks: None,
+            },
+            Search::Little => Options {
+                workers: 1,
+                pieces: 1,
+                budget: 1,
+                depot: None,
+                trucks: None,
+            },
+        }
+    }
+}
+
+// What is asked for: how much may be searched, whether the plan to begin with is only to be checked, and in which form.
+#[derive(Clone, Copy)]
+struct Asked {
+    search: Search,
+    check: bool,
+    format: Format,
+}
+
+const PLAIN: Asked = Asked {
+    search: Search::Default,
     check: false,
     format: Format::Report,
 };
 
-const OPTIONS: Options = Options {
-    workers: 1,
-    pieces: 64,
-    budget: 10_000_000,
-    depot: None,
-    trucks: None,
+const LITTLE: Asked = Asked {
+    search: Search::Little,
+    ..PLAIN
 };
 
-// One partial plan of one piece: the plan stays open.
-const LITTLE: Options = Options {
-    workers: 1,
-    pieces: 1,
-    budget: 1,
-    depot: None,
-    trucks: None,
-};
-
-const CHECK: Request<'static> = Request {
+const CHECK: Asked = Asked {
     check: true,
     ..PLAIN
 };
 
-const SOLUTION: Request<'static> = Request {
+const SOLUTION: Asked = Asked {
     format: Format::Solution,
     ..PLAIN
 };
 
-const PICTURE: Request<'static> = Request {
+const PICTURE: Asked = Asked {
     format: Format::Picture,
     ..PLAIN
 };
@@ -77,7 +103,7 @@ impl Start {
 
 // What is asked for, of which file, with which plan to begin with; how it ends, and what is printed.
 type Row = (
-    Request<'static>,
+    Asked,
     &'static str,
     Start,
     Result<Status, RequestError>,
@@ -91,10 +117,7 @@ const REQUESTS: &[Row] = &[
     (PLAIN, SMALL, Start::Nothing, Ok(Status::Proven), REPORT),
     (PLAIN, SMALL, TWO, Ok(Status::Proven), REPORT),
     (
-        Request {
-            options: LITTLE,
-            ..PLAIN
-        },
+        LITTLE,
         SMALL,
         Start::Nothing,
         Ok(Status::Open),
@@ -102,10 +125,7 @@ const REQUESTS: &[Row] = &[
     ),
     // no printed plan costs more than the one to begin with
     (
-        Request {
-            options: LITTLE,
-            ..PLAIN
-        },
+        LITTLE,
         SMALL,
         Start::Text("Route #1: 2 1\n"),
         Ok(Status::Open),
@@ -169,15 +189,23 @@ fn requests(rt: HostRuntime) {
 fn assert_request<R: Abort + Threads + Wait + Clock + Eprint + Sync>(
     rt: &R,
     alloc: Global,
-    (request, text, start, wanted, printed): &Row,
+    (asked, text, start, wanted, printed): &Row,
 ) {
+    let request = Request {
+        options: asked.search.options(),
+        seconds: None,
+        progress: false,
+        start: None,
+        check: asked.check,
+        format: asked.format,
+    };
     let mut input = text.as_bytes();
     let mut output = Vec::new(alloc);
     let mut errors = Vec::new(alloc);
     let ended = run_request(
         rt,
         alloc,
-        *request,
+        request,
         start.file(),
         &mut input,
         &mut output,
@@ -189,35 +217,50 @@ fn assert_request<R: Abort + Threads + Wait + Clock + Eprint + Sync>(
     assert!(rt; errors.is_empty(), "{printed}");
 }
 
-// A request whose run is told of, and how its last line begins behind the seconds, and ends.
-const LAST_LINES: &[(Options, &str)] = &[
-    (OPTIONS, " s, Proven, cost 20, lower bound 20, gap 0.00%"),
-    (LITTLE, " s, Open, cost 30"),
+// How much may be searched, and a part of the last line of a run that is told of.
+const LAST_LINES: &[(Search, &str)] = &[
+    (
+        Search::Default,
+        " s, Proven, cost 20, lower bound 20, gap 0.00%",
+    ),
+    (Search::Little, " s, Open, cost 30"),
 ];
 
 // The last line of a run that is told of has the verdict of its report.
 #[test]
 fn last_lines(rt: HostRuntime) {
-    for (options, wanted) in LAST_LINES {
-        let request = Request {
-            options: *options,
-            progress: true,
-            ..PLAIN
-        };
-        let mut input = SMALL.as_bytes();
-        let mut output = Vec::new(rt.alloc());
-        let mut errors = Vec::new(rt.alloc());
-        let ended = run_request(
-            &rt,
-            rt.alloc(),
-            request,
-            Start::Nothing.file(),
-            &mut input,
-            &mut output,
-            &mut errors,
-            &NoGate,
-        );
-        let told = str::from_utf8(&errors).expect(&rt, "text");
-        assert!(rt; ended.is_ok() && told.contains(*wanted), "{told}");
+    for &(search, wanted) in LAST_LINES {
+        assert_last_line(&rt, rt.alloc(), search, wanted);
     }
+}
+
+fn assert_last_line<R: Abort + Threads + Wait + Clock + Eprint + Sync>(
+    rt: &R,
+    alloc: Global,
+    search: Search,
+    wanted: &str,
+) {
+    let request = Request {
+        options: search.options(),
+        seconds: None,
+        progress: true,
+        start: None,
+        check: false,
+        format: Format::Report,
+    };
+    let mut input = SMALL.as_bytes();
+    let mut output = Vec::new(alloc);
+    let mut errors = Vec::new(alloc);
+    let ended = run_request(
+        rt,
+        alloc,
+        request,
+        Start::Nothing.file(),
+        &mut input,
+        &mut output,
+        &mut errors,
+        &NoGate,
+    );
+    let told = str::from_utf8(&errors).expect(rt, "text");
+    assert!(rt; ended.is_ok() && told.contains(wanted), "{told}");
 }

@@ -1,4 +1,6 @@
 //! A plan in each form, byte for byte.
+ghost use Rattle.std.specs.Option.{option_map};
+ghost use Rattle.std.specs.Prelude.{◌≡◌};
 ghost use Rattle.vrp_model.specs.Route.{IsPlanOf};
 
 use std::alloc::Global;
@@ -41,7 +43,9 @@ fn plan(rt: &impl Abort, alloc: Global, instance: &Instance, text: &str) -> Plan
 }
 
 // What is told of a plan, if there is one.
-fn told(plan: Option<&Plan>, status: Status, lower_bound: Option<u64>) -> Finding<'_> {
+fn told(plan: Option<&Plan>, status: Status, lower_bound: Option<u64>) -> Finding<'_>
+    ensures { option_map (λ plan. plan.now) result.plan ≡ option_map (λ plan. plan.now) plan.entry }
+{
     Finding {
         plan,
         status,
