@@ -20,47 +20,47 @@ pub filtered_known : {X : Type 0} (p : X → Bool) (xs : List X) (x : X) → Con
 filtered_known p xs x has = All-contains (Contains xs) (filter p xs) x (All-filter p (Contains xs) xs (All-contains_itself xs)) has
 
 -- a choice of a part is one of the whole
-part_choice : (p : Route → Bool) (pool : List Route) (customers : ℕ) (routes : List Route) → IsChoice set_of (filter p pool) customers routes → IsChoice set_of pool customers routes
-part_choice p pool customers routes choice = record { known = All-weaker (Contains (filter p pool)) (Contains pool) (filtered_known p pool) routes choice.known; once = choice.once }
+part_choice : (p : Route → Bool) (pool : List Route) (customers trucks : ℕ) (routes : List Route) → IsChoice set_of (filter p pool) customers trucks routes → IsChoice set_of pool customers trucks routes
+part_choice p pool customers trucks routes choice = record { known = All-weaker (Contains (filter p pool)) (Contains pool) (filtered_known p pool) routes choice.known; once = choice.once; few = choice.few }
 
-pub none_cheaper : (prices : Prices) (scale customers incumbent : ℕ) (pool : List Route) → AreValid prices pool customers → NoneNegative prices scale pool → 0 < incumbent → gap_of prices scale customers (incumbent - 1) <ℤ pos 0 → (routes : List Route) → IsCheapest pool customers incumbent incumbent routes
-none_cheaper prices scale customers incumbent pool valid none some negative routes = record {
+pub none_cheaper : (prices : Prices) (scale customers trucks incumbent : ℕ) (pool : List Route) → AreValid prices pool customers → NoneNegative prices scale pool → 0 < incumbent → gap_of prices scale customers trucks (incumbent - 1) <ℤ pos 0 → (routes : List Route) → IsCheapest pool customers trucks incumbent incumbent routes
+none_cheaper prices scale customers trucks incumbent pool valid none some negative routes = record {
   most = omega arith;
-  least = λ others choice. omega (arith, some, none_in_gap prices scale customers (incumbent - 1) pool valid none negative others choice);
+  least = λ others choice. omega (arith, some, none_in_gap prices scale customers trucks (incumbent - 1) pool valid none negative others choice);
   attained = λ below. absurd (omega arith);
 }
 
-pub cheapest_kept : (prices : Prices) (scale customers incumbent found : ℕ) (pool routes : List Route) → AreValid prices pool customers → NoneNegative prices scale pool → 0 < incumbent
-    → IsCheapest (filter (is_within_gap prices scale (gap_of prices scale customers (incumbent - 1))) pool) customers incumbent found routes → IsCheapest pool customers incumbent found routes
-cheapest_kept prices scale customers incumbent found pool routes valid none some kept = record {
+pub cheapest_kept : (prices : Prices) (scale customers trucks incumbent found : ℕ) (pool routes : List Route) → AreValid prices pool customers → NoneNegative prices scale pool → 0 < incumbent
+    → IsCheapest (filter (is_within_gap prices scale (gap_of prices scale customers trucks (incumbent - 1))) pool) customers trucks incumbent found routes → IsCheapest pool customers trucks incumbent found routes
+cheapest_kept prices scale customers trucks incumbent found pool routes valid none some kept = record {
   most = kept.most;
   least = λ others choice. elim (cases_lt (cost_of others) incumbent) [
-    | inl cheap ↦ kept.least others (kept_choice prices scale customers (incumbent - 1) pool others valid none choice (omega (arith, cheap)))
+    | inl cheap ↦ kept.least others (kept_choice prices scale customers trucks (incumbent - 1) pool others valid none choice (omega (arith, cheap)))
     | inr dear ↦ omega (arith, dear, kept.most)
   ];
-  attained = λ below. let a = kept.attained below in (part_choice (is_within_gap prices scale (gap_of prices scale customers (incumbent - 1))) pool customers routes a.0, a.1);
+  attained = λ below. let a = kept.attained below in (part_choice (is_within_gap prices scale (gap_of prices scale customers trucks (incumbent - 1))) pool customers trucks routes a.0, a.1);
 }
 
-branched_least : (group customers incumbent first second found : ℕ) (pool one other : List Route) → IsCheapest (filter (is_together group) pool) customers incumbent first one → IsCheapest (filter (is_apart group) pool) customers first second other → found ≤ first → found ≤ second
-    → (routes : List Route) → IsChoice set_of pool customers routes → found ≤ cost_of routes
-branched_least group customers incumbent first second found pool one other joint parted p q routes choice = elim (branched_choice group customers pool routes choice) [
+branched_least : (group customers trucks incumbent first second found : ℕ) (pool one other : List Route) → IsCheapest (filter (is_together group) pool) customers trucks incumbent first one → IsCheapest (filter (is_apart group) pool) customers trucks first second other → found ≤ first → found ≤ second
+    → (routes : List Route) → IsChoice set_of pool customers trucks routes → found ≤ cost_of routes
+branched_least group customers trucks incumbent first second found pool one other joint parted p q routes choice = elim (branched_choice group customers trucks pool routes choice) [
   | inl here ↦ omega (arith, joint.least routes here, p)
   | inr there ↦ omega (arith, parted.least routes there, q)
 ]
 
--- the cheaper one of both branches
-pub second_branch : (group customers incumbent first second : ℕ) (pool one other : List Route) → IsCheapest (filter (is_together group) pool) customers incumbent first one → IsCheapest (filter (is_apart group) pool) customers first second other → second < first → IsCheapest pool customers incumbent second other
-second_branch group customers incumbent first second pool one other joint parted less = record {
+-- the cheaper one of both branches trucks
+pub second_branch : (group customers trucks incumbent first second : ℕ) (pool one other : List Route) → IsCheapest (filter (is_together group) pool) customers trucks incumbent first one → IsCheapest (filter (is_apart group) pool) customers trucks first second other → second < first → IsCheapest pool customers trucks incumbent second other
+second_branch group customers trucks incumbent first second pool one other joint parted less = record {
   most = omega (arith, joint.most, less);
-  least = branched_least group customers incumbent first second second pool one other joint parted (omega (arith, less)) (omega arith);
-  attained = λ below. let a = parted.attained less in (part_choice (is_apart group) pool customers other a.0, a.1);
+  least = branched_least group customers trucks incumbent first second second pool one other joint parted (omega (arith, less)) (omega arith);
+  attained = λ below. let a = parted.attained less in (part_choice (is_apart group) pool customers trucks other a.0, a.1);
 }
 
-pub first_branch : (group customers incumbent first second : ℕ) (pool one other : List Route) → IsCheapest (filter (is_together group) pool) customers incumbent first one → IsCheapest (filter (is_apart group) pool) customers first second other → first ≤ second → IsCheapest pool customers incumbent first one
-first_branch group customers incumbent first second pool one other joint parted less = record {
+pub first_branch : (group customers trucks incumbent first second : ℕ) (pool one other : List Route) → IsCheapest (filter (is_together group) pool) customers trucks incumbent first one → IsCheapest (filter (is_apart group) pool) customers trucks first second other → first ≤ second → IsCheapest pool customers trucks incumbent first one
+first_branch group customers trucks incumbent first second pool one other joint parted less = record {
   most = joint.most;
-  least = branched_least group customers incumbent first second first pool one other joint parted (omega arith) less;
-  attained = λ below. let a = joint.attained below in (part_choice (is_together group) pool customers one a.0, a.1);
+  least = branched_least group customers trucks incumbent first second first pool one other joint parted (omega arith) less;
+  attained = λ below. let a = joint.attained below in (part_choice (is_together group) pool customers trucks one a.0, a.1);
 }
 
 sum_by_map : {X Y : Type 0} (f : Y → ℕ) (h : X → Y) (xs : List X) → sum_by f (map h xs) ≡ sum_by (λ x. f (h x)) xs
@@ -87,27 +87,28 @@ values_within : (value scale cost incumbent : ℕ) (lower_bound rest gap : ℤ) 
 values_within value scale cost incumbent lower_bound rest gap e law le is some = omega (arith, ints)
 
 -- the search over the columns of what is kept
-pub cheapest_columns : (prices : Prices) (scale customers incumbent found : ℕ) (pool : List Route) (parts : List Column) → AreValid prices pool customers → NoneNegative prices scale pool → 0 < incumbent
-    → pos 0 ≤ℤ gap_of prices scale customers (incumbent - 1)
-    → IsLeast (map (column_of prices scale) (filter (is_within_gap prices scale (gap_of prices scale customers (incumbent - 1))) pool)) customers incumbent (unsigned_abs (gap_of prices scale customers (incumbent - 1))) found parts
-    → IsCheapest pool customers incumbent found (map route_of parts)
-cheapest_columns prices scale customers incumbent found pool parts valid none some is_gap answer =
-    let gap = gap_of prices scale customers (incumbent - 1) in
+pub cheapest_columns : (prices : Prices) (scale customers trucks incumbent found : ℕ) (pool : List Route) (parts : List Column) → AreValid prices pool customers → NoneNegative prices scale pool → 0 < incumbent
+    → pos 0 ≤ℤ gap_of prices scale customers trucks (incumbent - 1)
+    → IsLeast (map (column_of prices scale) (filter (is_within_gap prices scale (gap_of prices scale customers trucks (incumbent - 1))) pool)) customers trucks incumbent (unsigned_abs (gap_of prices scale customers trucks (incumbent - 1))) found parts
+    → IsCheapest pool customers trucks incumbent found (map route_of parts)
+cheapest_columns prices scale customers trucks incumbent found pool parts valid none some is_gap answer =
+    let gap = gap_of prices scale customers trucks (incumbent - 1) in
     let kept = filter (is_within_gap prices scale gap) pool in
     record {
       most = answer.most;
       least = λ routes choice. elim (cases_lt (cost_of routes) incumbent) [
         | inl cheap ↦
-            let inside = kept_choice prices scale customers (incumbent - 1) pool routes valid none choice (omega (arith, cheap)) in
+            let inside = kept_choice prices scale customers trucks (incumbent - 1) pool routes valid none choice (omega (arith, cheap)) in
             let columns = map (column_of prices scale) routes in
             let nonneg : All (λ r. pos 0 ≤ℤ reduced_cost_of prices scale r) routes = All-weaker (Contains pool) (λ r. pos 0 ≤ℤ reduced_cost_of prices scale r) (λ r known. All-contains (λ r. pos 0 ≤ℤ reduced_cost_of prices scale r) pool r none known) routes choice.known in
-            let value : columns_reduced_cost columns ≤ unsigned_abs gap = values_within (columns_reduced_cost columns) scale (cost_of routes) incumbent (lower_bound_of prices customers) (total (reduced_cost_of prices scale) routes) gap
+            let value : columns_reduced_cost columns ≤ unsigned_abs gap = values_within (columns_reduced_cost columns) scale (cost_of routes) incumbent (lower_bound_of prices customers trucks) (total (reduced_cost_of prices scale) routes) gap
             (ap (λ n. pos n) (sum_by_map (λ (c : Column). c.reduced_cost) (column_of prices scale) routes) ∙ values_total (reduced_cost_of prices scale) routes nonneg)
-            (priced_choice prices scale customers pool routes valid choice) (mul-le-mul_left scale (omega (arith, cheap))) refl is_gap in
-            let is_choice : IsChoice column_set (map (column_of prices scale) kept) customers columns = record {
+            (priced_choice prices scale customers trucks pool routes valid choice) (mul-le-mul_left scale (omega (arith, cheap))) refl is_gap in
+            let is_choice : IsChoice column_set (map (column_of prices scale) kept) customers trucks columns = record {
               known = All-map (Contains (map (column_of prices scale) kept)) (column_of prices scale) routes
                   (All-weaker (Contains kept) (λ r. Contains (map (column_of prices scale) kept) (column_of prices scale r)) (mapped_known (column_of prices scale) kept) routes inside.known);
               once = λ i. sum_by_map (λ (c : Column). bit_at c.set i) (column_of prices scale) routes ∙ choice.once i;
+              few = omega (arith, length-map routes (column_of prices scale), choice.few);
             } in
             omega (arith, answer.least columns is_choice value, sum_by_map (λ (c : Column). c.cost) (column_of prices scale) routes)
         | inr dear ↦ omega (arith, dear, answer.most)
@@ -118,6 +119,7 @@ cheapest_columns prices scale customers incumbent found pool parts valid none so
               known = All-map (Contains pool) route_of parts (All-weaker (Contains (map (column_of prices scale) kept)) (λ c. Contains pool (route_of c))
                   (λ c known. filtered_known (is_within_gap prices scale gap) pool (route_of c) (route_known prices scale kept c known)) parts a.0.known);
               once = λ i. sum_by_map (λ (r : Route). bit_at r.set i) route_of parts ∙ a.0.once i;
+              few = omega (arith, length-map parts route_of, a.0.few);
             },
             sum_by_map (λ (r : Route). r.cost) route_of parts ∙ a.1,
           );

@@ -46,7 +46,7 @@ more : (count routes capacity load : ℕ) → load ≤ routes * capacity → cou
 more count routes capacity load carry need = grind arith
 
 pub needed_visits : (demands : List ℕ) (capacity customers : ℕ) (pool : List Route) (cut : Cut) → All (λ r. load_of demands r.set ≤ capacity) pool → IsNeeded demands capacity customers cut → IsVisited pool customers cut
-needed_visits demands capacity customers pool cut fit need routes choice =
+needed_visits demands capacity customers pool cut fit need trucks routes choice =
     let each = sum_by_le (λ r. load_of demands (bit_and (set_of r) cut.set)) (λ r. (if comes_to cut.set r.set then 1 else 0) * capacity) routes
     (All-weaker (Contains pool) (λ r. load_of demands (bit_and (set_of r) cut.set) ≤ (if comes_to cut.set r.set then 1 else 0) * capacity)
     (λ r known. carried demands capacity (set_of r) cut.set (All-contains (λ (r : Route). load_of demands r.set ≤ capacity) pool r fit known)) routes choice.known) in

@@ -22,9 +22,9 @@ contains_filter p (y ∷ ys) x (suc k, lt, e) passes =
     let rest = contains_filter p ys x (k, omega (arith, lt), e) passes in
     elim (p y) as (λ b. Contains (cond b (y ∷ filter p ys) (filter p ys)) x) [ true ↦ (suc rest.0, omega (arith, rest.1), rest.2) | false ↦ rest ]
 
-pub filtered_choice : {X : Type 0} (set : X → ℕ) (p : X → Bool) (pool : List X) (customers : ℕ) (parts : List X) → IsChoice set pool customers parts → All (λ x. p x ≡ true) parts → IsChoice set (filter p pool) customers parts
-filtered_choice set p pool customers parts choice passes =
-    record { known = λ k d lt. contains_filter p pool (get_or parts k d) (choice.known k d lt) (passes k d lt); once = choice.once }
+pub filtered_choice : {X : Type 0} (set : X → ℕ) (p : X → Bool) (pool : List X) (customers trucks : ℕ) (parts : List X) → IsChoice set pool customers trucks parts → All (λ x. p x ≡ true) parts → IsChoice set (filter p pool) customers trucks parts
+filtered_choice set p pool customers trucks parts choice passes =
+    record { known = λ k d lt. contains_filter p pool (get_or parts k d) (choice.known k d lt) (passes k d lt); once = choice.once; few = choice.few }
 
 nonneg_total : {X : Type 0} (f : X → ℤ) (xs : List X) → ((k : ℕ) (d : X) → k < length xs → pos 0 ≤ℤ f (get_or xs k d)) → pos 0 ≤ℤ total f xs
 nonneg_total f [] each = omega (arith, ints)
@@ -38,26 +38,26 @@ part_of_total f (x ∷ xs) each (suc k) d lt = let here = each 0 x (omega arith)
 int_le_true : (a b : ℤ) → a ≤ℤ b → int_le a b ≡ true
 int_le_true a b h = grind (arith, ints)
 
-none_negative_parts : (prices : Prices) (scale customers : ℕ) (pool routes : List Route) → NoneNegative prices scale pool → IsChoice set_of pool customers routes → (k : ℕ) (d : Route) → k < length routes → pos 0 ≤ℤ reduced_cost_of prices scale (get_or routes k d)
-none_negative_parts prices scale customers pool routes none choice = All-weaker (Contains pool) (λ r. pos 0 ≤ℤ reduced_cost_of prices scale r) (λ r known. All-contains (λ r. pos 0 ≤ℤ reduced_cost_of prices scale r) pool r none known) routes choice.known
+none_negative_parts : (prices : Prices) (scale customers trucks : ℕ) (pool routes : List Route) → NoneNegative prices scale pool → IsChoice set_of pool customers trucks routes → (k : ℕ) (d : Route) → k < length routes → pos 0 ≤ℤ reduced_cost_of prices scale (get_or routes k d)
+none_negative_parts prices scale customers trucks pool routes none choice = All-weaker (Contains pool) (λ r. pos 0 ≤ℤ reduced_cost_of prices scale r) (λ r known. All-contains (λ r. pos 0 ≤ℤ reduced_cost_of prices scale r) pool r none known) routes choice.known
 
 below_gap : (scale cost limit : ℕ) (lower_bound rest one : ℤ) → (lower_bound +ℤ rest) ≤ℤ pos (scale * cost) → scale * cost ≤ scale * limit → one ≤ℤ rest → one ≤ℤ (pos (scale * limit) -ℤ lower_bound)
 below_gap scale cost limit lower_bound rest one law less part = omega (arith, ints)
 
-pub kept_choice : (prices : Prices) (scale customers limit : ℕ) (pool routes : List Route) → AreValid prices pool customers → NoneNegative prices scale pool → IsChoice set_of pool customers routes → cost_of routes ≤ limit → IsChoice set_of (filter (is_within_gap prices scale (gap_of prices scale customers limit)) pool) customers routes
-kept_choice prices scale customers limit pool routes valid none choice within =
-    let nonneg = none_negative_parts prices scale customers pool routes none choice in
-    filtered_choice set_of (is_within_gap prices scale (gap_of prices scale customers limit)) pool customers routes choice
-    (λ k d lt. int_le_true (reduced_cost_of prices scale (get_or routes k d)) (gap_of prices scale customers limit)
-    (below_gap scale (cost_of routes) limit (lower_bound_of prices customers) (total (reduced_cost_of prices scale) routes) (reduced_cost_of prices scale (get_or routes k d))
-    (priced_choice prices scale customers pool routes valid choice) (mul-le-mul_left scale within) (part_of_total (reduced_cost_of prices scale) routes nonneg k d lt)))
+pub kept_choice : (prices : Prices) (scale customers trucks limit : ℕ) (pool routes : List Route) → AreValid prices pool customers → NoneNegative prices scale pool → IsChoice set_of pool customers trucks routes → cost_of routes ≤ limit → IsChoice set_of (filter (is_within_gap prices scale (gap_of prices scale customers trucks limit)) pool) customers trucks routes
+kept_choice prices scale customers trucks limit pool routes valid none choice within =
+    let nonneg = none_negative_parts prices scale customers trucks pool routes none choice in
+    filtered_choice set_of (is_within_gap prices scale (gap_of prices scale customers trucks limit)) pool customers trucks routes choice
+    (λ k d lt. int_le_true (reduced_cost_of prices scale (get_or routes k d)) (gap_of prices scale customers trucks limit)
+    (below_gap scale (cost_of routes) limit (lower_bound_of prices customers trucks) (total (reduced_cost_of prices scale) routes) (reduced_cost_of prices scale (get_or routes k d))
+    (priced_choice prices scale customers trucks pool routes valid choice) (mul-le-mul_left scale within) (part_of_total (reduced_cost_of prices scale) routes nonneg k d lt)))
 
-pub none_in_gap : (prices : Prices) (scale customers limit : ℕ) (pool : List Route) → AreValid prices pool customers → NoneNegative prices scale pool → gap_of prices scale customers limit <ℤ pos 0 → NoneWithin pool customers limit
-none_in_gap prices scale customers limit pool valid none negative routes choice =
+pub none_in_gap : (prices : Prices) (scale customers trucks limit : ℕ) (pool : List Route) → AreValid prices pool customers → NoneNegative prices scale pool → gap_of prices scale customers trucks limit <ℤ pos 0 → NoneWithin pool customers trucks limit
+none_in_gap prices scale customers trucks limit pool valid none negative routes choice =
     elim (cases_lt limit (cost_of routes)) [
       | inl more ↦ more
-      | inr within ↦ absurd (contradict (below_gap scale (cost_of routes) limit (lower_bound_of prices customers) (total (reduced_cost_of prices scale) routes) (pos 0)
-          (priced_choice prices scale customers pool routes valid choice) (mul-le-mul_left scale within) (nonneg_total (reduced_cost_of prices scale) routes (none_negative_parts prices scale customers pool routes none choice))) negative)
+      | inr within ↦ absurd (contradict (below_gap scale (cost_of routes) limit (lower_bound_of prices customers trucks) (total (reduced_cost_of prices scale) routes) (pos 0)
+          (priced_choice prices scale customers trucks pool routes valid choice) (mul-le-mul_left scale within) (nonneg_total (reduced_cost_of prices scale) routes (none_negative_parts prices scale customers trucks pool routes none choice))) negative)
     ]
   where
     contradict : {a : ℤ} → pos 0 ≤ℤ a → a <ℤ pos 0 → ⊥
@@ -112,9 +112,9 @@ branch_of group set (x ∷ xs) once =
           (λ i bit. omega (arith, sum_by-cons (λ x. bit_at (set x) i) x xs, some i bit))
     ])
 
-pub branched_choice : (group customers : ℕ) (pool routes : List Route) → IsChoice set_of pool customers routes → IsChoice set_of (filter (is_together group) pool) customers routes ⊎ IsChoice set_of (filter (is_apart group) pool) customers routes
-branched_choice group customers pool routes choice =
+pub branched_choice : (group customers trucks : ℕ) (pool routes : List Route) → IsChoice set_of pool customers trucks routes → IsChoice set_of (filter (is_together group) pool) customers trucks routes ⊎ IsChoice set_of (filter (is_apart group) pool) customers trucks routes
+branched_choice group customers trucks pool routes choice =
     elim (branch_of group set_of routes (λ i. omega (arith, choice.once i, bit_at-lt customers i))) [
-      | Apart apart ↦ inr (filtered_choice set_of (is_apart group) pool customers routes choice apart)
-      | Together together some ↦ inl (filtered_choice set_of (is_together group) pool customers routes choice together)
+      | Apart apart ↦ inr (filtered_choice set_of (is_apart group) pool customers trucks routes choice apart)
+      | Together together some ↦ inl (filtered_choice set_of (is_together group) pool customers trucks routes choice together)
     ]

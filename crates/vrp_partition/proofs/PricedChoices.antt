@@ -1,9 +1,9 @@
 -- The law of prices.
-use Rattle.std.proofs.Common.{◌≡◌, ℕ, zero, suc, ◌+◌, ◌*◌, ◌/◌, ◌%◌, ◌^◌, ◌<◌, ◌≤◌, true, false, List, [], ◌∷◌, refl, sym, ◌∙◌, ap, arith, bit_and, count_ones, pos, ◌+ℤ◌, ◌≤ℤ◌, if◌then◌else◌, nat_le}
+use Rattle.std.proofs.Common.{◌≡◌, ℕ, zero, suc, ◌+◌, ◌*◌, ◌/◌, ◌%◌, ◌^◌, ◌<◌, ◌≤◌, true, false, List, [], ◌∷◌, length, refl, sym, ◌∙◌, ap, arith, bit_and, count_ones, pos, ◌+ℤ◌, ◌≤ℤ◌, if◌then◌else◌, nat_le}
 use Rattle.std.specs.Int.{bit_at}
 use Rattle.std.specs.Int.Count.{ones_step}
 use Rattle.std.specs.List.{All, sum_by}
-use Rattle.std.proofs.Math.Nat.{zero-mul, one-mul, pow-suc, mul_comm, mul-le-mul_right}
+use Rattle.std.proofs.Math.Nat.{suc-mul, zero-mul, one-mul, pow-suc, mul_comm, mul-le-mul_right}
 use Rattle.std.proofs.lemmas.Int.{ints}
 use Rattle.std.proofs.lemmas.List.Elements.{All-head, All-tail, All-weaker}
 use Rattle.std.proofs.lemmas.List.Sums.{sum_by-cons, sum_by-le-sum_by}
@@ -81,16 +81,16 @@ rewards_all cuts set xs visited =
     omega (arith, swapped (λ x cut. reward (set x) cut) cuts xs, each)
 
 -- what the routes cost by the prices, summed
-summed : (prices : Prices) (scale : ℕ) (routes : List Route) → total (reduced_cost_of prices scale) routes +ℤ total (λ r. dual_sum prices.duals r.set) routes +ℤ pos (sum_by (λ r. rewards prices.capacity_cuts r.set) routes) ≡ pos (sum_by (λ r. r.cost * scale) routes + sum_by (λ r. charges prices.subset_rows r.set) routes)
-summed prices scale [] = refl
+summed : (prices : Prices) (scale : ℕ) (routes : List Route) → total (reduced_cost_of prices scale) routes +ℤ total (λ r. dual_sum prices.duals r.set) routes +ℤ pos (sum_by (λ r. rewards prices.capacity_cuts r.set) routes) ≡ pos (sum_by (λ r. r.cost * scale) routes + sum_by (λ r. charges prices.subset_rows r.set) routes + length routes * prices.truck_price)
+summed prices scale [] = omega (arith, ints, zero-mul prices.truck_price)
 summed prices scale (r ∷ routes) =
     let rest = summed prices scale routes in
-    omega (arith, ints, sum_by-cons (λ r. rewards prices.capacity_cuts r.set) r routes, sum_by-cons (λ r. r.cost * scale) r routes, sum_by-cons (λ r. charges prices.subset_rows r.set) r routes, mul_comm scale r.cost)
+    omega (arith, ints, suc-mul (length routes) prices.truck_price, sum_by-cons (λ r. rewards prices.capacity_cuts r.set) r routes, sum_by-cons (λ r. r.cost * scale) r routes, sum_by-cons (λ r. charges prices.subset_rows r.set) r routes, mul_comm scale r.cost)
 
-pub priced_choice : (prices : Prices) (scale customers : ℕ) (pool routes : List Route) → AreValid prices pool customers → IsChoice set_of pool customers routes → (lower_bound_of prices customers +ℤ total (reduced_cost_of prices scale) routes) ≤ℤ pos (scale * cost_of routes)
-priced_choice prices scale customers pool routes valid choice =
+pub priced_choice : (prices : Prices) (scale customers trucks : ℕ) (pool routes : List Route) → AreValid prices pool customers → IsChoice set_of pool customers trucks routes → (lower_bound_of prices customers trucks +ℤ total (reduced_cost_of prices scale) routes) ≤ℤ pos (scale * cost_of routes)
+priced_choice prices scale customers trucks pool routes valid choice =
     let a = summed prices scale routes in
     let b = dual_sum_once prices.duals set_of routes customers choice.once in
     let c = charges_once prices.subset_rows set_of routes customers valid.three choice.once in
-    let d = rewards_all prices.capacity_cuts set_of routes (All-weaker (IsVisited pool customers) (λ cut. cut.count ≤ sum_by (λ r. if comes_to cut.set r.set then 1 else 0) routes) (λ cut v. v routes choice) prices.capacity_cuts valid.visited) in
-    omega (arith, ints, sum_by_times (λ (r : Route). r.cost) scale routes, mul_comm scale (cost_of routes))
+    let d = rewards_all prices.capacity_cuts set_of routes (All-weaker (IsVisited pool customers) (λ cut. cut.count ≤ sum_by (λ r. if comes_to cut.set r.set then 1 else 0) routes) (λ cut v. v trucks routes choice) prices.capacity_cuts valid.visited) in
+    omega (arith, ints, mul-le-mul_right prices.truck_price choice.few, sum_by_times (λ (r : Route). r.cost) scale routes, mul_comm scale (cost_of routes))

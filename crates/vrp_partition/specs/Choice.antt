@@ -1,5 +1,5 @@
 -- Choices among the routes of a pool. A set of customers is a number, with a bit for each.
-use Rattle.std.specs.Prelude.{◌≡◌, ◌≤◌, ◌<◌, ℕ, List, Bool, not, ◌||◌, ◌==◌, bit_and}
+use Rattle.std.specs.Prelude.{◌≡◌, ◌≤◌, ◌<◌, ℕ, List, Bool, not, ◌||◌, ◌==◌, bit_and, length}
 use Rattle.std.specs.Int.{bit_at}
 use Rattle.std.specs.List.{All, Contains, sum_by}
 use Rattle.vrp_partition.specs.declared.route.Route.{Route}
@@ -11,18 +11,20 @@ set_of route = route.set
 abbrev pub visits : {X : Type 0} → (X → ℕ) → List X → ℕ → ℕ
 visits set parts customer = sum_by (λ x. bit_at (set x) customer) parts
 
--- members of the pool whose sets have each of the customers just once, and nobody else: a solution of the set partitioning
-pub record IsChoice {X : Type 0} (set : X → ℕ) (pool : List X) (customers : ℕ) (parts : List X) : Type 0 where
+-- members of the pool whose sets have each of the customers just once, and nobody else, no more than there are trucks: a solution of
+-- the set partitioning
+pub record IsChoice {X : Type 0} (set : X → ℕ) (pool : List X) (customers trucks : ℕ) (parts : List X) : Type 0 where
   pub known : All (Contains pool) parts
   pub once : (customer : ℕ) → visits set parts customer ≡ bit_at customers customer
+  pub few : length parts ≤ trucks
 
 -- what routes cost together
 abbrev pub cost_of : List Route → ℕ
 cost_of routes = sum_by (λ r. r.cost) routes
 
 -- every choice of the pool costs more
-abbrev pub NoneWithin : List Route → ℕ → ℕ → Type 0
-NoneWithin pool customers limit = (routes : List Route) → IsChoice set_of pool customers routes → limit < cost_of routes
+abbrev pub NoneWithin : List Route → ℕ → ℕ → ℕ → Type 0
+NoneWithin pool customers trucks limit = (routes : List Route) → IsChoice set_of pool customers trucks routes → limit < cost_of routes
 
 -- whether a set has all customers of a group, or none of them
 abbrev pub is_together : ℕ → Route → Bool
@@ -33,7 +35,7 @@ abbrev pub is_apart : ℕ → Route → Bool
 is_apart group route = not (bit_and route.set group == group)
 
 -- No choice costs less than what was found. That is the incumbent's cost, or below it the cost of the routes, which are a choice
-pub record IsCheapest (pool : List Route) (customers incumbent found : ℕ) (routes : List Route) : Type 0 where
+pub record IsCheapest (pool : List Route) (customers trucks incumbent found : ℕ) (routes : List Route) : Type 0 where
   pub most : found ≤ incumbent
-  pub least : (others : List Route) → IsChoice set_of pool customers others → found ≤ cost_of others
-  pub attained : found < incumbent → IsChoice set_of pool customers routes × (cost_of routes ≡ found)
+  pub least : (others : List Route) → IsChoice set_of pool customers trucks others → found ≤ cost_of others
+  pub attained : found < incumbent → IsChoice set_of pool customers trucks routes × (cost_of routes ≡ found)

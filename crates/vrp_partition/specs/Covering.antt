@@ -17,11 +17,11 @@ columns_reduced_cost columns = sum_by (λ c. c.reduced_cost) columns
 
 -- Of the choices whose reduced costs add up to the gap at most none costs less than what was found. That is the incumbent's cost,
 -- or below it the cost of the parts, which are a choice
-pub record IsLeast (columns : List Column) (unserved incumbent gap found : ℕ) (parts : List Column) : Type 0 where
+pub record IsLeast (columns : List Column) (unserved trucks incumbent gap found : ℕ) (parts : List Column) : Type 0 where
   pub most : found ≤ incumbent
-  pub least : (others : List Column) → IsChoice column_set columns unserved others
+  pub least : (others : List Column) → IsChoice column_set columns unserved trucks others
       → columns_reduced_cost others ≤ gap → found ≤ columns_cost others
-  pub attained : found < incumbent → IsChoice column_set columns unserved parts × (columns_cost parts ≡ found)
+  pub attained : found < incumbent → IsChoice column_set columns unserved trucks parts × (columns_cost parts ≡ found)
 
 -- whether a column has no customer but these, and no greater reduced cost
 abbrev pub is_inside : ℕ → ℕ → Column → Bool

@@ -2,3 +2,4 @@ pub mod Choice
 pub mod Prices
 pub mod Covering
 pub mod Outcome
+pub mod Pricing

@@ -10,16 +10,16 @@ use Rattle.vrp_partition.specs.declared.search.NodeOutcome.{NodeOutcome}
 use Rattle.vrp_partition.specs.declared.search.NodeOutcome.TheVariants.{Solved, Open}
 
 -- the node's answer, or routes that have the same answer
-abbrev pub IsOutcome : List ℕ → ℕ → List Route → ℕ → ℕ → NodeOutcome → Type 0
-IsOutcome demands capacity pool customers incumbent (Solved chosen) =
-    IsCheapest pool customers incumbent chosen.cost chosen.routes.items
-IsOutcome demands capacity pool customers incumbent (Open kept) =
+abbrev pub IsOutcome : List ℕ → ℕ → List Route → ℕ → ℕ → ℕ → NodeOutcome → Type 0
+IsOutcome demands capacity pool customers trucks incumbent (Solved chosen) =
+    IsCheapest pool customers trucks incumbent chosen.cost chosen.routes.items
+IsOutcome demands capacity pool customers trucks incumbent (Open kept) =
     AllFit demands capacity kept.items
-    × ((found : ℕ) (routes : List Route) → IsCheapest kept.items customers incumbent found routes
-    → IsCheapest pool customers incumbent found routes)
+    × ((found : ℕ) (routes : List Route) → IsCheapest kept.items customers trucks incumbent found routes
+    → IsCheapest pool customers trucks incumbent found routes)
 
 -- the routes of the columns that the exact cover found
-pub record IsLeastOf (columns : List Column) (customers incumbent gap : ℕ) (chosen : Chosen) : Type 0 where
+pub record IsLeastOf (columns : List Column) (customers trucks incumbent gap : ℕ) (chosen : Chosen) : Type 0 where
   pub parts : List Column
-  pub least : IsLeast columns customers incumbent gap chosen.cost parts
+  pub least : IsLeast columns customers trucks incumbent gap chosen.cost parts
   pub routes : chosen.routes.items ≡ map route_of parts

@@ -12,6 +12,8 @@ pub record Prices : Type 0 where
   pub subset_rows : List Cut
   -- sets that some routes have to come to: each route that does is paid the price
   pub capacity_cuts : List Cut
+  -- what each route pays, since there are no more than so many trucks
+  pub truck_price : ℕ
 
 -- few cuts, and prices of moderate size, so that sums of them fit
 pub record AreModerate (prices : Prices) : Type 0 where
@@ -21,6 +23,7 @@ pub record AreModerate (prices : Prices) : Type 0 where
   pub subset_row : All (λ (cut : Cut). cut.price ≤ 2 ^ 50) prices.subset_rows
   pub capacity_cuts : length prices.capacity_cuts ≤ 512
   pub capacity_cut : All (λ (cut : Cut). cut.price ≤ 2 ^ 50) prices.capacity_cuts
+  pub truck : prices.truck_price ≤ 2 ^ 50
 
 -- the sum over a list of numbers with a sign
 abbrev pub total : {X : Type 0} → (X → ℤ) → List X → ℤ
@@ -54,21 +57,22 @@ charges cuts set = sum_by (charge set) cuts
 abbrev pub rewards : List Cut → ℕ → ℕ
 rewards cuts set = sum_by (reward set) cuts
 
--- the reduced cost of a route: its cost and its charges, less its customers' prices and its rewards
+-- the reduced cost of a route: its cost, its charges and the price of a truck, less its customers' prices and its rewards
 abbrev pub reduced_cost_of : Prices → ℕ → Route → ℤ
 reduced_cost_of prices scale route =
-    pos (scale * route.cost + charges prices.subset_rows route.set)
+    pos (scale * route.cost + charges prices.subset_rows route.set + prices.truck_price)
     -ℤ dual_sum prices.duals route.set -ℤ pos (rewards prices.capacity_cuts route.set)
 
--- what a choice costs at least: the customers' prices and the capacity cuts' as often as they say, less the subset-row cuts'
-abbrev pub lower_bound_of : Prices → ℕ → ℤ
-lower_bound_of prices customers =
+-- what a choice costs at least: the customers' prices and the capacity cuts' as often as they say, less the subset-row cuts' and the
+-- trucks'
+abbrev pub lower_bound_of : Prices → ℕ → ℕ → ℤ
+lower_bound_of prices customers trucks =
     dual_sum prices.duals customers +ℤ pos (sum_by (λ cut. cut.count * cut.price) prices.capacity_cuts)
-    -ℤ pos (sum_by (λ cut. cut.price) prices.subset_rows)
+    -ℤ pos (sum_by (λ cut. cut.price) prices.subset_rows + trucks * prices.truck_price)
 
 -- every choice has at least this many routes that come to the set
 abbrev pub IsVisited : List Route → ℕ → Cut → Type 0
-IsVisited pool customers cut = (routes : List Route) → IsChoice set_of pool customers routes
+IsVisited pool customers cut = (trucks : ℕ) (routes : List Route) → IsChoice set_of pool customers trucks routes
     → cut.count ≤ sum_by (λ r. if comes_to cut.set r.set then 1 else 0) routes
 
 -- each subset-row cut has three customers at most, and each capacity cut asks for what every choice has
@@ -95,8 +99,8 @@ abbrev pub is_within_gap : Prices → ℕ → ℤ → Route → Bool
 is_within_gap prices scale gap route = int_le (reduced_cost_of prices scale route) gap
 
 -- the gap: how far a limit is above the lower bound
-abbrev pub gap_of : Prices → ℕ → ℕ → ℕ → ℤ
-gap_of prices scale customers limit = pos (scale * limit) -ℤ lower_bound_of prices customers
+abbrev pub gap_of : Prices → ℕ → ℕ → ℕ → ℕ → ℤ
+gap_of prices scale customers trucks limit = pos (scale * limit) -ℤ lower_bound_of prices customers trucks
 
 -- no reduced cost is negative
 abbrev pub NoneNegative : Prices → ℕ → List Route → Type 0

@@ -21,19 +21,20 @@ pub struct Cover {
     pub parts: Vec<Column>,
 }
 
-/// The least cost below the incumbent's of a choice that serves these customers, and a choice of that cost. Choices whose reduced
+/// The least cost below the incumbent's of a choice that serves these customers with so many trucks, and a choice of that cost. Choices whose reduced
 /// costs add up to more than the gap need not be looked at; where no other is cheaper than the incumbent, the incumbent's cost.
 /// `None` where the budget is spent: each node of the search takes one of it.
 pub fn cheapest_cover(
     alloc: Global,
     columns: &[Column],
     unserved: u128,
+    trucks: u8,
     incumbent: u64,
     gap: u64,
     budget: &mut u64,
 ) -> Result<Option<Cover>, AllocError>
     ensures least { IfOk result (λ answer. IfSome answer (λ best.
-        IsLeast columns.now unserved incumbent gap best.cost best.parts.items)) }
+        IsLeast columns.now unserved trucks incumbent gap best.cost best.parts.items)) }
     ensures budget { budget.new ≤ budget.old }
     ensures spent { IfOk result (λ answer. IfNone answer (budget.new ≡ 0)) }
 {
@@ -44,6 +45,10 @@ pub fn cheapest_cover(
     let mut parts = Vec::new(alloc);
     if unserved == 0 {
         return Ok(Some(Cover { cost: 0, parts }));
+    }
+    if trucks == 0 {
+        let cost = incumbent;
+        return Ok(Some(Cover { cost, parts }));
     }
     let customer = rarest_customer(columns, unserved);
     let mut found = incumbent;
@@ -60,6 +65,7 @@ pub fn cheapest_cover(
                 alloc,
                 inside.as_slice(),
                 rest,
+                trucks - 1,
                 found - cost,
                 under,
                 budget,

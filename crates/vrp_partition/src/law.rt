@@ -8,12 +8,13 @@ ghost use Rattle.vrp_partition.specs.declared.route.Route.{Route};
 
 /// The law of prices: a choice costs at least the lower bound and the reduced costs of its routes. A route has its duals from the
 /// prices of its customers, of whom each choice has each once; of three customers one route of a choice at most has two or more
-/// (subset-row cuts); and to a set of customers come as many routes as it needs (strong capacity cuts).
+/// (subset-row cuts); to a set of customers come as many routes as it needs (strong capacity cuts); and there are no more routes
+/// than trucks.
 pub fn prices_bound_choices()
-    ensures { (prices : Prices) (scale customers : ℕ) (pool routes : List Route)
+    ensures { (prices : Prices) (scale customers trucks : ℕ) (pool routes : List Route)
         → AreValid prices pool customers
-        → IsChoice set_of pool customers routes
-        → (lower_bound_of prices customers +ℤ total (reduced_cost_of prices scale) routes)
+        → IsChoice set_of pool customers trucks routes
+        → (lower_bound_of prices customers trucks +ℤ total (reduced_cost_of prices scale) routes)
         ≤ℤ pos (scale * cost_of routes) }
 {}
 
@@ -29,27 +30,27 @@ pub fn demand_brings_routes()
 /// Where no reduced cost is negative, a choice within a limit has no route whose reduced cost is above the gap: all its routes
 /// are among those that are kept.
 pub fn costly_routes_left_out()
-    ensures { (prices : Prices) (scale customers limit : ℕ) (pool routes : List Route)
+    ensures { (prices : Prices) (scale customers trucks limit : ℕ) (pool routes : List Route)
         → AreValid prices pool customers → NoneNegative prices scale pool
-        → IsChoice set_of pool customers routes → cost_of routes ≤ limit
+        → IsChoice set_of pool customers trucks routes → cost_of routes ≤ limit
         → IsChoice set_of
-        (filter (is_within_gap prices scale (gap_of prices scale customers limit)) pool)
-        customers routes }
+        (filter (is_within_gap prices scale (gap_of prices scale customers trucks limit)) pool)
+        customers trucks routes }
 {}
 
 /// Where no reduced cost is negative and the lower bound is above a limit, no choice is within the limit.
 pub fn no_choice_in_a_negative_gap()
-    ensures { (prices : Prices) (scale customers limit : ℕ) (pool : List Route)
+    ensures { (prices : Prices) (scale customers trucks limit : ℕ) (pool : List Route)
         → AreValid prices pool customers → NoneNegative prices scale pool
-        → gap_of prices scale customers limit <ℤ pos 0
-        → NoneWithin pool customers limit }
+        → gap_of prices scale customers trucks limit <ℤ pos 0
+        → NoneWithin pool customers trucks limit }
 {}
 
 /// A choice has a group of customers together in one route, or has no route with all of them. In the first case each other route
 /// has none of them. (For a pair this is the branching of Ryan and Foster, 1981.)
 pub fn choices_branch()
-    ensures { (group customers : ℕ) (pool routes : List Route)
-        → IsChoice set_of pool customers routes
-        → IsChoice set_of (filter (is_together group) pool) customers routes
-        ⊎ IsChoice set_of (filter (is_apart group) pool) customers routes }
+    ensures { (group customers trucks : ℕ) (pool routes : List Route)
+        → IsChoice set_of pool customers trucks routes
+        → IsChoice set_of (filter (is_together group) pool) customers trucks routes
+        ⊎ IsChoice set_of (filter (is_apart group) pool) customers trucks routes }
 {}

@@ -2,18 +2,22 @@
 #![tactic(auto)]
 
 mod cover;
+mod guide;
 mod law;
 mod pool;
+mod priced;
 mod prices;
 mod route;
 mod search;
 
 pub use cover::{Column, Cover, cheapest_cover};
+pub use guide::{Ask, Guide};
 pub use law::{
     choices_branch, costly_routes_left_out, demand_brings_routes, no_choice_in_a_negative_gap,
     prices_bound_choices,
 };
 pub use pool::{all_fit, apart, none_negative, reduced_costs, together, within_gap};
+pub use priced::routes_within;
 pub use prices::{Cut, MOST_CUSTOMERS, PriceOffer, Prices, SCALE};
 pub use route::Route;
-pub use search::{Chosen, Guide, NodeOutcome, cheapest_choice};
+pub use search::{Chosen, NodeOutcome, cheapest_choice};

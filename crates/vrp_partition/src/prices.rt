@@ -1,4 +1,5 @@
-//! Prices of the rows of the set partitioning: of customers, and of two kinds of cuts; reduced costs and the lower bound by them.
+//! Prices of the rows of the set partitioning: of customers, of two kinds of cuts, and of trucks; reduced costs and the lower bound
+//! by them.
 ghost use Rattle.std.specs.Prelude.{◌≡◌, ◌≤◌, ◌≤ℤ◌, ◌+ℤ◌, ◌*◌, ◌^◌, List, pos, length, unsigned_abs, IfSome, IsTrue};
 ghost use Rattle.std.specs.List.{All};
 ghost use Rattle.vrp_partition.specs.Prices.{AllFit, AreModerate, AreValid, IsSubsetRow, IsCapacityCut, load_of, charges, dual_sum, lower_bound_of, reduced_cost_of, rewards};
@@ -20,7 +21,7 @@ const MOST_CUTS: usize = 512;
 // How far the price of a customer may be from 0.
 const MOST_DUAL: u64 = 1 << 52;
 
-// How high the price of a cut may be.
+// How high the price of a cut, or of a truck, may be.
 const MOST_CUT_PRICE: u64 = 1 << 50;
 
 /// A cut, by a set of customers: its price is paid by each route that has two of three customers (a subset-row cut; Jepsen,
@@ -34,12 +35,13 @@ pub struct Cut {
     pub price: u64,
 }
 
-/// Prices by which a choice can be bounded: the duals of the customers, of any sign, and what the cuts cost.
+/// Prices by which a choice can be bounded: the duals of the customers, of any sign, and what the cuts and a truck cost.
 #[derive(Debug, Drop)]
 pub struct Prices {
     duals: Vec<i64>,
     subset_rows: Vec<Cut>,
     capacity_cuts: Vec<Cut>,
+    truck_price: u64,
 }
 
 impl Model for Prices {
@@ -47,9 +49,9 @@ impl Model for Prices {
 
     ghost Value = { Prices };
 
-    ghost view = { λ a. record { duals = a.duals.items; subset_rows = a.subset_rows.items; capacity_cuts = a.capacity_cuts.items } };
+    ghost view = { λ a. record { duals = a.duals.items; subset_rows = a.subset_rows.items; capacity_cuts = a.capacity_cuts.items; truck_price = a.truck_price } };
 
-    ghost invariant = { λ a. AreModerate (record { duals = a.duals.items; subset_rows = a.subset_rows.items; capacity_cuts = a.capacity_cuts.items }) };
+    ghost invariant = { λ a. AreModerate (record { duals = a.duals.items; subset_rows = a.subset_rows.items; capacity_cuts = a.capacity_cuts.items; truck_price = a.truck_price }) };
 }
 
 /// Prices that need not be trusted. There are 128 duals, the first of which is customer 0's.
@@ -58,6 +60,10 @@ pub struct PriceOffer {
     pub duals: Vec<i64>,
     pub subset_rows: Vec<Cut>,
     pub capacity_cuts: Vec<Cut>,
+    // What each route pays: there may be no more than so many. 0 where that is no limit.
+    pub truck_price: u64,
+    // How many reduced costs were looked at to find the prices.
+    pub work: u64,
 }
 
 impl Prices {
@@ -78,10 +84,13 @@ impl Prices {
             duals,
             subset_rows,
             capacity_cuts,
+            truck_price,
+            work: _work,
         } = offer;
         if duals.len() == MOST_CUSTOMERS
             && subset_rows.len() <= MOST_CUTS
             && capacity_cuts.len() <= MOST_CUTS
+            && truck_price <= MOST_CUT_PRICE
             && are_moderate(duals.as_slice())
             && are_subset_rows(subset_rows.as_slice())
             && are_capacity_cuts(capacity_cuts.as_slice(), demands, capacity, customers)
@@ -90,6 +99,7 @@ impl Prices {
                 duals,
                 subset_rows,
                 capacity_cuts,
+                truck_price,
             })
         } else {
             None
@@ -103,6 +113,7 @@ impl Prices {
             mut duals,
             subset_rows,
             capacity_cuts,
+            truck_price,
         } = self;
         for price in duals.iter_mut() {
             *price = price.saturating_add(least);
@@ -111,24 +122,27 @@ impl Prices {
             duals,
             subset_rows,
             capacity_cuts,
+            truck_price,
+            work: 0,
         }
     }
 
-    /// The reduced cost of a route: its cost, and the prices of the subset-row cuts of which it has two customers, less its duals
-    /// and the prices of the capacity cuts that it comes to.
+    /// The reduced cost of a route: its cost, the prices of the subset-row cuts of which it has two customers, and that of a truck,
+    /// less its duals and the prices of the capacity cuts that it comes to.
     pub fn reduced_cost(&self, set: u128, cost: u32) -> i64
         ensures { result ≡ reduced_cost_of self.now SCALE (record { set = set; cost = cost }) }
     {
         let charged = charged(self.subset_rows.as_slice(), set) as i64;
         let rewarded = rewarded(self.capacity_cuts.as_slice(), set) as i64;
         let dual_sum = dual_sum_of(self.duals.as_slice(), set);
-        (SCALE * u64::from(cost)) as i64 + charged - dual_sum - rewarded
+        (SCALE * u64::from(cost)) as i64 + charged + self.truck_price as i64 - dual_sum - rewarded
     }
 
-    /// What each choice costs at least, in units of a price, where no reduced cost is negative. It is not below -2 ^ 60.
-    pub fn lower_bound(&self, customers: u128) -> i128
-        ensures value { result ≡ lower_bound_of self.now customers }
-        ensures small { pos 0 ≤ℤ (result +ℤ pos (2 ^ 60)) }
+    /// What each choice of so many trucks costs at least, in units of a price, where no reduced cost is negative. It is not below
+    /// -2 ^ 61.
+    pub fn lower_bound(&self, customers: u128, trucks: u8) -> i128
+        ensures value { result ≡ lower_bound_of self.now customers trucks }
+        ensures small { pos 0 ≤ℤ (result +ℤ pos (2 ^ 61)) }
     {
         let dual_sum = dual_sum_of(self.duals.as_slice(), customers);
         let mut due: u128 = 0;
@@ -139,8 +153,18 @@ impl Prices {
         for cut in &self.subset_rows {
             spent += cut.price;
         }
-        i128::from(dual_sum) + due as i128 - i128::from(spent)
+        let paid = fleet_price(trucks, self.truck_price);
+        i128::from(dual_sum) + due as i128 - i128::from(spent + paid)
     }
+}
+
+// What so many trucks cost.
+fn fleet_price(trucks: u8, price: u64) -> u64
+    requires { price ≤ 2 ^ 50 }
+    ensures value { result ≡ trucks * price }
+    ensures small { result ≤ 2 ^ 58 }
+{
+    u64::from(trucks) * price
 }
 
 // Whether no price is too far from 0.

@@ -9,8 +9,10 @@ ghost use Rattle.vrp_partition.specs.Outcome.{IsLeastOf, IsOutcome};
 ghost use Rattle.vrp_partition.specs.declared.prices.TheConstants.{SCALE};
 
 use crate::cover::{Column, cheapest_cover};
-use crate::pool::{apart, none_negative, reduced_costs, together, within_gap};
-use crate::prices::{MOST_CUSTOMERS, PriceOffer, Prices, SCALE};
+use crate::guide::Guide;
+use crate::pool::{apart, together, within_gap};
+use crate::priced::{PricedPool, valid_prices};
+use crate::prices::{PriceOffer, Prices, SCALE};
 use crate::route::Route;
 use std::alloc::{AllocError, Global};
 
@@ -19,16 +21,6 @@ const MOST_COLUMNS: usize = 3_000;
 
 // How many nodes the exact cover may look at before its node is branched on.
 const MOST_COVER_NODES: u64 = 20_000;
-
-/// Who guides the search. Nothing that it answers need be trusted: the cost that the search finds is the same, if its budget
-/// suffices. An error ends the search.
-pub trait Guide {
-    /// Prices for the routes of a node.
-    fn offer(&mut self, pool: &[Route], customers: u128) -> Result<PriceOffer, AllocError>;
-
-    /// The customers to branch on, a bit for each: in the first branch one route serves them all, in the second none does.
-    fn group(&mut self, pool: &[Route]) -> u128;
-}
 
 /// The routes of a choice, and what they cost. Where no choice below the incumbent was found, the cost is the incumbent's, and
 /// the routes are no choice.
@@ -45,14 +37,16 @@ pub enum NodeOutcome {
     Open(Vec<Route>),
 }
 
-/// The least cost below the incumbent's of a choice of the pool that serves the customers, and a choice of that cost; where there
-/// is none, the incumbent's cost. `None` where the budget is spent: each node takes one of it. The demands are those of customers
-/// 0 to 127, and each route of the pool has to fit one truck.
+/// The least cost below the incumbent's of a choice of the pool that serves the customers with so many trucks, and a choice of that
+/// cost; where there is none, the incumbent's cost. `None` where the budget is spent, of which a node takes one and as much as the
+/// guide says that it worked; or where the guide would not go on, and what was left of the budget is given up. The demands are those
+/// of customers 0 to 127, and each route of the pool has to fit one truck.
 pub fn cheapest_choice<P: Guide>(
     alloc: Global,
     guide: &mut P,
     demands: &[u32],
     capacity: u32,
+    trucks: u8,
     pool: Vec<Route>,
     customers: u128,
     incumbent: u64,
@@ -62,30 +56,34 @@ pub fn cheapest_choice<P: Guide>(
     requires fit { AllFit demands.now capacity pool.items }
     requires incumbent { incumbent ≤ 2 ^ 32 }
     ensures cheapest { IfOk result (λ answer. IfSome answer (λ chosen.
-        IsCheapest pool.items customers incumbent chosen.cost chosen.routes.items)) }
+        IsCheapest pool.items customers trucks incumbent chosen.cost chosen.routes.items)) }
     ensures budget { budget.new ≤ budget.old }
     ensures spent { IfOk result (λ answer. IfNone answer (budget.new ≡ 0)) }
 {
-    if *budget == 0 {
+    if *budget == 0 || !guide.should_continue() {
+        *budget = 0;
         return Ok(None);
     }
-    *budget -= 1;
-    let offer = guide.offer(pool.as_slice(), customers)?;
-    match price_node(alloc, offer, demands, capacity, pool, customers, incumbent)? {
+    let offer = guide.offer(pool.as_slice(), customers, incumbent)?;
+    *budget = (*budget - 1).saturating_sub(offer.work);
+    match price_node(
+        alloc, offer, demands, capacity, trucks, pool, customers, incumbent,
+    )? {
         NodeOutcome::Solved(found) => Ok(Some(found)),
         NodeOutcome::Open(left) => {
-            let group = guide.group(left.as_slice());
+            let group = guide.group(left.as_slice())?;
             let joint = together(alloc, left.as_slice(), group)?;
             let parted = apart(alloc, left.as_slice(), group)?;
+            let mut other = guide.fork()?;
             let Some(first) = cheapest_choice(
-                alloc, guide, demands, capacity, joint, customers, incumbent, budget,
+                alloc, guide, demands, capacity, trucks, joint, customers, incumbent, budget,
             )?
             else {
                 return Ok(None);
             };
             let less = first.cost;
             let Some(second) = cheapest_choice(
-                alloc, guide, demands, capacity, parted, customers, less, budget,
+                alloc, &mut other, demands, capacity, trucks, parted, customers, less, budget,
             )?
             else {
                 return Ok(None);
@@ -99,13 +97,13 @@ pub fn cheapest_choice<P: Guide>(
     }
 }
 
-// A node by the prices that are offered; where a reduced cost is negative, by duals lowered by it; where neither serve, by prices
-// of 0.
+// A node by the prices that are offered, where they serve.
 fn price_node(
     alloc: Global,
     offer: PriceOffer,
     demands: &[u32],
     capacity: u32,
+    trucks: u8,
     pool: Vec<Route>,
     customers: u128,
     incumbent: u64,
@@ -113,64 +111,18 @@ fn price_node(
     requires len { length demands.now ≡ 128 }
     requires fit { AllFit demands.now capacity pool.items }
     requires incumbent { incumbent ≤ 2 ^ 32 }
-    ensures { IfOk result (IsOutcome demands.now capacity pool.items customers incumbent) }
+    ensures { IfOk result (IsOutcome demands.now capacity pool.items customers trucks incumbent) }
 {
     if incumbent == 0 {
         let routes = Vec::new(alloc);
         return Ok(NodeOutcome::Solved(Chosen { cost: 0, routes }));
     }
-    let Some(prices) = Prices::admit(offer, demands, capacity, customers) else {
-        return bound_by_nothing(alloc, demands, capacity, pool, customers, incumbent);
-    };
-    let costs = reduced_costs(alloc, &prices, pool.as_slice())?;
-    if none_negative(costs.as_slice()) {
-        return bound_node(
-            alloc, prices, costs, demands, capacity, pool, customers, incumbent,
-        );
+    match valid_prices(alloc, offer, demands, capacity, pool.as_slice(), customers)? {
+        Some(PricedPool { prices, costs }) => bound_node(
+            alloc, prices, costs, demands, capacity, trucks, pool, customers, incumbent,
+        ),
+        None => Ok(NodeOutcome::Open(pool)),
     }
-    let least = costs.iter().copied().min().unwrap_or(0);
-    let Some(prices) = Prices::admit(prices.lowered(least), demands, capacity, customers) else {
-        return bound_by_nothing(alloc, demands, capacity, pool, customers, incumbent);
-    };
-    let costs = reduced_costs(alloc, &prices, pool.as_slice())?;
-    if none_negative(costs.as_slice()) {
-        return bound_node(
-            alloc, prices, costs, demands, capacity, pool, customers, incumbent,
-        );
-    }
-    bound_by_nothing(alloc, demands, capacity, pool, customers, incumbent)
-}
-
-// A node by prices of 0, by which each reduced cost is the cost itself.
-fn bound_by_nothing(
-    alloc: Global,
-    demands: &[u32],
-    capacity: u32,
-    pool: Vec<Route>,
-    customers: u128,
-    incumbent: u64,
-) -> Result<NodeOutcome, AllocError>
-    requires len { length demands.now ≡ 128 }
-    requires fit { AllFit demands.now capacity pool.items }
-    requires some { 1 ≤ incumbent }
-    requires incumbent { incumbent ≤ 2 ^ 32 }
-    ensures { IfOk result (IsOutcome demands.now capacity pool.items customers incumbent) }
-{
-    let offer = PriceOffer {
-        duals: vec![in alloc; 0; MOST_CUSTOMERS]?,
-        subset_rows: Vec::new(alloc),
-        capacity_cuts: Vec::new(alloc),
-    };
-    let Some(prices) = Prices::admit(offer, demands, capacity, customers) else {
-        return Ok(NodeOutcome::Open(pool));
-    };
-    let costs = reduced_costs(alloc, &prices, pool.as_slice())?;
-    if none_negative(costs.as_slice()) {
-        return bound_node(
-            alloc, prices, costs, demands, capacity, pool, customers, incumbent,
-        );
-    }
-    Ok(NodeOutcome::Open(pool))
 }
 
 // A node by prices with no negative reduced cost. The demands and the capacity are read by the contract alone.
@@ -180,6 +132,7 @@ fn bound_node(
     costs: Vec<i64>,
     _demands: &[u32],
     _capacity: u32,
+    trucks: u8,
     pool: Vec<Route>,
     customers: u128,
     incumbent: u64,
@@ -190,9 +143,9 @@ fn bound_node(
     requires valid { AreValid prices pool.items customers }
     requires costs { costs.items ≡ map (reduced_cost_of prices SCALE) pool.items }
     requires none { All (λ cost. pos 0 ≤ℤ cost) costs.items }
-    ensures { IfOk result (IsOutcome _demands.now _capacity pool.items customers incumbent) }
+    ensures { IfOk result (IsOutcome _demands.now _capacity pool.items customers trucks incumbent) }
 {
-    let Some(gap) = gap_below(&prices, customers, incumbent) else {
+    let Some(gap) = gap_below(&prices, customers, trucks, incumbent) else {
         let routes = Vec::new(alloc);
         return Ok(NodeOutcome::Solved(Chosen {
             cost: incumbent,
@@ -203,21 +156,29 @@ fn bound_node(
     if kept.len() > MOST_COLUMNS {
         return Ok(NodeOutcome::Open(kept));
     }
-    match search_columns(alloc, &prices, kept.as_slice(), customers, incumbent, gap)? {
+    match search_columns(
+        alloc,
+        &prices,
+        kept.as_slice(),
+        customers,
+        trucks,
+        incumbent,
+        gap,
+    )? {
         Some(chosen) => Ok(NodeOutcome::Solved(chosen)),
         None => Ok(NodeOutcome::Open(kept)),
     }
 }
 
 // The gap between the lower bound and the costs below the incumbent's; `None` where it is negative.
-fn gap_below(prices: &Prices, customers: u128, incumbent: u64) -> Option<i64>
+pub(crate) fn gap_below(prices: &Prices, customers: u128, trucks: u8, incumbent: u64) -> Option<i64>
     requires some { 1 ≤ incumbent }
     requires incumbent { incumbent ≤ 2 ^ 32 }
-    ensures none { IfNone result (gap_of prices.now SCALE customers (incumbent - 1) <ℤ pos 0) }
-    ensures value { IfSome result (λ gap. gap ≡ gap_of prices.now SCALE customers (incumbent - 1)) }
+    ensures none { IfNone result (gap_of prices.now SCALE customers trucks (incumbent - 1) <ℤ pos 0) }
+    ensures value { IfSome result (λ gap. gap ≡ gap_of prices.now SCALE customers trucks (incumbent - 1)) }
     ensures some { IfSome result (λ gap. pos 0 ≤ℤ gap) }
 {
-    let gap = i128::from(SCALE * (incumbent - 1)) - prices.lower_bound(customers);
+    let gap = i128::from(SCALE * (incumbent - 1)) - prices.lower_bound(customers, trucks);
     if gap < 0 { None } else { Some(gap as i64) }
 }
 
@@ -227,11 +188,12 @@ fn search_columns(
     prices: &Prices,
     kept: &[Route],
     customers: u128,
+    trucks: u8,
     incumbent: u64,
     gap: i64,
 ) -> Result<Option<Chosen>, AllocError>
     ensures { IfOk result (λ answer. IfSome answer (IsLeastOf
-        (map (column_of prices.now SCALE) kept.now) customers incumbent (unsigned_abs gap))) }
+        (map (column_of prices.now SCALE) kept.now) customers trucks incumbent (unsigned_abs gap))) }
 {
     let columns = columns_of(alloc, prices, kept)?;
     let mut budget = MOST_COVER_NODES;
@@ -239,6 +201,7 @@ fn search_columns(
         alloc,
         columns.as_slice(),
         customers,
+        trucks,
         incumbent,
         gap.unsigned_abs(),
         &mut budget,

@@ -13,6 +13,6 @@ invariant-loop-column l = record {
   budget : l.budget < l.fn.budget;
   most : l.found ≤ l.incumbent;
   least : (column : Column) → Contains (take l.column-index l.columns) column → bit_at column.set l.customer ≡ 1
-      → (others : List Column) → IsChoice column_set l.columns l.unserved others → Contains others column → columns_reduced_cost others ≤ l.gap → l.found ≤ columns_cost others;
-  attained : l.found < l.incumbent → IsChoice column_set l.columns l.unserved l.parts.items × (columns_cost l.parts.items ≡ l.found);
+      → (others : List Column) → IsChoice column_set l.columns l.unserved l.trucks others → Contains others column → columns_reduced_cost others ≤ l.gap → l.found ≤ columns_cost others;
+  attained : l.found < l.incumbent → IsChoice column_set l.columns l.unserved l.trucks l.parts.items × (columns_cost l.parts.items ≡ l.found);
 }

@@ -1,0 +1,20 @@
+-- A pool by prices that bound its choices, and which of its routes may stand in a cheap one.
+use Rattle.std.specs.Prelude.{◌≡◌, ◌<◌, ◌≤ℤ◌, ℕ, List, Bool, false, length, map, pos, slice_index_or}
+use Rattle.std.specs.List.{All, Contains}
+use Rattle.vrp_partition.specs.Choice.{IsChoice, cost_of, set_of}
+use Rattle.vrp_partition.specs.Prices.{AreValid, reduced_cost_of}
+use Rattle.vrp_partition.specs.declared.priced.PricedPool.{PricedPool}
+use Rattle.vrp_partition.specs.declared.prices.TheConstants.{SCALE}
+use Rattle.vrp_partition.specs.declared.route.Route.{Route}
+
+-- the prices are valid, and no reduced cost is negative
+pub record IsPriced (pool : List Route) (customers : ℕ) (priced : PricedPool) : Type 0 where
+  pub valid : AreValid priced.prices pool customers
+  pub costs : priced.costs.items ≡ map (reduced_cost_of priced.prices SCALE) pool
+  pub none : All (λ cost. pos 0 ≤ℤ cost) priced.costs.items
+
+-- each route that is not marked stands in no choice that costs no more than the limit
+pub record MarksWithin (pool : List Route) (customers trucks limit : ℕ) (marks : List Bool) : Type 0 where
+  pub long : length marks ≡ length pool
+  pub rest : (at : ℕ) (route : Route) → at < length pool → slice_index_or marks at false ≡ false
+      → (routes : List Route) → IsChoice set_of pool customers trucks routes → Contains routes (slice_index_or pool at route) → limit < cost_of routes
