@@ -1,0 +1,48 @@
+-- The least cost of a choice answers what is asked of a pool.
+use Rattle.std.proofs.Common.{◌≡◌, ℕ, ◌+◌, ◌<◌, ◌≤◌, List, [], refl, arith}
+use Rattle.std.proofs.lemmas.List.Elements.{All-nil}
+use Rattle.vrp_partition.specs.Choice.{IsCheapest}
+use Rattle.vrp_canonical.specs.Reaching.{IsFleet, IsPoolOf, IsRoute, Reaches}
+use Rattle.vrp_canonical.proofs.Begun.{all_unserved, first_cheapest, in_pool, least_first}
+use Rattle.vrp_canonical.proofs.PlanChoices.{goes_on_reached}
+use Rattle.vrp_model.specs.Order.{IsFirst}
+use Rattle.vrp_model.specs.Problem.{IsProblem, Problem, customers}
+use Rattle.vrp_model.specs.Route.{IsLawful, PricedPlan, plan_cost}
+use Rattle.vrp_model.proofs.FirstPlans.{first_plan}
+use Rattle.vrp_partition.specs.declared.route.Route.{Route}
+use Rattle.vrp_routes.specs.Label.{set_of as stops_set}
+
+pub cheapest_yes : (pool routes : List Route) (unserved trucks incumbent found most : ℕ) → IsCheapest pool unserved trucks incumbent found routes → incumbent ≤ most + 1 → found < incumbent
+    → Reaches pool unserved trucks most
+cheapest_yes pool routes unserved trucks incumbent found most answer room below =
+    let (choice, cost) = answer.attained below in
+    record { parts = routes; choice = choice; cheap = omega (arith, cost, room, below) }
+
+pub cheapest_no : (pool routes : List Route) (unserved trucks incumbent found most : ℕ) → IsCheapest pool unserved trucks incumbent found routes → most + 1 ≤ incumbent → incumbent ≤ found
+    → Reaches pool unserved trucks most → ⊥
+cheapest_no pool routes unserved trucks incumbent found most answer room none reached =
+    omega (arith, answer.least reached.parts reached.choice, reached.cheap, room, none)
+
+-- ---- of the whole problem
+
+pub cheapest_first : (p : Problem) (limit : ℕ) (stops : List (List ℕ)) (pool routes : List Route) (trucks incumbent found : ℕ)
+    → IsProblem p → IsPoolOf p limit stops pool → IsFleet p trucks → found ≤ limit
+    → IsCheapest pool (stops_set (customers p)) trucks incumbent found routes → found < incumbent
+    → (plan : PricedPlan) × IsFirst p plan × (plan.cost ≡ found)
+cheapest_first p limit stops pool routes trucks incumbent found problem pool_of fleet within answer below =
+    let (choice, cost) = answer.attained below in
+    least_first p limit stops pool trucks found problem pool_of fleet within
+    (record { parts = routes; choice = choice; cheap = omega (arith, cost) })
+    (λ other reached. omega (arith, answer.least reached.parts reached.choice, reached.cheap))
+
+pub none_cheap : (p : Problem) (limit : ℕ) (stops : List (List ℕ)) (pool routes : List Route) (trucks incumbent : ℕ) (others : List (List ℕ))
+    → IsProblem p → IsPoolOf p limit stops pool → IsFleet p trucks
+    → IsCheapest pool (stops_set (customers p)) trucks incumbent incumbent routes
+    → IsLawful p others → plan_cost p others ≤ limit → incumbent ≤ plan_cost p others
+none_cheap p limit stops pool routes trucks incumbent others problem pool_of fleet answer lawful cheap =
+    let free : plan_cost p [] ≡ 0 = refl in
+    let (plan, first) = first_plan p others problem lawful in
+    let most = first_cheapest p plan others first lawful in
+    let known = in_pool p limit stops pool plan pool_of first (omega (arith, most, cheap)) in
+    let reached = goes_on_reached p limit stops pool trucks [] plan.routes (stops_set (customers p)) trucks plan.cost plan.cost pool_of fleet (All-nil (IsRoute p)) (all_unserved p) (omega arith) (omega (arith, free)) first.plan_of.lawful known (omega (arith, first.plan_of.priced)) in
+    omega (arith, answer.least reached.parts reached.choice, reached.cheap, most)

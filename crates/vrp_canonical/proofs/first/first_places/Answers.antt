@@ -1,0 +1,55 @@
+use Rattle.std.proofs.Common.{◌≡◌, ◌+◌, ◌<◌, ◌≤◌, ℕ, IfSome, List, length, sym, subst, arith}
+use Rattle.vrp_canonical.specs.Passing.{IsAfter, IsBegun, IsNarrowed, route_in}
+use Rattle.vrp_canonical.specs.Reaching.{IsTask}
+use Rattle.vrp_canonical.specs.declared.residual.Residual.{Residual}
+use Rattle.vrp_canonical.proofs.Begun.{arrived, setting_out, step_passed}
+use Rattle.vrp_canonical.proofs.Narrowing.{taken_narrowed}
+use Rattle.vrp_model.specs.Problem.{Problem}
+use Rattle.vrp_canonical.proofs.first.first_places.Goals as goal
+
+pub loop-index-init : goal.loop-index-init
+loop-index-init g c = record {
+  end = omega arith;
+  begun = λ p limit stops task. subst (λ xs. IsBegun p stops task.plan c.args.whole 0 xs c.args.whole) (sym c.new-chosen.ensures.items) (setting_out p limit stops c.args.pool.now c.args.whole task);
+}
+
+pub loop-index-preserved-then-set-rest : goal.loop-index-preserved-then-set-rest
+loop-index-preserved-then-set-rest g c = record {
+  end = omega arith;
+  begun = λ p limit stops task. step_passed p limit stops c.args.pool.now c.args.whole task c.loop-index.index c.loop-index.chosen.items c.loop-index.rest
+      (c.loop-index.invariant.begun p limit stops task) c.loop-index-test.true c.if-set-rest.true;
+}
+
+pub loop-index-preserved-then-at-run : goal.loop-index-preserved-then-at-run
+loop-index-preserved-then-at-run g c =
+    let pool = c.args.pool.now in
+    let at = c.in-Some.at in
+    let chosen = c.loop-index.chosen.items in
+    let rest = c.loop-index.rest in
+    let below : at < length pool = omega (arith, c.if-at-run.true, c.run_from-run.ensures.end) in
+    record {
+      end = omega (arith, below);
+      begun = λ p limit stops task.
+          let narrowed : IsNarrowed p stops task.plan c.args.whole chosen rest c.run_from-run.result.end at = subst (λ o. IfSome o (λ at. (p : Problem) (limit : ℕ) (stops : List (List ℕ)) (whole : Residual) (chosen : List ℕ) → (task : IsTask p limit stops pool whole) → IsBegun p stops task.plan whole c.loop-index.index chosen rest → IsNarrowed p stops task.plan whole chosen rest c.run_from-run.result.end at)) c.in-Some.is c.in_ok-at.ensures.next p limit stops c.args.whole chosen task (c.loop-index.invariant.begun p limit stops task) in
+          let after : IsAfter rest (route_in pool at) c.in-Some-without.left = c.in-Some-without.ensures in
+          subst (λ xs. IsBegun p stops task.plan c.args.whole (at + 1) xs c.in-Some-without.left) (sym c.in_ok-push.ensures.items)
+          (taken_narrowed p limit stops pool c.args.whole task at chosen rest c.in-Some-without.left narrowed.begun below after (narrowed.next c.if-at-run.true));
+    }
+
+pub loop-index-preserved : goal.loop-index-preserved
+loop-index-preserved g c =
+    let pool = c.args.pool.now in
+    let at = c.in-Some.at in
+    let chosen = c.loop-index.chosen.items in
+    let rest = c.loop-index.rest in
+    let to : at ≤ c.run_from-run.result.end = subst (λ o. IfSome o (λ at. at ≤ c.run_from-run.result.end)) c.in-Some.is c.in_ok-at.ensures.to in
+    record {
+      end = omega (arith, to, c.run_from-run.ensures.end);
+      begun = λ p limit stops task.
+          let narrowed : IsNarrowed p stops task.plan c.args.whole chosen rest c.run_from-run.result.end at = subst (λ o. IfSome o (λ at. (p : Problem) (limit : ℕ) (stops : List (List ℕ)) (whole : Residual) (chosen : List ℕ) → (task : IsTask p limit stops pool whole) → IsBegun p stops task.plan whole c.loop-index.index chosen rest → IsNarrowed p stops task.plan whole chosen rest c.run_from-run.result.end at)) c.in-Some.is c.in_ok-at.ensures.next p limit stops c.args.whole chosen task (c.loop-index.invariant.begun p limit stops task) in
+          narrowed.begun;
+    }
+
+pub returns : goal.returns
+returns g c = λ p limit stops task.
+    arrived p limit stops c.args.pool.now c.args.whole task c.loop-index.index c.loop-index.chosen.items c.loop-index.rest (c.loop-index.invariant.begun p limit stops task) c.loop-index-test.false

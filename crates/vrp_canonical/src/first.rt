@@ -1,0 +1,53 @@
+//! The places of the first plan's routes, by one pass over the pool in the order of its routes' stops.
+ghost use Rattle.std.specs.Prelude.{ℕ, List, IfOk, IfSome};
+ghost use Rattle.vrp_canonical.specs.Reaching.{IsTask, plan_at};
+ghost use Rattle.vrp_model.specs.Order.{IsFirst};
+ghost use Rattle.vrp_model.specs.Problem.{Problem};
+
+use crate::narrow::narrow;
+use crate::reach::Reach;
+use crate::residual::Residual;
+use crate::run::run_from;
+use std::alloc::{AllocError, Global};
+use vrp_partition::Route;
+
+/// The places in the pool of the first plan's routes, where the pool is in the order of its routes' stops and the residual problem is the
+/// whole one, at the first plan's cost. The routes are taken in runs that share a customer. `None` where an answer wasn't known.
+pub fn first_places<R: Reach>(
+    alloc: Global,
+    reach: &mut R,
+    pool: &[Route],
+    whole: Residual,
+) -> Result<Option<Vec<usize>>, AllocError>
+    ensures { IfOk result (λ answer. IfSome answer (λ chosen. (p : Problem) (limit : ℕ) (stops : List (List ℕ))
+        → IsTask p limit stops pool.now whole → IsFirst p (plan_at stops chosen.items whole.most))) }
+{
+    let mut chosen = Vec::new(alloc);
+    let mut rest = whole;
+    let mut index = 0;
+    while index < pool.len() {
+        let set = pool[index].set;
+        if set & rest.unserved != set {
+            index += 1;
+        } else {
+            if set == 0 {
+                return Ok(None);
+            }
+            let run = run_from(pool, rest.unserved, index);
+            let Some(at) = narrow(alloc, reach, pool, rest, run.customer, index, run.end)? else {
+                return Ok(None);
+            };
+            if at < run.end {
+                let Some(left) = rest.without(pool[at]) else {
+                    return Ok(None);
+                };
+                chosen.push(at)?;
+                rest = left;
+                index = at + 1;
+            } else {
+                index = at;
+            }
+        }
+    }
+    Ok(Some(chosen))
+}

@@ -1,0 +1,32 @@
+//! What a partial plan leaves to be done.
+ghost use Rattle.std.specs.Prelude.{IfSome};
+ghost use Rattle.vrp_canonical.specs.Passing.{IsAfter};
+
+use vrp_partition::Route;
+
+/// A residual problem: the customers that are unserved, a bit for each, how many trucks are left, and what their routes may cost.
+#[derive(Clone, Copy, Debug)]
+pub struct Residual {
+    pub unserved: u128,
+    pub trucks: u8,
+    pub most: u64,
+}
+
+impl Residual {
+    /// What is left once a route is driven. `None` where it serves another customer too, where there is no truck for it, or where it
+    /// costs more than it may: when, is left open.
+    pub fn without(self, route: Route) -> Option<Residual>
+        ensures { IfSome result (IsAfter self route) }
+    {
+        if route.set & self.unserved != route.set {
+            return None;
+        }
+        let trucks = self.trucks.checked_sub(1)?;
+        let most = self.most.checked_sub(u64::from(route.cost))?;
+        Some(Residual {
+            unserved: self.unserved ^ route.set,
+            trucks,
+            most,
+        })
+    }
+}
