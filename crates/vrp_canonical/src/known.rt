@@ -1,0 +1,51 @@
+//! A choice that is known, which answers a question by itself where it stands in the part.
+ghost use Rattle.std.specs.Prelude.{IfOk, IsTrue};
+ghost use Rattle.std.specs.List.{Contains};
+ghost use Rattle.vrp_canonical.specs.Reaching.{Reaches};
+
+use crate::residual::Residual;
+use std::alloc::{AllocError, Global};
+use vrp_partition::Route;
+
+/// Whether routes are a choice of the part for the residual problem. If they are none, nothing is claimed.
+pub fn is_choice(part: &[Route], routes: &[Route], rest: Residual) -> bool
+    ensures { IsTrue result → Reaches part.now rest.unserved rest.trucks rest.most }
+{
+    let mut left = rest;
+    for route in routes {
+        if !has_route(part, *route) {
+            return false;
+        }
+        let Some(next) = left.without(*route) else {
+            return false;
+        };
+        left = next;
+    }
+    left.unserved == 0
+}
+
+// Whether a route stands in the part.
+fn has_route(part: &[Route], route: Route) -> bool
+    ensures { IsTrue result → Contains part.now route }
+{
+    for other in part {
+        if other.set == route.set && other.cost == route.cost {
+            return true;
+        }
+    }
+    false
+}
+
+/// The routes that have no customer but unserved ones. That none is left out is left open.
+pub fn routes_inside(
+    alloc: Global,
+    routes: &[Route],
+    unserved: u128,
+) -> Result<Vec<Route>, AllocError>
+{
+    routes
+        .iter()
+        .copied()
+        .filter(|route| route.set & unserved == route.set)
+        .collect(alloc)
+}

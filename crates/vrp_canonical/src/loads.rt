@@ -1,0 +1,39 @@
+//! What customers demand and a truck can carry, as a search over choices has it.
+ghost use Rattle.std.specs.Prelude.{◌≡◌, ◌≤◌, length};
+ghost use Rattle.vrp_model.specs.Problem.{place_count};
+
+use std::alloc::Global;
+use vrp_model::{Instance, NoMemory};
+
+/// The demands of customers 0 to 127, and what a truck can carry. Customer 0 stands for the depot, and who isn't there demands nothing.
+#[derive(Debug, Drop)]
+pub struct Loads {
+    pub demands: Vec<u32>,
+    pub capacity: u32,
+    ghost one_demand_each: { length demands.items ≡ 128 },
+}
+
+impl Loads {
+    /// The demands and the capacity of an instance. `None` where they don't fit 32 bits: when, is left open.
+    pub fn new(alloc: Global, instance: &Instance) -> Result<Option<Loads>, NoMemory>
+        requires { place_count instance.now ≤ 128 }
+    {
+        let Ok(capacity) = u32::try_from(instance.capacity()) else {
+            return Ok(None);
+        };
+        let customers = instance.customers();
+        let mut demands = Vec::new(alloc);
+        for place in 0..128u16 {
+            let demand = if place <= customers {
+                instance.demand(place)
+            } else {
+                0
+            };
+            let Ok(demand) = u32::try_from(demand) else {
+                return Ok(None);
+            };
+            demands.push(demand)?;
+        }
+        Ok(Some(Loads { demands, capacity }))
+    }
+}
