@@ -1,8 +1,12 @@
 pub mod Answered
 pub mod Begun
+pub mod CanonicalPlans
 pub mod Counted
 pub mod Fleets
 pub mod KnownChoices
+pub mod Marked
 pub mod Narrowing
 pub mod NextRoutes
+pub mod OrderedPools
 pub mod PlanChoices
+pub mod Rising

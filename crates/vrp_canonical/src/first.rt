@@ -1,5 +1,6 @@
 //! The places of the first plan's routes, by one pass over the pool in the order of its routes' stops.
-ghost use Rattle.std.specs.Prelude.{ℕ, List, IfOk, IfSome};
+ghost use Rattle.std.specs.Prelude.{◌<◌, ℕ, List, IfOk, IfSome, length};
+ghost use Rattle.std.specs.List.{All};
 ghost use Rattle.vrp_canonical.specs.Reaching.{IsTask, plan_at};
 ghost use Rattle.vrp_model.specs.Order.{IsFirst};
 ghost use Rattle.vrp_model.specs.Problem.{Problem};
@@ -19,7 +20,8 @@ pub fn first_places<R: Reach>(
     pool: &[Route],
     whole: Residual,
 ) -> Result<Option<Vec<usize>>, AllocError>
-    ensures { IfOk result (λ answer. IfSome answer (λ chosen. (p : Problem) (limit : ℕ) (stops : List (List ℕ))
+    ensures within { IfOk result (λ answer. IfSome answer (λ chosen. All (λ at. at < length pool.now) chosen.items)) }
+    ensures first { IfOk result (λ answer. IfSome answer (λ chosen. (p : Problem) (limit : ℕ) (stops : List (List ℕ))
         → IsTask p limit stops pool.now whole → IsFirst p (plan_at stops chosen.items whole.most))) }
 {
     let mut chosen = Vec::new(alloc);

@@ -41,8 +41,7 @@ pub fn routes_inside(
     alloc: Global,
     routes: &[Route],
     unserved: u128,
-) -> Result<Vec<Route>, AllocError>
-{
+) -> Result<Vec<Route>, AllocError> {
     routes
         .iter()
         .copied()

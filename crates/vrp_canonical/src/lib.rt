@@ -1,12 +1,14 @@
 //! The first plan from a complete pool of routes, route by route.
 #![tactic(auto)]
 
+mod canonical;
+mod everyone;
 mod first;
-
 mod known;
 mod law;
 mod loads;
 mod narrow;
+mod ordered;
 mod part;
 mod reach;
 mod residual;
@@ -14,11 +16,12 @@ mod run;
 mod searches;
 mod trucks;
 
+pub use canonical::canonical_plan;
 pub use first::first_places;
-pub use trucks::fleet;
 pub use law::{
     cheapest_answers, cheapest_is_first, choices_are_plans, earliest_is_next, least_is_first,
     next_route, none_is_cheap, plans_are_choices,
 };
 pub use reach::Reach;
 pub use residual::Residual;
+pub use trucks::fleet;

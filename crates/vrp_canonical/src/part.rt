@@ -29,14 +29,7 @@ pub fn part_between(
 }
 
 // Whether a route at a place belongs to a part.
-fn keeps(
-    route: Route,
-    unserved: u128,
-    customer: u32,
-    low: usize,
-    high: usize,
-    index: usize,
-) -> bool
+fn keeps(route: Route, unserved: u128, customer: u32, low: usize, high: usize, index: usize) -> bool
     requires { customer < 128 }
     ensures from { IsTrue result → low ≤ index }
     ensures yes { IsTrue result → (index < high) ⊎ (bit_at route.set customer ≡ 0) }

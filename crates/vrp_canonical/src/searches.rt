@@ -1,11 +1,13 @@
 //! Answers by searches over parts of the pool.
+ghost use Rattle.std.specs.Prelude.{◌+◌, ◌≤◌, IfOk, IfSome};
+ghost use Rattle.vrp_partition.specs.Choice.{IsCheapest};
 
 use crate::known::{is_choice, routes_inside};
 use crate::loads::Loads;
 use crate::reach::Reach;
 use crate::residual::Residual;
 use std::alloc::{AllocError, Global};
-use vrp_partition::{Guide, Route, all_fit, cheapest_choice};
+use vrp_partition::{Chosen, Guide, Route, all_fit, cheapest_choice};
 
 /// Searches within a budget, each by a fork of one guide. The choice that was found last answers some questions by itself.
 #[derive(Drop)]
@@ -23,29 +25,18 @@ impl<P: Guide> Reach for Searches<'_, P> {
         if is_choice(part, known.as_slice(), rest) {
             return Ok(Some(true));
         }
-        let demands = self.loads.demands.as_slice();
-        let capacity = self.loads.capacity;
-        if rest.most >= 1 << 32 || !all_fit(part, demands, capacity) {
-            return Ok(None);
-        }
-        let mut guide = self.guide.fork()?;
-        let pool = Vec::from_slice(self.alloc, part)?;
-        let incumbent = rest.most + 1;
-        let Some(chosen) = cheapest_choice(
+        let Some(chosen) = cheapest_within(
             self.alloc,
-            &mut guide,
-            demands,
-            capacity,
-            rest.trucks,
-            pool,
-            rest.unserved,
-            incumbent,
+            self.guide,
+            self.loads,
+            part,
+            rest,
             &mut self.budget,
         )?
         else {
             return Ok(None);
         };
-        if chosen.cost >= incumbent {
+        if chosen.cost > rest.most {
             return Ok(Some(false));
         }
         self.known = chosen.routes;
@@ -58,4 +49,37 @@ impl<P: Guide> Reach for Searches<'_, P> {
             .copied()
             .find(|route| route.set >> customer & 1 == 1)
     }
+}
+
+/// The cheapest choice of routes for a residual problem, where it costs no more than it may; else that and 1 as the cost. `None` where
+/// the search ended unfinished, or amounts are too great for it: when, is left open.
+pub fn cheapest_within<P: Guide>(
+    alloc: Global,
+    guide: &P,
+    loads: &Loads,
+    routes: &[Route],
+    rest: Residual,
+    budget: &mut u64,
+) -> Result<Option<Chosen>, AllocError>
+    ensures cheapest { IfOk result (λ answer. IfSome answer (λ chosen.
+        IsCheapest routes.now rest.unserved rest.trucks (rest.most + 1) chosen.cost chosen.routes.items)) }
+    ensures budget { budget.new ≤ budget.old }
+{
+    let demands = loads.demands.as_slice();
+    if rest.most >= 1 << 32 || !all_fit(routes, demands, loads.capacity) {
+        return Ok(None);
+    }
+    let mut fork = guide.fork()?;
+    let pool = Vec::from_slice(alloc, routes)?;
+    cheapest_choice(
+        alloc,
+        &mut fork,
+        demands,
+        loads.capacity,
+        rest.trucks,
+        pool,
+        rest.unserved,
+        rest.most + 1,
+        budget,
+    )
 }

@@ -1,4 +1,6 @@
-use Rattle.std.proofs.Common.{◌≡◌, ◌+◌, ◌<◌, ◌≤◌, ℕ, IfSome, List, length, sym, subst, arith}
+use Rattle.std.proofs.Common.{◌+◌, ◌<◌, ◌≤◌, ℕ, IfSome, List, length, sym, subst, arith}
+use Rattle.std.specs.List.{All}
+use Rattle.std.proofs.lemmas.List.Elements.{All-nil, All-push}
 use Rattle.vrp_canonical.specs.Passing.{IsAfter, IsBegun, IsNarrowed, route_in}
 use Rattle.vrp_canonical.specs.Reaching.{IsTask}
 use Rattle.vrp_canonical.specs.declared.residual.Residual.{Residual}
@@ -9,12 +11,14 @@ use Rattle.vrp_canonical.proofs.first.first_places.Goals as goal
 
 pub loop-index-init : goal.loop-index-init
 loop-index-init g c = record {
+  within = subst (All (λ at. at < length c.args.pool.now)) (sym c.new-chosen.ensures.items) (All-nil (λ at. at < length c.args.pool.now));
   end = omega arith;
   begun = λ p limit stops task. subst (λ xs. IsBegun p stops task.plan c.args.whole 0 xs c.args.whole) (sym c.new-chosen.ensures.items) (setting_out p limit stops c.args.pool.now c.args.whole task);
 }
 
 pub loop-index-preserved-then-set-rest : goal.loop-index-preserved-then-set-rest
 loop-index-preserved-then-set-rest g c = record {
+  within = c.loop-index.invariant.within;
   end = omega arith;
   begun = λ p limit stops task. step_passed p limit stops c.args.pool.now c.args.whole task c.loop-index.index c.loop-index.chosen.items c.loop-index.rest
       (c.loop-index.invariant.begun p limit stops task) c.loop-index-test.true c.if-set-rest.true;
@@ -28,6 +32,7 @@ loop-index-preserved-then-at-run g c =
     let rest = c.loop-index.rest in
     let below : at < length pool = omega (arith, c.if-at-run.true, c.run_from-run.ensures.end) in
     record {
+      within = subst (All (λ k. k < length pool)) (sym c.in_ok-push.ensures.items) (All-push (λ k. k < length pool) chosen at c.loop-index.invariant.within below);
       end = omega (arith, below);
       begun = λ p limit stops task.
           let narrowed : IsNarrowed p stops task.plan c.args.whole chosen rest c.run_from-run.result.end at = subst (λ o. IfSome o (λ at. (p : Problem) (limit : ℕ) (stops : List (List ℕ)) (whole : Residual) (chosen : List ℕ) → (task : IsTask p limit stops pool whole) → IsBegun p stops task.plan whole c.loop-index.index chosen rest → IsNarrowed p stops task.plan whole chosen rest c.run_from-run.result.end at)) c.in-Some.is c.in_ok-at.ensures.next p limit stops c.args.whole chosen task (c.loop-index.invariant.begun p limit stops task) in
@@ -44,12 +49,13 @@ loop-index-preserved g c =
     let rest = c.loop-index.rest in
     let to : at ≤ c.run_from-run.result.end = subst (λ o. IfSome o (λ at. at ≤ c.run_from-run.result.end)) c.in-Some.is c.in_ok-at.ensures.to in
     record {
+      within = c.loop-index.invariant.within;
       end = omega (arith, to, c.run_from-run.ensures.end);
       begun = λ p limit stops task.
           let narrowed : IsNarrowed p stops task.plan c.args.whole chosen rest c.run_from-run.result.end at = subst (λ o. IfSome o (λ at. (p : Problem) (limit : ℕ) (stops : List (List ℕ)) (whole : Residual) (chosen : List ℕ) → (task : IsTask p limit stops pool whole) → IsBegun p stops task.plan whole c.loop-index.index chosen rest → IsNarrowed p stops task.plan whole chosen rest c.run_from-run.result.end at)) c.in-Some.is c.in_ok-at.ensures.next p limit stops c.args.whole chosen task (c.loop-index.invariant.begun p limit stops task) in
           narrowed.begun;
     }
 
-pub returns : goal.returns
-returns g c = λ p limit stops task.
+pub returns-clause-first : goal.returns-clause-first
+returns-clause-first g c = λ p limit stops task.
     arrived p limit stops c.args.pool.now c.args.whole task c.loop-index.index c.loop-index.chosen.items c.loop-index.rest (c.loop-index.invariant.begun p limit stops task) c.loop-index-test.false

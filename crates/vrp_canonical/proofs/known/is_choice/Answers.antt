@@ -1,6 +1,6 @@
-use Rattle.std.proofs.Common.{◌+◌, List, get_or, take, refl, sym, subst}
-use Rattle.std.proofs.lemmas.List.{take_all, take_more}
-use Rattle.vrp_canonical.proofs.KnownChoices.{Leave, none_left_over, one_more}
+use Rattle.std.proofs.Common.{List, get_or, take, sym, subst}
+use Rattle.std.proofs.lemmas.List.{take_more}
+use Rattle.vrp_canonical.proofs.KnownChoices.{Leave, one_more}
 use Rattle.vrp_partition.specs.declared.route.Route.{Route}
 use Rattle.vrp_canonical.proofs.known.is_choice.Goals as goal
 

@@ -1,5 +1,4 @@
-use Rattle.std.proofs.Common.{◌≡◌, ◌-◌, min, arith, sym, ◌∙◌}
-use Rattle.vrp_model.specs.Problem.{place_count}
+use Rattle.std.proofs.Common.{arith, sym, ◌∙◌}
 use Rattle.vrp_canonical.proofs.Fleets.{fleet_none, fleet_some}
 use Rattle.vrp_canonical.proofs.trucks.fleet.Goals as goal
 

@@ -1,0 +1,37 @@
+-- The routes of a pool that are marked, in the order of their stops.
+use Rattle.std.specs.Prelude.{◌≡◌, ℕ, ◌<◌, Bool, true, false, List, length, map, slice_index_or}
+use Rattle.std.specs.List.{All, AllPairs, Contains}
+use Rattle.vrp_canonical.specs.Reaching.{IsPoolOf}
+use Rattle.vrp_canonical.specs.declared.ordered.ListedRoute.{ListedRoute}
+use Rattle.vrp_model.specs.Order.{IsEarlier}
+use Rattle.vrp_model.specs.Problem.{Problem}
+use Rattle.vrp_partition.specs.declared.route.Route.{Route}
+use Rattle.vrp_routes.specs.Pool.{RouteOf, no_route}
+
+-- a route of a pool as a choice sees it
+abbrev pub chosen_of : RouteOf → Route
+chosen_of route = record { set = route.set; cost = route.cost }
+
+abbrev pub stops_of : ListedRoute → List ℕ
+stops_of route = route.stops.items
+
+-- a route with its stops as a choice sees it
+abbrev pub route_of : ListedRoute → Route
+route_of route = record { set = route.set; cost = route.cost }
+
+-- a route of the pool, with its stops, its set and its cost
+pub record StandsIn (pool : List RouteOf) (route : ListedRoute) : Type 0 where
+  pub of : RouteOf
+  pub stands : Contains pool of
+  pub stops : stops_of route ≡ of.stops
+  pub is : route_of route ≡ chosen_of of
+
+-- routes of the pool, among them all that are marked of the first ones
+pub record AreMarked (pool : List RouteOf) (marks : List Bool) (count : ℕ) (listed : List ListedRoute) : Type 0 where
+  pub among : All (StandsIn pool) listed
+  pub every : (at : ℕ) → at < count → at < length pool → slice_index_or marks at false ≡ true → Contains (map stops_of listed) (slice_index_or pool at no_route).stops
+
+-- a pool in the order of its routes' stops
+pub record AreOrdered (p : Problem) (limit : ℕ) (ordered : List ListedRoute) : Type 0 where
+  pub pool_of : IsPoolOf p limit (map stops_of ordered) (map route_of ordered)
+  pub rising : AllPairs IsEarlier (map stops_of ordered)

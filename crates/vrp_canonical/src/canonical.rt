@@ -1,0 +1,130 @@
+//! The first plan from a complete pool of routes.
+ghost use Rattle.std.specs.Prelude.{◌≡◌, ◌≤◌, ℕ, IfOk, IfSome, map};
+ghost use Rattle.vrp_canonical.specs.Ordering.{AreOrdered, chosen_of, route_of, stops_of};
+ghost use Rattle.vrp_canonical.specs.Reaching.{IsFleet, IsTask};
+ghost use Rattle.vrp_model.specs.Order.{IsFirst};
+ghost use Rattle.vrp_model.specs.Problem.{Problem, customers, place_count};
+ghost use Rattle.vrp_routes.specs.Label.{set_of};
+ghost use Rattle.vrp_routes.specs.Pool.{IsPool};
+
+use crate::everyone::all_customers;
+use crate::first::first_places;
+use crate::loads::Loads;
+use crate::ordered::{ListedRoute, chosen_routes, in_order, marked_routes, routes_of, word_at};
+use crate::reach::Reach;
+use crate::residual::Residual;
+use crate::searches::{Searches, cheapest_within};
+use crate::trucks::fleet;
+use std::alloc::Global;
+use vrp_model::{Instance, NoMemory, Plan};
+use vrp_partition::{Guide, Route, all_fit, routes_within};
+use vrp_routes::RoutePool;
+
+/// The first plan of an instance, by cost and then symbol by symbol, from a pool that was listed with the cost of a known plan as its
+/// limit. The cheapest choice of the pool is searched for, and then the next route of the first plan again and again, each time by
+/// forks of the guide, which need not be trusted. `None` where the budget was spent or the guide would not go on, where an amount
+/// doesn't fit 32 bits, or where no choice costs as little as the known plan: when, is left open, and so is what is left of the budget.
+pub fn canonical_plan<P: Guide>(
+    alloc: Global,
+    instance: &Instance,
+    pool: &RoutePool,
+    known: &Plan,
+    guide: &P,
+    budget: &mut u64,
+) -> Result<Option<Plan>, NoMemory>
+    requires few { place_count instance.now ≤ 128 }
+    requires pool { IsPool instance.now known.now.cost pool.now }
+    ensures { IfOk result (λ found. IfSome found (IsFirst instance.now)) }
+{
+    let Some(loads) = Loads::new(alloc, instance)? else {
+        return Ok(None);
+    };
+    let Some(routes) = chosen_routes(alloc, pool)? else {
+        return Ok(None);
+    };
+    let whole = Residual {
+        unserved: all_customers(instance),
+        trucks: fleet(instance),
+        most: known.cost(),
+    };
+    let all = routes.as_slice();
+    let Some(chosen) = cheapest_within(alloc, guide, &loads, all, whole, budget)? else {
+        return Ok(None);
+    };
+    if chosen.cost > whole.most {
+        return Ok(None);
+    }
+    let most = chosen.cost;
+    let whole = Residual { most, ..whole };
+    let Some(ordered) = narrowed_routes(alloc, guide, &loads, pool, all, whole)? else {
+        return Ok(None);
+    };
+    let mut searches = Searches {
+        alloc,
+        guide,
+        loads: &loads,
+        budget: *budget,
+        known: chosen.routes,
+    };
+    let found = plan_among(alloc, instance, &mut searches, ordered.as_slice(), whole);
+    *budget = searches.budget;
+    found
+}
+
+// The routes of the pool that may stand in a choice that costs no more than it may, in the order of their stops. `routes` are those of
+// the pool, as a choice sees them.
+fn narrowed_routes<P: Guide>(
+    alloc: Global,
+    guide: &P,
+    loads: &Loads,
+    pool: &RoutePool,
+    routes: &[Route],
+    whole: Residual,
+) -> Result<Option<Vec<ListedRoute>>, NoMemory>
+    requires { routes.now ≡ map chosen_of pool.now }
+    ensures { IfOk result (λ found. IfSome found (λ ordered. (p : Problem) (limit : ℕ)
+        → IsPool p limit pool.now → IsFleet p whole.trucks → whole.unserved ≡ set_of (customers p) → whole.most ≤ limit
+        → AreOrdered p whole.most ordered.items)) }
+{
+    let demands = loads.demands.as_slice();
+    let Ok(limit) = u32::try_from(whole.most) else {
+        return Ok(None);
+    };
+    if !all_fit(routes, demands, loads.capacity) {
+        return Ok(None);
+    }
+    let mut fork = guide.fork()?;
+    let marks = routes_within(
+        alloc,
+        &mut fork,
+        demands,
+        loads.capacity,
+        whole.trucks,
+        routes,
+        whole.unserved,
+        limit,
+    )?;
+    let listed = marked_routes(alloc, pool, routes, marks.as_slice())?;
+    let ordered = in_order(listed)?;
+    Ok(ordered)
+}
+
+// The first plan, whose routes are among these.
+fn plan_among<R: Reach>(
+    alloc: Global,
+    instance: &Instance,
+    reach: &mut R,
+    ordered: &[ListedRoute],
+    whole: Residual,
+) -> Result<Option<Plan>, NoMemory>
+    requires { IsTask instance.now whole.most (map stops_of ordered.now) (map route_of ordered.now) whole }
+    ensures { IfOk result (λ found. IfSome found (IsFirst instance.now)) }
+{
+    let routes = routes_of(alloc, ordered)?;
+    let Some(places) = first_places(alloc, reach, routes.as_slice(), whole)? else {
+        return Ok(None);
+    };
+    let word = word_at(alloc, ordered, places.as_slice())?;
+    let plan = Plan::of_word(alloc, instance, word.as_slice())?;
+    Ok(Some(plan))
+}

@@ -1,0 +1,122 @@
+//! Routes in the order of their stops.
+ghost use Rattle.std.specs.Prelude.{◌≡◌, ◌↔◌, ◌<◌, IfOk, IfSome, IsTrue, length, map};
+ghost use Rattle.std.specs.List.{All, AllPairs};
+ghost use Rattle.std.specs.List.Sorted.{IsPermutation};
+ghost use Rattle.vrp_canonical.specs.Ordering.{AreMarked, chosen_of, route_of, stops_of};
+ghost use Rattle.vrp_canonical.specs.Reaching.{routes_at};
+ghost use Rattle.vrp_model.specs.Order.{IsEarlier};
+ghost use Rattle.vrp_model.specs.Word.{word_of};
+
+use std::alloc::{AllocError, Global};
+use vrp_model::NoMemory;
+use vrp_partition::Route;
+use vrp_routes::RoutePool;
+
+/// A route with its stops.
+#[derive(Debug, PartialEq, Eq, PartialOrd, Ord, Drop)]
+pub struct ListedRoute {
+    pub stops: Vec<u16>,
+    pub set: u128,
+    pub cost: u32,
+}
+
+/// The routes of a pool as a choice sees them. `None` where a cost doesn't fit 32 bits: when, is left open.
+pub fn chosen_routes(alloc: Global, pool: &RoutePool) -> Result<Option<Vec<Route>>, NoMemory>
+    ensures { IfOk result (λ found. IfSome found (λ routes. routes.items ≡ map chosen_of pool.now)) }
+{
+    let mut routes = Vec::new(alloc);
+    for at in 0..pool.len() {
+        let Ok(cost) = u32::try_from(pool.cost(at)) else {
+            return Ok(None);
+        };
+        let set = pool.set(at);
+        routes.push(Route { set, cost })?;
+    }
+    Ok(Some(routes))
+}
+
+/// The routes of a pool that are marked, with their stops. `routes` are those of the pool, as a choice sees them.
+pub fn marked_routes(
+    alloc: Global,
+    pool: &RoutePool,
+    routes: &[Route],
+    marks: &[bool],
+) -> Result<Vec<ListedRoute>, NoMemory>
+    requires routes { routes.now ≡ map chosen_of pool.now }
+    requires marks { length marks.now ≡ length pool.now }
+    ensures { IfOk result (λ listed. AreMarked pool.now marks.now (length pool.now) listed.items) }
+{
+    let mut listed = Vec::new(alloc);
+    for at in 0..pool.len() {
+        if marks[at] {
+            let stops = pool.stops(alloc, at)?;
+            let Route { set, cost } = routes[at];
+            listed.push(ListedRoute { stops, set, cost })?;
+        }
+    }
+    Ok(listed)
+}
+
+/// The routes in the order of their stops, symbol by symbol. `None` where two have the same stops: that it is so is left open.
+pub fn in_order(mut listed: Vec<ListedRoute>) -> Result<Option<Vec<ListedRoute>>, AllocError>
+    ensures moved { IfOk result (λ found. IfSome found (λ ordered. IsPermutation listed.items ordered.items)) }
+    ensures rising { IfOk result (λ found. IfSome found (λ ordered. AllPairs IsEarlier (map stops_of ordered.items))) }
+{
+    listed.sort()?;
+    if are_rising(listed.as_slice()) {
+        Ok(Some(listed))
+    } else {
+        Ok(None)
+    }
+}
+
+// Whether each has earlier stops than the next.
+fn are_rising(listed: &[ListedRoute]) -> bool
+    ensures { IsTrue result → AllPairs IsEarlier (map stops_of listed.now) }
+{
+    for index in 1..listed.len() {
+        let before = &listed[index - 1];
+        let route = &listed[index];
+        if !is_earlier(before.stops.as_slice(), route.stops.as_slice()) {
+            return false;
+        }
+    }
+    true
+}
+
+// Whether stops are earlier than others, symbol by symbol.
+fn is_earlier(stops: &[u16], others: &[u16]) -> bool
+    ensures { IsTrue result ↔ IsEarlier stops.now others.now }
+{
+    stops < others
+}
+
+/// The routes as a choice sees them.
+pub fn routes_of(alloc: Global, ordered: &[ListedRoute]) -> Result<Vec<Route>, AllocError>
+    ensures { IfOk result (λ routes. routes.items ≡ map route_of ordered.now) }
+{
+    ordered
+        .iter()
+        .map(|route| Route {
+            set: route.set,
+            cost: route.cost,
+        })
+        .collect(alloc)
+}
+
+/// The word of the routes at some places: the stops of each, followed by 0.
+pub fn word_at(
+    alloc: Global,
+    ordered: &[ListedRoute],
+    places: &[usize],
+) -> Result<Vec<u16>, AllocError>
+    requires { All (λ at. at < length ordered.now) places.now }
+    ensures { IfOk result (λ word. word.items ≡ word_of (routes_at (map stops_of ordered.now) places.now)) }
+{
+    let mut word = Vec::new(alloc);
+    for at in places {
+        word.extend_from_slice(ordered[*at].stops.as_slice())?;
+        word.push(0)?;
+    }
+    Ok(word)
+}
