@@ -6,7 +6,7 @@ use crate::random::{Random, all_customers};
 use crate::slow::{cost_of_choice, least_cost};
 use std::alloc::Global;
 use std::process::Abort;
-use vrp_partition::{Chosen, MOST_CUSTOMERS, Route, all_fit, cheapest_choice};
+use vrp_partition::{Chosen, MOST_CUSTOMERS, Route, all_fit, cheapest_choice, routes_within};
 
 // A route: its customers and its cost.
 type Told = (u128, u32);
@@ -32,36 +32,56 @@ const FOUR: &[Told] = &[
 
 const MUCH: u64 = 1 << 32;
 
-// A pool, customers, the incumbent's cost and the least cost.
-const BY_HAND: &[(&[Told], u128, u64, u64)] = &[
-    (THREE, 0b1110, MUCH, 22),
-    (THREE, 0b1110, 23, 22),
-    (THREE, 0b1110, 22, 22),
-    (THREE, 0b1110, 0, 0),
-    (THREE, 0b1100, MUCH, 13),
-    (THREE, 0, MUCH, 0),
-    (THREE, 0b1_1110, MUCH, MUCH),
-    (FOUR, 0b11110, MUCH, 9),
-    (FOUR, 0b01110, MUCH, MUCH),
-    (&[], 0b0010, MUCH, MUCH),
-    (&[(0b1110, 9)], 0b1110, MUCH, 9),
-    (&[(u128::MAX, u32::MAX)], u128::MAX, MUCH, u32::MAX as u64),
-    (&[(0b0010, 1), (0b0010, 1), (0b0100, 1)], 0b0110, MUCH, 2),
+// A pool, customers, trucks, the incumbent's cost and the least cost.
+const BY_HAND: &[(&[Told], u128, u8, u64, u64)] = &[
+    (THREE, 0b1110, 128, MUCH, 22),
+    (THREE, 0b1110, 128, 23, 22),
+    (THREE, 0b1110, 128, 22, 22),
+    (THREE, 0b1110, 128, 0, 0),
+    (THREE, 0b1100, 128, MUCH, 13),
+    (THREE, 0, 128, MUCH, 0),
+    (THREE, 0b1_1110, 128, MUCH, MUCH),
+    (FOUR, 0b11110, 128, MUCH, 9),
+    (FOUR, 0b01110, 128, MUCH, MUCH),
+    (&[], 0b0010, 128, MUCH, MUCH),
+    (&[(0b1110, 9)], 0b1110, 1, MUCH, 9),
+    (THREE, 0b1110, 2, MUCH, 22),
+    (THREE, 0b1110, 1, MUCH, 25),
+    (THREE, 0b1110, 0, MUCH, MUCH),
+    (THREE, 0, 0, MUCH, 0),
+    (FOUR, 0b11110, 2, MUCH, 9),
+    (FOUR, 0b11110, 1, MUCH, MUCH),
+    (
+        &[(u128::MAX, u32::MAX)],
+        u128::MAX,
+        u8::MAX,
+        MUCH,
+        u32::MAX as u64,
+    ),
+    (
+        &[(0b0010, 1), (0b0010, 1), (0b0100, 1)],
+        0b0110,
+        128,
+        MUCH,
+        2,
+    ),
 ];
 
 #[test]
 fn choices_by_hand(rt: HostRuntime) {
     let (rt, alloc) = (&rt, rt.alloc());
-    for &(told, customers, incumbent, cost) in BY_HAND {
+    for &(told, customers, trucks, incumbent, cost) in BY_HAND {
         for &habit in HABITS {
             let mut pool = Vec::new(alloc);
             for &(set, cost) in told {
                 pool.push(Route { set, cost }).expect(rt, "memory");
             }
-            let found = choice(rt, alloc, habit, 128, pool, customers, incumbent, 100);
+            let found = choice(
+                rt, alloc, habit, 128, trucks, pool, customers, incumbent, 100,
+            );
             let found = found.expect(rt, "a budget that suffices");
             assert_same(rt, found.cost, cost, (customers, incumbent));
-            assert_routes(rt, &found, customers, incumbent);
+            assert_routes(rt, &found, customers, trucks, incumbent);
         }
     }
 }
@@ -72,6 +92,7 @@ fn choice(
     alloc: Global,
     habit: Habit,
     capacity: u32,
+    trucks: u8,
     pool: Vec<Route>,
     customers: u128,
     incumbent: u64,
@@ -91,6 +112,7 @@ fn choice(
         &mut guide,
         &demands,
         capacity,
+        trucks,
         pool,
         customers,
         incumbent,
@@ -102,14 +124,17 @@ fn choice(
 }
 
 // Below the incumbent the routes are a choice of that cost.
-fn assert_routes(rt: &impl Abort, found: &Chosen, customers: u128, incumbent: u64) {
+fn assert_routes(rt: &impl Abort, found: &Chosen, customers: u128, trucks: u8, incumbent: u64) {
     if found.cost < incumbent {
-        let cost = cost_of_choice(&found.routes, customers);
+        let cost = cost_of_choice(&found.routes, customers, trucks);
         assert_same(rt, cost, Some(found.cost), customers);
     } else {
         assert_same(rt, found.cost, incumbent, customers);
     }
 }
+
+// How many trucks there are, in turn.
+const TRUCKS: &[u8] = &[128, 3, 2];
 
 // Many ties where costs are below 4; often no choice at all.
 #[test]
@@ -126,7 +151,8 @@ fn choices_beside_every_choice(rt: HostRuntime) {
             4 + round % 3 * 50,
             capacity,
         );
-        let least = least_cost(rt, &pool, all_customers());
+        let trucks = TRUCKS[round as usize % TRUCKS.len()];
+        let least = least_cost(rt, &pool, all_customers(), trucks);
         for &habit in HABITS {
             for incumbent in [MUCH, 40, 3] {
                 let routes = Vec::from_slice(alloc, &pool).expect(rt, "memory");
@@ -135,6 +161,7 @@ fn choices_beside_every_choice(rt: HostRuntime) {
                     alloc,
                     habit,
                     capacity,
+                    trucks,
                     routes,
                     all_customers(),
                     incumbent,
@@ -143,7 +170,7 @@ fn choices_beside_every_choice(rt: HostRuntime) {
                 let found = found.expect(rt, "a budget that suffices");
                 let wanted = least.unwrap_or(incumbent).min(incumbent);
                 assert_same(rt, found.cost, wanted, (round, habit, incumbent));
-                assert_routes(rt, &found, all_customers(), incumbent);
+                assert_routes(rt, &found, all_customers(), trucks, incumbent);
             }
         }
     }
@@ -180,13 +207,13 @@ fn pools_that_are_branched_on(rt: HostRuntime) {
     let mut random = Random(3);
     for round in 0..8u32 {
         let base = fitting(rt, alloc, &mut random, 8, 10, 3);
-        let least = least_cost(rt, &base, all_customers()).unwrap_or(DEAR);
+        let least = least_cost(rt, &base, all_customers(), 128).unwrap_or(DEAR);
         for &habit in HABITS {
             let pool = repeated(rt, alloc, &base, 400);
-            let found = choice(rt, alloc, habit, 3, pool, all_customers(), DEAR, 1_000);
+            let found = choice(rt, alloc, habit, 3, 128, pool, all_customers(), DEAR, 1_000);
             let found = found.expect(rt, "a budget that suffices");
             assert_same(rt, found.cost, least, (round, habit));
-            assert_routes(rt, &found, all_customers(), DEAR);
+            assert_routes(rt, &found, all_customers(), 128, DEAR);
         }
         for nodes in [0, 1, 9] {
             let pool = repeated(rt, alloc, &base, 400);
@@ -195,6 +222,7 @@ fn pools_that_are_branched_on(rt: HostRuntime) {
                 alloc,
                 Habit::Idle,
                 3,
+                128,
                 pool,
                 all_customers(),
                 MUCH,
@@ -202,6 +230,18 @@ fn pools_that_are_branched_on(rt: HostRuntime) {
             );
             assert_same(rt, found.is_some(), false, nodes);
         }
+        let found = choice(
+            rt,
+            alloc,
+            Habit::Stopping,
+            3,
+            128,
+            base,
+            all_customers(),
+            MUCH,
+            9,
+        );
+        assert_same(rt, found.is_some(), false, "it would not go on");
     }
 }
 
@@ -218,4 +258,72 @@ fn repeated(rt: &impl Abort, alloc: Global, base: &[Route], times: u32) -> Vec<R
         }
     }
     pool
+}
+
+// A route is marked where it stands in a choice within the limit: what costs least with it is found by a slow program.
+#[test]
+fn routes_within_limits(rt: HostRuntime) {
+    let (rt, alloc) = (&rt, rt.alloc());
+    let mut random = Random(5);
+    for round in 0..24u32 {
+        let pool = fitting(rt, alloc, &mut random, 4 + round % 7, 4 + round % 3 * 50, 3);
+        let trucks = TRUCKS[round as usize % TRUCKS.len()];
+        for &habit in HABITS {
+            for limit in [0, 5, 60, u32::MAX] {
+                let marks = marks(rt, alloc, habit, trucks, &pool, limit);
+                assert_same(rt, marks.len(), pool.len(), round);
+                for (at, route) in pool.iter().enumerate() {
+                    let least = least_with(rt, alloc, &pool, at, trucks);
+                    let stands = least.is_some_and(|cost| cost <= u64::from(limit));
+                    assert!(rt;
+                        marks[at] || !stands,
+                        "{route:?} within {limit}, round {round}"
+                    );
+                }
+            }
+        }
+    }
+}
+
+fn marks(
+    rt: &impl Abort,
+    alloc: Global,
+    habit: Habit,
+    trucks: u8,
+    pool: &[Route],
+    limit: u32,
+) -> Vec<bool> {
+    let demands = [1u32; MOST_CUSTOMERS];
+    assert!(rt; all_fit(pool, &demands, 3));
+    let mut guide = Habitual {
+        alloc,
+        habit,
+        random: Random(u64::from(limit)),
+    };
+    let marks = routes_within(
+        alloc,
+        &mut guide,
+        &demands,
+        3,
+        trucks,
+        pool,
+        all_customers(),
+        limit,
+    );
+    marks.expect(rt, "memory")
+}
+
+// The least cost of a choice with the route there, if there is one.
+fn least_with(
+    rt: &impl Abort,
+    alloc: Global,
+    pool: &[Route],
+    at: usize,
+    trucks: u8,
+) -> Option<u64> {
+    let mut others = Vec::from_slice(alloc, pool).expect(rt, "memory");
+    let route = others.remove(at);
+    let left = all_customers() ^ route.set;
+    let least = least_cost(rt, &others, left, trucks.saturating_sub(1))?;
+    Some(least.saturating_add(u64::from(route.cost)))
 }

@@ -32,26 +32,31 @@ const FOUR: &[Told] = &[
 
 const MUCH: u64 = 1_000_000;
 
-// Columns, customers, the incumbent's cost, the gap and the least cost.
-const BY_HAND: &[(&[Told], u128, u64, u64, u64)] = &[
-    (THREE, 0b1110, MUCH, MUCH, 22),
-    (THREE, 0b1110, 23, MUCH, 22),
-    (THREE, 0b1110, 22, MUCH, 22),
-    (THREE, 0b1110, 0, MUCH, 0),
-    (THREE, 0b1110, MUCH, 22, 22),
-    (THREE, 0b1110, MUCH, 21, MUCH),
-    (THREE, 0b1010, MUCH, MUCH, 14),
-    (THREE, 0, MUCH, 0, 0),
-    (THREE, 0b11110, MUCH, MUCH, MUCH),
-    (&[], 0b0010, MUCH, MUCH, MUCH),
-    (&[(0b1110, 7, 9)], 0b1110, MUCH, 7, 9),
-    (FOUR, 0b11110, MUCH, MUCH, 9),
-    (FOUR, 0b11110, MUCH, 11, 10),
-    (FOUR, 0b11110, MUCH, 9, 11),
-    (FOUR, 0b11110, MUCH, 0, MUCH),
+// Columns, customers, trucks, the incumbent's cost, the gap and the least cost.
+const BY_HAND: &[(&[Told], u128, u8, u64, u64, u64)] = &[
+    (THREE, 0b1110, 128, MUCH, MUCH, 22),
+    (THREE, 0b1110, 128, 23, MUCH, 22),
+    (THREE, 0b1110, 128, 22, MUCH, 22),
+    (THREE, 0b1110, 128, 0, MUCH, 0),
+    (THREE, 0b1110, 128, MUCH, 22, 22),
+    (THREE, 0b1110, 128, MUCH, 21, MUCH),
+    (THREE, 0b1010, 128, MUCH, MUCH, 14),
+    (THREE, 0, 128, MUCH, 0, 0),
+    (THREE, 0b11110, 128, MUCH, MUCH, MUCH),
+    (&[], 0b0010, 128, MUCH, MUCH, MUCH),
+    (&[(0b1110, 7, 9)], 0b1110, 128, MUCH, 7, 9),
+    (FOUR, 0b11110, 128, MUCH, MUCH, 9),
+    (FOUR, 0b11110, 2, MUCH, MUCH, 9),
+    (FOUR, 0b11110, 1, MUCH, MUCH, MUCH),
+    (THREE, 0b1110, 1, MUCH, MUCH, 25),
+    (THREE, 0, 0, MUCH, MUCH, 0),
+    (FOUR, 0b11110, 128, MUCH, 11, 10),
+    (FOUR, 0b11110, 128, MUCH, 9, 11),
+    (FOUR, 0b11110, 128, MUCH, 0, MUCH),
     (
         &[(1 << 127, u64::MAX, u32::MAX), (1, 0, u32::MAX)],
         1 | 1 << 127,
+        2,
         u64::MAX,
         u64::MAX,
         2 * (u32::MAX as u64),
@@ -61,11 +66,11 @@ const BY_HAND: &[(&[Told], u128, u64, u64, u64)] = &[
 #[test]
 fn covers_by_hand(rt: HostRuntime) {
     let (rt, alloc) = (&rt, rt.alloc());
-    for &(told, customers, incumbent, gap, cost) in BY_HAND {
+    for &(told, customers, trucks, incumbent, gap, cost) in BY_HAND {
         let columns = columns_of(rt, alloc, told);
-        let found = cover(rt, alloc, &columns, customers, incumbent, gap);
+        let found = cover(rt, alloc, &columns, customers, trucks, incumbent, gap);
         assert_same(rt, found.cost, cost, (customers, incumbent, gap));
-        assert_parts(rt, alloc, &found, customers, incumbent);
+        assert_parts(rt, alloc, &found, customers, trucks, incumbent);
     }
 }
 
@@ -87,18 +92,34 @@ fn cover(
     alloc: Global,
     columns: &[Column],
     customers: u128,
+    trucks: u8,
     incumbent: u64,
     gap: u64,
 ) -> Cover {
     let mut budget = MUCH;
-    let found = cheapest_cover(alloc, columns, customers, incumbent, gap, &mut budget);
+    let found = cheapest_cover(
+        alloc,
+        columns,
+        customers,
+        trucks,
+        incumbent,
+        gap,
+        &mut budget,
+    );
     found
         .expect(rt, "memory")
         .expect(rt, "a budget that suffices")
 }
 
 // Below the incumbent the parts are a choice of that cost; else there are none.
-fn assert_parts(rt: &impl Abort, alloc: Global, found: &Cover, customers: u128, incumbent: u64) {
+fn assert_parts(
+    rt: &impl Abort,
+    alloc: Global,
+    found: &Cover,
+    customers: u128,
+    trucks: u8,
+    incumbent: u64,
+) {
     let mut routes = Vec::new(alloc);
     for column in &found.parts {
         let route = Route {
@@ -108,7 +129,7 @@ fn assert_parts(rt: &impl Abort, alloc: Global, found: &Cover, customers: u128, 
         routes.push(route).expect(rt, "memory");
     }
     if found.cost < incumbent {
-        let cost = cost_of_choice(&routes, customers);
+        let cost = cost_of_choice(&routes, customers, trucks);
         assert_same(rt, cost, Some(found.cost), customers);
     } else {
         assert_same(rt, routes.len(), 0, customers);
@@ -128,7 +149,7 @@ fn budgets_that_are_spent(rt: HostRuntime) {
         (9, true, 6),
     ] {
         let mut nodes = budget;
-        let found = cheapest_cover(alloc, &columns, 0b0110, MUCH, MUCH, &mut nodes);
+        let found = cheapest_cover(alloc, &columns, 0b0110, 128, MUCH, MUCH, &mut nodes);
         let found = found.expect(rt, "memory");
         assert_same(rt, found.is_some(), suffices, budget);
         assert_same(rt, nodes, left, budget);
@@ -152,10 +173,11 @@ fn covers_beside_every_choice(rt: HostRuntime) {
             };
             columns.push(column).expect(rt, "memory");
         }
-        let wanted = least_cost(rt, &pool, all_customers());
-        let found = cover(rt, alloc, &columns, all_customers(), MUCH, 0);
+        let trucks = if round % 4 == 0 { 2 } else { 128 };
+        let wanted = least_cost(rt, &pool, all_customers(), trucks);
+        let found = cover(rt, alloc, &columns, all_customers(), trucks, MUCH, 0);
         assert_same(rt, found.cost, wanted.unwrap_or(MUCH), round);
-        assert_parts(rt, alloc, &found, all_customers(), MUCH);
+        assert_parts(rt, alloc, &found, all_customers(), trucks, MUCH);
         solved = solved.saturating_add(u32::from(wanted.is_some()));
     }
     assert!(rt;

@@ -19,6 +19,8 @@ pub(crate) enum Habit {
     Refused,
     /// Prices of 0, and groups of nobody.
     Idle,
+    /// Prices of 0, and it would not go on.
+    Stopping,
 }
 
 /// All of them that branch.
@@ -41,7 +43,7 @@ pub(crate) struct Habitual {
 impl Habitual {
     fn dual(&mut self) -> i64 {
         match self.habit {
-            Habit::Zeros | Habit::Idle => 0,
+            Habit::Zeros | Habit::Idle | Habit::Stopping => 0,
             Habit::Random => i64::from(self.random.next() % (1 << 26)) - (1 << 24),
             Habit::Highest => 1 << 52,
             Habit::Lowest => -(1 << 52),
@@ -72,7 +74,16 @@ impl Habitual {
 }
 
 impl Guide for Habitual {
-    fn offer(&mut self, _pool: &[Route], _customers: u128) -> Result<PriceOffer, AllocError> {
+    fn should_continue(&self) -> bool {
+        self.habit != Habit::Stopping
+    }
+
+    fn offer(
+        &mut self,
+        _pool: &[Route],
+        _customers: u128,
+        _incumbent: u64,
+    ) -> Result<PriceOffer, AllocError> {
         let mut duals = Vec::new(self.alloc);
         for _ in 0..MOST_CUSTOMERS {
             duals.push(self.dual())?;
@@ -81,14 +92,20 @@ impl Guide for Habitual {
             duals,
             subset_rows: self.cuts(1)?,
             capacity_cuts: self.cuts(3)?,
+            truck_price: self.price(),
+            work: 0,
         })
     }
 
-    fn group(&mut self, _pool: &[Route]) -> u128 {
+    fn group(&mut self, _pool: &[Route]) -> Result<u128, AllocError> {
         if self.habit == Habit::Idle {
-            0
+            Ok(0)
         } else {
-            self.random.pair()
+            Ok(self.random.pair())
         }
+    }
+
+    fn fork(&self) -> Result<Habitual, AllocError> {
+        Ok(Habitual { ..*self })
     }
 }

@@ -30,22 +30,24 @@ fn offer(
         duals: all,
         subset_rows: Vec::from_slice(alloc, subset_rows).expect(rt, "memory"),
         capacity_cuts: Vec::from_slice(alloc, capacity_cuts).expect(rt, "memory"),
+        truck_price: 0,
+        work: 0,
     }
 }
 
 // A route, and its reduced cost in units of cost. Customers 1, 2 and 3 have prices 5, 7 and 8, their triple 2; they need two trucks, at
 // a price of 3 for each. So a choice costs at least 20 - 2 + 6 = 24.
 const REDUCED: &[(u128, u32, i64)] = &[
-    (0, 1, 1),
-    (0b0010, 10, 2),
-    (0b0100, 10, 0),
-    (0b1000, 11, 0),
-    (0b0110, 13, 0),
-    (0b1010, 14, 0),
-    (0b1100, 20, 4),
-    (0b1110, 21, 0),
-    (0b1_0000, 6, 6),
-    (0b1_0010, 9, 1),
+    (0, 1, 2),
+    (0b0010, 10, 3),
+    (0b0100, 10, 1),
+    (0b1000, 11, 1),
+    (0b0110, 13, 1),
+    (0b1010, 14, 1),
+    (0b1100, 20, 5),
+    (0b1110, 21, 1),
+    (0b1_0000, 6, 7),
+    (0b1_0010, 9, 2),
 ];
 
 #[test]
@@ -62,14 +64,15 @@ fn reduced_costs_by_hand(rt: HostRuntime) {
         price: 3 * SCALE,
     };
     let duals = [0, 5 * UNIT, 7 * UNIT, 8 * UNIT];
-    let offer = offer(rt, alloc, &duals, &[triple], &[visits]);
+    let mut offer = offer(rt, alloc, &duals, &[triple], &[visits]);
+    offer.truck_price = SCALE;
     let prices = Prices::admit(offer, &[1u32; MOST_CUSTOMERS], CAPACITY, THREE).expect(
         rt, "prices",
     );
     assert_same(
         rt,
-        prices.lower_bound(THREE),
-        i128::from(24 * UNIT),
+        prices.lower_bound(THREE, 2),
+        i128::from(22 * UNIT),
         "lower bound",
     );
     let mut pool = Vec::new(alloc);
@@ -84,7 +87,7 @@ fn reduced_costs_by_hand(rt: HostRuntime) {
     }
     let costs = reduced_costs(alloc, &prices, &pool).expect(rt, "memory");
     assert_same(rt, none_negative(&costs), true, "none is negative");
-    for (gap, kept) in [(6, 10), (4, 9), (1, 7), (0, 5)] {
+    for (gap, kept) in [(7, 10), (5, 9), (2, 7), (1, 5)] {
         let gap = gap * UNIT;
         let at_gap = within_gap(alloc, &prices, &pool, &costs, gap).expect(rt, "memory");
         assert_same(rt, at_gap.len(), kept, gap);
@@ -96,6 +99,7 @@ fn reduced_costs_by_hand(rt: HostRuntime) {
 struct Offered {
     dual: i64,
     subset_rows: usize,
+    truck_price: u64,
     subset_row: Cut,
     capacity_cuts: usize,
     capacity_cut: Cut,
@@ -108,6 +112,7 @@ const FARTHEST: i64 = 1 << 52;
 const GOOD: Offered = Offered {
     dual: -FARTHEST,
     subset_rows: 512,
+    truck_price: 0,
     subset_row: Cut {
         set: THREE,
         count: 0,
@@ -122,6 +127,20 @@ const GOOD: Offered = Offered {
 };
 
 const ADMITTED: &[(Offered, bool)] = &[
+    (
+        Offered {
+            truck_price: 1 << 50,
+            ..GOOD
+        },
+        true,
+    ),
+    (
+        Offered {
+            truck_price: (1 << 50) + 1,
+            ..GOOD
+        },
+        false,
+    ),
     (GOOD, true),
     (
         Offered {
@@ -288,6 +307,8 @@ fn prices_that_are_refused(rt: HostRuntime) {
         duals: Vec::from_slice(alloc, &[0; 127]).expect(rt, "memory"),
         subset_rows: Vec::new(alloc),
         capacity_cuts: Vec::new(alloc),
+        truck_price: 0,
+        work: 0,
     };
     let prices = Prices::admit(short, &[1u32; MOST_CUSTOMERS], CAPACITY, THREE);
     assert_same(rt, prices.is_some(), false, "127 duals");
@@ -310,6 +331,8 @@ fn admitted(
         duals,
         subset_rows,
         capacity_cuts,
+        truck_price: offered.truck_price,
+        work: 0,
     };
     Prices::admit(offer, demands, capacity, customers)
 }
@@ -351,7 +374,7 @@ fn prices_at_the_limits(rt: HostRuntime) {
             u128::MAX,
         );
         let prices = prices.expect(rt, "prices");
-        assert_same(rt, prices.lower_bound(u128::MAX), low, dual);
+        assert_same(rt, prices.lower_bound(u128::MAX, 128), low, dual);
         assert_same(rt, prices.reduced_cost(u128::MAX, u32::MAX), reduced, dual);
     }
 }

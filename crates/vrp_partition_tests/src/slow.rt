@@ -6,12 +6,18 @@ use vrp_partition::Route;
 // How many routes a pool may have here.
 const MOST_ROUTES: usize = 12;
 
-/// The least cost of a choice of the pool, if there is one.
-pub(crate) fn least_cost(rt: &impl Abort, pool: &[Route], customers: u128) -> Option<u64> {
+/// The least cost of a choice of the pool with so many trucks, if there is one.
+pub(crate) fn least_cost(
+    rt: &impl Abort,
+    pool: &[Route],
+    customers: u128,
+    trucks: u8,
+) -> Option<u64> {
     assert!(rt; pool.len() <= MOST_ROUTES, "too many routes");
     let mut least: Option<u64> = None;
     for taken in 0..1u32 << MOST_ROUTES {
-        if let Some(cost) = cost_of_part(pool, customers, taken) {
+        let cost = cost_of_part(pool, customers, taken);
+        if let Some(cost) = cost.filter(|_| taken.count_ones() <= u32::from(trucks)) {
             least = Some(least.map_or(cost, |known| known.min(cost)));
         }
     }
@@ -36,7 +42,8 @@ fn cost_of_part(pool: &[Route], customers: u128, taken: u32) -> Option<u64> {
     (unserved == 0).then_some(cost)
 }
 
-/// What some routes cost together, if they have each of the customers once, and nobody else.
-pub(crate) fn cost_of_choice(routes: &[Route], customers: u128) -> Option<u64> {
-    cost_of_part(routes, customers, u32::MAX)
+/// What some routes cost together, if they have each of the customers once, and nobody else, and there are so many trucks.
+pub(crate) fn cost_of_choice(routes: &[Route], customers: u128, trucks: u8) -> Option<u64> {
+    let cost = cost_of_part(routes, customers, u32::MAX);
+    cost.filter(|_| routes.len() <= usize::from(trucks))
 }
