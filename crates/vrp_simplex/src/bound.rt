@@ -1,0 +1,43 @@
+//! The lower bound by the program's prices.
+use crate::program::Program;
+use crate::row_prices::RowPrices;
+use std::alloc::AllocError;
+use vrp_partition::Route;
+
+impl Program {
+    /// A lower bound by the prices, as a price, with the signs that a bound wants: the sum of the prices, and the least reduced cost
+    /// of the program's routes and of the rest, where it is negative, once for each customer. It is left open, since nobody trusts it.
+    pub fn lower_bound(&mut self, rest: &[Route]) -> Result<i64, AllocError> {
+        self.fit_prices();
+        self.reduce();
+        let mut least = self.reduced.iter().copied().min().unwrap_or(0).min(0);
+        let prices = RowPrices::new(self)?;
+        for route in rest {
+            if let Some(reduced) = prices.reduced_cost(route, least) {
+                least = least.min(reduced);
+            }
+        }
+        self.count_looks(rest.len());
+        let customers = i64::try_from(self.customer_rows()).unwrap_or(0);
+        Ok(self.price_sum().wrapping_add(least.wrapping_mul(customers)))
+    }
+
+    // What all rows pay.
+    fn price_sum(&self) -> i64 {
+        let mut sum = 0i64;
+        for (row, &price) in self.prices.iter().enumerate() {
+            let cut = row.checked_sub(self.customer_rows());
+            let side = cut.map_or(1, |cut| self.cuts.get(cut).map_or(0, |cut| cut.side()));
+            sum = sum.wrapping_add(price.wrapping_mul(side));
+        }
+        sum
+    }
+
+    // Gives the prices of the cuts their signs.
+    fn fit_prices(&mut self) {
+        let rows = self.customer_rows();
+        for (price, cut) in self.prices.iter_mut().skip(rows).zip(&self.cuts) {
+            *price = cut.fit(*price);
+        }
+    }
+}

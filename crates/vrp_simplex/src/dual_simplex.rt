@@ -1,0 +1,236 @@
+//! The dual simplex.
+use crate::fixed_point::{ONE, UNIT, at, is_quotient_at_most, product, quotient};
+use crate::program::{Basic, Program};
+use crate::rows::{Pair, Pairs, no_pairs, sums};
+use crate::shortlist::Listed;
+use std::alloc::{AllocError, Global};
+use vrp_partition::Ask;
+
+/// How the dual simplex ended.
+#[derive(Clone, Copy, Debug, PartialEq, Eq)]
+pub enum DualEnd {
+    /// No value is negative, and nothing stands in the basis that may not.
+    Feasible,
+    /// There is no solution with the raised right-hand sides: the prices were moved along a ray.
+    Ray,
+    /// As many steps were taken as may be, or the search doesn't go on.
+    StepLimit,
+    /// The lower bound is above the limit.
+    AboveLimit,
+}
+
+// After so many steps it is asked whether the search goes on.
+const STEPS_BETWEEN: u64 = 64;
+
+// A row that is to leave the basis, how far its value is from where it may be, and on which side.
+#[derive(Clone, Copy)]
+struct LeavingRow {
+    row: usize,
+    far: i64,
+    sign: i64,
+}
+
+// The column that comes, so far.
+#[derive(Clone, Copy)]
+struct Entering {
+    least: i64,
+    largest: i64,
+    basic: Option<Basic>,
+}
+
+impl Entering {
+    // Takes a column, if its reduced cost comes to 0 sooner, or as soon and it moves more.
+    #[inline(always)]
+    fn look(&mut self, moves: i64, reduced: i64, basic: Basic) {
+        if moves > ONE >> 14 && is_quotient_at_most(reduced.max(0), moves, self.least) {
+            let ratio = quotient(reduced.max(0), moves);
+            if ratio < self.least || moves > self.largest {
+                self.least = ratio;
+                self.largest = moves;
+                self.basic = Some(basic);
+            }
+        }
+    }
+}
+
+// What a step writes, made once.
+#[derive(Drop)]
+struct Scratch {
+    pairs: Box<Pairs>,
+    direction: Vec<i64>,
+    rows: Vec<u16>,
+}
+
+impl Scratch {
+    fn new(alloc: Global, stride: usize) -> Result<Scratch, AllocError> {
+        Ok(Scratch {
+            pairs: Box::new(alloc, no_pairs())?,
+            direction: vec![in alloc; 0; stride]?,
+            rows: Vec::new(alloc),
+        })
+    }
+}
+
+impl Program {
+    /// What is negative, or may not stand in the basis, leaves it, until nothing is, so many steps are taken, or the lower bound is
+    /// above the limit, a price. It looks at so many columns, those of the least reduced costs, and at last at all. What comes of it
+    /// is left open, since nobody trusts it.
+    pub fn dual_simplex<A: Ask>(
+        &mut self,
+        ask: &A,
+        most: u64,
+        limit: i64,
+        many: usize,
+    ) -> Result<DualEnd, AllocError> {
+        self.make_prices();
+        self.reduce();
+        self.make_shortlist(many)?;
+        let mut end = self.dual_steps_among(ask, most, limit)?;
+        self.reduce();
+        if end == DualEnd::AboveLimit && self.is_shortened() && self.has_negative() {
+            self.make_shortlist(usize::MAX)?;
+            end = self.dual_steps_among(ask, most, limit)?;
+            self.reduce();
+        }
+        if end == DualEnd::Feasible && self.has_negative() {
+            self.primal_simplex(ask, most)?;
+            self.reduce();
+        }
+        Ok(end)
+    }
+
+    // The same, among the columns that are looked at.
+    fn dual_steps_among<A: Ask>(
+        &mut self,
+        ask: &A,
+        most: u64,
+        limit: i64,
+    ) -> Result<DualEnd, AllocError> {
+        let mut scratch = Scratch::new(self.alloc, self.stride)?;
+        for step in 0..most.saturating_add(1) {
+            let leaving = self.leaving_row();
+            if leaving.far <= ONE >> 24 {
+                return Ok(DualEnd::Feasible);
+            }
+            let low = self.cost();
+            if low > limit.saturating_add(UNIT / 8) {
+                return Ok(DualEnd::AboveLimit);
+            }
+            if step % STEPS_BETWEEN == STEPS_BETWEEN - 1 && !ask.should_continue() {
+                break;
+            }
+            if !self.dual_step(&leaving, &mut scratch)? {
+                self.follow_ray(&scratch.pairs, &leaving, limit.saturating_sub(low));
+                return Ok(DualEnd::Ray);
+            }
+        }
+        Ok(DualEnd::StepLimit)
+    }
+
+    // A column comes in at the row, if there is one that may.
+    fn dual_step(
+        &mut self,
+        leaving: &LeavingRow,
+        scratch: &mut Scratch,
+    ) -> Result<bool, AllocError> {
+        let Scratch {
+            pairs,
+            direction,
+            rows,
+        } = scratch;
+        self.write_pairs(leaving, pairs);
+        let Some(entering) = self.entering_of_all(pairs)? else {
+            return Ok(false);
+        };
+        self.write_direction(entering, rows, direction.as_mut_slice())?;
+        self.dual_steps = self.dual_steps.saturating_add(1);
+        let count = self.shortlist.listed.len();
+        self.count_looks(count);
+        self.pivot(leaving.row, entering, direction.as_slice())?;
+        Ok(true)
+    }
+
+    // The column that comes into the basis; where none does, all are looked at.
+    fn entering_of_all(&mut self, pairs: &Pairs) -> Result<Option<Basic>, AllocError> {
+        let entering = self.entering(pairs);
+        if entering.is_none() && self.is_shortened() {
+            self.make_shortlist(usize::MAX)?;
+            return Ok(self.entering(pairs));
+        }
+        Ok(entering)
+    }
+
+    // The column comes in at the row, if it moves it; else the inverse is made anew.
+    fn pivot(&mut self, row: usize, entering: Basic, direction: &[i64]) -> Result<(), AllocError> {
+        let moves = at(direction, row);
+        if moves.saturating_abs() > ONE >> 16 {
+            let value = quotient(at(self.values.as_slice(), row), moves);
+            self.exchange(row, entering, direction, value)
+        } else {
+            self.invert()?;
+            self.make_prices();
+            Ok(())
+        }
+    }
+
+    // The row that is farthest from where it may be.
+    fn leaving_row(&self) -> LeavingRow {
+        let mut leaving = LeavingRow {
+            row: 0,
+            far: 0,
+            sign: 1,
+        };
+        for (row, (&value, basic)) in self.values.iter().zip(&self.basis).enumerate() {
+            let far = if value < 0 {
+                value.saturating_neg()
+            } else if basic.has_to_leave() {
+                value
+            } else {
+                0
+            };
+            if far >= leaving.far {
+                let sign = if value < 0 { -1 } else { 1 };
+                leaving = LeavingRow { row, far, sign };
+            }
+        }
+        leaving
+    }
+
+    // Writes the prices beside the row of the inverse that leaves.
+    fn write_pairs(&self, leaving: &LeavingRow, pairs: &mut Pairs) {
+        let columns = self.inverse.chunks_exact(self.stride.max(1));
+        let rows = self.prices.iter().zip(columns);
+        for (pair, (&price, column)) in pairs.iter_mut().zip(rows) {
+            let line = at(column, leaving.row).wrapping_mul(leaving.sign);
+            *pair = Pair { price, line };
+        }
+    }
+
+    // The column that comes into the basis.
+    fn entering(&self, pairs: &Pairs) -> Option<Basic> {
+        let mut entering = Entering {
+            least: i64::MAX,
+            largest: 0,
+            basic: None,
+        };
+        let quads = self.shortlist.quads.as_slice();
+        for Listed { route, column } in &self.shortlist.listed {
+            let Pair { price, line } = sums(column.of(quads), pairs);
+            entering.look(line, column.cost.wrapping_sub(price), Basic::Route(*route));
+        }
+        for (cut, found) in self.cuts.iter().enumerate() {
+            let line = pairs.get(self.cut_row(cut)).map_or(0, |pair| pair.line);
+            let moves = line.wrapping_mul(found.slack());
+            entering.look(moves, self.reduced_slack(cut), Basic::Slack(cut));
+        }
+        entering.basic
+    }
+
+    // Raises the prices along a ray, by so much.
+    fn follow_ray(&mut self, pairs: &Pairs, leaving: &LeavingRow, more: i64) {
+        let step = quotient(more.saturating_add(UNIT), leaving.far);
+        for (price, pair) in self.prices.iter_mut().zip(pairs.iter()) {
+            *price = price.wrapping_add(product(step, pair.line));
+        }
+    }
+}

@@ -1,0 +1,159 @@
+//! The guide of a search: it is asked for prices and for customers to branch on, and answers by the linear program.
+use crate::node::{MOST_IN_SIGHT, Node, Progress};
+use crate::program::Program;
+use crate::separation::Fleet;
+use std::alloc::{AllocError, Global};
+use vrp_partition::{Ask, Guide, MOST_CUSTOMERS, PriceOffer, Route, SCALE};
+
+/// A guide by the linear program over the routes of a node. It goes on from node to node, and `ask` is asked now and then whether to.
+#[derive(Debug, Drop)]
+pub struct ProgramGuide<'a, A: Ask> {
+    alloc: Global,
+    fleet: Fleet<'a>,
+    ask: &'a A,
+    // The sets of routes that are to be in sight from the first.
+    known: Vec<u128>,
+    program: Option<Program>,
+    progress: Progress,
+}
+
+impl<'a, A: Ask> ProgramGuide<'a, A> {
+    /// A guide that has seen no node. The routes of a plan that is known are to be in sight from the first, by their sets, a bit for
+    /// each customer; there need be none.
+    pub fn new(alloc: Global, fleet: Fleet<'a>, known: Vec<u128>, ask: &'a A) -> Self {
+        ProgramGuide {
+            alloc,
+            fleet,
+            ask,
+            known,
+            program: None,
+            progress: Progress::new(true),
+        }
+    }
+
+    // The program over a node's pool, and the rest of the pool.
+    fn node(
+        &mut self,
+        pool: &[Route],
+        customers: u128,
+        limit: i64,
+    ) -> Result<Node<'a, A>, AllocError> {
+        let (program, rest) = match self.program.take() {
+            Some(mut program) if program.customers == customers => {
+                let rest = program.align(pool)?;
+                (program, rest)
+            }
+            _ => {
+                self.progress = Progress::new(true);
+                self.first_program(pool, customers)?
+            }
+        };
+        Ok(Node {
+            alloc: self.alloc,
+            ask: self.ask,
+            fleet: self.fleet,
+            program,
+            rest,
+            limit,
+            progress: self.progress,
+            best: None,
+            best_bound: i64::MIN,
+        })
+    }
+
+    // The program over a sample of a pool, and the rest of the pool.
+    fn first_program(
+        &self,
+        pool: &[Route],
+        customers: u128,
+    ) -> Result<(Program, Vec<Route>), AllocError> {
+        let every = pool.len() / (MOST_IN_SIGHT / 4) + 1;
+        let mut sample = Vec::new(self.alloc);
+        let mut rest = Vec::new(self.alloc);
+        for (index, route) in pool.iter().enumerate() {
+            if route.set & customers == route.set && route.set != 0 {
+                if index % every == 0 || self.known.contains(&route.set) {
+                    sample.push(*route)?;
+                } else {
+                    rest.push(*route)?;
+                }
+            }
+        }
+        let trucks = self.fleet.trucks;
+        let program = Program::new(self.alloc, customers, trucks, sample.as_slice())?;
+        Ok((program, rest))
+    }
+}
+
+impl<A: Ask> Guide for ProgramGuide<'_, A> {
+    fn should_continue(&self) -> bool {
+        self.ask.should_continue()
+    }
+
+    fn offer(
+        &mut self,
+        pool: &[Route],
+        customers: u128,
+        incumbent: u64,
+    ) -> Result<PriceOffer, AllocError> {
+        if pool.is_empty() {
+            return no_prices(self.alloc);
+        }
+        if !self.progress.is_paused {
+            self.progress = Progress::new(false);
+        }
+        let limit = incumbent.saturating_sub(1).saturating_mul(SCALE);
+        let limit = i64::try_from(limit).unwrap_or(i64::MAX / 4);
+        let mut node = self.node(pool, customers, limit)?;
+        let before = node.program.looked_at();
+        node.run()?;
+        let Node {
+            program,
+            progress,
+            best,
+            ..
+        } = node;
+        let work = program.looked_at().saturating_sub(before);
+        self.program = Some(program);
+        self.progress = progress;
+        match best {
+            Some(offer) => Ok(PriceOffer { work, ..offer }),
+            None => no_prices(self.alloc),
+        }
+    }
+
+    fn group(&mut self, pool: &[Route]) -> Result<u128, AllocError> {
+        match &self.program {
+            // By no group the first branch has all routes, and the second none: the rounds go on with the routes that are left.
+            Some(_) if self.progress.is_paused => Ok(0),
+            Some(program) => program.pair(pool),
+            None => Ok(0),
+        }
+    }
+
+    fn fork(&self) -> Result<Self, AllocError> {
+        let program = match &self.program {
+            Some(program) if !self.progress.is_paused => Some(program.clone()?),
+            _ => None,
+        };
+        Ok(ProgramGuide {
+            alloc: self.alloc,
+            fleet: self.fleet,
+            ask: self.ask,
+            known: Vec::new(self.alloc),
+            program,
+            progress: Progress::new(false),
+        })
+    }
+}
+
+// Prices of 0.
+fn no_prices(alloc: Global) -> Result<PriceOffer, AllocError> {
+    Ok(PriceOffer {
+        duals: vec![in alloc; 0; MOST_CUSTOMERS]?,
+        subset_rows: Vec::new(alloc),
+        capacity_cuts: Vec::new(alloc),
+        truck_price: 0,
+        work: 0,
+    })
+}

@@ -1,0 +1,274 @@
+//! A node of the search: its program is solved, and cuts are added, round by round.
+use crate::dual_simplex::DualEnd;
+use crate::fixed_point::UNIT;
+use crate::program::Program;
+use crate::row_prices::RowPrices;
+use crate::separation::Fleet;
+use std::alloc::{AllocError, Global};
+use vrp_partition::{Ask, PriceOffer, Route};
+
+/// The program has about so many routes in sight.
+pub(crate) const MOST_IN_SIGHT: usize = 20_000;
+
+// With so few routes within the gap the search needs no more cuts.
+const FEW_ROUTES: usize = 300;
+
+// With no more routes than these the search tries the exact cover, so prices for fewer routes would not pay.
+const MANY_ROUTES: usize = 3_000;
+
+// Of so many routes the dual simplex looks at a shortlist, which has so many.
+const MOST_LISTED: usize = 1_000;
+
+const MOST_CUTS: usize = 150;
+
+// How many rounds of cuts there are at the root, and in other nodes.
+const ROOT_ROUNDS: u32 = 15;
+
+const OTHER_ROUNDS: u32 = 6;
+
+const MOST_DUAL_STEPS: u64 = 5_000;
+
+const MOST_FIRST_STEPS: u64 = 20_000;
+
+const MOST_STEPS_A_PASS: u64 = 3_000;
+
+// The rest is looked through so often, and each time so many routes come in.
+const MOST_PASSES: usize = 60;
+
+const MOST_COMING: usize = 3_000;
+
+/// How far the rounds of a node are.
+#[derive(Clone, Copy, Debug)]
+pub(crate) struct Progress {
+    pub(crate) is_root: bool,
+    pub(crate) round: u32,
+    // How many rounds gained next to nothing.
+    stale: u32,
+    bound: i64,
+    // Whether the rounds go on once the search has left out the routes above the gap.
+    pub(crate) is_paused: bool,
+}
+
+impl Progress {
+    /// No round yet.
+    pub(crate) fn new(is_root: bool) -> Progress {
+        Progress {
+            is_root,
+            round: 0,
+            stale: 0,
+            bound: i64::MIN,
+            is_paused: false,
+        }
+    }
+
+    // Takes the bound of a round.
+    fn count_gain(&mut self, bound: i64) {
+        if bound.saturating_sub(self.bound) < UNIT / 50 {
+            self.stale = self.stale.saturating_add(1);
+        } else if self.stale < 2 {
+            self.stale = 0;
+        }
+        self.bound = bound;
+    }
+
+    fn is_done(&self) -> bool {
+        let rounds = if self.is_root {
+            ROOT_ROUNDS
+        } else {
+            OTHER_ROUNDS
+        };
+        self.stale >= 2 || self.round >= rounds
+    }
+}
+
+/// A node: its program, and the routes of its pool that the program doesn't see.
+#[derive(Drop)]
+pub(crate) struct Node<'a, A: Ask> {
+    pub(crate) alloc: Global,
+    pub(crate) ask: &'a A,
+    pub(crate) fleet: Fleet<'a>,
+    pub(crate) program: Program,
+    pub(crate) rest: Vec<Route>,
+    // What a choice that is sought costs at most, as a price.
+    pub(crate) limit: i64,
+    pub(crate) progress: Progress,
+    pub(crate) best: Option<PriceOffer>,
+    pub(crate) best_bound: i64,
+}
+
+impl<A: Ask> Node<'_, A> {
+    /// Solves the program, and adds cuts and solves it again, until the bound is above the limit or rounds gain nothing.
+    pub(crate) fn run(&mut self) -> Result<(), AllocError> {
+        self.progress.is_paused = false;
+        self.bring_in()?;
+        for _ in 0..ROOT_ROUNDS.saturating_add(1) {
+            if !self.cut()? {
+                break;
+            }
+            self.solve()?;
+            let bound = self.record()?;
+            if bound > self.limit || !self.ask.should_continue() {
+                return Ok(());
+            }
+            self.bring_in()?;
+            self.progress.count_gain(bound);
+            let within = self.within(self.limit.saturating_sub(bound))?;
+            if within <= FEW_ROUTES
+                || self.progress.is_done()
+                || self.program.cuts.len() > MOST_CUTS
+            {
+                break;
+            }
+            self.progress.round = self.progress.round.saturating_add(1);
+            if self.is_worth_a_pause(within) {
+                self.progress.is_paused = true;
+                break;
+            }
+        }
+        if self.best.is_none() {
+            self.record()?;
+        }
+        Ok(())
+    }
+
+    // Whether the search would leave out so many routes that it had better do so now.
+    fn is_worth_a_pause(&self, within: usize) -> bool {
+        let count = self.program.routes.len().saturating_add(self.rest.len());
+        count > MANY_ROUTES && within < count / 4 * 3
+    }
+
+    // Adds cuts, but before the first solution. False where the solution breaks none.
+    fn cut(&mut self) -> Result<bool, AllocError> {
+        if self.progress.round == 0 {
+            if !self.progress.is_root {
+                self.program.purge()?;
+            }
+            return Ok(true);
+        }
+        if self.program.cuts.len() > MOST_CUTS / 3 * 2 {
+            self.program.purge()?;
+        }
+        Ok(self.program.add_broken_cuts(&self.fleet)? > 0)
+    }
+
+    // Solves the program over the whole pool.
+    fn solve(&mut self) -> Result<(), AllocError> {
+        if self.progress.is_root && self.progress.round == 0 {
+            self.program.primal_simplex(self.ask, MOST_FIRST_STEPS)?;
+        } else if !self.solve_anew()? {
+            return Ok(());
+        }
+        self.look_through_rest()
+    }
+
+    // Solves the program after a change. False where the bound is above the limit.
+    fn solve_anew(&mut self) -> Result<bool, AllocError> {
+        let limit = if self.rest.is_empty() {
+            self.limit
+        } else {
+            i64::MAX / 4
+        };
+        let many = if self.program.routes.len() < MANY_ROUTES {
+            usize::MAX
+        } else {
+            MOST_LISTED
+        };
+        let end = self
+            .program
+            .dual_simplex(self.ask, MOST_DUAL_STEPS, limit, many)?;
+        match end {
+            DualEnd::Feasible => Ok(true),
+            DualEnd::AboveLimit => Ok(false),
+            DualEnd::Ray | DualEnd::StepLimit => {
+                if self.record()? > self.limit || !self.ask.should_continue() {
+                    return Ok(false);
+                }
+                self.program.restart(self.ask, MOST_DUAL_STEPS)?;
+                Ok(true)
+            }
+        }
+    }
+
+    // Routes of the rest with negative reduced costs come into sight, until there are none.
+    fn look_through_rest(&mut self) -> Result<(), AllocError> {
+        for _ in 0..MOST_PASSES {
+            if self.rest.is_empty() || !self.ask.should_continue() || !self.take_negative()? {
+                break;
+            }
+            let before = self.program.primal_steps;
+            self.program.primal_simplex(self.ask, MOST_STEPS_A_PASS)?;
+            if self.program.primal_steps.saturating_sub(before) >= MOST_STEPS_A_PASS {
+                self.progress.stale = 2;
+                break;
+            }
+        }
+        Ok(())
+    }
+
+    // The routes of the rest with the least reduced costs come into sight, if those are negative. False where none is.
+    fn take_negative(&mut self) -> Result<bool, AllocError> {
+        self.program.make_prices();
+        let prices = RowPrices::new(&self.program)?;
+        let nothing = self.program.tolerance().wrapping_neg().wrapping_sub(1);
+        let mut some = Vec::new(self.alloc);
+        for (index, route) in self.rest.iter().enumerate() {
+            if let Some(reduced) = prices.reduced_cost(route, nothing) {
+                some.push((reduced, index))?;
+            }
+        }
+        let count = self.rest.len();
+        self.program.count_looks(count);
+        if some.len() > MOST_COMING {
+            let _ = some.as_mut_slice().select_nth_unstable(MOST_COMING);
+            some.truncate(MOST_COMING);
+        }
+        some.sort_unstable_by_key(|&(_, index)| index);
+        let mut rows = Vec::new(self.alloc);
+        for &(_, index) in some.iter().rev() {
+            if index < self.rest.len() {
+                let route = self.rest.swap_remove(index);
+                self.program.add_route(route, &mut rows)?;
+            }
+        }
+        Ok(!some.is_empty())
+    }
+
+    // Offers the prices of today, if they bound better than those before. Returns their bound.
+    fn record(&mut self) -> Result<i64, AllocError> {
+        let bound = self.program.lower_bound(self.rest.as_slice())?;
+        if self.best.is_none() || bound > self.best_bound {
+            let prices = RowPrices::new(&self.program)?;
+            self.best = Some(prices.offer(&self.program, 0)?);
+            self.best_bound = bound;
+        }
+        Ok(bound)
+    }
+
+    // Brings the whole pool into sight where it is small enough, and takes routes out of sight that are too many.
+    fn bring_in(&mut self) -> Result<(), AllocError> {
+        let count = self.program.routes.len();
+        if count > MOST_IN_SIGHT * 2 {
+            let mut gone = self.program.shrink(MOST_IN_SIGHT)?;
+            self.rest.append(&mut gone)?;
+        } else if count.saturating_add(self.rest.len()) <= MOST_IN_SIGHT {
+            self.program.add_routes(self.rest.as_slice())?;
+            self.rest.clear();
+            self.program.reduce();
+        }
+        Ok(())
+    }
+
+    // How many routes have no reduced cost above this one.
+    fn within(&self, gap: i64) -> Result<usize, AllocError> {
+        let reduced = self.program.reduced.iter();
+        let in_sight = reduced.filter(|reduced| **reduced <= gap).count();
+        let prices = RowPrices::new(&self.program)?;
+        let mut others = 0usize;
+        for route in &self.rest {
+            if prices.reduced_cost(route, gap).is_some() {
+                others = others.saturating_add(1);
+            }
+        }
+        Ok(in_sight.saturating_add(others))
+    }
+}

@@ -1,0 +1,228 @@
+//! The linear program, and its rows.
+use crate::cut::{Cut, CutKind};
+use crate::fixed_point::at;
+use crate::rows::{MOST_ROWS, Quad};
+use crate::shortlist::Shortlist;
+use std::alloc::{AllocError, Global};
+use vrp_partition::Route;
+
+/// A column that stands in the basis. The last two have to leave it.
+#[derive(Clone, Copy, Debug)]
+pub(crate) enum Basic {
+    Route(usize),
+    Slack(usize),
+    Artificial(usize),
+    Gone(Route),
+}
+
+impl Basic {
+    /// The set of the route, if it is one.
+    pub(crate) fn set(&self, routes: &[Route]) -> Option<u128> {
+        match *self {
+            Basic::Route(index) => routes.get(index).map(|route| route.set),
+            Basic::Gone(route) => Some(route.set),
+            _ => None,
+        }
+    }
+
+    /// Whether it has to leave.
+    pub(crate) fn has_to_leave(&self) -> bool {
+        matches!(*self, Basic::Artificial(_) | Basic::Gone(_))
+    }
+
+    /// Whether it is the slack of a cut.
+    pub(crate) fn is_slack_of(&self, cut: usize) -> bool {
+        match *self {
+            Basic::Slack(index) => index == cut,
+            _ => false,
+        }
+    }
+}
+
+/// Where a route's rows stand in the list of all, and what it costs, as a price.
+#[derive(Clone, Copy, Debug)]
+pub(crate) struct Column {
+    pub(crate) start: usize,
+    pub(crate) end: usize,
+    pub(crate) cost: i64,
+}
+
+impl Column {
+    /// The rows of the column.
+    #[inline(always)]
+    pub(crate) fn of<'a>(&self, quads: &'a [Quad]) -> &'a [Quad] {
+        quads.get(self.start..self.end).unwrap_or(&[])
+    }
+}
+
+/// A linear program over routes. Its rows are the customers, each of whom is served once, and a little more against ties, then the
+/// cuts. Nothing is promised of its answers, since nobody trusts them.
+#[derive(Clone, Debug, Drop)]
+pub struct Program {
+    pub(crate) alloc: Global,
+    pub(crate) customers: u128,
+    pub(crate) routes: Vec<Route>,
+    pub(crate) columns: Vec<Column>,
+    // The numbers of the rows that the routes stand in, four by four, column by column.
+    pub(crate) quads: Vec<Quad>,
+    pub(crate) reduced: Vec<i64>,
+    // The columns that the dual simplex looks at.
+    pub(crate) shortlist: Shortlist,
+    pub(crate) cuts: Vec<Cut>,
+    // The right-hand sides.
+    pub(crate) sides: Vec<i64>,
+    pub(crate) basis: Vec<Basic>,
+    // What the columns of the basis cost.
+    pub(crate) costs: Vec<i64>,
+    pub(crate) values: Vec<i64>,
+    // The inverse of the basis by its columns, each as long as the stride, with nothing behind the last row.
+    pub(crate) inverse: Vec<i64>,
+    pub(crate) stride: usize,
+    pub(crate) prices: Vec<i64>,
+    pub(crate) artificial_cost: i64,
+    pub(crate) dearest: i64,
+    pub(crate) primal_steps: u64,
+    pub(crate) dual_steps: u64,
+    pub(crate) looked_at: u64,
+    // How many exchanges there were since the inverse was made anew.
+    pub(crate) exchanges: u64,
+    pub(crate) random: u64,
+    // By how many bits the right-hand sides are raised less than at first.
+    pub(crate) raise_shift: u32,
+}
+
+impl Program {
+    /// The program over those of the routes that serve none but these customers, a bit for each, by at most so many trucks. It has
+    /// no other cut, and only artificial columns in its basis. What it holds is left open, since nobody trusts it.
+    pub fn new(
+        alloc: Global,
+        customers: u128,
+        trucks: u8,
+        pool: &[Route],
+    ) -> Result<Program, AllocError> {
+        let mut program = Program {
+            alloc,
+            customers,
+            routes: Vec::new(alloc),
+            columns: Vec::new(alloc),
+            quads: Vec::new(alloc),
+            reduced: Vec::new(alloc),
+            shortlist: Shortlist::new(alloc),
+            cuts: Vec::new(alloc),
+            sides: Vec::new(alloc),
+            basis: Vec::new(alloc),
+            costs: Vec::new(alloc),
+            values: Vec::new(alloc),
+            inverse: Vec::new(alloc),
+            stride: 0,
+            prices: Vec::new(alloc),
+            artificial_cost: 4,
+            dearest: 1,
+            primal_steps: 0,
+            dual_steps: 0,
+            looked_at: 0,
+            exchanges: 0,
+            random: 12345,
+            raise_shift: 0,
+        };
+        if u32::from(trucks) < customers.count_ones() {
+            program.cuts.push(Cut {
+                set: customers,
+                kind: CutKind::Trucks(u32::from(trucks)),
+            })?;
+        }
+        program.add_routes(pool)?;
+        program.begin()?;
+        Ok(program)
+    }
+
+    /// Adds those of the routes that serve none but the program's customers.
+    pub(crate) fn add_routes(&mut self, pool: &[Route]) -> Result<(), AllocError> {
+        let mut rows = Vec::new(self.alloc);
+        for route in pool {
+            if route.set & self.customers == route.set && route.set != 0 {
+                self.add_route(*route, &mut rows)?;
+            }
+        }
+        Ok(())
+    }
+
+    /// Adds a route, which serves none but the program's customers. What stands in `rows` is overwritten.
+    pub(crate) fn add_route(
+        &mut self,
+        route: Route,
+        rows: &mut Vec<u16>,
+    ) -> Result<(), AllocError> {
+        self.dearest = self.dearest.max(i64::from(route.cost));
+        self.artificial_cost = self.artificial_cost.max(self.dearest.wrapping_mul(4));
+        self.routes.push(route)?;
+        self.push_column(route, rows)
+    }
+
+    /// A number of the inverse is put by its column and row.
+    pub(crate) fn put_inverse(&mut self, column: usize, row: usize, value: i64) {
+        let place = column.saturating_mul(self.stride).saturating_add(row);
+        if let Some(cell) = self.inverse.as_mut_slice().get_mut(place) {
+            *cell = value;
+        }
+    }
+
+    /// A column of the inverse.
+    pub(crate) fn inverse_column(&self, column: usize) -> &[i64] {
+        let start = column.saturating_mul(self.stride);
+        let end = start.saturating_add(self.stride);
+        self.inverse.as_slice().get(start..end).unwrap_or(&[])
+    }
+
+    /// A random value, below 1/512 at first.
+    pub(crate) fn raise(&mut self) -> i64 {
+        let next = self.random.wrapping_mul(6_364_136_223_846_793_005);
+        self.random = next.wrapping_add(1_442_695_040_888_963_407);
+        (((self.random >> 40) << 7) >> self.raise_shift.min(60)) as i64
+    }
+
+    /// What a reduced cost may be below 0: what rounding leaves grows with the costs.
+    pub(crate) fn tolerance(&self) -> i64 {
+        (self.dearest / 2).max(64)
+    }
+
+    /// How many rows the customers have.
+    pub(crate) fn customer_rows(&self) -> usize {
+        self.customers.count_ones() as usize
+    }
+
+    /// How many rows there are.
+    pub(crate) fn height(&self) -> usize {
+        self.customer_rows().saturating_add(self.cuts.len())
+    }
+
+    /// Whether there is room for one more row.
+    pub(crate) fn has_room(&self) -> bool {
+        self.height() < MOST_ROWS
+    }
+
+    /// The row of a cut.
+    pub(crate) fn cut_row(&self, cut: usize) -> usize {
+        self.customer_rows().saturating_add(cut)
+    }
+
+    /// The price of a cut.
+    pub(crate) fn cut_price(&self, cut: usize) -> i64 {
+        at(self.prices.as_slice(), self.cut_row(cut))
+    }
+
+    /// How many steps were taken, primal and dual. Nothing is promised of either.
+    pub fn steps(&self) -> (u64, u64) {
+        (self.primal_steps, self.dual_steps)
+    }
+
+    /// How many reduced costs were looked at, about. Nothing is promised of it.
+    pub fn looked_at(&self) -> u64 {
+        self.looked_at
+    }
+
+    /// Counts reduced costs that were looked at.
+    pub(crate) fn count_looks(&mut self, count: usize) {
+        self.looked_at = self.looked_at.saturating_add(count as u64);
+    }
+}

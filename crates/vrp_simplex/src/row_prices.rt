@@ -1,0 +1,109 @@
+//! The prices of the rows by their customers and cuts, for routes that have no column.
+use crate::cut::CutKind;
+use crate::fixed_point::{at, price_of};
+use crate::program::Program;
+use std::alloc::AllocError;
+use vrp_partition::{Cut, PriceOffer, Route};
+
+// The dual of a customer whom no route may serve.
+const SHUT_OUT: i64 = -(1 << 50);
+
+// How far the dual of a customer, and the price of a cut, may be from 0.
+const MOST_DUAL: i64 = 1 << 52;
+
+const MOST_CUT_PRICE: u64 = 1 << 50;
+
+/// The prices of a program's rows.
+#[derive(Debug, Drop)]
+pub(crate) struct RowPrices {
+    duals: [i64; 128],
+    truck_price: u64,
+    subset_rows: Vec<Cut>,
+    capacity_cuts: Vec<Cut>,
+}
+
+impl RowPrices {
+    /// Those of a program whose prices have the signs that a bound wants.
+    pub(crate) fn new(program: &Program) -> Result<RowPrices, AllocError> {
+        let mut prices = RowPrices {
+            duals: [SHUT_OUT; 128],
+            truck_price: 0,
+            subset_rows: Vec::new(program.alloc),
+            capacity_cuts: Vec::new(program.alloc),
+        };
+        let mut left = program.customers;
+        for row in 0..program.customer_rows() {
+            if let Some(dual) = prices.duals.get_mut(left.trailing_zeros() as usize) {
+                *dual = at(program.prices.as_slice(), row).clamp(-MOST_DUAL, MOST_DUAL);
+            }
+            left &= left.wrapping_sub(1);
+        }
+        for (index, cut) in program.cuts.iter().enumerate() {
+            let price = program.cut_price(index).unsigned_abs().min(MOST_CUT_PRICE);
+            if price > 0 {
+                prices.push_cut(cut.set, cut.kind, price)?;
+            }
+        }
+        Ok(prices)
+    }
+
+    fn push_cut(&mut self, set: u128, kind: CutKind, price: u64) -> Result<(), AllocError> {
+        match kind {
+            CutKind::SubsetRow => self.subset_rows.push(Cut {
+                set,
+                count: 1,
+                price,
+            })?,
+            CutKind::Capacity(count) => self.capacity_cuts.push(Cut { set, count, price })?,
+            CutKind::Trucks(_) => self.truck_price = price,
+        }
+        Ok(())
+    }
+
+    /// The reduced cost of a route, unless it is above this mark.
+    #[inline(always)]
+    pub(crate) fn reduced_cost(&self, route: &Route, mark: i64) -> Option<i64> {
+        let mut rest = price_of(route.cost).wrapping_add_unsigned(self.truck_price);
+        let mut left = route.set;
+        for _ in 0..128 {
+            if left == 0 {
+                break;
+            }
+            rest = rest.wrapping_sub(self.duals[(left.trailing_zeros() & 127) as usize]);
+            left &= left.wrapping_sub(1);
+        }
+        for cut in &self.capacity_cuts {
+            if cut.set & route.set != 0 {
+                rest = rest.wrapping_sub_unsigned(cut.price);
+            }
+        }
+        if rest > mark {
+            return None;
+        }
+        for cut in &self.subset_rows {
+            let common = cut.set & route.set;
+            if common & common.wrapping_sub(1) != 0 {
+                rest = rest.wrapping_add_unsigned(cut.price);
+            }
+        }
+        if rest > mark { None } else { Some(rest) }
+    }
+
+    /// These prices as an offer, found by so many looks.
+    pub(crate) fn offer(self, program: &Program, work: u64) -> Result<PriceOffer, AllocError> {
+        let duals = Vec::from_slice(program.alloc, &self.duals)?;
+        let RowPrices {
+            truck_price,
+            subset_rows,
+            capacity_cuts,
+            ..
+        } = self;
+        Ok(PriceOffer {
+            duals,
+            subset_rows,
+            capacity_cuts,
+            truck_price,
+            work,
+        })
+    }
+}

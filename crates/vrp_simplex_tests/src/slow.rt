@@ -1,0 +1,49 @@
+//! A plain slow program: it tries every part of a pool, and keeps the least cost of those that are choices.
+
+use std::process::Abort;
+use vrp_partition::Route;
+
+// How many routes a pool may have here.
+const MOST_ROUTES: usize = 12;
+
+/// The least cost of a choice of the pool with so many trucks, if there is one.
+pub(crate) fn least_cost(
+    rt: &impl Abort,
+    pool: &[Route],
+    customers: u128,
+    trucks: u8,
+) -> Option<u64> {
+    assert!(rt; pool.len() <= MOST_ROUTES, "too many routes");
+    let mut least: Option<u64> = None;
+    for taken in 0..1u32 << MOST_ROUTES {
+        if taken.count_ones() <= u32::from(trucks) {
+            if let Some(cost) = cost_of_part(pool, customers, taken) {
+                least = Some(least.map_or(cost, |known| known.min(cost)));
+            }
+        }
+    }
+    least
+}
+
+// What the routes of a part cost that has each customer once, and nobody else. The part has a bit for each of its routes.
+fn cost_of_part(pool: &[Route], customers: u128, taken: u32) -> Option<u64> {
+    let mut bits = taken;
+    let mut unserved = customers;
+    let mut cost: u64 = 0;
+    for route in pool {
+        if bits & 1 == 1 {
+            if route.set & unserved != route.set {
+                return None;
+            }
+            unserved ^= route.set;
+            cost = cost.saturating_add(u64::from(route.cost));
+        }
+        bits >>= 1;
+    }
+    (unserved == 0).then_some(cost)
+}
+
+/// What some routes cost together, if they have each of the customers once, and nobody else.
+pub(crate) fn cost_of_choice(routes: &[Route], customers: u128) -> Option<u64> {
+    cost_of_part(routes, customers, u32::MAX)
+}
