@@ -10,6 +10,10 @@ pub enum News {
     Prices,
     /// By prices no plan costs less than this.
     Bound(u64),
+    /// Useful routes are listed: those that can stand in the first plan.
+    Routes,
+    /// This many useful routes are chosen among.
+    Choice(u64),
     /// This many pieces are searched.
     Pieces(u32),
     /// This many more partial plans were looked at.
@@ -37,6 +41,12 @@ pub trait Gate {
         ensures { result ≡ false → IsTrue (may_stop self.now) }
     {
         true
+    }
+
+    /// How many milliseconds a search has left until it is stopped, if a time is set. Nothing rests on what a gate answers: by it a
+    /// search shares out its time.
+    fn milliseconds_left(&self) -> Option<u64> {
+        None
     }
 }
 

@@ -34,13 +34,15 @@ impl<'a, C: Clock, G: Gate> Deadline<'a, C, G> {
 
     // Whether so many seconds have passed.
     fn have_passed(&self, seconds: u32) -> bool {
-        let Some(start) = self.start else {
-            return false;
-        };
-        match start.elapsed(self.clock) {
-            Ok(passed) => Duration::from_secs(u64::from(seconds)) <= passed,
-            Err(_) => false,
+        match self.passed() {
+            Some(passed) => Duration::from_secs(u64::from(seconds)) <= passed,
+            None => false,
         }
+    }
+
+    // How much time has passed, if the clock tells.
+    fn passed(&self) -> Option<Duration> {
+        self.start?.elapsed(self.clock).ok()
     }
 }
 
@@ -60,5 +62,11 @@ impl<'a, C: Clock, G: Gate> Gate for Deadline<'a, C, G> {
             Some(seconds) => !self.have_passed(seconds) && self.gate.goes_on(),
             None => self.gate.goes_on(),
         }
+    }
+
+    fn milliseconds_left(&self) -> Option<u64> {
+        let whole = u128::from(self.seconds?).saturating_mul(1_000);
+        let passed = self.passed()?.as_millis();
+        u64::try_from(whole.saturating_sub(passed)).ok()
     }
 }

@@ -13,6 +13,10 @@ pub enum Stage {
     FirstPlan,
     /// Prices are looked for.
     Prices,
+    /// Useful routes are listed.
+    Routes,
+    /// A cheapest choice of the useful routes is looked for.
+    Choice,
     /// Pieces are searched.
     Search,
     /// It has come to this verdict.
@@ -28,6 +32,8 @@ impl fmt::Display for Stage {
             Stage::Look => "first look",
             Stage::FirstPlan => "first plan",
             Stage::Prices => "prices",
+            Stage::Routes => "routes",
+            Stage::Choice => "choice",
             Stage::Search => "search",
             Stage::Ended(status) => status.as_str(),
         })
@@ -44,6 +50,8 @@ pub struct Line {
     pub cost: Option<u64>,
     /// No plan costs less than this, where that is known.
     pub bound: Option<u64>,
+    /// How many useful routes there are; 0 where none are listed.
+    pub routes: u64,
     /// How many pieces are done with.
     pub done: u64,
     /// How many pieces there are; 0 where the tree has not been cut.
@@ -61,6 +69,7 @@ impl fmt::Display for Line {
         }
         write!(f, "{}", self.stage)?;
         self.write_costs(f)?;
+        self.write_routes(f)?;
         self.write_pieces(f)
     }
 }
@@ -79,6 +88,14 @@ impl Line {
             write!(f, ", gap {}.{:02}%", gap / 100, gap % 100)?;
         }
         Ok(())
+    }
+
+    // How many useful routes there are, where they are listed.
+    fn write_routes<W: fmt::Write>(&self, f: &mut fmt::Formatter<W>) -> fmt::Result {
+        if self.routes == 0 {
+            return Ok(());
+        }
+        write!(f, ", {} useful routes", self.routes)
     }
 
     // How many pieces are done with, where there are any, and how much was looked at.

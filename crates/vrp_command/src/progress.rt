@@ -19,7 +19,11 @@ const FIRST_PLAN: u64 = 1;
 
 const PRICES: u64 = 2;
 
-const SEARCH: u64 = 3;
+const ROUTES: u64 = 3;
+
+const CHOICE: u64 = 4;
+
+const SEARCH: u64 = 5;
 
 /// A gate that tells of a run on standard error, if that is asked for, and passes on to another gate all that it is told: a line when
 /// something is new, and one about every second. Where a line can't be written the run goes on. What the lines say no clause says.
@@ -33,6 +37,7 @@ pub(crate) struct Progress<'a, T, G: Gate> {
     stage: AtomicU64,
     cost: AtomicU64,
     bound: AtomicU64,
+    routes: AtomicU64,
     pieces: AtomicU64,
     done: AtomicU64,
     looked: AtomicU64,
@@ -53,6 +58,7 @@ impl<'a, T: Clock + Eprint, G: Gate> Progress<'a, T, G> {
             stage: AtomicU64::new(FIRST_LOOK),
             cost: AtomicU64::new(NO_PLAN),
             bound: AtomicU64::new(0),
+            routes: AtomicU64::new(0),
             pieces: AtomicU64::new(0),
             done: AtomicU64::new(0),
             looked: AtomicU64::new(0),
@@ -102,6 +108,7 @@ impl<'a, T: Clock + Eprint, G: Gate> Progress<'a, T, G> {
             seconds: self.seconds(),
             cost: if cost == NO_PLAN { None } else { Some(cost) },
             bound: if bound == 0 { None } else { Some(bound) },
+            routes: self.routes.load(Ordering::Relaxed),
             done: self.done.load(Ordering::Relaxed),
             pieces: self.pieces.load(Ordering::Relaxed),
             looked: self.looked.load(Ordering::Relaxed),
@@ -138,6 +145,8 @@ impl<'a, T: Clock + Eprint, G: Gate> Progress<'a, T, G> {
             FIRST_LOOK => Stage::Look,
             FIRST_PLAN => Stage::FirstPlan,
             PRICES => Stage::Prices,
+            ROUTES => Stage::Routes,
+            CHOICE => Stage::Choice,
             _ => Stage::Search,
         }
     }
@@ -161,6 +170,11 @@ impl<'a, T: Clock + Eprint, G: Gate> Gate for Progress<'a, T, G> {
         match news {
             News::FirstPlan => self.comes_to(FIRST_PLAN),
             News::Prices => self.comes_to(PRICES),
+            News::Routes => self.comes_to(ROUTES),
+            News::Choice(routes) => {
+                self.routes.store(routes, Ordering::Relaxed);
+                self.comes_to(CHOICE);
+            }
             News::Pieces(pieces) => {
                 self.pieces.store(u64::from(pieces), Ordering::Relaxed);
                 self.comes_to(SEARCH);
@@ -187,5 +201,9 @@ impl<'a, T: Clock + Eprint, G: Gate> Gate for Progress<'a, T, G> {
     fn goes_on(&self) -> bool {
         self.tell_when_due();
         self.gate.goes_on()
+    }
+
+    fn milliseconds_left(&self) -> Option<u64> {
+        self.gate.milliseconds_left()
     }
 }

@@ -1,6 +1,7 @@
 //! Several workers search the pieces of an instance's cutting, and what they leave makes a plan and a verdict on it.
 #![tactic(auto)]
 
+mod choice;
 mod draws;
 mod preparation;
 mod seat_board;

@@ -11,6 +11,7 @@ ghost use Rattle.vrp_pool.specs.declared.solver.TheConstants.{MAX_WORKERS};
 ghost use Rattle.vrp_answer.specs.Answer.{AnswersAll, IsAnswer, known_plan};
 ghost use Rattle.vrp_answer.specs.Outcomes.{words_of};
 
+use crate::choice::{answer_by_routes, copied_memory};
 use crate::preparation::{LEAST_PREPARED_BUDGET, first_plan, prices_found};
 use crate::team::searched_by_all;
 use std::alloc::Global;
@@ -192,11 +193,41 @@ fn solve_by_prices<R: Threads + Wait + Sync, G: Gate + Sync>(
     ensures answer { IfOk result (IsAnswer shared.now.problem cutting shared.now.budget shared.now.may_stop) }
     ensures no_dearer { IfOk result (λ answer. cost_of (known_plan answer) ≤ cost_of shared.now.first) }
 {
+    let copy = copied_memory(shared.alloc, shared.instance, &memory)?;
     let prices = Prices::new(shared.alloc, relaxation, memory)?;
     shared.gate.hears(News::Bound(prices.lower_bound()));
-    let answer = solve_pieces(&shared.by_prices(&prices), cutting, workers);
+    let answer = solve_by_routes(shared, relaxation, &prices, copy, cutting, workers);
     drop(prices);
     answer
+}
+
+// Answers by useful routes where these are few, else by the pieces.
+fn solve_by_routes<R: Threads + Wait + Sync, G: Gate + Sync>(
+    shared: &Shared<'_, R, G>,
+    relaxation: &Relaxation<'_>,
+    prices: &Prices<'_>,
+    memory: Option<Memory>,
+    cutting: Cutting,
+    workers: u32,
+) -> Result<Answer, NoMemory>
+    requires problem { relaxation.now.problem ≡ shared.now.problem }
+    requires prices { prices.now.problem ≡ shared.now.problem }
+    requires places { IfSome memory (λ memory. memory.places ≡ place_count shared.now.problem) }
+    requires cutting { IsCutting shared.now.problem cutting }
+    requires few { length cutting ≤ 2 * MAX_REFINED }
+    requires pieces { shared.now.pieces ≡ length cutting }
+    requires some_worker { 1 ≤ workers }
+    requires few_workers { workers ≤ MAX_WORKERS }
+    ensures answer { IfOk result (IsAnswer shared.now.problem cutting shared.now.budget shared.now.may_stop) }
+    ensures no_dearer { IfOk result (λ answer. cost_of (known_plan answer) ≤ cost_of shared.now.first) }
+{
+    if let Some(memory) = memory {
+        if let Some(answer) = answer_by_routes(shared, relaxation, memory, workers)? {
+            hear_plan(shared.gate, answer.plan());
+            return Ok(answer);
+        }
+    }
+    solve_pieces(&shared.by_prices(prices), cutting, workers)
 }
 
 // Searches all pieces of a cutting by this many workers, who draw them from one pile.

@@ -1,0 +1,220 @@
+//! The first plan as a choice among useful routes, where an instance has few customers: the routes that can stand in it are listed, and
+//! the first of the cheapest choices among them is that plan.
+ghost use Rattle.std.specs.Prelude.{◌≡◌, ◌≤◌, IfOk, IfSome};
+ghost use Rattle.vrp_model.specs.Cheapest.{cost_of};
+ghost use Rattle.vrp_model.specs.Order.{IsFirst};
+ghost use Rattle.vrp_model.specs.Problem.{place_count};
+ghost use Rattle.vrp_routes.specs.Listing.{IfPool};
+ghost use Rattle.vrp_routes.specs.Pool.{IsPool};
+ghost use Rattle.vrp_model.specs.Route.{IsPlanOf};
+ghost use Rattle.vrp_model.specs.declared.limits.TheConstants.{NO_COST};
+ghost use Rattle.vrp_answer.specs.Answer.{AnswersAll, known_plan};
+
+use std::alloc::Global;
+use std::thread::Threads;
+use vrp_answer::{Answer, Gate, News, Shared};
+use vrp_bound::MemoryTables;
+use vrp_canonical::{canonical_plan, fleet};
+use vrp_memory::{MOST_NEAR, Memory};
+use vrp_model::{Instance, NoMemory, Plan, first_is_cheapest, plans_cost_less};
+use vrp_partition::{Ask, MOST_CUSTOMERS};
+use vrp_prices::Relaxation;
+use vrp_routes::{Listed, RoutePool, can_list, list_routes};
+use vrp_simplex::{Fleet, ProgramGuide};
+
+// How many labels may be made, whatever the budget: so many take some two gigabytes.
+const MOST_LABELS: u64 = 30_000_000;
+
+/// The proven plan by useful routes. `None` where a limit is met before it is found: there are too many customers or labels, or the
+/// budget is spent, or the gate stops the search. A label that is made, and a reduced cost that is looked at, count as a partial plan.
+pub(crate) fn answer_by_routes<R: Threads + Sync, G: Gate + Sync>(
+    shared: &Shared<'_, R, G>,
+    relaxation: &Relaxation<'_>,
+    memory: Memory,
+    workers: u32,
+) -> Result<Option<Answer>, NoMemory>
+    requires problem { relaxation.now.problem ≡ shared.now.problem }
+    requires places { memory.places ≡ place_count shared.now.problem }
+    requires some_worker { 1 ≤ workers }
+    requires few_workers { workers ≤ 64 }
+    ensures answer { IfOk result (λ found. IfSome found (AnswersAll shared.now.problem)) }
+    ensures no_dearer { IfOk result (λ found. IfSome found (λ answer. cost_of (known_plan answer) ≤ cost_of shared.now.first)) }
+{
+    let Some(known) = shared.first else {
+        return Ok(None);
+    };
+    first_is_cheapest();
+    match plan_by_routes(shared, relaxation, memory, workers, known)? {
+        Some(plan) => Ok(Some(Answer::Proven(plan))),
+        None => Ok(None),
+    }
+}
+
+// The first plan, with a plan that is known.
+fn plan_by_routes<R: Threads + Sync, G: Gate + Sync>(
+    shared: &Shared<'_, R, G>,
+    relaxation: &Relaxation<'_>,
+    memory: Memory,
+    workers: u32,
+    known: &Plan,
+) -> Result<Option<Plan>, NoMemory>
+    requires problem { relaxation.now.problem ≡ shared.now.problem }
+    requires places { memory.places ≡ place_count shared.now.problem }
+    requires some_worker { 1 ≤ workers }
+    requires few_workers { workers ≤ 64 }
+    requires known { IsPlanOf shared.now.problem known.now }
+    ensures { IfOk result (λ found. IfSome found (IsFirst shared.now.problem)) }
+{
+    if !can_list(shared.instance) {
+        return Ok(None);
+    }
+    // A plan costs less than none.
+    plans_cost_less();
+    let _customers = shared.instance.customers();
+    let mut budget = shared.budget_in_all();
+    match listed(
+        shared,
+        relaxation,
+        memory,
+        workers,
+        known.cost(),
+        budget.min(MOST_LABELS) as u32,
+    )? {
+        Listed::Pool(pool) => {
+            budget = budget.saturating_sub(pool.labels() as u64);
+            chosen_plan(shared, &pool, known, budget)
+        }
+        Listed::Met(_) => Ok(None),
+    }
+}
+
+// The useful routes where the first plan costs no more than this, from no more labels than this.
+fn listed<R: Threads + Sync, G: Gate + Sync>(
+    shared: &Shared<'_, R, G>,
+    relaxation: &Relaxation<'_>,
+    memory: Memory,
+    workers: u32,
+    limit: u64,
+    most_labels: u32,
+) -> Result<Listed, NoMemory>
+    requires problem { relaxation.now.problem ≡ shared.now.problem }
+    requires places { memory.places ≡ place_count shared.now.problem }
+    requires few { place_count shared.now.problem ≤ 128 }
+    requires limit { limit ≤ NO_COST }
+    requires some_worker { 1 ≤ workers }
+    requires few_workers { workers ≤ 64 }
+    ensures { IfOk result (λ listed. IfPool listed (IsPool shared.now.problem limit)) }
+{
+    let gate = shared.gate;
+    gate.hears(News::Routes);
+    let tables = MemoryTables::new(shared.alloc, relaxation.relaxed(), memory)?;
+    let half = gate.milliseconds_left().map(|left| left / 2);
+    list_routes(
+        shared.rt,
+        shared.alloc,
+        relaxation,
+        &tables,
+        limit,
+        workers as u16,
+        most_labels,
+        &|| gate.goes_on() && has_left(gate, half),
+    )
+}
+
+// Whether a gate has more milliseconds left than these, if it has a time.
+fn has_left<G: Gate>(gate: &G, milliseconds: Option<u64>) -> bool {
+    match (gate.milliseconds_left(), milliseconds) {
+        (Some(left), Some(least)) => left > least,
+        _ => true,
+    }
+}
+
+// The first of the cheapest choices of a pool, which was listed with the cost of the plan that is known.
+fn chosen_plan<R, G: Gate>(
+    shared: &Shared<'_, R, G>,
+    pool: &RoutePool,
+    known: &Plan,
+    budget: u64,
+) -> Result<Option<Plan>, NoMemory>
+    requires few { place_count shared.now.problem ≤ 128 }
+    requires pool { IsPool shared.now.problem known.now.cost pool.now }
+    requires known { IsPlanOf shared.now.problem known.now }
+    ensures { IfOk result (λ found. IfSome found (IsFirst shared.now.problem)) }
+{
+    shared.gate.hears(News::Choice(pool.len() as u64));
+    let demands = demands_of(shared.alloc, shared.instance)?;
+    let fleet = Fleet {
+        demands: &demands,
+        capacity: shared.instance.capacity() as u32,
+        trucks: fleet(shared.instance),
+    };
+    let ask = AskedGate { gate: shared.gate };
+    let guide = ProgramGuide::new(shared.alloc, fleet, sets_of(shared.alloc, known)?, &ask);
+    let mut budget = budget;
+    canonical_plan(
+        shared.alloc,
+        shared.instance,
+        pool,
+        known,
+        &guide,
+        &mut budget,
+    )
+}
+
+// What the guide is asked by: it goes on where the gate does.
+#[derive(Drop)]
+struct AskedGate<'a, G: Gate> {
+    gate: &'a G,
+}
+
+impl<G: Gate> Ask for AskedGate<'_, G> {
+    fn should_continue(&self) -> bool {
+        self.gate.goes_on()
+    }
+}
+
+// What customers 0 to 127 demand; who is none demands nothing. It only guides, so nothing is promised of it.
+fn demands_of(alloc: Global, instance: &Instance) -> Result<Vec<u32>, NoMemory> {
+    let mut demands = Vec::with_capacity(alloc, MOST_CUSTOMERS)?;
+    demands.push(0)?;
+    for customer in 1..MOST_CUSTOMERS as u16 {
+        let demand = if customer <= instance.customers() {
+            instance.demand(customer)
+        } else {
+            0
+        };
+        demands.push(u32::try_from(demand).unwrap_or(u32::MAX))?;
+    }
+    Ok(demands)
+}
+
+// The routes of a plan by their customers, a bit for each. They only guide, so nothing is promised of them.
+fn sets_of(alloc: Global, plan: &Plan) -> Result<Vec<u128>, NoMemory> {
+    let mut sets = Vec::new(alloc);
+    for index in 0..plan.routes() {
+        let mut set = 0;
+        for &stop in plan.route(index) {
+            set |= 1u128.checked_shl(u32::from(stop)).unwrap_or(0);
+        }
+        sets.push(set)?;
+    }
+    Ok(sets)
+}
+
+/// The same memory once more. `None` where it is out of range, which no memory is.
+pub(crate) fn copied_memory(
+    alloc: Global,
+    instance: &Instance,
+    memory: &Memory,
+) -> Result<Option<Memory>, NoMemory>
+    ensures { IfOk result (λ copy. IfSome copy (λ memory. memory.places ≡ place_count instance.now)) }
+{
+    let places = usize::from(instance.customers()) + 1;
+    let size = memory.size();
+    let near = Vec::from_slice(alloc, memory.near())?;
+    if size <= MOST_NEAR && near.len() == places * size {
+        Ok(Some(Memory::new(alloc, places, size, near)?))
+    } else {
+        Ok(None)
+    }
+}
