@@ -12,7 +12,9 @@ use std::cell::Cell;
 use std::rt::{Clock, Files};
 use std::time::Instant;
 use std::{env, fs};
-use vrp_partition::{Ask, Guide, MOST_CUSTOMERS, PriceOffer, Route, all_fit, cheapest_choice};
+use vrp_partition::{
+    Ask, Chosen, Guide, MOST_CUSTOMERS, PriceOffer, Route, all_fit, cheapest_choice,
+};
 use vrp_simplex::{Fleet, ProgramGuide};
 
 // The search is always to go on.
@@ -25,12 +27,20 @@ impl Ask for Always {
     }
 }
 
-// A guide whose nodes are counted, and how much it works.
+// What is counted of a search: its nodes, the steps of the linear program, and the reduced costs that were looked at.
+#[derive(Clone, Copy)]
+struct Counts {
+    nodes: u64,
+    primal_steps: u64,
+    dual_steps: u64,
+    looks: u64,
+}
+
+// A guide whose nodes are counted.
 #[derive(Drop)]
 struct Counted<'a> {
     guide: ProgramGuide<'a, Always>,
-    nodes: &'a Cell<u64>,
-    work: &'a Cell<u64>,
+    counts: &'a Cell<Counts>,
 }
 
 impl Guide for Counted<'_> {
@@ -44,9 +54,20 @@ impl Guide for Counted<'_> {
         customers: u128,
         incumbent: u64,
     ) -> Result<PriceOffer, AllocError> {
+        let (primal, dual) = self.guide.steps();
         let offer = self.guide.offer(pool, customers, incumbent)?;
-        self.nodes.set(self.nodes.get().saturating_add(1));
-        self.work.set(self.work.get().saturating_add(offer.work));
+        let (more_primal, more_dual) = self.guide.steps();
+        let counts = self.counts.get();
+        self.counts.set(Counts {
+            nodes: counts.nodes.saturating_add(1),
+            primal_steps: counts
+                .primal_steps
+                .saturating_add(more_primal.saturating_sub(primal)),
+            dual_steps: counts
+                .dual_steps
+                .saturating_add(more_dual.saturating_sub(dual)),
+            looks: counts.looks.saturating_add(offer.work),
+        });
         Ok(offer)
     }
 
@@ -57,8 +78,7 @@ impl Guide for Counted<'_> {
     fn fork(&self) -> Result<Self, AllocError> {
         Ok(Counted {
             guide: self.guide.fork()?,
-            nodes: self.nodes,
-            work: self.work,
+            counts: self.counts,
         })
     }
 }
@@ -130,6 +150,30 @@ fn choose<R: Clock + Print + Eprint + AllocGlobal>(
     pool: Pool,
     budget: u64,
 ) -> Result<()> {
+    let count = pool.routes.len();
+    let counts = Cell::new(Counts {
+        nodes: 0,
+        primal_steps: 0,
+        dual_steps: 0,
+        looks: 0,
+    });
+    let start = Instant::now(rt)?;
+    let found = search(rt.alloc(), pool, budget, &counts)?;
+    let milliseconds = start.elapsed(rt)?.as_millis();
+    match found {
+        Some(chosen) => {
+            let (cost, few) = (chosen.cost, chosen.routes.len());
+            println!(rt; "{name}: {count} routes, {cost} by {few}")?;
+        }
+        None => println!(rt; "{name}: {count} routes, open")?,
+    }
+    print_counts(rt, counts.get())?;
+    eprintln!(rt; "{milliseconds} milliseconds")?;
+    Ok(())
+}
+
+// The cheapest choice of a pool, by a guide whose nodes are counted.
+fn search(alloc: Global, pool: Pool, budget: u64, counts: &Cell<Counts>) -> Result<Option<Chosen>> {
     let Pool {
         demands,
         customers,
@@ -137,7 +181,6 @@ fn choose<R: Clock + Print + Eprint + AllocGlobal>(
         known_cost,
         routes,
     } = pool;
-    let count = routes.len();
     ensure!(known_cost <= 1 << 32, "the cost {known_cost}");
     ensure!(
         all_fit(routes.as_slice(), &demands, capacity),
@@ -148,16 +191,11 @@ fn choose<R: Clock + Print + Eprint + AllocGlobal>(
         capacity,
         trucks: u8::MAX,
     };
-    let start = Instant::now(rt)?;
-    let (nodes, work) = (Cell::new(0u64), Cell::new(0u64));
-    let mut guide = Counted {
-        guide: ProgramGuide::new(rt.alloc(), fleet, Vec::new(rt.alloc()), &Always),
-        nodes: &nodes,
-        work: &work,
-    };
+    let guide = ProgramGuide::new(alloc, fleet, Vec::new(alloc), &Always);
+    let mut guide = Counted { guide, counts };
     let mut budget = budget;
-    let found = cheapest_choice(
-        rt.alloc(),
+    Ok(cheapest_choice(
+        alloc,
         &mut guide,
         &demands,
         capacity,
@@ -166,16 +204,18 @@ fn choose<R: Clock + Print + Eprint + AllocGlobal>(
         customers,
         known_cost,
         &mut budget,
+    )?)
+}
+
+fn print_counts(rt: &impl Print, counts: Counts) -> Result<()> {
+    let Counts {
+        nodes,
+        primal_steps,
+        dual_steps,
+        looks,
+    } = counts;
+    println!(rt;
+        "{nodes} nodes, {primal_steps} primal and {dual_steps} dual steps, {looks} looks"
     )?;
-    let milliseconds = start.elapsed(rt)?.as_millis();
-    let (nodes, work) = (nodes.get(), work.get());
-    match found {
-        Some(chosen) => {
-            let (cost, few) = (chosen.cost, chosen.routes.len());
-            println!(rt; "{name}: {count} routes, {cost} by {few}, {nodes} nodes, {work} looks")?;
-        }
-        None => println!(rt; "{name}: {count} routes, open after {nodes} nodes, {work} looks")?,
-    }
-    eprintln!(rt; "{milliseconds} milliseconds")?;
     Ok(())
 }

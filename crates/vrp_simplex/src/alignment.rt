@@ -94,10 +94,14 @@ impl Program {
                 );
             }
         }
+        let is_gone = self.renumber_raises(numbers.as_slice());
         self.keep_columns(stays)?;
         self.routes = kept(self.alloc, self.routes.as_slice(), stays)?;
         self.reduced = kept(self.alloc, self.reduced.as_slice(), stays)?;
         self.shortlist.listed.clear();
+        if is_gone {
+            self.replace_raises()?;
+        }
         Ok(())
     }
 

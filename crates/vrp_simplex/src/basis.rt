@@ -5,46 +5,72 @@ use crate::fixed_point::{ONE, add_signed};
 use crate::program::{Basic, Program};
 use std::alloc::AllocError;
 
+/// A basis, its inverse and its solution.
+#[derive(Drop)]
+pub(crate) struct KeptBasis {
+    basis: Vec<Basic>,
+    costs: Vec<i64>,
+    values: Vec<i64>,
+    inverse: Vec<i64>,
+}
+
 impl Program {
+    /// A copy of the basis.
+    pub(crate) fn kept_basis(&self) -> Result<KeptBasis, AllocError> {
+        Ok(KeptBasis {
+            basis: Vec::from_slice(self.alloc, self.basis.as_slice())?,
+            costs: Vec::from_slice(self.alloc, self.costs.as_slice())?,
+            values: Vec::from_slice(self.alloc, self.values.as_slice())?,
+            inverse: Vec::from_slice(self.alloc, self.inverse.as_slice())?,
+        })
+    }
+
+    /// Puts back a basis of this program, which has the same rows. The prices are to be made anew.
+    pub(crate) fn put_basis_back(&mut self, kept: KeptBasis) {
+        let KeptBasis {
+            basis,
+            costs,
+            values,
+            inverse,
+        } = kept;
+        self.basis = basis;
+        self.costs = costs;
+        self.values = values;
+        self.inverse = inverse;
+    }
+
     /// Makes the first basis: slacks where they may stand at first, and else artificial columns.
     pub(crate) fn begin(&mut self) -> Result<(), AllocError> {
         let height = self.height();
         self.stride = self.stride.max(height);
         self.inverse = vec![in self.alloc; 0; self.stride.saturating_mul(self.stride)]?;
         self.sides.clear();
-        self.values.clear();
         self.basis.clear();
         self.costs.clear();
         self.prices.clear();
         self.exchanges = 0;
         for row in 0..height {
-            let (side, first) = self.first_column(row);
-            self.sides.push(side)?;
-            self.values.push(side)?;
+            let first = self.first_column(row);
             let cost = self.cost_of(first);
+            self.sides.push(0)?;
             self.costs.push(cost)?;
             self.basis.push(first)?;
             self.prices.push(0)?;
             self.put_inverse(row, row, ONE);
         }
+        self.draw_raises()?;
+        self.values = self.sides.clone()?;
         Ok(())
     }
 
-    // The raised right-hand side of a row, and the column that stands there at first.
-    fn first_column(&mut self, row: usize) -> (i64, Basic) {
-        let raise = self.raise();
-        let index = row.checked_sub(self.customer_rows());
-        match index.and_then(|index| self.cuts.get(index).copied()) {
-            None => (ONE.wrapping_add(raise), Basic::Artificial(row)),
-            Some(cut) => {
-                let side = cut
-                    .wide_side()
-                    .wrapping_add(raise.wrapping_mul(cut.slack()));
-                match cut.kind {
-                    CutKind::Capacity(_) => (side, Basic::Artificial(row)),
-                    _ => (side, Basic::Slack(index.unwrap_or(0))),
-                }
-            }
+    // The column that stands in a row at first.
+    fn first_column(&self, row: usize) -> Basic {
+        let Some(index) = row.checked_sub(self.customer_rows()) else {
+            return Basic::Artificial(row);
+        };
+        match self.cuts.get(index).map(|cut| cut.kind) {
+            Some(CutKind::SubsetRow | CutKind::Trucks(_)) => Basic::Slack(index),
+            _ => Basic::Artificial(row),
         }
     }
 

@@ -22,8 +22,8 @@ impl Program {
         Ok(self.price_sum().wrapping_add(least.wrapping_mul(customers)))
     }
 
-    // What all rows pay.
-    fn price_sum(&self) -> i64 {
+    /// The sum of the prices, each times its row's right-hand side, not raised.
+    pub(crate) fn price_sum(&self) -> i64 {
         let mut sum = 0i64;
         for (row, &price) in self.prices.iter().enumerate() {
             let cut = row.checked_sub(self.customer_rows());

@@ -87,11 +87,17 @@ impl Growing {
 
     // Whom the solution comes to most seldom besides; of several the one with the most demand.
     fn next(&self, customers: u128, fleet: &Fleet<'_>) -> usize {
-        let left = customers & !self.set;
+        let mut left = customers & !self.set;
         let mut next = 0usize;
         let (mut least, mut most) = (i64::MAX, 0u64);
-        for (customer, &more) in self.more.iter().enumerate() {
-            if holds(left, customer) && more <= least {
+        for _ in 0..128 {
+            if left == 0 {
+                break;
+            }
+            let customer = left.trailing_zeros() as usize;
+            left &= left.wrapping_sub(1);
+            let more = at(self.more.as_slice(), customer);
+            if more <= least {
                 let demand = fleet.demand(customer);
                 if more < least || demand > most {
                     (next, least, most) = (customer, more, demand);

@@ -19,6 +19,11 @@ pub enum DualEnd {
     AboveLimit,
 }
 
+// How many shortlists are tried, each so many times as long as the one before.
+const MOST_SHORTLISTS: u32 = 4;
+
+const MORE_LISTED: usize = 6;
+
 // After so many steps it is asked whether the search goes on.
 const STEPS_BETWEEN: u64 = 64;
 
@@ -73,8 +78,8 @@ impl Scratch {
 
 impl Program {
     /// What is negative, or may not stand in the basis, leaves it, until nothing is, so many steps are taken, or the lower bound is
-    /// above the limit, a price. It looks at so many columns, those of the least reduced costs, and at last at all. What comes of it
-    /// is left open, since nobody trusts it.
+    /// above the limit, a price. It looks at so many columns, those of the least reduced costs, and begins again with more of them where
+    /// the others would have stopped it. What comes of it is left open, since nobody trusts it.
     pub fn dual_simplex<A: Ask>(
         &mut self,
         ask: &A,
@@ -82,21 +87,41 @@ impl Program {
         limit: i64,
         many: usize,
     ) -> Result<DualEnd, AllocError> {
-        self.make_prices();
-        self.reduce();
-        self.make_shortlist(many)?;
-        let mut end = self.dual_steps_among(ask, most, limit)?;
-        self.reduce();
-        if end == DualEnd::AboveLimit && self.is_shortened() && self.has_negative() {
-            self.make_shortlist(usize::MAX)?;
+        let mut many = many;
+        let mut end = DualEnd::StepLimit;
+        for _ in 0..MOST_SHORTLISTS {
+            self.make_prices();
+            self.reduce();
+            self.make_shortlist(many)?;
+            let start = if self.is_shortened() {
+                Some(self.kept_basis()?)
+            } else {
+                None
+            };
             end = self.dual_steps_among(ask, most, limit)?;
             self.reduce();
+            match start {
+                Some(start) if self.has_strayed(end) && ask.should_continue() => {
+                    self.put_basis_back(start);
+                    many = many.saturating_mul(MORE_LISTED);
+                }
+                _ => break,
+            }
         }
         if end == DualEnd::Feasible && self.has_negative() {
             self.primal_simplex(ask, most)?;
             self.reduce();
         }
         Ok(end)
+    }
+
+    // Whether steps over a shortlist led where the other columns would not have let them.
+    fn has_strayed(&self, end: DualEnd) -> bool {
+        match end {
+            DualEnd::Feasible => false,
+            DualEnd::AboveLimit => self.has_negative(),
+            DualEnd::Ray | DualEnd::StepLimit => true,
+        }
     }
 
     // The same, among the columns that are looked at.
@@ -107,13 +132,15 @@ impl Program {
         limit: i64,
     ) -> Result<DualEnd, AllocError> {
         let mut scratch = Scratch::new(self.alloc, self.stride)?;
+        let enough = limit.saturating_add(self.margin());
         for step in 0..most.saturating_add(1) {
             let leaving = self.leaving_row();
             if leaving.far <= ONE >> 24 {
                 return Ok(DualEnd::Feasible);
             }
-            let low = self.cost();
-            if low > limit.saturating_add(UNIT / 8) {
+            // Not what the solution costs, which is more by the raises.
+            let low = self.price_sum();
+            if low > enough {
                 return Ok(DualEnd::AboveLimit);
             }
             if step % STEPS_BETWEEN == STEPS_BETWEEN - 1 && !ask.should_continue() {
@@ -125,6 +152,12 @@ impl Program {
             }
         }
         Ok(DualEnd::StepLimit)
+    }
+
+    // How far the sum of the prices has to be above the limit, so that the lower bound is too.
+    fn margin(&self) -> i64 {
+        let customers = i64::try_from(self.customer_rows()).unwrap_or(0);
+        (UNIT / 8).saturating_add(self.tolerance().saturating_mul(customers))
     }
 
     // A column comes in at the row, if there is one that may.
@@ -139,7 +172,7 @@ impl Program {
             rows,
         } = scratch;
         self.write_pairs(leaving, pairs);
-        let Some(entering) = self.entering_of_all(pairs)? else {
+        let Some(entering) = self.entering(pairs) else {
             return Ok(false);
         };
         self.write_direction(entering, rows, direction.as_mut_slice())?;
@@ -148,16 +181,6 @@ impl Program {
         self.count_looks(count);
         self.pivot(leaving.row, entering, direction.as_slice())?;
         Ok(true)
-    }
-
-    // The column that comes into the basis; where none does, all are looked at.
-    fn entering_of_all(&mut self, pairs: &Pairs) -> Result<Option<Basic>, AllocError> {
-        let entering = self.entering(pairs);
-        if entering.is_none() && self.is_shortened() {
-            self.make_shortlist(usize::MAX)?;
-            return Ok(self.entering(pairs));
-        }
-        Ok(entering)
     }
 
     // The column comes in at the row, if it moves it; else the inverse is made anew.

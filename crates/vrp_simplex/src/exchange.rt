@@ -1,7 +1,5 @@
 //! Exchanges in the basis.
-use crate::fixed_point::{
-    as_price, at, dot, low_half, product, put, quotient, subtract_times, wide_product,
-};
+use crate::fixed_point::{as_price, at, product, put, quotient, subtract_times, wide_product};
 use crate::program::{Basic, Program};
 use std::alloc::AllocError;
 
@@ -41,11 +39,6 @@ impl Program {
             self.make_prices();
         }
         Ok(())
-    }
-
-    /// What the solution costs by the basis, as a price.
-    pub(crate) fn cost(&self) -> i64 {
-        low_half(dot(self.costs.as_slice(), self.values.as_slice()) >> 20)
     }
 }
 

@@ -9,7 +9,8 @@ pub(crate) const UNIT: i64 = 1_048_576;
 // One and a half of the last place, before a product of values is cut to a value.
 const WIDE_ONE: i128 = 1_099_511_627_776;
 
-const HALF: i128 = 549_755_813_888;
+/// Half of one, squared.
+pub(crate) const HALF: i128 = 549_755_813_888;
 
 const LOW_BITS: u128 = 0xffff_ffff_ffff_ffff;
 

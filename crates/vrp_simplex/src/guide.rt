@@ -31,6 +31,14 @@ impl<'a, A: Ask> ProgramGuide<'a, A> {
         }
     }
 
+    /// How many steps the program took, primal and dual, since it was made. Nothing is promised of either.
+    pub fn steps(&self) -> (u64, u64) {
+        match &self.program {
+            Some(program) => program.steps(),
+            None => (0, 0),
+        }
+    }
+
     // The program over a node's pool, and the rest of the pool.
     fn node(
         &mut self,

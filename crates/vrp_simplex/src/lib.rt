@@ -19,6 +19,7 @@ mod node;
 mod primal_simplex;
 mod program;
 mod purge;
+mod raises;
 mod restart;
 mod row_prices;
 mod rows;

@@ -61,9 +61,10 @@ impl Progress {
         }
     }
 
-    // Takes the bound of a round.
-    fn count_gain(&mut self, bound: i64) {
-        if bound.saturating_sub(self.bound) < UNIT / 50 {
+    // Takes the bound of a round, and the gap that it leaves.
+    fn count_gain(&mut self, bound: i64, gap: i64) {
+        let least = (UNIT / 50).max(gap / 128);
+        if bound.saturating_sub(self.bound) < least {
             self.stale = self.stale.saturating_add(1);
         } else if self.stale < 2 {
             self.stale = 0;
@@ -111,8 +112,9 @@ impl<A: Ask> Node<'_, A> {
                 return Ok(());
             }
             self.bring_in()?;
-            self.progress.count_gain(bound);
-            let within = self.within(self.limit.saturating_sub(bound))?;
+            let gap = self.limit.saturating_sub(bound);
+            self.progress.count_gain(bound, gap);
+            let within = self.within(gap)?;
             if within <= FEW_ROUTES
                 || self.progress.is_done()
                 || self.program.cuts.len() > MOST_CUTS

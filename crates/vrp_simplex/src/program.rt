@@ -1,6 +1,7 @@
 //! The linear program, and its rows.
 use crate::cut::{Cut, CutKind};
 use crate::fixed_point::at;
+use crate::raises::Raise;
 use crate::rows::{MOST_ROWS, Quad};
 use crate::shortlist::Shortlist;
 use std::alloc::{AllocError, Global};
@@ -86,6 +87,8 @@ pub struct Program {
     pub(crate) looked_at: u64,
     // How many exchanges there were since the inverse was made anew.
     pub(crate) exchanges: u64,
+    // By which the right-hand sides are raised.
+    pub(crate) raises: Vec<Raise>,
     pub(crate) random: u64,
     // By how many bits the right-hand sides are raised less than at first.
     pub(crate) raise_shift: u32,
@@ -122,6 +125,7 @@ impl Program {
             dual_steps: 0,
             looked_at: 0,
             exchanges: 0,
+            raises: Vec::new(alloc),
             random: 12345,
             raise_shift: 0,
         };
@@ -172,13 +176,6 @@ impl Program {
         let start = column.saturating_mul(self.stride);
         let end = start.saturating_add(self.stride);
         self.inverse.as_slice().get(start..end).unwrap_or(&[])
-    }
-
-    /// A random value, below 1/512 at first.
-    pub(crate) fn raise(&mut self) -> i64 {
-        let next = self.random.wrapping_mul(6_364_136_223_846_793_005);
-        self.random = next.wrapping_add(1_442_695_040_888_963_407);
-        (((self.random >> 40) << 7) >> self.raise_shift.min(60)) as i64
     }
 
     /// What a reduced cost may be below 0: what rounding leaves grows with the costs.

@@ -4,7 +4,7 @@ use std::alloc::AllocError;
 use vrp_partition::Ask;
 
 // How many bits the right-hand sides lose of their raises each time.
-const LESS_RAISED: u32 = 3;
+const LESS_RAISED: u32 = 1;
 
 // How often artificial columns are made dearer, while some have a value.
 const DEARER: u32 = 4;

@@ -103,8 +103,7 @@ impl Program {
             let has = set.map_or(false, |set| cut.has(set));
             counts.push(if has { 1i64 } else { 0 })?;
         }
-        let raise = self.raise().wrapping_mul(sign);
-        let side = cut.wide_side().wrapping_add(raise);
+        let side = self.side_of(&cut);
         let value = sum_of(self.values.as_slice(), counts.as_slice());
         self.extend_inverse(row, sign, counts.as_slice());
         self.basis.push(Basic::Slack(self.cuts.len()))?;

@@ -1,0 +1,162 @@
+//! The right-hand sides are raised a little, since with ties the steps would go round in circles: by small parts of some routes, so
+//! that a program with a solution keeps one.
+use crate::cut::{Cut, only};
+use crate::fixed_point::{HALF, ONE, low_half, wide_product};
+use crate::program::Program;
+use std::alloc::AllocError;
+
+/// So much of a route is added to the right-hand sides; it serves the customer, a bit, for whom it was drawn.
+#[derive(Clone, Copy, Debug)]
+pub(crate) struct Raise {
+    customer: u128,
+    route: usize,
+    amount: i64,
+}
+
+// No route's number.
+const NO_ROUTE: usize = usize::MAX;
+
+impl Program {
+    /// Draws a route for each customer, and makes the right-hand sides by them.
+    pub(crate) fn draw_raises(&mut self) -> Result<(), AllocError> {
+        self.raises.clear();
+        for customer in 0..128 {
+            let customer = only(customer) & self.customers;
+            if customer != 0 {
+                let route = self.draw_route(customer);
+                let amount = self.draw_amount();
+                self.raises.push(Raise {
+                    customer,
+                    route,
+                    amount,
+                })?;
+            }
+        }
+        self.make_sides();
+        Ok(())
+    }
+
+    /// Gives the routes of the raises their new numbers, by their old ones. Whether one is gone.
+    pub(crate) fn renumber_raises(&mut self, numbers: &[Option<usize>]) -> bool {
+        let mut is_gone = false;
+        for raise in self.raises.iter_mut() {
+            raise.route = numbers
+                .get(raise.route)
+                .copied()
+                .flatten()
+                .unwrap_or(NO_ROUTE);
+            is_gone = is_gone || raise.route == NO_ROUTE;
+        }
+        is_gone
+    }
+
+    /// Draws other routes for those that are gone, and makes the right-hand sides and the values by them.
+    pub(crate) fn replace_raises(&mut self) -> Result<(), AllocError> {
+        for index in 0..self.raises.len() {
+            let raise = self.raises.get(index).copied();
+            if let Some(raise) = raise {
+                if raise.route == NO_ROUTE {
+                    let route = self.draw_route(raise.customer);
+                    if let Some(place) = self.raises.get_mut(index) {
+                        place.route = route;
+                    }
+                }
+            }
+        }
+        self.make_sides();
+        self.make_values()
+    }
+
+    // A route that serves a customer, from a random one on.
+    fn draw_route(&mut self, customer: u128) -> usize {
+        let count = self.routes.len();
+        let draw = (self.draw() >> 33) as usize;
+        let start = draw.checked_rem(count).unwrap_or(0);
+        let behind = self.routes.as_slice().get(start..).unwrap_or(&[]);
+        let serves = behind.iter().position(|route| route.set & customer != 0);
+        if let Some(index) = serves {
+            return start.saturating_add(index);
+        }
+        let serves = self
+            .routes
+            .iter()
+            .position(|route| route.set & customer != 0);
+        serves.unwrap_or(NO_ROUTE)
+    }
+
+    // A random value below 1/2048, at first.
+    fn draw_amount(&mut self) -> i64 {
+        (((self.draw() >> 40) << 5) >> self.raise_shift.min(60)) as i64
+    }
+
+    // A random number.
+    fn draw(&mut self) -> u64 {
+        let next = self.random.wrapping_mul(6_364_136_223_846_793_005);
+        self.random = next.wrapping_add(1_442_695_040_888_963_407);
+        self.random
+    }
+
+    // The right-hand sides of all rows.
+    fn make_sides(&mut self) {
+        let rows = self.customer_rows();
+        let mut left = self.customers;
+        for row in 0..rows {
+            let customer = left & left.wrapping_neg();
+            left ^= customer;
+            let side = ONE.wrapping_add(self.raise_of(|set| set & customer != 0));
+            self.put_side(row, side);
+        }
+        for index in 0..self.cuts.len() {
+            if let Some(cut) = self.cuts.get(index).copied() {
+                let side = self.side_of(&cut);
+                self.put_side(rows.saturating_add(index), side);
+            }
+        }
+    }
+
+    fn put_side(&mut self, row: usize, side: i64) {
+        if let Some(place) = self.sides.get_mut(row) {
+            *place = side;
+        }
+    }
+
+    /// The right-hand side of a cut: its slack is raised too, by a value that looks random and is below 1/512.
+    pub(crate) fn side_of(&self, cut: &Cut) -> i64 {
+        let folded = (cut.set ^ (cut.set >> 61)) & 0xffff_ffff_ffff_ffff;
+        let mixed = (folded as u64).wrapping_mul(6_364_136_223_846_793_005);
+        let slack = (((mixed >> 40) << 7) >> self.raise_shift.min(60)) as i64;
+        cut.wide_side()
+            .wrapping_add(slack.wrapping_mul(cut.slack()))
+            .wrapping_add(self.raise_of(|set| cut.has(set)))
+    }
+
+    // What the raises add up to over the routes that count.
+    fn raise_of<F: Fn(u128) -> bool>(&self, counts: F) -> i64
+        requires { F.IsAlwaysCallable counts }
+    {
+        let mut sum = 0i64;
+        for raise in &self.raises {
+            if let Some(route) = self.routes.get(raise.route) {
+                if counts(route.set) {
+                    sum = sum.wrapping_add(raise.amount);
+                }
+            }
+        }
+        sum
+    }
+
+    // The values of the basis, by its inverse and the right-hand sides.
+    fn make_values(&mut self) -> Result<(), AllocError> {
+        let mut sums = vec![in self.alloc; HALF; self.values.len()]?;
+        let columns = self.inverse.chunks_exact(self.stride.max(1));
+        for (column, &side) in columns.zip(&self.sides) {
+            for (sum, &number) in sums.iter_mut().zip(column) {
+                *sum = sum.wrapping_add(wide_product(number, side));
+            }
+        }
+        for (value, &sum) in self.values.iter_mut().zip(&sums) {
+            *value = low_half(sum >> 40);
+        }
+        Ok(())
+    }
+}
