@@ -20,13 +20,14 @@ pub(crate) fn found_plan<R: Abort + Threads + Sync, P: Guide>(
     guide: &P,
     budget: u64,
 ) -> Result<Option<Plan>, NoMemory> {
-    assert!(rt; can_list(instance) && known.cost() <= NO_COST);
+    let limit = known.cost();
+    assert!(rt; can_list(instance));
+    assert!(rt; limit <= NO_COST);
     let prices = vec![in alloc; 0i64; usize::from(instance.customers()) + 1]?;
     let made = Relaxation::new(alloc, instance, 1, 1, prices.as_slice(), &[])?;
     let relaxation = made.expect(rt, "prices");
     let memory = Memory::nearest(alloc, relaxation.relaxed(), 2)?;
     let tables = MemoryTables::new(alloc, relaxation.relaxed(), memory)?;
-    let limit = known.cost();
     let listed = list_routes(
         rt,
         alloc,
