@@ -23,7 +23,8 @@ use vrp_routes::RoutePool;
 /// The first plan of an instance, by cost and then symbol by symbol, from a pool that was listed with the cost of a known plan as its
 /// limit. The cheapest choice of the pool is searched for, and then the next route of the first plan again and again, each time by
 /// forks of the guide, which need not be trusted. `None` where the budget was spent or the guide would not go on, where an amount
-/// doesn't fit 32 bits, or where no choice costs as little as the known plan: when, is left open, and so is what is left of the budget.
+/// doesn't fit 32 bits, or where no choice costs as little as the known plan: when, is left open, and so is how much of the budget is
+/// spent.
 pub fn canonical_plan<P: Guide>(
     alloc: Global,
     instance: &Instance,
@@ -34,7 +35,8 @@ pub fn canonical_plan<P: Guide>(
 ) -> Result<Option<Plan>, NoMemory>
     requires few { place_count instance.now ≤ 128 }
     requires pool { IsPool instance.now known.now.cost pool.now }
-    ensures { IfOk result (λ found. IfSome found (IsFirst instance.now)) }
+    ensures first { IfOk result (λ found. IfSome found (IsFirst instance.now)) }
+    ensures budget { budget.new ≤ budget.old }
 {
     let Some(loads) = Loads::new(alloc, instance)? else {
         return Ok(None);
@@ -67,7 +69,8 @@ pub fn canonical_plan<P: Guide>(
         known: chosen.routes,
     };
     let found = plan_among(alloc, instance, &mut searches, ordered.as_slice(), whole);
-    *budget = searches.budget;
+    // No search gives any back; it is said here, since the pass is proved for whoever answers.
+    *budget = searches.budget.min(*budget);
     found
 }
 
