@@ -29,7 +29,8 @@ pub record StandsIn (pool : List RouteOf) (route : ListedRoute) : Type 0 where
 -- routes of the pool, among them all that are marked of the first ones
 pub record AreMarked (pool : List RouteOf) (marks : List Bool) (count : ℕ) (listed : List ListedRoute) : Type 0 where
   pub among : All (StandsIn pool) listed
-  pub every : (at : ℕ) → at < count → at < length pool → slice_index_or marks at false ≡ true → Contains (map stops_of listed) (slice_index_or pool at no_route).stops
+  pub every : (at : ℕ) → at < count → at < length pool → slice_index_or marks at false ≡ true
+      → Contains (map stops_of listed) (slice_index_or pool at no_route).stops
 
 -- a pool in the order of its routes' stops
 pub record AreOrdered (p : Problem) (limit : ℕ) (ordered : List ListedRoute) : Type 0 where

@@ -45,11 +45,13 @@ pub record StandsWithin (pool : List Route) (low high : ℕ) (route : Route) : T
 -- this customer
 pub record IsPart (pool : List Route) (unserved customer low high count : ℕ) (part : List Route) : Type 0 where
   pub sound : All (λ route. Contains pool route × (StandsWithin pool low high route ⊎ (bit_at route.set customer ≡ 0))) part
-  pub every : (k : ℕ) → k < count → k < length pool → low ≤ k → IsInside pool unserved k → (k < high) ⊎ (bit_at (route_in pool k).set customer ≡ 0) → Contains part (route_in pool k)
+  pub every : (k : ℕ) → k < count → k < length pool → low ≤ k → IsInside pool unserved k
+      → (k < high) ⊎ (bit_at (route_in pool k).set customer ≡ 0) → Contains part (route_in pool k)
 
 -- all routes between two places, of those that have no customer but unserved ones, have this one
 abbrev pub AllHave : List Route → ℕ → ℕ → ℕ → ℕ → Type 0
-AllHave pool unserved customer low high = (k : ℕ) → low ≤ k → k < high → k < length pool → IsInside pool unserved k → bit_at (route_in pool k).set customer ≡ 1
+AllHave pool unserved customer low high = (k : ℕ) → low ≤ k → k < high → k < length pool
+    → IsInside pool unserved k → bit_at (route_in pool k).set customer ≡ 1
 
 -- a plan that costs no more goes on with a route that stands below a place
 pub record GoesBelow (p : Problem) (stops : List (List ℕ)) (most : ℕ) (routes : List (List ℕ)) (high : ℕ) : Type 0 where
@@ -66,4 +68,5 @@ pub record IsNarrowed (p : Problem) (stops : List (List ℕ)) (plan : PricedPlan
 -- the answer to the question about such a part
 abbrev pub IsAnswer : List Route → Residual → ℕ → ℕ → ℕ → Bool → Type 0
 IsAnswer pool rest customer low high reply =
-    (part : List Route) × IsPart pool rest.unserved customer low high (length pool) part × (IsTrue reply ↔ Reaches part rest.unserved rest.trucks rest.most)
+    (part : List Route) × IsPart pool rest.unserved customer low high (length pool) part
+    × (IsTrue reply ↔ Reaches part rest.unserved rest.trucks rest.most)

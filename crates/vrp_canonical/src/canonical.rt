@@ -3,7 +3,7 @@ ghost use Rattle.std.specs.Prelude.{◌≡◌, ◌≤◌, ℕ, IfOk, IfSome, map
 ghost use Rattle.vrp_canonical.specs.Ordering.{AreOrdered, chosen_of, route_of, stops_of};
 ghost use Rattle.vrp_canonical.specs.Reaching.{IsFleet, IsTask};
 ghost use Rattle.vrp_model.specs.Order.{IsFirst};
-ghost use Rattle.vrp_model.specs.Problem.{Problem, customers, place_count};
+ghost use Rattle.vrp_model.specs.Problem.{IsProblem, Problem, customers, place_count};
 ghost use Rattle.vrp_routes.specs.Label.{set_of};
 ghost use Rattle.vrp_routes.specs.Pool.{IsPool};
 
@@ -23,7 +23,8 @@ use vrp_routes::RoutePool;
 /// The first plan of an instance, by cost and then symbol by symbol, from a pool that was listed with the cost of a known plan as its
 /// limit. The cheapest choice of the pool is searched for, and then the next route of the first plan again and again, each time by
 /// forks of the guide, which need not be trusted. `None` where the budget was spent or the guide would not go on, where an amount
-/// doesn't fit 32 bits, or where no choice costs as little as the known plan: when, is left open, and so is what is left of the budget.
+/// doesn't fit 32 bits, or where no choice costs as little as the known plan: when, is left open, and so is how much of the budget is
+/// spent.
 pub fn canonical_plan<P: Guide>(
     alloc: Global,
     instance: &Instance,
@@ -34,7 +35,8 @@ pub fn canonical_plan<P: Guide>(
 ) -> Result<Option<Plan>, NoMemory>
     requires few { place_count instance.now ≤ 128 }
     requires pool { IsPool instance.now known.now.cost pool.now }
-    ensures { IfOk result (λ found. IfSome found (IsFirst instance.now)) }
+    ensures first { IfOk result (λ found. IfSome found (IsFirst instance.now)) }
+    ensures budget { budget.new ≤ budget.old }
 {
     let Some(loads) = Loads::new(alloc, instance)? else {
         return Ok(None);
@@ -42,33 +44,40 @@ pub fn canonical_plan<P: Guide>(
     let Some(routes) = chosen_routes(alloc, pool)? else {
         return Ok(None);
     };
-    let whole = Residual {
-        unserved: all_customers(instance),
-        trucks: fleet(instance),
-        most: known.cost(),
-    };
     let all = routes.as_slice();
-    let Some(chosen) = cheapest_within(alloc, guide, &loads, all, whole, budget)? else {
+    let within = whole_problem(instance, known.cost());
+    let Some(chosen) = cheapest_within(alloc, guide, &loads, all, within, budget)? else {
         return Ok(None);
     };
-    if chosen.cost > whole.most {
+    if chosen.cost > within.most {
         return Ok(None);
     }
     let most = chosen.cost;
-    let whole = Residual { most, ..whole };
+    let whole = Residual { most, ..within };
     let Some(ordered) = narrowed_routes(alloc, guide, &loads, pool, all, whole)? else {
         return Ok(None);
     };
-    let mut searches = Searches {
-        alloc,
-        guide,
-        loads: &loads,
-        budget: *budget,
-        known: chosen.routes,
-    };
+    let mut searches = Searches::new(alloc, guide, &loads, *budget, chosen.routes);
     let found = plan_among(alloc, instance, &mut searches, ordered.as_slice(), whole);
-    *budget = searches.budget;
+    // No search gives any back; it is said here, since the pass is proved for whoever answers.
+    *budget = searches.budget.min(*budget);
     found
+}
+
+// All customers, the whole fleet, and what the routes may cost.
+fn whole_problem(instance: &Instance, most: u64) -> Residual
+    requires { place_count instance.now ≤ 128 }
+    ensures customers { result.unserved ≡ set_of (customers instance.now) }
+    ensures fleet { IsFleet instance.now result.trucks }
+    ensures most { result.most ≡ most }
+    // What is known of every instance.
+    ensures problem { IsProblem instance.now }
+{
+    Residual {
+        unserved: all_customers(instance),
+        trucks: fleet(instance),
+        most,
+    }
 }
 
 // The routes of the pool that may stand in a choice that costs no more than it may, in the order of their stops. `routes` are those of

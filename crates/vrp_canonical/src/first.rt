@@ -12,8 +12,9 @@ use crate::run::run_from;
 use std::alloc::{AllocError, Global};
 use vrp_partition::Route;
 
-/// The places in the pool of the first plan's routes, where the pool is in the order of its routes' stops and the residual problem is the
-/// whole one, at the first plan's cost. The routes are taken in runs that share a customer. `None` where an answer wasn't known.
+/// The places in the pool of the first plan's routes, where the pool is in the order of its routes' stops and the residual problem is
+/// the whole one, at the first plan's cost. The routes are taken in runs that share a customer. `None` where an answer wasn't known,
+/// and where a route has no customer.
 pub fn first_places<R: Reach>(
     alloc: Global,
     reach: &mut R,

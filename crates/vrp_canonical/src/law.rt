@@ -68,7 +68,8 @@ pub fn cheapest_is_first()
 
 /// Where no choice is below the incumbent, no lawful plan that costs no more than the limit is.
 pub fn none_is_cheap()
-    ensures { (p : Problem) (limit : ℕ) (stops : List (List ℕ)) (pool routes : List Route) (trucks incumbent : ℕ) (others : List (List ℕ))
+    ensures { (p : Problem) (limit : ℕ) (stops : List (List ℕ)) (pool routes : List Route)
+        (trucks incumbent : ℕ) (others : List (List ℕ))
         → IsProblem p → IsPoolOf p limit stops pool → IsFleet p trucks
         → IsCheapest pool (set_of (customers p)) trucks incumbent incumbent routes
         → IsLawful p others → plan_cost p others ≤ limit → incumbent ≤ plan_cost p others }

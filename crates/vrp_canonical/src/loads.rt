@@ -5,7 +5,8 @@ ghost use Rattle.vrp_model.specs.Problem.{place_count};
 use std::alloc::Global;
 use vrp_model::{Instance, NoMemory};
 
-/// The demands of customers 0 to 127, and what a truck can carry. Customer 0 stands for the depot, and who isn't there demands nothing.
+/// The demands of customers 0 to 127, and what a truck can carry. Customer 0 stands for the depot, and who isn't there demands
+/// nothing. No clause says so: a search is right by any demands by which each route fits one truck.
 #[derive(Debug, Drop)]
 pub struct Loads {
     pub demands: Vec<u32>,

@@ -30,8 +30,8 @@ pub fn narrow<R: Reach>(
     requires have { AllHave pool.now rest.unserved customer index end }
     ensures from { IfOk result (λ answer. IfSome answer (λ at. index ≤ at)) }
     ensures to { IfOk result (λ answer. IfSome answer (λ at. at ≤ end)) }
-    ensures next { IfOk result (λ answer. IfSome answer (λ at. (p : Problem) (limit : ℕ) (stops : List (List ℕ)) (whole : Residual) (chosen : List ℕ)
-        → (task : IsTask p limit stops pool.now whole)
+    ensures next { IfOk result (λ answer. IfSome answer (λ at. (p : Problem) (limit : ℕ) (stops : List (List ℕ))
+        (whole : Residual) (chosen : List ℕ) → (task : IsTask p limit stops pool.now whole)
         → IsBegun p stops task.plan whole index chosen rest → IsNarrowed p stops task.plan whole chosen rest end at)) }
 {
     let Some(some) = reaches_between(alloc, reach, pool, rest, customer, index, end)? else {

@@ -1,5 +1,5 @@
 //! What a partial plan leaves to be done.
-ghost use Rattle.std.specs.Prelude.{IfSome};
+ghost use Rattle.std.specs.Prelude.{◌≡◌, ◌≤◌, IfNone, IfSome, bit_and};
 ghost use Rattle.vrp_canonical.specs.Passing.{IsAfter};
 
 use vrp_partition::Route;
@@ -14,9 +14,11 @@ pub struct Residual {
 
 impl Residual {
     /// What is left once a route is driven. `None` where it serves another customer too, where there is no truck for it, or where it
-    /// costs more than it may: when, is left open.
+    /// costs more than it may.
     pub fn without(self, route: Route) -> Option<Residual>
-        ensures { IfSome result (IsAfter self route) }
+        ensures after { IfSome result (IsAfter self route) }
+        ensures none { IfNone result (bit_and route.set self.unserved ≡ route.set
+            → 1 ≤ self.trucks → route.cost ≤ self.most → ⊥) }
     {
         if route.set & self.unserved != route.set {
             return None;

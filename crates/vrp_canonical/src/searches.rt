@@ -1,5 +1,5 @@
 //! Answers by searches over parts of the pool.
-ghost use Rattle.std.specs.Prelude.{◌+◌, ◌≤◌, IfOk, IfSome};
+ghost use Rattle.std.specs.Prelude.{◌≡◌, ◌+◌, ◌≤◌, IfOk, IfSome};
 ghost use Rattle.vrp_partition.specs.Choice.{IsCheapest};
 
 use crate::known::{is_choice, routes_inside};
@@ -17,6 +17,27 @@ pub struct Searches<'a, P: Guide> {
     pub loads: &'a Loads,
     pub budget: u64,
     pub known: Vec<Route>,
+}
+
+impl<'a, P: Guide> Searches<'a, P> {
+    /// Searches within a budget, and a choice that is known.
+    pub fn new(
+        alloc: Global,
+        guide: &'a P,
+        loads: &'a Loads,
+        budget: u64,
+        known: Vec<Route>,
+    ) -> Self
+        ensures { result.budget ≡ budget }
+    {
+        Searches {
+            alloc,
+            guide,
+            loads,
+            budget,
+            known,
+        }
+    }
 }
 
 impl<P: Guide> Reach for Searches<'_, P> {

@@ -16,18 +16,18 @@ plan_among-found-requires g c =
     let p = c.args.instance.now in
     let pool = c.args.pool.now in
     let limit = c.args.known.now.cost in
-    let unserved = c.all_customers.result in
-    let trucks = c.fleet.result in
+    let unserved = c.whole_problem-within.result.unserved in
+    let trucks = c.whole_problem-within.result.trucks in
     let chosen = c.in-Some-3.chosen in
     let routes : c.as_slice-all.result.now ≡ map chosen_of pool = c.as_slice-all.ensures.value ∙ told c.in_ok-routes.field-0 c.in-Some-2.routes (λ (v : Vec Route Global). v.items ≡ map chosen_of pool) c.in-Some-2.is c.in_ok-routes.ensures in
-    let cheapest : IsCheapest c.as_slice-all.result.now unserved trucks (c.cost.result + 1) chosen.cost chosen.routes.items =
-    told c.in_ok-chosen.field-0 chosen (λ (best : Chosen). IsCheapest c.as_slice-all.result.now unserved trucks (c.cost.result + 1) best.cost best.routes.items) c.in-Some-3.is c.in_ok-chosen.ensures.cheapest in
-    let within : chosen.cost ≤ limit = omega (arith, c.if-chosen-whole.false, c.cost.ensures) in
-    let all : unserved ≡ set_of (customers p) = c.all_customers.ensures.value in
+    let cheapest : IsCheapest c.as_slice-all.result.now unserved trucks (c.whole_problem-within.result.most + 1) chosen.cost chosen.routes.items =
+    told c.in_ok-chosen.field-0 chosen (λ (best : Chosen). IsCheapest c.as_slice-all.result.now unserved trucks (c.whole_problem-within.result.most + 1) best.cost best.routes.items) c.in-Some-3.is c.in_ok-chosen.ensures.cheapest in
+    let within : chosen.cost ≤ limit = omega (arith, c.if-chosen-within.false, c.whole_problem-within.ensures.most, c.cost.ensures) in
+    let all : unserved ≡ set_of (customers p) = c.whole_problem-within.ensures.customers in
     let are : AreOrdered p chosen.cost c.in-Some-4.ordered.items =
     told c.in_ok-ordered.field-0 c.in-Some-4.ordered (λ (o : Vec ListedRoute Global). (p : Problem) (limit : ℕ) → IsPool p limit pool → IsFleet p trucks → unserved ≡ set_of (customers p) → chosen.cost ≤ limit → AreOrdered p chosen.cost o.items) c.in-Some-4.is c.in_ok-ordered.ensures
-    p limit c.requires.pool c.fleet.ensures all within in
-    let task = canonical_task p limit pool chosen.routes.items unserved trucks chosen.cost c.in-Some-4.ordered.items c.all_customers.ensures.problem c.requires.pool c.fleet.ensures all
+    p limit c.requires.pool c.whole_problem-within.ensures.fleet all within in
+    let task = canonical_task p limit pool chosen.routes.items unserved trucks chosen.cost c.in-Some-4.ordered.items c.whole_problem-within.ensures.problem c.requires.pool c.whole_problem-within.ensures.fleet all
     (subst (λ (rs : List Route). IsCheapest rs unserved trucks (limit + 1) chosen.cost chosen.routes.items) routes
-    (subst (λ n. IsCheapest c.as_slice-all.result.now unserved trucks (n + 1) chosen.cost chosen.routes.items) c.cost.ensures cheapest)) within are in
+    (subst (λ n. IsCheapest c.as_slice-all.result.now unserved trucks (n + 1) chosen.cost chosen.routes.items) (c.whole_problem-within.ensures.most ∙ c.cost.ensures) cheapest)) within are in
     subst (λ (xs : List ListedRoute). IsTask p chosen.cost (map stops_of xs) (map route_of xs) (record { unserved = unserved; trucks = trucks; most = chosen.cost })) (sym c.as_slice.ensures.value) task

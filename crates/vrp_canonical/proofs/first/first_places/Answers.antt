@@ -36,7 +36,7 @@ loop-index-preserved-then-at-run g c =
       end = omega (arith, below);
       begun = λ p limit stops task.
           let narrowed : IsNarrowed p stops task.plan c.args.whole chosen rest c.run_from-run.result.end at = subst (λ o. IfSome o (λ at. (p : Problem) (limit : ℕ) (stops : List (List ℕ)) (whole : Residual) (chosen : List ℕ) → (task : IsTask p limit stops pool whole) → IsBegun p stops task.plan whole c.loop-index.index chosen rest → IsNarrowed p stops task.plan whole chosen rest c.run_from-run.result.end at)) c.in-Some.is c.in_ok-at.ensures.next p limit stops c.args.whole chosen task (c.loop-index.invariant.begun p limit stops task) in
-          let after : IsAfter rest (route_in pool at) c.in-Some-without.left = c.in-Some-without.ensures in
+          let after : IsAfter rest (route_in pool at) c.in-Some-without.left = c.in-Some-without.ensures.after in
           subst (λ xs. IsBegun p stops task.plan c.args.whole (at + 1) xs c.in-Some-without.left) (sym c.in_ok-push.ensures.items)
           (taken_narrowed p limit stops pool c.args.whole task at chosen rest c.in-Some-without.left narrowed.begun below after (narrowed.next c.if-at-run.true));
     }

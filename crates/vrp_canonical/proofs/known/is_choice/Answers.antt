@@ -10,4 +10,4 @@ loop-route-preserved c =
     let i = c.loop-route.route-index in
     let route : Route = get_or routes i (record { set = 0; cost = 0 }) in
     subst (λ (rs : List Route). Leave c.args.part.now c.args.rest rs c.in-Some.next) (sym (take_more routes i (record { set = 0; cost = 0 }) c.loop-route-test.true))
-    (one_more c.args.part.now c.args.rest (take i routes) c.loop-route.left c.in-Some.next route c.loop-route.invariant (c.has_route.ensures c.if-not-has_route.false) c.in-Some.ensures)
+    (one_more c.args.part.now c.args.rest (take i routes) c.loop-route.left c.in-Some.next route c.loop-route.invariant (c.has_route.ensures c.if-not-has_route.false) c.in-Some.ensures.after)

@@ -1,0 +1,154 @@
+//! Plans found are the first ones, as a slow program finds them.
+
+use crate::assertion::assert_same;
+use crate::found::found_plan;
+use crate::guides::{Habit, Habitual};
+use crate::instances::{FIVE, SQUARE, at_points, with_ways};
+use crate::random::Random;
+use crate::slow::{First, first_plan};
+use std::alloc::Global;
+use std::process::Abort;
+use std::thread::Threads;
+use vrp_model::{Instance, Plan};
+use vrp_tree::lawful_plan;
+
+const ONE_WAY: &[u64] = &[
+    0, 3, 9, 4, 5, 8, 0, 2, 7, 6, 5, 6, 0, 1, 4, 9, 3, 8, 0, 2, 4, 4, 7, 3, 0,
+];
+
+// All ways cost the same, so that the order of symbols decides.
+const LEVEL: &[u64] = &[
+    0, 1, 1, 1, 1, 1, 0, 1, 1, 1, 1, 1, 0, 1, 1, 1, 1, 1, 0, 1, 1, 1, 1, 1, 0,
+];
+
+// Tight and loose, and with demands of 0.
+const DEMANDS: &[([u64; 5], u64)] = &[
+    ([0, 1, 2, 1, 2], 3),
+    ([0, 3, 5, 4, 2], 9),
+    ([0, 3, 5, 4, 2], 20),
+    ([0, 0, 2, 0, 1], 2),
+    ([0, 0, 0, 0, 0], 0),
+    ([0, 7, 9, 1, 3], 10),
+];
+
+#[test]
+fn plans_by_hand(rt: HostRuntime) {
+    let (rt, alloc) = (&rt, rt.alloc());
+    let mut plans = 0u64;
+    for (demands, capacity) in DEMANDS {
+        let instance = at_points(rt, alloc, FIVE, demands, *capacity);
+        plans = plans.saturating_add(plans_of(rt, alloc, &instance));
+        let instance = at_points(rt, alloc, SQUARE, demands, *capacity);
+        plans = plans.saturating_add(plans_of(rt, alloc, &instance));
+        let instance = with_ways(rt, alloc, LEVEL, demands, *capacity);
+        plans = plans.saturating_add(plans_of(rt, alloc, &instance));
+        let few = instance.with_trucks(2);
+        plans = plans.saturating_add(plans_of(rt, alloc, &few));
+        let instance = with_ways(rt, alloc, ONE_WAY, demands, *capacity);
+        plans = plans.saturating_add(plans_of(rt, alloc, &instance));
+        let few = instance.with_trucks(1);
+        plans = plans.saturating_add(plans_of(rt, alloc, &few));
+    }
+    assert!(rt; plans >= 150);
+}
+
+// Six customers, with ways of 1 to 3: many plans cost the same.
+#[test]
+fn plans_by_chance(rt: HostRuntime) {
+    let (rt, alloc) = (&rt, rt.alloc());
+    let mut random = Random(7);
+    let mut plans = 0u64;
+    for round in 0..12u16 {
+        let instance = by_chance(rt, alloc, &mut random);
+        plans = plans.saturating_add(plans_of(rt, alloc, &instance));
+        let few = instance.with_trucks(1 + round % 3);
+        plans = plans.saturating_add(plans_of(rt, alloc, &few));
+    }
+    assert!(rt; plans >= 60);
+}
+
+fn by_chance(rt: &impl Abort, alloc: Global, random: &mut Random) -> Instance {
+    let mut ways = Vec::new(alloc);
+    for _ in 0..49 {
+        ways.push(u64::from(1 + random.next() % 3))
+            .expect(rt, "memory");
+    }
+    let mut demands = Vec::new(alloc);
+    demands.push(0u64).expect(rt, "memory");
+    for _ in 0..6 {
+        demands
+            .push(u64::from(random.next() % 3))
+            .expect(rt, "memory");
+    }
+    with_ways(rt, alloc, ways.as_slice(), demands.as_slice(), 4)
+}
+
+// How many plans were found and are the first one: from it, and from the plan of one truck to each customer, by several guides.
+fn plans_of<R: Abort + Threads + Sync>(rt: &R, alloc: Global, instance: &Instance) -> u64 {
+    let Some(first) = first_plan(rt, alloc, instance) else {
+        return 0;
+    };
+    let known = lawful_plan(alloc, instance, first.word.as_slice()).expect(rt, "memory");
+    let least = known.expect(rt, "the first plan has a lawful word");
+    let mut plans = by_guides(rt, alloc, instance, &least, &first);
+    let singles = Plan::singles(alloc, instance).expect(rt, "memory");
+    if let Some(dear) = singles {
+        plans = plans.saturating_add(by_guides(rt, alloc, instance, &dear, &first));
+    }
+    plans
+}
+
+const GUIDES: &[(Habit, u64)] = &[(Habit::Zeros, 1), (Habit::Random, 2), (Habit::Random, 3)];
+
+fn by_guides<R: Abort + Threads + Sync>(
+    rt: &R,
+    alloc: Global,
+    instance: &Instance,
+    known: &Plan,
+    first: &First,
+) -> u64 {
+    let mut plans = 0u64;
+    for &(habit, seed) in GUIDES {
+        let random = Random(seed);
+        let guide = Habitual {
+            alloc,
+            habit,
+            random,
+        };
+        let found = found_plan(rt, alloc, instance, known, &guide, 1_000_000);
+        let plan = found.expect(rt, "memory").expect(rt, "a plan");
+        assert_same(rt, plan.cost(), first.cost, "cost");
+        assert!(rt; plan.word() == first.word.as_slice(), "{:?}", plan.word());
+        plans = plans.saturating_add(1);
+    }
+    plans
+}
+
+// A guide, a budget, and whether a plan is found.
+const LIMITS: &[(Habit, u64, bool)] = &[
+    (Habit::Zeros, 1_000, true),
+    (Habit::Zeros, 2, true),
+    (Habit::Zeros, 1, false),
+    (Habit::Zeros, 0, false),
+    (Habit::Stopping, 1_000, false),
+];
+
+// One truck carries all, and one round is the cheapest: one search finds it, and one more that no earlier route will do.
+#[test]
+fn budgets_and_guides_that_stop(rt: HostRuntime) {
+    let (rt, alloc) = (&rt, rt.alloc());
+    let instance = at_points(rt, alloc, FIVE, &[0, 1, 1, 1, 1], 4);
+    let singles = Plan::singles(alloc, &instance).expect(rt, "memory");
+    let known = singles.expect(rt, "a truck for each");
+    for &(habit, budget, wanted) in LIMITS {
+        let random = Random(5);
+        let guide = Habitual {
+            alloc,
+            habit,
+            random,
+        };
+        let found = found_plan(rt, alloc, &instance, &known, &guide, budget);
+        let plan = found.expect(rt, "memory");
+        assert_same(rt, plan.is_some(), wanted, (habit, budget));
+    }
+}
