@@ -143,7 +143,8 @@ impl Program {
             if low > enough {
                 return Ok(DualEnd::AboveLimit);
             }
-            if step % STEPS_BETWEEN == STEPS_BETWEEN - 1 && !ask.should_continue() {
+            let is_asked = step % STEPS_BETWEEN == STEPS_BETWEEN - 1;
+            if step == most || is_asked && !ask.should_continue() {
                 break;
             }
             if !self.dual_step(&leaving, &mut scratch)? {

@@ -16,8 +16,8 @@ const FEW_ROUTES: usize = 300;
 // With no more routes than these the search tries the exact cover, so prices for fewer routes would not pay.
 const MANY_ROUTES: usize = 3_000;
 
-// Of so many routes the dual simplex looks at a shortlist, which has so many.
-const MOST_LISTED: usize = 1_000;
+// Of more columns than these the dual simplex looks at a shortlist, which has so many.
+const MOST_LISTED: usize = 5_000;
 
 const MOST_CUTS: usize = 150;
 
@@ -170,14 +170,9 @@ impl<A: Ask> Node<'_, A> {
         } else {
             i64::MAX / 4
         };
-        let many = if self.program.routes.len() < MANY_ROUTES {
-            usize::MAX
-        } else {
-            MOST_LISTED
-        };
         let end = self
             .program
-            .dual_simplex(self.ask, MOST_DUAL_STEPS, limit, many)?;
+            .dual_simplex(self.ask, MOST_DUAL_STEPS, limit, MOST_LISTED)?;
         match end {
             DualEnd::Feasible => Ok(true),
             DualEnd::AboveLimit => Ok(false),

@@ -96,8 +96,10 @@ fn optima_of_small_programs(rt: HostRuntime) {
     for &(told, customers, trucks, twice) in OPTIMA {
         let mut program = solved(rt, alloc, told, customers, trucks);
         let bound = program.lower_bound(&[]).expect(rt, "memory");
-        let far = bound.saturating_sub(twice * (UNIT / 2)).saturating_abs();
-        let near = NEAR.max(twice / 2 * (UNIT / 256));
+        let far = bound
+            .saturating_sub(twice.saturating_mul(UNIT / 2))
+            .saturating_abs();
+        let near = NEAR.max((twice / 2).saturating_mul(UNIT / 256));
         assert!(rt;
             far <= near,
             "{bound} is not half of {twice}, of {customers}"
@@ -148,7 +150,7 @@ fn bounds_with_cuts(rt: HostRuntime) {
         let found = program.dual_simplex(&Until::new(1_000), 1_000, limit, 4);
         assert_same(rt, found.expect(rt, "memory"), end, customers);
         let bound = program.lower_bound(&[]).expect(rt, "memory");
-        let far = bound.saturating_sub(wanted * UNIT);
+        let far = bound.saturating_sub(wanted.saturating_mul(UNIT));
         assert!(rt; far >= -NEAR, "{bound} is below {wanted}, of {customers}");
         assert!(rt;
             end == DualEnd::Ray || far <= NEAR,
