@@ -1,12 +1,12 @@
 -- Which routes of a pool stand in no cheap choice, by their reduced costs.
-use Rattle.std.proofs.Common.{◌≡◌, ℕ, ◌+◌, ◌<◌, ◌≤◌, inl, inr, Bool, true, false, List, get_or, length, map, sym, ◌∙◌, ap, subst, arith, ℤ, pos, ◌≤ℤ◌, ◌<ℤ◌, int_le}
-use Rattle.std.specs.List.{All, Contains, filter}
+use Rattle.std.proofs.Common.{◌≡◌, ℕ, ◌<◌, inl, inr, Bool, true, false, List, get_or, length, map, sym, ◌∙◌, ap, arith, ℤ, pos, ◌<ℤ◌, int_le}
+use Rattle.std.specs.List.{Contains, filter}
 use Rattle.std.proofs.lemmas.Bool.{cases_lt, true≢false}
 use Rattle.std.proofs.lemmas.List.{get_or-map, length-map}
 use Rattle.std.proofs.lemmas.List.Elements.{All-contains, filter_passes}
-use Rattle.vrp_partition.specs.Choice.{IsChoice, cost_of, set_of}
+use Rattle.vrp_partition.specs.Choice.{cost_of}
 use Rattle.vrp_partition.specs.Pricing.{IsPriced, MarksWithin}
-use Rattle.vrp_partition.specs.Prices.{AreValid, NoneNegative, Prices, gap_of, is_within_gap, reduced_cost_of}
+use Rattle.vrp_partition.specs.Prices.{Prices, gap_of, is_within_gap, reduced_cost_of}
 use Rattle.vrp_partition.specs.declared.priced.PricedPool.{PricedPool}
 use Rattle.vrp_partition.specs.declared.prices.TheConstants.{SCALE}
 use Rattle.vrp_partition.specs.declared.route.Route.{Route}

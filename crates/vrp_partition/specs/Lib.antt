@@ -1,5 +1,6 @@
 pub mod Choice
 pub mod Prices
 pub mod Covering
+pub mod Narrowing
 pub mod Outcome
 pub mod Pricing

@@ -13,8 +13,12 @@ pub record IsPriced (pool : List Route) (customers : ℕ) (priced : PricedPool) 
   pub costs : priced.costs.items ≡ map (reduced_cost_of priced.prices SCALE) pool
   pub none : All (λ cost. pos 0 ≤ℤ cost) priced.costs.items
 
--- each route that is not marked stands in no choice that costs no more than the limit
+-- no choice that costs no more than the limit has the route
+abbrev pub StandsInNone : List Route → ℕ → ℕ → ℕ → Route → Type 0
+StandsInNone pool customers trucks limit route = (routes : List Route) → IsChoice set_of pool customers trucks routes → Contains routes route → limit < cost_of routes
+
+-- each route that is not marked stands in none
 pub record MarksWithin (pool : List Route) (customers trucks limit : ℕ) (marks : List Bool) : Type 0 where
   pub long : length marks ≡ length pool
   pub rest : (at : ℕ) (route : Route) → at < length pool → slice_index_or marks at false ≡ false
-      → (routes : List Route) → IsChoice set_of pool customers trucks routes → Contains routes (slice_index_or pool at route) → limit < cost_of routes
+      → StandsInNone pool customers trucks limit (slice_index_or pool at route)

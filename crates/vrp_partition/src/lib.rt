@@ -4,6 +4,7 @@
 mod cover;
 mod guide;
 mod law;
+mod narrowing;
 mod pool;
 mod priced;
 mod prices;
@@ -16,8 +17,8 @@ pub use law::{
     choices_branch, costly_routes_left_out, demand_brings_routes, no_choice_in_a_negative_gap,
     prices_bound_choices,
 };
+pub use narrowing::routes_within;
 pub use pool::{all_fit, apart, none_negative, reduced_costs, together, within_gap};
-pub use priced::routes_within;
 pub use prices::{Cut, MOST_CUSTOMERS, PriceOffer, Prices, SCALE};
 pub use route::Route;
 pub use search::{Chosen, NodeOutcome, cheapest_choice};

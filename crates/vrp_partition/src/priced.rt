@@ -18,9 +18,8 @@ pub(crate) struct PricedPool {
 }
 
 /// For each route of the pool whether it may stand in a choice of so many trucks that costs no more than the limit, by prices that
-/// the guide offers: one that may not is `false`. How many are `false` is left open. The demands are those of customers 0 to 127,
-/// and each route of the pool has to fit one truck.
-pub fn routes_within<P: Guide>(
+/// the guide offers for the pool: one that may not is `false`. How many are `false` is left open.
+pub(crate) fn marks_by_prices<P: Guide>(
     alloc: Global,
     guide: &mut P,
     demands: &[u32],

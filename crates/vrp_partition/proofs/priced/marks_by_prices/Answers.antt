@@ -1,12 +1,11 @@
-use Rattle.std.proofs.Common.{◌≡◌, ◌+◌, ◌-◌, ◌<ℤ◌, ℕ, ℤ, pos, negsuc, IfSome, List, Vec, Global, Bool, int_le, map, ap, subst, ◌∙◌, sym, arith, to_z, of_z, w64, SFits, rules}
+use Rattle.std.proofs.Common.{◌≡◌, ◌<ℤ◌, pos, negsuc, IfSome, int_le, map, ap, subst, ◌∙◌, sym, arith, to_z, of_z, w64, SFits, rules}
 use Rattle.std.proofs.lemmas.Int.{to_z-of_z}
 use Rattle.std.proofs.lemmas.Result.{IfOk-weaker}
 use Rattle.vrp_partition.specs.Pricing.{IsPriced, MarksWithin}
 use Rattle.vrp_partition.specs.Prices.{gap_of}
-use Rattle.vrp_partition.specs.declared.priced.PricedPool.{PricedPool}
 use Rattle.vrp_partition.specs.declared.prices.TheConstants.{SCALE}
 use Rattle.vrp_partition.proofs.MarkedRoutes.{marked, marked_none}
-use Rattle.vrp_partition.proofs.priced.routes_within.Goals as goal
+use Rattle.vrp_partition.proofs.priced.marks_by_prices.Goals as goal
 
 pub returns-in-Some-gap_below : goal.returns-in-Some-gap_below
 returns-in-Some-gap_below g c =

@@ -1,0 +1,5 @@
+use Rattle.vrp_partition.specs.Narrowing.{IsNarrowed}
+use Rattle.vrp_partition.proofs.narrowing.narrowed_in_rounds.Given as goal
+
+abbrev pub invariant-loop : goal.invariant-loop
+invariant-loop g l = IsNarrowed l.pool l.customers l.trucks l.limit l.kept
