@@ -15,6 +15,11 @@ pub(crate) const LEAST_PREPARED_BUDGET: u64 = 1_000;
 // With fewer partial plans in all, ruin and recreate would take longer than the search: savings alone make the first plan.
 const LEAST_FOR_MOVES: u64 = 100_000;
 
+// From so many customers on a run makes more moves: each unit of cost by which the first plan misses the best adds useful routes.
+const MANY_CUSTOMERS: u16 = 50;
+
+const MORE_MOVES: u32 = 3 * ENOUGH_MOVES;
+
 // The most customers near each place that walks remember: with more, a round takes longer than it gains.
 const MOST_REMEMBERED: usize = 3;
 
@@ -29,8 +34,10 @@ pub(crate) fn first_plan<R, G: Gate>(shared: &Shared<'_, R, G>) -> Result<Option
     }
     let moves = if shared.budget_in_all() < LEAST_FOR_MOVES {
         0
-    } else {
+    } else if shared.instance.customers() < MANY_CUSTOMERS {
         ENOUGH_MOVES
+    } else {
+        MORE_MOVES
     };
     let gate = shared.gate;
     gate.hears(News::FirstPlan);
