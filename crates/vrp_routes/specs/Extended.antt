@@ -1,11 +1,11 @@
 -- What comes of extending labels.
 use Rattle.std.specs.Prelude.{List, Vec}
-use Rattle.vrp_routes.specs.declared.label.Label.{Label}
 use Rattle.std.specs.Global.{Global}
+use Rattle.vrp_routes.specs.declared.label.Label.{Label}
 use Rattle.vrp_routes.specs.declared.level.Extended.{Extended}
 use Rattle.vrp_routes.specs.declared.level.Extended.TheVariants.{Labels, Met}
 use Rattle.vrp_routes.specs.declared.level.Parts.{Parts}
-use Rattle.vrp_routes.specs.declared.level.Parts.TheVariants as parts
+use Rattle.vrp_routes.specs.declared.level.Parts.TheVariants.{Found, Stopped}
 
 -- a fact of the labels, where there are some
 abbrev pub IfLabels : Extended → (List Label → Type 0) → Type 0
@@ -14,5 +14,5 @@ IfLabels (Met limit) P = Unit {0}
 
 -- a fact of the parts, where there are some
 abbrev pub IfParts : Parts → (List (Vec Label Global) → Type 0) → Type 0
-IfParts (parts.Labels parts) P = P parts.items
-IfParts (parts.Met limit) P = Unit {0}
+IfParts (Found parts) P = P parts.items
+IfParts (Stopped limit) P = Unit {0}

@@ -9,9 +9,9 @@ use Rattle.vrp_routes.specs.declared.candidates.Candidates.{Candidates}
 use Rattle.vrp_routes.specs.declared.label.Label.{Label}
 
 -- candidates of the shares from the first one on, of so many
-pub record AreShares (shares first : ℕ) (all : List Candidates) : Type 0 where
+pub record AreShares (total first : ℕ) (all : List Candidates) : Type 0 where
   pub keyed : (i : ℕ) (d : Candidates) → i < length all → IsKeyed (slice_index_or all i d)
-  pub shares : (i : ℕ) (d : Candidates) → i < length all → (slice_index_or all i d).share.shares ≡ shares
+  pub shares : (i : ℕ) (d : Candidates) → i < length all → (slice_index_or all i d).share.shares ≡ total
   pub rests : (i : ℕ) (d : Candidates) → i < length all → (slice_index_or all i d).share.rest ≡ first + i
 
 -- what is known of each worker's before it goes on

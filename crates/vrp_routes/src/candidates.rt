@@ -88,7 +88,7 @@ impl Candidates {
             if let Some(extended) = setting.extended(label, stop as u16, parent) {
                 self.offer(extended)?;
             }
-            stop += u32::from(share.shares);
+            stop = share.next(stop);
         }
         Ok(())
     }

@@ -1,6 +1,5 @@
 //! Which customers labels are extended by at a time.
-ghost use Rattle.std.specs.Prelude.{◌≡◌, ◌≤◌, ◌<◌, ◌%◌, ℕ, true};
-ghost use Rattle.vrp_routes.specs.Share.{is_in};
+ghost use Rattle.std.specs.Prelude.{◌≡◌, ◌+◌, ◌%◌, ◌^◌, ◌<◌, ◌≤◌, ℕ, true};
 
 /// One of so many shares of the customers: those whose number leaves this rest.
 #[derive(Clone, Copy, Debug)]
@@ -11,7 +10,9 @@ pub struct Share {
 }
 
 impl Share {
-    /// The lowest customer of the share; the next one's number is greater by the number of shares, and so on.
+    ghost use Rattle.vrp_routes.specs.Share.{is_in};
+
+    /// The lowest customer of the share.
     #[inline(always)]
     pub fn first(&self) -> u32
         ensures some { 1 ≤ result }
@@ -23,5 +24,14 @@ impl Share {
         } else {
             u32::from(self.rest)
         }
+    }
+
+    /// The customer of the share behind this one of it.
+    #[inline(always)]
+    pub fn next(&self, customer: u32) -> u32
+        requires { customer < 2 ^ 16 }
+        ensures { result ≡ customer + self.now.shares }
+    {
+        customer + u32::from(self.shares)
     }
 }
