@@ -1,5 +1,5 @@
 -- The extensions of a level's labels, as they are offered one by one.
-use Rattle.std.proofs.Common.{◌≡◌, ℕ, zero, suc, ◌+◌, ◌<◌, ◌≤◌, ◌==◌, ◌&&◌, append_assoc, Bool, true, false, if◌then◌else◌, inl, inr, None, Some, List, [], ◌∷◌, ◌++◌, length, length-append, get_or, refl, sym, ap, subst, ◌∙◌, arith}
+use Rattle.std.proofs.Common.{◌≡◌, ℕ, zero, suc, ◌+◌, ◌%◌, ◌<◌, ◌≤◌, ◌==◌, ◌&&◌, append_assoc, Bool, true, false, if◌then◌else◌, inl, inr, None, Some, List, [], ◌∷◌, ◌++◌, length, length-append, get_or, refl, sym, ap, subst, ◌∙◌, arith}
 use Rattle.std.specs.List.{All, AllPairs, Contains}
 use Rattle.std.specs.Map.{lookup}
 use Rattle.std.proofs.lemmas.Bool.{cases_Bool, cases_lt, eqb-true, false≢true}
@@ -20,8 +20,10 @@ use Rattle.vrp_routes.specs.Share.{is_in}
 use Rattle.vrp_routes.specs.Useful.{BeginsUseful, IsUseful}
 use Rattle.vrp_routes.specs.declared.label.Label.{Label}
 use Rattle.vrp_routes.specs.declared.candidates.Candidates.{Candidates}
+use Rattle.vrp_routes.specs.declared.share.Share.{Share}
 use Rattle.vrp_routes.proofs.CheapBeginnings.{ends_at, useful_begins}
 use Rattle.vrp_routes.proofs.Replaced.{earlier_longer, no_better_beginning}
+use Rattle.vrp_routes.proofs.Rests.{none_between}
 use Rattle.vrp_routes.proofs.Sets.{same_set}
 
 -- ---- keys
@@ -142,6 +144,22 @@ passed s k stops i c level has none = moved s k stops i c i (c + 1) level has on
           | inr above ↦ (let is : n ≡ c = omega (arith, above, less) in absurd (none (subst (λ n. is_in level.share n ≡ true) is mine) (subst (λ (n : ℕ). BeginsUseful s.relaxation.problem s.limit (get_or stops i [] ++ n ∷ [])) is (subst (λ (m : ℕ). BeginsUseful s.relaxation.problem s.limit (get_or stops m [] ++ n ∷ [])) same useful))))
         ]
 
+-- nor are several of another share
+pub skipped : (s : SettingOf) (k : ℕ) (stops : List (List ℕ)) (i c d : ℕ) (level : Candidates) → HasExtensions s k stops i c level → c ≤ d → ((n : ℕ) → c ≤ n → n < d → is_in level.share n ≡ true → ⊥) → HasExtensions s k stops i d level
+skipped s k stops i c d level has no_more none = moved s k stops i c i d level has on back
+  where
+    on : (m n : ℕ) → IsBefore m n i c → IsBefore m n i d
+    on m n (inl less) = inl less
+    on m n (inr (same, less)) = inr (same, omega (arith, less, no_more))
+
+    back : (m n : ℕ) → IsBefore m n i d → m < length stops → is_in level.share n ≡ true → BeginsUseful s.relaxation.problem s.limit (get_or stops m [] ++ n ∷ []) → IsBefore m n i c
+    back m n (inl less) lt mine useful = inl less
+    back m n (inr (same, less)) lt mine useful =
+        elim (cases_lt n c) [
+          | inl below ↦ inr (same, below)
+          | inr above ↦ absurd (none n above less mine)
+        ]
+
 -- the last stop of a useful beginning is a customer
 last_customer : (p : Problem) (limit : ℕ) (xs : List ℕ) (k : ℕ) → BeginsUseful p limit (xs ++ k ∷ []) → Contains (customers p) k
 last_customer p limit xs k useful = subst (Contains (customers p)) (at_end xs k 0) ((useful_begins p limit (xs ++ k ∷ []) useful).known (length xs) 0 (omega (arith, length-append xs (k ∷ []))))
@@ -165,6 +183,16 @@ all_extensions s k stops i c level all has = moved s k stops i c (i + 1) 0 level
 -- and none at the depot
 pub first_extension : (s : SettingOf) (k : ℕ) (stops : List (List ℕ)) (i : ℕ) (level : Candidates) → HasExtensions s k stops i 0 level → HasExtensions s k stops i 1 level
 first_extension s k stops i level has = passed s k stops i 0 level has (λ mine useful. (let some = customer_is_some s.relaxation.problem 0 (last_customer s.relaxation.problem s.limit (get_or stops i []) 0 useful) in omega (arith, some)))
+
+-- the extensions up to the first customer of the share
+pub up_to_first : (s : SettingOf) (k : ℕ) (stops : List (List ℕ)) (i c : ℕ) (level : Candidates) → 1 ≤ c → ((n : ℕ) → 1 ≤ n → n < c → is_in level.share n ≡ true → ⊥) → HasExtensions s k stops i 0 level → HasExtensions s k stops i c level
+up_to_first s k stops i c level some none has = skipped s k stops i 1 c level (first_extension s k stops i level has) some none
+
+-- and from one to the next
+pub up_to_next : (s : SettingOf) (k : ℕ) (stops : List (List ℕ)) (i c : ℕ) (share : Share) (level : Candidates) → level.share ≡ share → c % share.shares ≡ share.rest → HasExtensions s k stops i (c + 1) level → HasExtensions s k stops i (c + share.shares) level
+up_to_next s k stops i c share level same is has =
+    skipped s k stops i (c + 1) (c + share.shares) level has (omega (arith, share.some))
+    (λ n above below mine. none_between share.shares share.rest c n is (omega (arith, above)) below (eqb-true (n % share.shares) share.rest (subst (λ (own : Share). is_in own n ≡ true) same mine)))
 
 shorter : (p : Problem) (limit : ℕ) (xs : List ℕ) (k : ℕ) → BeginsUseful p limit (xs ++ k ∷ []) → BeginsUseful p limit xs
 shorter p limit xs k (more, useful) = (k ∷ more, subst (IsUseful p limit) (simp append_assoc) useful)

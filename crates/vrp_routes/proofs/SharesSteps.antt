@@ -1,14 +1,16 @@
 -- What several workers find, put together.
-use Rattle.std.proofs.Common.{◌≡◌, ℕ, ◌+◌, ◌%◌, ◌<◌, true, inl, inr, nat_lt, Ok, Err, IfOk, Result, List, [], ◌∷◌, ◌++◌, map, length, get_or, sym, ap, subst, ◌∙◌, append_assoc, append-nil, eq-eqb, arith}
+use Rattle.std.proofs.Common.{◌≡◌, ℕ, ◌+◌, ◌-◌, ◌%◌, ◌<◌, true, inl, inr, nat_lt, Ok, Err, IfOk, Result, List, Vec, Global, [], ◌∷◌, ◌++◌, map, length, length-append, get_or, refl, sym, ap, subst, ◌∙◌, append_assoc, append-nil, eq-eqb, arith}
 use Rattle.std.proofs.lemmas.Bool.{cases_lt, eqb-true}
 use Rattle.std.proofs.lemmas.Bool.Decides.{nat_tests}
-use Rattle.std.proofs.lemmas.List.{get_or-map, get_or_append_left, get_or_push, length-map, map_push}
+use Rattle.std.proofs.Math.Seq.{get_or-append_seam}
+use Rattle.std.proofs.lemmas.List.{get_or-append_right, get_or-map, get_or_append_left, get_or_push, length-map, map_push}
 use Rattle.std.proofs.lemmas.List.Elements.{All-nil}
 use Rattle.vrp_model.specs.Word.{last_symbol}
 use Rattle.vrp_routes.specs.Label.{SettingOf}
 use Rattle.vrp_routes.specs.Level.{IsShare}
 use Rattle.vrp_routes.specs.Merge.{IsMerged}
 use Rattle.vrp_routes.specs.Share.{has_rest, is_in_first}
+use Rattle.vrp_routes.specs.Shares.{AreParts}
 use Rattle.vrp_routes.specs.declared.label.Label.{Label}
 use Rattle.vrp_routes.proofs.MergeSteps.{merged_shares}
 
@@ -44,6 +46,25 @@ one_part_more s k workers m before left right merged share also is =
 -- all customers are in one of all shares
 pub in_some_share : (workers c : ℕ) → 0 < workers → is_in_first workers workers c ≡ true
 in_some_share workers c some = tests_below (c % workers) workers (omega arith)
+
+-- the parts of more shares
+pub more_parts : (s : SettingOf) (k : ℕ) (before : List (List ℕ)) (shares : ℕ) (xs ys : List (Vec Label Global)) → AreParts s k before shares 0 xs → AreParts s k before shares (length xs) ys → AreParts s k before shares 0 (xs ++ ys)
+more_parts s k before shares xs ys first more i d lt = elim (cases_lt i (length xs)) [
+  | inl below ↦ subst (λ (v : Vec Label Global). IsShare s k (has_rest shares (0 + i)) before v.items) (sym (get_or_append_left xs ys d i below)) (first i d below)
+  | inr above ↦
+      let place : length xs + (i - length xs) ≡ 0 + i = omega (arith, above) in
+      subst (λ (v : Vec Label Global). IsShare s k (has_rest shares (0 + i)) before v.items) (sym (get_or-append_right xs ys (length xs) i d refl above))
+      (subst (λ n. IsShare s k (has_rest shares n) before (get_or ys (i - length xs) d).items) place (more (i - length xs) d (omega (arith, above, lt, length-append xs ys))))
+]
+
+-- the part of the next share
+pub part_at : (s : SettingOf) (k : ℕ) (before : List (List ℕ)) (shares : ℕ) (parts yielded rest : List (Vec Label Global)) (part : Vec Label Global) → parts ≡ yielded ++ part ∷ rest → AreParts s k before shares 0 parts → IsShare s k (has_rest shares (length yielded)) before part.items
+part_at s k before shares parts yielded rest part is are =
+    let at : get_or parts (length yielded) part ≡ part = ap (λ (vs : List (Vec Label Global)). get_or vs (length yielded) part) is ∙ get_or-append_seam yielded part rest part in
+    let within : length yielded < length parts = omega (arith, ap length is, length-append yielded (part ∷ rest)) in
+    let place : 0 + length yielded ≡ length yielded = omega arith in
+    subst (λ n. IsShare s k (has_rest shares n) before part.items) place
+    (subst (λ (v : Vec Label Global). IsShare s k (has_rest shares (0 + length yielded)) before v.items) at (are (length yielded) part within))
 
 -- ---- values
 

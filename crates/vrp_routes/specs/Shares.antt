@@ -1,19 +1,18 @@
--- The candidates of several workers, each with a share of the customers.
-use Rattle.std.specs.Prelude.{◌≡◌, ℕ, ◌<◌, List, Vec, length, slice_index_or}
+-- The candidates of some shares of the customers, one for each worker, and the labels that are kept of them.
+use Rattle.std.specs.Prelude.{◌≡◌, ℕ, ◌+◌, ◌<◌, List, Vec, length, slice_index_or}
 use Rattle.std.specs.Global.{Global}
 use Rattle.vrp_routes.specs.Candidates.{HasExtensions, IsGrown, IsKeyed}
 use Rattle.vrp_routes.specs.Label.{SettingOf}
 use Rattle.vrp_routes.specs.Level.{IsLevel, IsShare}
-use Rattle.vrp_routes.specs.Share.{is_in}
+use Rattle.vrp_routes.specs.Share.{has_rest, is_in}
 use Rattle.vrp_routes.specs.declared.candidates.Candidates.{Candidates}
 use Rattle.vrp_routes.specs.declared.label.Label.{Label}
 
--- so many workers, each with the share of its number
-pub record AreShares (workers : ℕ) (all : List Candidates) : Type 0 where
-  pub count : length all ≡ workers
-  pub keyed : (i : ℕ) (d : Candidates) → i < workers → IsKeyed (slice_index_or all i d)
-  pub shares : (i : ℕ) (d : Candidates) → i < workers → (slice_index_or all i d).share.shares ≡ workers
-  pub rests : (i : ℕ) (d : Candidates) → i < workers → (slice_index_or all i d).share.rest ≡ i
+-- candidates of the shares from the first one on, of so many
+pub record AreShares (total first : ℕ) (all : List Candidates) : Type 0 where
+  pub keyed : (i : ℕ) (d : Candidates) → i < length all → IsKeyed (slice_index_or all i d)
+  pub shares : (i : ℕ) (d : Candidates) → i < length all → (slice_index_or all i d).share.shares ≡ total
+  pub rests : (i : ℕ) (d : Candidates) → i < length all → (slice_index_or all i d).share.rest ≡ first + i
 
 -- what is known of each worker's before it goes on
 abbrev pub AreKeyed : List Candidates → Type 0
@@ -37,3 +36,7 @@ IsPart found labels = (s : SettingOf) (k : ℕ) (before : List (List ℕ)) → I
 -- each has the extensions of the labels before this one
 abbrev pub AreFinding : SettingOf → ℕ → List (List ℕ) → ℕ → List Candidates → Type 0
 AreFinding s k stops parent shares = (i : ℕ) (d : Candidates) → i < length shares → HasExtensions s k stops parent 0 (slice_index_or shares i d)
+
+-- these are the labels of the shares from the first one on, of so many
+abbrev pub AreParts : SettingOf → ℕ → List (List ℕ) → ℕ → ℕ → List (Vec Label Global) → Type 0
+AreParts s k before shares first parts = (i : ℕ) (d : Vec Label Global) → i < length parts → IsShare s k (has_rest shares (first + i)) before (slice_index_or parts i d).items

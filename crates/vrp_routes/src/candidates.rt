@@ -82,14 +82,13 @@ impl Candidates {
         ensures share { OnOk result (self.new.share ≡ self.old.share) }
     {
         let share = self.share;
-        let mut rest = 1 % share.shares;
-        for stop in 1..setting.places() {
-            if rest == share.rest {
-                if let Some(extended) = setting.extended(label, stop, parent) {
-                    self.offer(extended)?;
-                }
+        let places = u32::from(setting.places());
+        let mut stop = share.first();
+        while stop < places {
+            if let Some(extended) = setting.extended(label, stop as u16, parent) {
+                self.offer(extended)?;
             }
-            rest = share.next_rest(rest);
+            stop = share.next(stop);
         }
         Ok(())
     }

@@ -1,24 +1,37 @@
-//! Which customers a worker extends labels by.
-ghost use Rattle.std.specs.Prelude.{◌≡◌, ◌+◌, ◌%◌, ◌<◌, ℕ};
+//! Which customers labels are extended by at a time.
+ghost use Rattle.std.specs.Prelude.{◌≡◌, ◌+◌, ◌%◌, ◌^◌, ◌<◌, ◌≤◌, ℕ, true};
 
 /// One of so many shares of the customers: those whose number leaves this rest.
 #[derive(Clone, Copy, Debug)]
 pub struct Share {
     pub shares: u16,
     pub rest: u16,
-    ghost some: { 0 < shares },
+    ghost some: { rest < shares },
 }
 
 impl Share {
-    /// The rest of the customer behind one with this rest.
-    // Counted on, since a division for each customer would take most of the time.
+    ghost use Rattle.vrp_routes.specs.Share.{is_in};
+
+    /// The lowest customer of the share.
     #[inline(always)]
-    pub fn next_rest(&self, rest: u16) -> u16
-        requires { rest < self.now.shares }
-        ensures { (customer : ℕ) → rest ≡ customer % self.now.shares
-            → result ≡ (customer + 1) % self.now.shares }
+    pub fn first(&self) -> u32
+        ensures some { 1 ≤ result }
+        ensures rest { result % self.now.shares ≡ self.now.rest }
+        ensures lowest { (customer : ℕ) → 1 ≤ customer → customer < result → is_in self.now customer ≡ true → ⊥ }
     {
-        let last = self.shares - 1;
-        if rest == last { 0 } else { rest + 1 }
+        if self.rest == 0 {
+            u32::from(self.shares)
+        } else {
+            u32::from(self.rest)
+        }
+    }
+
+    /// The customer of the share behind this one of it.
+    #[inline(always)]
+    pub fn next(&self, customer: u32) -> u32
+        requires { customer < 2 ^ 16 }
+        ensures { result ≡ customer + self.now.shares }
+    {
+        customer + u32::from(self.shares)
     }
 }

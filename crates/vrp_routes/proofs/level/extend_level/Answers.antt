@@ -1,56 +1,44 @@
-use Rattle.std.proofs.Common.{◌∙◌, ◌+◌, ◌<◌, length, get_or, ap, sym, subst, arith}
-use Rattle.vrp_routes.specs.Candidates.{IsKeyed}
+use Rattle.std.proofs.Common.{◌≡◌, ◌+◌, ◌<◌, ◌++◌, length, length-append, vec_len, ap, sym, subst, arith}
+use Rattle.vrp_routes.specs.Extended.{IfParts}
+use Rattle.vrp_routes.specs.Level.{IsLevel, IsShare}
 use Rattle.vrp_routes.specs.Share.{is_in_first}
-use Rattle.vrp_routes.specs.declared.share.Share.{Share}
-use Rattle.vrp_routes.proofs.Extensions.{all_grown, no_extensions, whole_level}
-use Rattle.vrp_routes.proofs.SharesSteps.{in_some_share}
+use Rattle.vrp_routes.specs.Shares.{AreParts}
+use Rattle.vrp_routes.specs.declared.level.Parts.{Parts}
+use Rattle.vrp_routes.proofs.Extensions.{whole_level}
+use Rattle.vrp_routes.proofs.SharesSteps.{in_some_share, more_parts}
 use Rattle.vrp_routes.proofs.level.extend_level.Goals as goal
 
-pub loop-from-init : goal.loop-from-init
-loop-from-init g c =
-    let shares = c.in_ok-shares.shares.items in
+pub loop-first-preserved : goal.loop-first-preserved
+loop-first-preserved g c =
+    let s = c.args.setting.now in
+    let first = c.loop-first.first in
+    let count = c.min-count.result in
+    let shares = c.max-shares.result in
+    let known = c.loop-first.invariant in
+    let parts = c.loop-first.parts.items in
+    let more = c.in-Found.more.items in
+    let all : c.append.new.self.items ≡ parts ++ more = c.in_ok-append-in-Found.ensures.items in
+    let many : length more ≡ count = subst (λ (found : Parts). IfParts found (λ ps. length ps ≡ count)) c.in-Found.is c.in_ok-found.ensures.count in
     record {
-      within = omega arith;
-      shares = c.in_ok-shares.ensures.0;
-      finding = λ k stops is i d lt. no_extensions c.args.setting.now k stops c.args.labels.now (get_or shares i d) is (c.in_ok-shares.ensures.1 i d (omega (arith, lt, c.in_ok-shares.ensures.0.count)));
-    }
-
-pub extended_by_all-requires-clause-keyed : goal.extended_by_all-requires-clause-keyed
-extended_by_all-requires-clause-keyed g c = λ _ _ i found lt is. subst IsKeyed (sym is) (c.loop-from.invariant.shares.keyed i found (omega (arith, lt, c.loop-from.invariant.shares.count)))
-
-pub loop-from-preserved : goal.loop-from-preserved
-loop-from-preserved g c =
-    let known = c.loop-from.invariant in
-    let further = c.in_ok-shares-2.ensures in
-    let count = known.shares.count in
-    record {
-      within = omega (arith, c.min-to.ensures);
-      shares = record {
-        count = further.count ∙ count;
-        keyed = λ i d lt. (further.each i d d (omega (arith, lt, count))).keyed;
-        shares = λ i d lt. ap (λ (share : Share). share.shares) (further.each i d d (omega (arith, lt, count))).share ∙ known.shares.shares i d lt;
-        rests = λ i d lt. ap (λ (share : Share). share.rest) (further.each i d d (omega (arith, lt, count))).share ∙ known.shares.rests i d lt;
-      };
-      finding = λ k stops is i d lt. (let within : i < length c.loop-from.shares.items = omega (arith, lt, further.count) in (further.each i d d within).extensions k stops is (known.finding k stops is i d within));
+      within = omega (arith, c.min-count.ensures, known.within);
+      count = omega (arith, ap length all, length-append parts more, many, known.count);
+      parts = λ k stops is.
+          let also : AreParts s (k + 1) stops shares first more = (subst (λ (found : Parts). IfParts found (λ ps. (k : _) (stops : _) → IsLevel s k stops c.args.labels.now → AreParts s (k + 1) stops shares first ps)) c.in-Found.is c.in_ok-found.ensures.parts) k stops is in
+          subst (AreParts s (k + 1) stops shares 0) (sym all)
+          (more_parts s (k + 1) stops shares parts more (known.parts k stops is) (subst (λ n. AreParts s (k + 1) stops shares n more) (sym known.count) also));
     }
 
 pub returns-clause-level : goal.returns-clause-level
 returns-clause-level g c = λ k stops is.
     let s = c.args.setting.now in
-    let labels = c.args.labels.now in
-    let shares = c.loop-from.shares.items in
-    let known = c.loop-from.invariant in
-    whole_level s k (is_in_first c.args.workers c.args.workers) stops labels c.in_ok-next.next.items is (λ customer. in_some_share c.args.workers customer c.requires.workers)
-    (c.in_ok-next.ensures c.args.workers s (k + 1) stops c.requires.workers known.shares (λ i d lt.
-    all_grown s k stops labels (get_or shares i d) c.loop-from.from is (omega (arith, is.are.long, c.loop-from-test.false)) (known.finding k stops is i d (omega (arith, lt, known.shares.count)))))
+    let shares = c.max-shares.result in
+    let some : 0 < shares = omega (arith, c.max-shares.ensures, c.requires.workers) in
+    let all : vec_len c.loop-first.parts ≡ shares = omega (arith, c.loop-first.parts.ok, c.loop-first.invariant.count, c.loop-first.invariant.within, c.loop-first-test.false) in
+    let share = subst (λ n. IsShare s (k + 1) (is_in_first shares n) stops c.in_ok-next.next.items) all (c.in_ok-next.ensures s (k + 1) stops shares some (c.loop-first.invariant.parts k stops is)) in
+    whole_level s k (is_in_first shares shares) stops c.args.labels.now c.in_ok-next.next.items is (λ customer. in_some_share shares customer some) share
 
 pub returns-clause-parents : goal.returns-clause-parents
 returns-clause-parents g c =
     let (k, stops, is) = c.requires.level in
-    let s = c.args.setting.now in
-    let labels = c.args.labels.now in
-    let shares = c.loop-from.shares.items in
-    let known = c.loop-from.invariant in
-    let share = c.in_ok-next.ensures c.args.workers s (k + 1) stops c.requires.workers known.shares (λ i d lt.
-    all_grown s k stops labels (get_or shares i d) c.loop-from.from is (omega (arith, is.are.long, c.loop-from-test.false)) (known.finding k stops is i d (omega (arith, lt, known.shares.count)))) in
+    let share : IsShare c.args.setting.now (k + 1) (is_in_first c.max-shares.result (vec_len c.loop-first.parts)) stops c.in_ok-next.next.items = c.in_ok-next.ensures c.args.setting.now (k + 1) stops c.max-shares.result (omega (arith, c.max-shares.ensures, c.requires.workers)) (c.loop-first.invariant.parts k stops is) in
     λ i d lt. omega (arith, share.are.parents i d lt, is.are.long)

@@ -1,15 +1,15 @@
-use Rattle.std.proofs.Common.{◌≤◌, ℕ, List, ◌-◌, length}
+use Rattle.std.proofs.Common.{◌≡◌, ◌+◌, ◌-◌, ◌≤◌, ℕ, List, length}
 use Rattle.vrp_routes.specs.Level.{IsLevel}
-use Rattle.vrp_routes.specs.Shares.{AreFinding, AreShares}
+use Rattle.vrp_routes.specs.Shares.{AreParts}
 use Rattle.vrp_routes.proofs.level.extend_level.Given as goal
 
--- the labels so far were extended by all shares
-abbrev pub invariant-loop-from : goal.invariant-loop-from
-invariant-loop-from g l = record {
-  within : l.from ≤ length l.labels;
-  shares : AreShares l.workers l.shares.items;
-  finding : (k : ℕ) (stops : List (List ℕ)) → IsLevel l.setting k stops l.labels → AreFinding l.setting k stops l.from l.shares.items;
+-- the labels were extended by the first shares
+abbrev pub invariant-loop-first : goal.invariant-loop-first
+invariant-loop-first g l = record {
+  within : l.first ≤ l.shares;
+  count : length l.parts.items ≡ l.first;
+  parts : (k : ℕ) (stops : List (List ℕ)) → IsLevel l.setting k stops l.labels → AreParts l.setting (k + 1) stops l.shares 0 l.parts.items;
 }
 
-abbrev pub decreases-loop-from : goal.decreases-loop-from
-decreases-loop-from g l = length l.labels - l.from
+abbrev pub decreases-loop-first : goal.decreases-loop-first
+decreases-loop-first g l = l.shares - l.first

@@ -1,29 +1,27 @@
-use Rattle.std.proofs.Common.{◌≡◌, ◌<◌, Ok, Global, Vec, List, length, get_or, ap, subst, sym, arith}
+use Rattle.std.proofs.Common.{◌≡◌, ◌<◌, Ok, length, get_or, subst, arith}
 use Rattle.vrp_routes.specs.Level.{IsShare}
-use Rattle.vrp_routes.specs.Share.{has_rest, is_in_first}
+use Rattle.vrp_routes.specs.Share.{has_rest}
 use Rattle.vrp_routes.specs.Shares.{IsPart}
-use Rattle.vrp_routes.specs.declared.label.Label.{Label}
 use Rattle.vrp_routes.proofs.SharesSteps.{count_values, element, if_ok, of_value, value_at}
 use Rattle.vrp_routes.proofs.level.kept_by_all.Goals as goal
 
-pub returns : goal.returns
-returns g c =
+pub returns-clause-count : goal.returns-clause-count
+returns-clause-count g c =
     let results = c.in_ok-results.results in
-    let parts = c.in_ok-parts.parts.items in
-    let shares = c.args.shares.items in
-    let count : length parts ≡ length shares = omega (arith, count_values results.items parts c.in_ok-parts.ensures, c.in_ok-results.ensures.count, results.ok, c.args.shares.ok) in
-    let is : c.deref.result.now ≡ parts = c.deref.ensures.value in
-    if_ok c.all_merged.result _ _ (λ labels merged workers s k before some are grown.
-    let all : length c.deref.result.now ≡ workers = omega (arith, count, are.count, ap length is) in
-    subst (λ n. IsShare s k (is_in_first workers n) before labels.items) all (merged s k before workers some (λ i d lt.
-    let within : i < length shares = omega (arith, lt, count, ap length is) in
-    let inside : i < workers = omega (arith, lt, all) in
-    let found = element shares i within in
-    let own = get_or shares i found in
-    let part : IsPart own (get_or parts i d) = of_value (get_or results.items i (Ok d)) (get_or parts i d) (IsPart own)
-    (value_at results.items parts i (Ok d) d c.in_ok-parts.ensures (omega (arith, within, count)))
-    (c.in_ok-results.ensures.each i found (Ok d) (omega (arith, within, c.args.shares.ok))) in
-    subst (λ (vs : List (Vec Label Global)). IsShare s k (has_rest workers i) before (get_or vs i d).items) (sym is)
-    (subst (λ n. IsShare s k (has_rest workers n) before (get_or parts i d).items) (are.rests i found inside)
-    (subst (λ n. IsShare s k (has_rest n own.share.rest) before (get_or parts i d).items) (are.shares i found inside)
-    (part s k before (grown i found inside))))))) c.all_merged.ensures
+    if_ok c.all_of.result _ _ (λ parts values. omega (arith, count_values results.items parts.items values, c.in_ok-results.ensures.count, results.ok)) c.all_of.ensures
+
+pub returns-clause-parts : goal.returns-clause-parts
+returns-clause-parts g c =
+    let results = c.in_ok-results.results in
+    let found = c.args.found.items in
+    if_ok c.all_of.result _ _ (λ parts values shares first s k before are grown i d lt.
+    let count : length parts.items ≡ length found = omega (arith, count_values results.items parts.items values, c.in_ok-results.ensures.count, results.ok, c.args.found.ok) in
+    let within : i < length found = omega (arith, lt, count) in
+    let one = element found i within in
+    let own = get_or found i one in
+    let part : IsPart own (get_or parts.items i d) = of_value (get_or results.items i (Ok d)) (get_or parts.items i d) (IsPart own)
+    (value_at results.items parts.items i (Ok d) d values lt)
+    (c.in_ok-results.ensures.each i one (Ok d) (omega (arith, within, c.args.found.ok))) in
+    subst (λ n. IsShare s k (has_rest shares n) before (get_or parts.items i d).items) (are.rests i one within)
+    (subst (λ n. IsShare s k (has_rest n own.share.rest) before (get_or parts.items i d).items) (are.shares i one within)
+    (part s k before (grown i one (omega (arith, within, c.args.found.ok)))))) c.all_of.ensures

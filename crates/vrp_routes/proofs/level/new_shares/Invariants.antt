@@ -1,14 +1,14 @@
-use Rattle.std.proofs.Common.{◌≡◌, ◌<◌, ℕ, [], length, get_or}
+use Rattle.std.proofs.Common.{◌≡◌, ◌+◌, ◌<◌, ℕ, [], length, get_or}
 use Rattle.vrp_routes.specs.Candidates.{IsKeyed}
 use Rattle.vrp_routes.specs.declared.candidates.Candidates.{Candidates}
 use Rattle.vrp_routes.proofs.level.new_shares.Given as goal
 
 -- the workers so far have theirs
-abbrev pub invariant-loop-rest : goal.invariant-loop-rest
-invariant-loop-rest l = record {
-  count : length l.shares.items ≡ l.rest;
-  keyed : (i : ℕ) (d : Candidates) → i < l.rest → IsKeyed (get_or l.shares.items i d);
-  shares : (i : ℕ) (d : Candidates) → i < l.rest → (get_or l.shares.items i d).share.shares ≡ l.workers;
-  rests : (i : ℕ) (d : Candidates) → i < l.rest → (get_or l.shares.items i d).share.rest ≡ i;
-  empty : (i : ℕ) (d : Candidates) → i < l.rest → (get_or l.shares.items i d).labels.items ≡ [];
+abbrev pub invariant-loop-index : goal.invariant-loop-index
+invariant-loop-index l = record {
+  count : length l.found.items ≡ l.index;
+  keyed : (i : ℕ) (d : Candidates) → i < l.index → IsKeyed (get_or l.found.items i d);
+  shares : (i : ℕ) (d : Candidates) → i < l.index → (get_or l.found.items i d).share.shares ≡ l.shares;
+  rests : (i : ℕ) (d : Candidates) → i < l.index → (get_or l.found.items i d).share.rest ≡ l.first + i;
+  empty : (i : ℕ) (d : Candidates) → i < l.index → (get_or l.found.items i d).labels.items ≡ [];
 }
