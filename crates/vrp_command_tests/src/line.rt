@@ -8,6 +8,7 @@ const NOTHING: Line = Line {
     seconds: Some(0),
     cost: None,
     bound: None,
+    routes: 0,
     done: 0,
     pieces: 0,
     looked: 0,
@@ -23,6 +24,17 @@ const LINES: &[(Line, &str)] = &[
             ..NOTHING
         },
         "prices, cost 530",
+    ),
+    (
+        Line {
+            stage: Stage::Choice,
+            seconds: Some(5),
+            cost: Some(521),
+            bound: Some(518),
+            routes: 2_212,
+            ..NOTHING
+        },
+        "5 s, choice, cost 521, lower bound 518, gap 0.57%, 2212 useful routes",
     ),
     (
         Line {

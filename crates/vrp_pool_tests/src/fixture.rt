@@ -128,6 +128,36 @@ pub(crate) fn ten_nodes(rt: &impl Abort, alloc: Global) -> Instance {
     alike(rt, alloc, &points, 9)
 }
 
+/// A grid of so many columns and rows, ten apart, whose middle place is the depot. The customers are numbered row by row.
+pub(crate) fn grid(
+    rt: &impl Abort,
+    alloc: Global,
+    (columns, rows): (u16, u16),
+    capacity: u64,
+) -> Instance {
+    assert!(rt; 1 <= columns && columns <= 10 && rows <= 10);
+    let places = columns * rows;
+    let depot = places / 2;
+    let mut points = Vec::new(alloc);
+    points.push(place(depot, columns)).expect(rt, "memory");
+    for number in 0..places {
+        if number != depot {
+            points.push(place(number, columns)).expect(rt, "memory");
+        }
+    }
+    alike(rt, alloc, &points, capacity)
+}
+
+// Where the place of this number is in a grid of so many columns.
+fn place(number: u16, columns: u16) -> (i64, i64)
+    requires { 1 ≤ columns }
+{
+    (
+        i64::from(number % columns) * 10,
+        i64::from(number / columns) * 10,
+    )
+}
+
 /// E-n22-k4 of Christofides and Eilon (1969), in hundreds: 21 customers, whose cheapest plan costs 375.
 pub(crate) fn four_trucks(rt: &impl Abort, alloc: Global) -> Instance {
     let points = [

@@ -13,6 +13,7 @@ use vrp_model::{Instance, Plan};
 use vrp_pool::{Answer, Gate, MAX_WORKERS, NoGate, solve};
 use vrp_search::{Cutting, MAX_PIECES};
 
+mod by_routes;
 mod gated;
 mod stopped;
 

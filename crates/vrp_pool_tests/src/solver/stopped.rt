@@ -20,6 +20,8 @@ struct GoesOn {
     least: AtomicU64,
     // By prices.
     bound: AtomicU64,
+    // Of useful routes, among which is chosen.
+    routes: AtomicU64,
 }
 
 impl GoesOn {
@@ -32,6 +34,7 @@ impl GoesOn {
             done: AtomicU64::new(0),
             least: AtomicU64::new(u64::MAX),
             bound: AtomicU64::new(0),
+            routes: AtomicU64::new(0),
         }
     }
 }
@@ -55,7 +58,10 @@ impl Gate for GoesOn {
             News::Bound(bound) => {
                 self.bound.fetch_max(bound, Ordering::SeqCst);
             }
-            News::FirstPlan | News::Prices | News::Pieces(_) => {}
+            News::Choice(routes) => {
+                self.routes.fetch_max(routes, Ordering::SeqCst);
+            }
+            News::FirstPlan | News::Prices | News::Routes | News::Pieces(_) => {}
         }
     }
 
@@ -67,7 +73,8 @@ impl Gate for GoesOn {
 
 // Between which numbers the gate goes on, and how many partial plans are looked at in all. With a budget of 999 nothing comes before
 // the pieces, and each takes more. With a larger one the gate is asked once in each of four runs of ruin and recreate, which it stops,
-// and once before the rounds for prices, unless the budget is too small for these.
+// once before the rounds for prices, and once before useful routes are listed, unless the budget is too small for these two. A list
+// that is begun and stopped leaves all to the pieces.
 const STOPPED: &[(Asked, (u64, u64), u64)] = &[
     ((1, 21, 999), (0, 0), 21),
     ((2, 21, 999), (0, 0), 21),
@@ -76,9 +83,10 @@ const STOPPED: &[(Asked, (u64, u64), u64)] = &[
     ((2, 21, 999), (0, 1), 1_019),
     ((8, 21, 999), (0, 1), 1_019),
     ((1, 21, AMPLE), (0, 0), 21),
-    ((1, 1, 100_000_000), (5, 5), 1),
-    ((1, 1, 100_000_000), (5, 6), 65_536),
-    ((1, 1, 100_000_000), (5, 7), 131_072),
+    ((1, 1, 100_000_000), (5, 6), 1),
+    ((1, 1, 100_000_000), (6, 6), 1),
+    ((1, 1, 100_000_000), (6, 7), 65_536),
+    ((1, 1, 100_000_000), (6, 8), 131_072),
     ((1, 1, 120_000), (4, 6), 120_000),
 ];
 
@@ -102,7 +110,8 @@ fn assert_heard(rt: &impl Abort, gate: &GoesOn, asked: Asked, looked: u64) {
     assert!(rt; done == u64::from(asked.1), "{done}, at {asked:?}");
 }
 
-// A gate that stops nothing hears of the plan that is proved, and of a bound below it.
+// A gate that stops nothing hears of the plan that is proved, of a bound below it, and of the routes that it is chosen among, of which
+// that plan has four.
 #[test]
 fn what_a_gate_hears(rt: HostRuntime) {
     let instance = four_trucks(&rt, rt.alloc());
@@ -114,5 +123,7 @@ fn what_a_gate_hears(rt: HostRuntime) {
         assert!(rt; least == 375, "{least}");
         let bound = gate.bound.load(Ordering::SeqCst);
         assert!(rt; 365 < bound && bound <= 375, "{bound}");
+        let routes = gate.routes.load(Ordering::SeqCst);
+        assert!(rt; 4 <= routes, "{routes}");
     }
 }

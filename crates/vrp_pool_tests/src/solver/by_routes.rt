@@ -1,0 +1,126 @@
+//! Answers by useful routes: of many plans that cost as little any number of workers finds the first.
+ghost use Rattle.std.specs.Prelude.{true};
+
+use super::*;
+use crate::fixture::grid;
+use std::sync::atomic::{AtomicU64, Ordering};
+use vrp_pool::News;
+
+// Goes on where it was asked this often before.
+#[derive(Drop)]
+struct GoesOnLater {
+    from: u64,
+    asked: AtomicU64,
+    // Of useful routes, among which is chosen.
+    routes: AtomicU64,
+    // Of pieces.
+    done: AtomicU64,
+}
+
+impl GoesOnLater {
+    fn from(from: u64) -> GoesOnLater {
+        GoesOnLater {
+            from,
+            asked: AtomicU64::new(0),
+            routes: AtomicU64::new(0),
+            done: AtomicU64::new(0),
+        }
+    }
+}
+
+impl Gate for GoesOnLater {
+    ghost may_stop = { λ _. true };
+
+    fn begins(&self, _worker: u32, _piece: u32) {}
+
+    fn hears(&self, news: News) {
+        match news {
+            News::Choice(routes) => {
+                self.routes.fetch_max(routes, Ordering::SeqCst);
+            }
+            News::Done => {
+                self.done.fetch_add(1, Ordering::SeqCst);
+            }
+            _ => {}
+        }
+    }
+
+    fn goes_on(&self) -> bool {
+        self.from <= self.asked.fetch_add(1, Ordering::SeqCst)
+    }
+}
+
+// The columns and rows of a grid, the capacity of a truck, how many pieces, the budget of each, and the cost and the word of the first
+// plan, which a slow program found outside. The trees take more partial plans than the first look, which has 20,000 and no more than the
+// budget.
+const GRIDS: &[((u16, u16), u64, (u32, u64), u64, &[u16])] = &[
+    (
+        (3, 3),
+        2,
+        (2_000, 1_000),
+        136,
+        &[1, 2, 0, 3, 5, 0, 4, 6, 0, 7, 8, 0],
+    ),
+    (
+        (3, 3),
+        3,
+        (2_000, 1_000),
+        122,
+        &[1, 2, 0, 3, 5, 8, 0, 4, 6, 7, 0],
+    ),
+    (
+        (4, 3),
+        3,
+        (64, 10_000_000),
+        176,
+        &[2, 1, 5, 0, 3, 4, 0, 6, 8, 9, 0, 7, 11, 10, 0],
+    ),
+    (
+        (4, 3),
+        4,
+        (64, 10_000_000),
+        160,
+        &[1, 2, 3, 0, 4, 7, 11, 10, 0, 6, 5, 8, 9, 0],
+    ),
+    (
+        (5, 3),
+        4,
+        (64, 10_000_000),
+        212,
+        &[1, 2, 3, 0, 4, 5, 9, 8, 0, 7, 6, 10, 11, 0, 12, 13, 14, 0],
+    ),
+];
+
+// The gate stops the four runs of ruin and recreate at once, so the first plan comes by savings alone; where it goes on a question later,
+// there are no rounds for prices either, and many more routes are useful.
+#[test]
+fn ties_by_any_number_of_workers(rt: HostRuntime) {
+    for &(size, capacity, given, cost, word) in GRIDS {
+        let instance = grid(&rt, rt.alloc(), size, capacity);
+        for from in [4, 5] {
+            for workers in [1, 2, 8] {
+                let gate = GoesOnLater::from(from);
+                let asked = (workers, given.0, given.1);
+                let answer = answer_behind(&rt, rt.alloc(), &instance, asked, &gate);
+                assert_chosen(&rt, &gate, &answer, (asked, from));
+                assert_first(&rt, &answer, cost, word);
+            }
+        }
+    }
+}
+
+// Asserts that an answer came by routes: there were some, and no piece was searched.
+fn assert_chosen(rt: &impl Abort, gate: &GoesOnLater, answer: &Answer, asked: (Asked, u64)) {
+    assert!(rt; matches!(answer, Answer::Proven(_)), "{asked:?}");
+    let routes = gate.routes.load(Ordering::SeqCst);
+    let done = gate.done.load(Ordering::SeqCst);
+    assert!(rt; 1 <= routes && done == 0, "{routes} {done}, at {asked:?}");
+}
+
+// Asserts of which cost and word the plan of an answer is.
+fn assert_first(rt: &impl Abort, answer: &Answer, cost: u64, word: &[u16]) {
+    let found = answer.plan().map(Plan::cost);
+    assert!(rt; found == Some(cost), "{found:?} is not {cost}");
+    let is_word = answer.plan().is_some_and(|plan| plan.word() == word);
+    assert!(rt; is_word, "another plan of cost {cost}");
+}
