@@ -14,5 +14,5 @@ IfLabels (Met limit) P = Unit {0}
 
 -- a fact of the parts, where there are some
 abbrev pub IfParts : Parts → (List (Vec Label Global) → Type 0) → Type 0
-IfParts (Found parts) P = P parts.items
+IfParts (Found parts found) P = P parts.items
 IfParts (Stopped limit) P = Unit {0}

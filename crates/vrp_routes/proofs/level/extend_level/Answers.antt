@@ -18,12 +18,12 @@ loop-first-preserved g c =
     let parts = c.loop-first.parts.items in
     let more = c.in-Found.more.items in
     let all : c.append.new.self.items ≡ parts ++ more = c.in_ok-append-in-Found.ensures.items in
-    let many : length more ≡ count = subst (λ (found : Parts). IfParts found (λ ps. length ps ≡ count)) c.in-Found.is c.in_ok-found.ensures.count in
+    let many : length more ≡ count = subst (λ (found : Parts). IfParts found (λ ps. length ps ≡ count)) c.in-Found.is c.in_ok-more.ensures.count in
     record {
       within = omega (arith, c.min-count.ensures, known.within);
       count = omega (arith, ap length all, length-append parts more, many, known.count);
       parts = λ k stops is.
-          let also : AreParts s (k + 1) stops shares first more = (subst (λ (found : Parts). IfParts found (λ ps. (k : _) (stops : _) → IsLevel s k stops c.args.labels.now → AreParts s (k + 1) stops shares first ps)) c.in-Found.is c.in_ok-found.ensures.parts) k stops is in
+          let also : AreParts s (k + 1) stops shares first more = (subst (λ (found : Parts). IfParts found (λ ps. (k : _) (stops : _) → IsLevel s k stops c.args.labels.now → AreParts s (k + 1) stops shares first ps)) c.in-Found.is c.in_ok-more.ensures.parts) k stops is in
           subst (AreParts s (k + 1) stops shares 0) (sym all)
           (more_parts s (k + 1) stops shares parts more (known.parts k stops is) (subst (λ n. AreParts s (k + 1) stops shares n more) (sym known.count) also));
     }
