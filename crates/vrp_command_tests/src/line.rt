@@ -42,6 +42,7 @@ const LINES: &[(Line, &str)] = &[
             seconds: Some(12),
             cost: Some(521),
             bound: Some(518),
+            routes: 0,
             done: 3,
             pieces: 64,
             looked: 1_234_567,

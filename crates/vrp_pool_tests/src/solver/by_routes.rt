@@ -2,7 +2,7 @@
 ghost use Rattle.std.specs.Prelude.{true};
 
 use super::*;
-use crate::fixture::grid;
+use crate::fixture::{four_trucks, grid, ten_nodes};
 use std::sync::atomic::{AtomicU64, Ordering};
 use vrp_pool::News;
 
@@ -56,13 +56,6 @@ impl Gate for GoesOnLater {
 const GRIDS: &[((u16, u16), u64, (u32, u64), u64, &[u16])] = &[
     (
         (3, 3),
-        2,
-        (2_000, 1_000),
-        136,
-        &[1, 2, 0, 3, 5, 0, 4, 6, 0, 7, 8, 0],
-    ),
-    (
-        (3, 3),
         3,
         (2_000, 1_000),
         122,
@@ -71,14 +64,14 @@ const GRIDS: &[((u16, u16), u64, (u32, u64), u64, &[u16])] = &[
     (
         (4, 3),
         3,
-        (64, 10_000_000),
+        (2_000, 1_000),
         176,
         &[2, 1, 5, 0, 3, 4, 0, 6, 8, 9, 0, 7, 11, 10, 0],
     ),
     (
         (4, 3),
         4,
-        (64, 10_000_000),
+        (2_000, 1_000),
         160,
         &[1, 2, 3, 0, 4, 7, 11, 10, 0, 6, 5, 8, 9, 0],
     ),
@@ -97,15 +90,42 @@ const GRIDS: &[((u16, u16), u64, (u32, u64), u64, &[u16])] = &[
 fn ties_by_any_number_of_workers(rt: HostRuntime) {
     for &(size, capacity, given, cost, word) in GRIDS {
         let instance = grid(&rt, rt.alloc(), size, capacity);
-        for from in [4, 5] {
-            for workers in [1, 2, 8] {
-                let gate = GoesOnLater::from(from);
-                let asked = (workers, given.0, given.1);
-                let answer = answer_behind(&rt, rt.alloc(), &instance, asked, &gate);
-                assert_chosen(&rt, &gate, &answer, (asked, from));
-                assert_first(&rt, &answer, cost, word);
-            }
-        }
+        assert_first_by_all(&rt, rt.alloc(), &instance, (given, 4), cost, word);
+        assert_first_by_all(&rt, rt.alloc(), &instance, (given, 5), cost, word);
+    }
+}
+
+// The plan of the first one by a slow program, and of the second one as a search by pieces proves it.
+#[test]
+fn scattered_by_any_number_of_workers(rt: HostRuntime) {
+    let alone = ten_nodes(&rt, rt.alloc());
+    let round = [6, 2, 7, 1, 5, 9, 3, 4, 8, 0];
+    let given = ((2_000, 1_000), 4);
+    assert_first_by_all(&rt, rt.alloc(), &alone, given, 322, &round);
+    let four = four_trucks(&rt, rt.alloc());
+    let word = [
+        6, 1, 2, 5, 7, 9, 0, 10, 8, 3, 4, 11, 13, 0, 12, 15, 18, 20, 17, 0, 14, 21, 19, 16, 0,
+    ];
+    let given = ((64, 10_000_000), 4);
+    assert_first_by_all(&rt, rt.alloc(), &four, given, 375, &word);
+}
+
+// Asserts that one worker, two and eight find this plan by routes, with so many pieces and this budget, where a gate goes on from this
+// question on.
+fn assert_first_by_all<R: Abort + Threads + Wait + Sync>(
+    rt: &R,
+    alloc: Global,
+    instance: &Instance,
+    ((pieces, budget), from): ((u32, u64), u64),
+    cost: u64,
+    word: &[u16],
+) {
+    for workers in [1, 2, 8] {
+        let gate = GoesOnLater::from(from);
+        let asked = (workers, pieces, budget);
+        let answer = answer_behind(rt, alloc, instance, asked, &gate);
+        assert_chosen(rt, &gate, &answer, (asked, from));
+        assert_first(rt, &answer, cost, word);
     }
 }
 
