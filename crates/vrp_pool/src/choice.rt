@@ -22,7 +22,7 @@ use vrp_prices::Relaxation;
 use vrp_routes::{Listed, RoutePool, can_list, list_routes};
 use vrp_simplex::{Fleet, ProgramGuide};
 
-// How many labels may be made, whatever the budget: so many take some two gigabytes.
+// How many labels may be made, whatever the budget: so many take some two and a half gigabytes.
 const MOST_LABELS: u64 = 30_000_000;
 
 /// The proven plan by useful routes. `None` where a limit is met before it is found: there are too many customers or labels, or the
