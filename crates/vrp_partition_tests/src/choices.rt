@@ -322,6 +322,7 @@ fn least_with(
     trucks: u8,
 ) -> Option<u64> {
     let mut others = Vec::from_slice(alloc, pool).expect(rt, "memory");
+    assert!(rt; at < others.len(), "no route {at}");
     let route = others.remove(at);
     let left = all_customers() ^ route.set;
     let least = least_cost(rt, &others, left, trucks.saturating_sub(1))?;
