@@ -274,9 +274,10 @@ fn routes_within_limits(rt: HostRuntime) {
                 assert_same(rt, marks.len(), pool.len(), round);
                 for (at, route) in pool.iter().enumerate() {
                     let least = least_with(rt, alloc, &pool, at, trucks);
+                    let marked = marks.get(at).copied().unwrap_or(false);
                     let stands = least.is_some_and(|cost| cost <= u64::from(limit));
                     assert!(rt;
-                        marks[at] || !stands,
+                        marked || !stands,
                         "{route:?} within {limit}, round {round}"
                     );
                 }
