@@ -6,10 +6,11 @@ use crate::fixture::{four_trucks, grid, ten_nodes};
 use std::sync::atomic::{AtomicU64, Ordering};
 use vrp_pool::News;
 
-// Goes on where it was asked this often before.
+// Goes on where it was asked this often before, and, if it is to, no more once routes are chosen among.
 #[derive(Drop)]
 struct GoesOnLater {
     from: u64,
+    stops_choice: bool,
     asked: AtomicU64,
     // Of useful routes, among which is chosen.
     routes: AtomicU64,
@@ -18,9 +19,10 @@ struct GoesOnLater {
 }
 
 impl GoesOnLater {
-    fn from(from: u64) -> GoesOnLater {
+    fn from(from: u64, stops_choice: bool) -> GoesOnLater {
         GoesOnLater {
             from,
+            stops_choice,
             asked: AtomicU64::new(0),
             routes: AtomicU64::new(0),
             done: AtomicU64::new(0),
@@ -46,7 +48,9 @@ impl Gate for GoesOnLater {
     }
 
     fn goes_on(&self) -> bool {
-        self.from <= self.asked.fetch_add(1, Ordering::SeqCst)
+        let asked = self.asked.fetch_add(1, Ordering::SeqCst);
+        let is_choice = 0 < self.routes.load(Ordering::SeqCst);
+        self.from <= asked && !(self.stops_choice && is_choice)
     }
 }
 
@@ -110,6 +114,22 @@ fn scattered_by_any_number_of_workers(rt: HostRuntime) {
     assert_first_by_all(&rt, rt.alloc(), &four, given, 375, &word);
 }
 
+// A choice that is stopped leaves all to the pieces. They find no plan below the least cost, and prove none.
+#[test]
+fn stopped_choice(rt: HostRuntime) {
+    let instance = grid(&rt, rt.alloc(), (5, 3), 4);
+    for workers in [1, 2, 8] {
+        let gate = GoesOnLater::from(5, true);
+        let asked = (workers, 64, 10_000_000);
+        let answer = answer_behind(&rt, rt.alloc(), &instance, asked, &gate);
+        let is_left =
+            matches!(&answer, Answer::Open { plan: Some(plan), .. } if plan.cost() >= 212);
+        assert!(rt; is_left, "{workers}");
+        let done = gate.done.load(Ordering::SeqCst);
+        assert!(rt; 64 <= done, "{done}, by {workers}");
+    }
+}
+
 // Asserts that one worker, two and eight find this plan by routes, with so many pieces and this budget, where a gate goes on from this
 // question on.
 fn assert_first_by_all<R: Abort + Threads + Wait + Sync>(
@@ -121,7 +141,7 @@ fn assert_first_by_all<R: Abort + Threads + Wait + Sync>(
     word: &[u16],
 ) {
     for workers in [1, 2, 8] {
-        let gate = GoesOnLater::from(from);
+        let gate = GoesOnLater::from(from, false);
         let asked = (workers, pieces, budget);
         let answer = answer_behind(rt, alloc, instance, asked, &gate);
         assert_chosen(rt, &gate, &answer, (asked, from));
