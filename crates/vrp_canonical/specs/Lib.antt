@@ -1,3 +1,4 @@
+pub mod Ending
 pub mod Ordering
 pub mod Passing
 pub mod Reaching

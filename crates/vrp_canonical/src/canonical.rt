@@ -1,5 +1,6 @@
 //! The first plan from a complete pool of routes.
 ghost use Rattle.std.specs.Prelude.{◌≡◌, ◌≤◌, ℕ, IfOk, IfSome, map};
+ghost use Rattle.vrp_canonical.specs.Ending.{IfFirst};
 ghost use Rattle.vrp_canonical.specs.Ordering.{AreOrdered, chosen_of, route_of, stops_of};
 ghost use Rattle.vrp_canonical.specs.Reaching.{IsFleet, IsTask};
 ghost use Rattle.vrp_model.specs.Order.{IsFirst};
@@ -10,58 +11,95 @@ ghost use Rattle.vrp_routes.specs.Pool.{IsPool};
 use crate::everyone::all_customers;
 use crate::first::first_places;
 use crate::loads::Loads;
-use crate::ordered::{ListedRoute, chosen_routes, in_order, marked_routes, routes_of, word_at};
-use crate::reach::Reach;
+use crate::ordered::{
+    ListedRoute, chosen_routes, in_order, marked_routes, routes_of, word_at, word_of_choice,
+};
 use crate::residual::Residual;
-use crate::searches::{Searches, cheapest_within};
+use crate::searches::{Quiet, Searches, search_within};
 use crate::trucks::fleet;
 use std::alloc::Global;
+use std::thread::Threads;
 use vrp_model::{Instance, NoMemory, Plan};
-use vrp_partition::{Guide, Route, all_fit, routes_within};
+use vrp_partition::{Ask, Found, Guide, Route, Team, all_fit, routes_within};
 use vrp_routes::RoutePool;
 
+/// What a search for the first plan came to.
+#[derive(Debug, Drop)]
+pub enum PlanSearch {
+    /// The first plan.
+    First(Plan),
+    /// The search ended unfinished. The word of the cheapest plan that it found, which need not be trusted, and is empty where it
+    /// found none below the known one.
+    Unfinished(Vec<u16>),
+}
+
 /// The first plan of an instance, by cost and then symbol by symbol, from a pool that was listed with the cost of a known plan as its
-/// limit. The cheapest choice of the pool is searched for, and then the next route of the first plan again and again, each time by
-/// forks of the guide, which need not be trusted. `None` where the budget was spent or the guide would not go on, where an amount
-/// doesn't fit 32 bits, or where no choice costs as little as the known plan: when, is left open, and so is how much of the budget is
-/// spent.
-pub fn canonical_plan<P: Guide>(
-    alloc: Global,
+/// limit. The cheapest choice of the pool is searched for, of which the team's asked one is told how far it is, and then the next route
+/// of the first plan again and again, each time by forks of the guide, which need not be trusted. Unfinished where the budget was spent
+/// or a search would not go on, where an amount doesn't fit 32 bits, or where no choice costs as little as the known plan: when, is left
+/// open, and so is how much of the budget is spent.
+pub fn canonical_plan<R: Threads + Sync, P: Guide + Send, A: Ask>(
+    team: &Team<'_, R, A>,
     instance: &Instance,
     pool: &RoutePool,
     known: &Plan,
     guide: &P,
     budget: &mut u64,
-) -> Result<Option<Plan>, NoMemory>
+) -> Result<PlanSearch, NoMemory>
+    requires workers { 1 ≤ team.now.workers }
     requires few { place_count instance.now ≤ 128 }
     requires pool { IsPool instance.now known.now.cost pool.now }
-    ensures first { IfOk result (λ found. IfSome found (IsFirst instance.now)) }
+    ensures first { IfOk result (IfFirst (IsFirst instance.now)) }
     ensures budget { budget.new ≤ budget.old }
 {
+    let alloc = team.alloc;
     let Some(loads) = Loads::new(alloc, instance)? else {
-        return Ok(None);
+        return unfinished(alloc);
     };
     let Some(routes) = chosen_routes(alloc, pool)? else {
-        return Ok(None);
+        return unfinished(alloc);
     };
     let all = routes.as_slice();
     let within = whole_problem(instance, known.cost());
-    let Some(chosen) = cheapest_within(alloc, guide, &loads, all, within, budget)? else {
-        return Ok(None);
+    let chosen = match search_within(team, guide, &loads, all, within, budget)? {
+        Some(Found::Cheapest(chosen)) => chosen,
+        Some(Found::Unfinished { best, .. }) => {
+            let word = word_of_choice(alloc, pool, all, best.routes.as_slice())?;
+            return Ok(PlanSearch::Unfinished(word));
+        }
+        None => return unfinished(alloc),
     };
     if chosen.cost > within.most {
-        return Ok(None);
+        return unfinished(alloc);
     }
     let most = chosen.cost;
+    let word = word_of_choice(alloc, pool, all, chosen.routes.as_slice())?;
     let whole = Residual { most, ..within };
     let Some(ordered) = narrowed_routes(alloc, guide, &loads, pool, all, whole)? else {
-        return Ok(None);
+        return Ok(PlanSearch::Unfinished(word));
     };
-    let mut searches = Searches::new(alloc, guide, &loads, *budget, chosen.routes);
+    let quiet = Quiet { ask: team.ask };
+    let team = Team {
+        rt: team.rt,
+        alloc,
+        workers: team.workers,
+        ask: &quiet,
+    };
+    let mut searches = Searches::new(&team, guide, &loads, *budget, chosen.routes);
     let found = plan_among(alloc, instance, &mut searches, ordered.as_slice(), whole);
     // No search gives any back; it is said here, since the pass is proved for whoever answers.
     *budget = searches.budget.min(*budget);
-    found
+    match found? {
+        Some(plan) => Ok(PlanSearch::First(plan)),
+        None => Ok(PlanSearch::Unfinished(word)),
+    }
+}
+
+// A search that found no plan.
+fn unfinished(alloc: Global) -> Result<PlanSearch, NoMemory>
+    ensures { IfOk result (IfFirst (λ _. ⊥)) }
+{
+    Ok(PlanSearch::Unfinished(Vec::new(alloc)))
 }
 
 // All customers, the whole fleet, and what the routes may cost.
@@ -119,10 +157,10 @@ fn narrowed_routes<P: Guide>(
 }
 
 // The first plan, whose routes are among these.
-fn plan_among<R: Reach>(
+fn plan_among<R: Threads + Sync, P: Guide + Send, A: Ask>(
     alloc: Global,
     instance: &Instance,
-    reach: &mut R,
+    searches: &mut Searches<'_, R, P, A>,
     ordered: &[ListedRoute],
     whole: Residual,
 ) -> Result<Option<Plan>, NoMemory>
@@ -130,7 +168,7 @@ fn plan_among<R: Reach>(
     ensures { IfOk result (λ found. IfSome found (IsFirst instance.now)) }
 {
     let routes = routes_of(alloc, ordered)?;
-    let Some(places) = first_places(alloc, reach, routes.as_slice(), whole)? else {
+    let Some(places) = first_places(alloc, searches, routes.as_slice(), whole)? else {
         return Ok(None);
     };
     let word = word_at(alloc, ordered, places.as_slice())?;

@@ -6,18 +6,19 @@ ghost use Rattle.vrp_model.specs.Order.{IsFirst};
 ghost use Rattle.vrp_model.specs.Problem.{Problem};
 
 use crate::narrow::narrow;
-use crate::reach::Reach;
 use crate::residual::Residual;
 use crate::run::run_from;
+use crate::searches::Searches;
 use std::alloc::{AllocError, Global};
-use vrp_partition::Route;
+use std::thread::Threads;
+use vrp_partition::{Ask, Guide, Route};
 
 /// The places in the pool of the first plan's routes, where the pool is in the order of its routes' stops and the residual problem is
 /// the whole one, at the first plan's cost. The routes are taken in runs that share a customer. `None` where an answer wasn't known,
 /// and where a route has no customer.
-pub fn first_places<R: Reach>(
+pub fn first_places<R: Threads + Sync, P: Guide + Send, A: Ask>(
     alloc: Global,
-    reach: &mut R,
+    searches: &mut Searches<'_, R, P, A>,
     pool: &[Route],
     whole: Residual,
 ) -> Result<Option<Vec<usize>>, AllocError>
@@ -37,7 +38,7 @@ pub fn first_places<R: Reach>(
                 return Ok(None);
             }
             let run = run_from(pool, rest.unserved, index);
-            let Some(at) = narrow(alloc, reach, pool, rest, run.customer, index, run.end)? else {
+            let Some(at) = narrow(alloc, searches, pool, rest, run.customer, index, run.end)? else {
                 return Ok(None);
             };
             if at < run.end {

@@ -10,18 +10,16 @@ mod loads;
 mod narrow;
 mod ordered;
 mod part;
-mod reach;
 mod residual;
 mod run;
 mod searches;
 mod trucks;
 
-pub use canonical::canonical_plan;
+pub use canonical::{PlanSearch, canonical_plan};
 pub use first::first_places;
 pub use law::{
     cheapest_answers, cheapest_is_first, choices_are_plans, earliest_is_next, least_is_first,
     next_route, none_is_cheap, plans_are_choices,
 };
-pub use reach::Reach;
 pub use residual::Residual;
 pub use trucks::fleet;

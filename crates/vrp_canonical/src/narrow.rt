@@ -7,16 +7,17 @@ ghost use Rattle.vrp_canonical.specs.declared.residual.Residual.{Residual};
 ghost use Rattle.vrp_model.specs.Problem.{Problem};
 
 use crate::part::part_between;
-use crate::reach::Reach;
 use crate::residual::Residual;
+use crate::searches::Searches;
 use std::alloc::{AllocError, Global};
-use vrp_partition::Route;
+use std::thread::Threads;
+use vrp_partition::{Ask, Guide, Route};
 
 /// The place of the next route of the first plan, if it stands in a run of routes that have a customer in common; else the end of the
 /// run. `None` where an answer wasn't known.
-pub fn narrow<R: Reach>(
+pub fn narrow<R: Threads + Sync, P: Guide + Send, A: Ask>(
     alloc: Global,
-    reach: &mut R,
+    searches: &mut Searches<'_, R, P, A>,
     pool: &[Route],
     rest: Residual,
     customer: u32,
@@ -34,7 +35,7 @@ pub fn narrow<R: Reach>(
         (whole : Residual) (chosen : List ℕ) → (task : IsTask p limit stops pool.now whole)
         → IsBegun p stops task.plan whole index chosen rest → IsNarrowed p stops task.plan whole chosen rest end at)) }
 {
-    let Some(some) = reaches_between(alloc, reach, pool, rest, customer, index, end)? else {
+    let Some(some) = reaches_between(alloc, searches, pool, rest, customer, index, end)? else {
         return Ok(None);
     };
     if !some {
@@ -43,8 +44,8 @@ pub fn narrow<R: Reach>(
     let mut low = index;
     let mut high = end;
     while high - low > 1 {
-        let middle = middle_between(reach, pool, customer, low, high);
-        let Some(lower) = reaches_between(alloc, reach, pool, rest, customer, low, middle)? else {
+        let middle = middle_between(searches, pool, customer, low, high);
+        let Some(lower) = reaches_between(alloc, searches, pool, rest, customer, low, middle)? else {
             return Ok(None);
         };
         if lower {
@@ -57,9 +58,9 @@ pub fn narrow<R: Reach>(
 }
 
 // Whether the unserved customers can be served so that this one is in a route between two places, by routes from the first place on.
-fn reaches_between<R: Reach>(
+fn reaches_between<R: Threads + Sync, P: Guide + Send, A: Ask>(
     alloc: Global,
-    reach: &mut R,
+    searches: &mut Searches<'_, R, P, A>,
     pool: &[Route],
     rest: Residual,
     customer: u32,
@@ -70,12 +71,12 @@ fn reaches_between<R: Reach>(
     ensures { IfOk result (λ answer. IfSome answer (IsAnswer pool.now rest customer low high)) }
 {
     let part = part_between(alloc, pool, rest.unserved, customer, low, high)?;
-    reach.reaches(part.as_slice(), rest)
+    searches.reaches(part.as_slice(), rest)
 }
 
 // A place between two others to ask up to: just before the place of the route that is likely, or else just behind it.
-fn middle_between<R: Reach>(
-    reach: &R,
+fn middle_between<R: Threads + Sync, P: Guide + Send, A: Ask>(
+    searches: &Searches<'_, R, P, A>,
     pool: &[Route],
     customer: u32,
     low: usize,
@@ -87,7 +88,7 @@ fn middle_between<R: Reach>(
     ensures from { low < result }
     ensures to { result < high }
 {
-    match likely_place(pool, low, high, reach.likely(customer)) {
+    match likely_place(pool, low, high, searches.likely(customer)) {
         Some(at) if low < at => at,
         Some(_) => low + 1,
         None => low + (high - low) / 2,

@@ -120,3 +120,36 @@ pub fn word_at(
     }
     Ok(word)
 }
+
+/// The word of a choice of a pool's routes: the stops of each, followed by 0. `routes` are those of the pool, as a choice sees them. It
+/// need not be trusted, and that each route is found is left open.
+pub fn word_of_choice(
+    alloc: Global,
+    pool: &RoutePool,
+    routes: &[Route],
+    choice: &[Route],
+) -> Result<Vec<u16>, NoMemory>
+    requires { length routes.now ≡ length pool.now }
+{
+    let mut word = Vec::new(alloc);
+    for chosen in choice {
+        if let Some(at) = place_of(routes, *chosen) {
+            let stops = pool.stops(alloc, at)?;
+            word.extend_from_slice(stops.as_slice())?;
+            word.push(0)?;
+        }
+    }
+    Ok(word)
+}
+
+// The first place of a route with the same customers and the same cost.
+fn place_of(routes: &[Route], route: Route) -> Option<usize>
+    ensures { IfSome result (λ at. at < length routes.now) }
+{
+    for at in 0..routes.len() {
+        if routes[at].set == route.set && routes[at].cost == route.cost {
+            return Some(at);
+        }
+    }
+    None
+}

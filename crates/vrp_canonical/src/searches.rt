@@ -1,37 +1,52 @@
 //! Answers by searches over parts of the pool.
-ghost use Rattle.std.specs.Prelude.{◌≡◌, ◌+◌, ◌≤◌, IfOk, IfSome};
-ghost use Rattle.vrp_partition.specs.Choice.{IsCheapest};
+ghost use Rattle.std.specs.Prelude.{◌≡◌, ◌+◌, ◌<◌, ◌≤◌, ◌↔◌, IfOk, IfSome, IsTrue};
+ghost use Rattle.vrp_canonical.specs.Reaching.{Reaches};
+ghost use Rattle.vrp_partition.specs.Branching.{IsFound};
 
 use crate::known::{is_choice, routes_inside};
 use crate::loads::Loads;
-use crate::reach::Reach;
 use crate::residual::Residual;
 use std::alloc::{AllocError, Global};
-use vrp_partition::{Chosen, Guide, Route, all_fit, cheapest_choice};
+use std::thread::Threads;
+use vrp_partition::{Ask, Fleet, Found, Guide, Route, Team, all_fit, cheapest_choice};
+
+/// Who is asked whether searches go on, and is told nothing.
+#[derive(Clone, Copy, Debug)]
+pub struct Quiet<'a, A> {
+    pub ask: &'a A,
+}
+
+impl<A: Ask> Ask for Quiet<'_, A> {
+    fn should_continue(&self) -> bool {
+        self.ask.should_continue()
+    }
+}
 
 /// Searches within a budget, each by a fork of one guide. The choice that was found last answers some questions by itself.
 #[derive(Drop)]
-pub struct Searches<'a, P: Guide> {
-    pub alloc: Global,
+pub struct Searches<'a, R, P: Guide, A> {
+    pub team: &'a Team<'a, R, A>,
     pub guide: &'a P,
     pub loads: &'a Loads,
     pub budget: u64,
     pub known: Vec<Route>,
+    ghost some_worker: { 1 ≤ team.now.workers },
 }
 
-impl<'a, P: Guide> Searches<'a, P> {
+impl<'a, R, P: Guide, A> Searches<'a, R, P, A> {
     /// Searches within a budget, and a choice that is known.
     pub fn new(
-        alloc: Global,
+        team: &'a Team<'a, R, A>,
         guide: &'a P,
         loads: &'a Loads,
         budget: u64,
         known: Vec<Route>,
     ) -> Self
+        requires { 1 ≤ team.now.workers }
         ensures { result.budget ≡ budget }
     {
         Searches {
-            alloc,
+            team,
             guide,
             loads,
             budget,
@@ -40,21 +55,26 @@ impl<'a, P: Guide> Searches<'a, P> {
     }
 }
 
-impl<P: Guide> Reach for Searches<'_, P> {
-    fn reaches(&mut self, part: &[Route], rest: Residual) -> Result<Option<bool>, AllocError> {
-        let known = routes_inside(self.alloc, self.known.as_slice(), rest.unserved)?;
+impl<R: Threads + Sync, P: Guide + Send, A: Ask> Searches<'_, R, P, A> {
+    /// Whether some routes of the part serve the unserved customers with the trucks that are left and cost no more than they may.
+    /// `None` where that isn't known.
+    pub fn reaches(&mut self, part: &[Route], rest: Residual) -> Result<Option<bool>, AllocError>
+        ensures { IfOk result (λ answer. IfSome answer (λ yes.
+            IsTrue yes ↔ Reaches part.now rest.unserved rest.trucks rest.most)) }
+    {
+        let known = routes_inside(self.team.alloc, self.known.as_slice(), rest.unserved)?;
         if is_choice(part, known.as_slice(), rest) {
             return Ok(Some(true));
         }
-        let Some(chosen) = cheapest_within(
-            self.alloc,
+        let found = search_within(
+            self.team,
             self.guide,
             self.loads,
             part,
             rest,
             &mut self.budget,
-        )?
-        else {
+        )?;
+        let Some(Found::Cheapest(chosen)) = found else {
             return Ok(None);
         };
         if chosen.cost > rest.most {
@@ -64,7 +84,10 @@ impl<P: Guide> Reach for Searches<'_, P> {
         Ok(Some(true))
     }
 
-    fn likely(&self, customer: u32) -> Option<Route> {
+    /// A route that is likely to serve the customer. It need not be trusted, and which it is, is left open.
+    pub fn likely(&self, customer: u32) -> Option<Route>
+        requires { customer < 128 }
+    {
         self.known
             .iter()
             .copied()
@@ -72,35 +95,39 @@ impl<P: Guide> Reach for Searches<'_, P> {
     }
 }
 
-/// The cheapest choice of routes for a residual problem, where it costs no more than it may; else that and 1 as the cost. `None` where
-/// the search ended unfinished, or amounts are too great for it: when, is left open.
-pub fn cheapest_within<P: Guide>(
-    alloc: Global,
+/// What a search finds for a residual problem: the cheapest choice of routes, where it costs no more than it may; else that and 1 as
+/// the cost. `None` where amounts are too great for a search: when, is left open.
+pub fn search_within<R: Threads + Sync, P: Guide + Send, A: Ask>(
+    team: &Team<'_, R, A>,
     guide: &P,
     loads: &Loads,
     routes: &[Route],
     rest: Residual,
     budget: &mut u64,
-) -> Result<Option<Chosen>, AllocError>
-    ensures cheapest { IfOk result (λ answer. IfSome answer (λ chosen.
-        IsCheapest routes.now rest.unserved rest.trucks (rest.most + 1) chosen.cost chosen.routes.items)) }
+) -> Result<Option<Found>, AllocError>
+    requires workers { 1 ≤ team.now.workers }
+    ensures found { IfOk result (λ answer. IfSome answer (IsFound routes.now rest.unserved rest.trucks (rest.most + 1))) }
     ensures budget { budget.new ≤ budget.old }
 {
-    let demands = loads.demands.as_slice();
-    if rest.most >= 1 << 32 || !all_fit(routes, demands, loads.capacity) {
+    let fleet = Fleet {
+        demands: loads.demands.as_slice(),
+        capacity: loads.capacity,
+        trucks: rest.trucks,
+    };
+    if rest.most >= 1 << 32 || !all_fit(routes, fleet.demands, fleet.capacity) {
         return Ok(None);
     }
-    let mut fork = guide.fork()?;
-    let pool = Vec::from_slice(alloc, routes)?;
-    cheapest_choice(
-        alloc,
-        &mut fork,
-        demands,
-        loads.capacity,
-        rest.trucks,
+    let fork = guide.fork()?;
+    let pool = Vec::from_slice(team.alloc, routes)?;
+    let incumbent = rest.most + 1;
+    let found = cheapest_choice(
+        team,
+        fork,
+        &fleet,
         pool,
         rest.unserved,
-        rest.most + 1,
+        incumbent,
         budget,
-    )
+    )?;
+    Ok(Some(found))
 }

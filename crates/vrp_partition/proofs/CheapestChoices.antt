@@ -8,20 +8,16 @@ use Rattle.std.proofs.lemmas.Int.{ints}
 use Rattle.std.proofs.lemmas.List.{get_or-map, length-map}
 use Rattle.std.proofs.lemmas.List.Elements.{All-contains, All-contains_itself, All-filter, All-map, All-weaker}
 use Rattle.std.proofs.lemmas.List.Sums.{sum_by-cons}
-use Rattle.vrp_partition.specs.Choice.{IsCheapest, IsChoice, cost_of, is_apart, is_together, set_of}
+use Rattle.vrp_partition.specs.Choice.{IsCheapest, IsChoice, NoneBelow, cost_of, set_of}
 use Rattle.vrp_partition.specs.Covering.{IsLeast, column_of, column_set, columns_reduced_cost, route_of}
 use Rattle.vrp_partition.specs.Prices.{AreValid, NoneNegative, Prices, is_within_gap, lower_bound_of, reduced_cost_of, gap_of, total}
 use Rattle.vrp_partition.specs.declared.cover.Column.{Column}
 use Rattle.vrp_partition.specs.declared.route.Route.{Route}
 use Rattle.vrp_partition.proofs.PricedChoices.{priced_choice}
-use Rattle.vrp_partition.proofs.PoolParts.{branched_choice, kept_choice, none_in_gap}
+use Rattle.vrp_partition.proofs.PoolParts.{kept_choice, none_in_gap}
 
 pub filtered_known : {X : Type 0} (p : X → Bool) (xs : List X) (x : X) → Contains (filter p xs) x → Contains xs x
 filtered_known p xs x has = All-contains (Contains xs) (filter p xs) x (All-filter p (Contains xs) xs (All-contains_itself xs)) has
-
--- a choice of a part is one of the whole
-part_choice : (p : Route → Bool) (pool : List Route) (customers trucks : ℕ) (routes : List Route) → IsChoice set_of (filter p pool) customers trucks routes → IsChoice set_of pool customers trucks routes
-part_choice p pool customers trucks routes choice = record { known = All-weaker (Contains (filter p pool)) (Contains pool) (filtered_known p pool) routes choice.known; once = choice.once; few = choice.few }
 
 pub none_cheaper : (prices : Prices) (scale customers trucks incumbent : ℕ) (pool : List Route) → AreValid prices pool customers → NoneNegative prices scale pool → 0 < incumbent → gap_of prices scale customers trucks (incumbent - 1) <ℤ pos 0 → (routes : List Route) → IsCheapest pool customers trucks incumbent incumbent routes
 none_cheaper prices scale customers trucks incumbent pool valid none some negative routes = record {
@@ -30,38 +26,24 @@ none_cheaper prices scale customers trucks incumbent pool valid none some negati
   attained = λ below. absurd (omega arith);
 }
 
-pub cheapest_kept : (prices : Prices) (scale customers trucks incumbent found : ℕ) (pool routes : List Route) → AreValid prices pool customers → NoneNegative prices scale pool → 0 < incumbent
-    → IsCheapest (filter (is_within_gap prices scale (gap_of prices scale customers trucks (incumbent - 1))) pool) customers trucks incumbent found routes → IsCheapest pool customers trucks incumbent found routes
-cheapest_kept prices scale customers trucks incumbent found pool routes valid none some kept = record {
-  most = kept.most;
-  least = λ others choice. elim (cases_lt (cost_of others) incumbent) [
-    | inl cheap ↦ kept.least others (kept_choice prices scale customers trucks (incumbent - 1) pool others valid none choice (omega (arith, cheap)))
-    | inr dear ↦ omega (arith, dear, kept.most)
-  ];
-  attained = λ below. let a = kept.attained below in (part_choice (is_within_gap prices scale (gap_of prices scale customers trucks (incumbent - 1))) pool customers trucks routes a.0, a.1);
-}
-
-branched_least : (group customers trucks incumbent first second found : ℕ) (pool one other : List Route) → IsCheapest (filter (is_together group) pool) customers trucks incumbent first one → IsCheapest (filter (is_apart group) pool) customers trucks first second other → found ≤ first → found ≤ second
-    → (routes : List Route) → IsChoice set_of pool customers trucks routes → found ≤ cost_of routes
-branched_least group customers trucks incumbent first second found pool one other joint parted p q routes choice = elim (branched_choice group customers trucks pool routes choice) [
-  | inl here ↦ omega (arith, joint.least routes here, p)
-  | inr there ↦ omega (arith, parted.least routes there, q)
+-- what is not kept is above the incumbent
+pub kept_least : (prices : Prices) (scale customers trucks incumbent : ℕ) (pool : List Route) → AreValid prices pool customers → NoneNegative prices scale pool → 0 < incumbent
+    → (limit : ℕ) → limit ≤ incumbent → NoneBelow (filter (is_within_gap prices scale (gap_of prices scale customers trucks (incumbent - 1))) pool) customers trucks limit → NoneBelow pool customers trucks limit
+kept_least prices scale customers trucks incumbent pool valid none some limit most kept = λ routes choice. elim (cases_lt (cost_of routes) incumbent) [
+  | inl cheap ↦ kept routes (kept_choice prices scale customers trucks (incumbent - 1) pool routes valid none choice (omega (arith, cheap)))
+  | inr dear ↦ omega (arith, dear, most)
 ]
 
--- the cheaper one of both branches trucks
-pub second_branch : (group customers trucks incumbent first second : ℕ) (pool one other : List Route) → IsCheapest (filter (is_together group) pool) customers trucks incumbent first one → IsCheapest (filter (is_apart group) pool) customers trucks first second other → second < first → IsCheapest pool customers trucks incumbent second other
-second_branch group customers trucks incumbent first second pool one other joint parted less = record {
-  most = omega (arith, joint.most, less);
-  least = branched_least group customers trucks incumbent first second second pool one other joint parted (omega (arith, less)) (omega arith);
-  attained = λ below. let a = parted.attained less in (part_choice (is_apart group) pool customers trucks other a.0, a.1);
-}
+-- no choice costs less than a number that is above the lower bound by less than one
+pub whole_bound : (prices : Prices) (scale customers trucks bound : ℕ) (pool : List Route) → AreValid prices pool customers → NoneNegative prices scale pool
+    → (0 < bound → gap_of prices scale customers trucks (bound - 1) <ℤ pos 0) → NoneBelow pool customers trucks bound
+whole_bound prices scale customers trucks bound pool valid none negative = λ routes choice. elim (cases_lt 0 bound) [
+  | inl some ↦ omega (arith, some, none_in_gap prices scale customers trucks (bound - 1) pool valid none (negative some) routes choice)
+  | inr zero ↦ omega (arith, zero)
+]
 
-pub first_branch : (group customers trucks incumbent first second : ℕ) (pool one other : List Route) → IsCheapest (filter (is_together group) pool) customers trucks incumbent first one → IsCheapest (filter (is_apart group) pool) customers trucks first second other → first ≤ second → IsCheapest pool customers trucks incumbent first one
-first_branch group customers trucks incumbent first second pool one other joint parted less = record {
-  most = joint.most;
-  least = branched_least group customers trucks incumbent first second first pool one other joint parted (omega arith) less;
-  attained = λ below. let a = joint.attained below in (part_choice (is_together group) pool customers trucks one a.0, a.1);
-}
+pub filtered_parts : {X : Type 0} (p : X → Bool) (xs : List X) → All (Contains xs) (filter p xs)
+filtered_parts p xs = All-filter p (Contains xs) xs (All-contains_itself xs)
 
 sum_by_map : {X Y : Type 0} (f : Y → ℕ) (h : X → Y) (xs : List X) → sum_by f (map h xs) ≡ sum_by (λ x. f (h x)) xs
 sum_by_map f h [] = refl

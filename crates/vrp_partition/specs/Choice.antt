@@ -26,6 +26,10 @@ cost_of routes = sum_by (λ r. r.cost) routes
 abbrev pub NoneWithin : List Route → ℕ → ℕ → ℕ → Type 0
 NoneWithin pool customers trucks limit = (routes : List Route) → IsChoice set_of pool customers trucks routes → limit < cost_of routes
 
+-- no choice of the pool costs less
+abbrev pub NoneBelow : List Route → ℕ → ℕ → ℕ → Type 0
+NoneBelow pool customers trucks limit = (routes : List Route) → IsChoice set_of pool customers trucks routes → limit ≤ cost_of routes
+
 -- whether a set has all customers of a group, or none of them
 abbrev pub is_together : ℕ → Route → Bool
 is_together group route = (bit_and route.set group == group) || (bit_and route.set group == 0)
@@ -37,5 +41,5 @@ is_apart group route = not (bit_and route.set group == group)
 -- No choice costs less than what was found. That is the incumbent's cost, or below it the cost of the routes, which are a choice
 pub record IsCheapest (pool : List Route) (customers trucks incumbent found : ℕ) (routes : List Route) : Type 0 where
   pub most : found ≤ incumbent
-  pub least : (others : List Route) → IsChoice set_of pool customers trucks others → found ≤ cost_of others
+  pub least : NoneBelow pool customers trucks found
   pub attained : found < incumbent → IsChoice set_of pool customers trucks routes × (cost_of routes ≡ found)

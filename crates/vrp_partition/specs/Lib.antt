@@ -1,3 +1,4 @@
+pub mod Branching
 pub mod Choice
 pub mod Prices
 pub mod Covering

@@ -1,22 +1,27 @@
 -- What is known of a node once its routes are priced.
-use Rattle.std.specs.Prelude.{◌≡◌, ℕ, List, map}
-use Rattle.vrp_partition.specs.Choice.{IsCheapest}
+use Rattle.std.specs.Prelude.{◌≡◌, ◌≤◌, ℕ, List, map}
+use Rattle.std.specs.List.{All, Contains}
+use Rattle.vrp_partition.specs.Choice.{IsCheapest, NoneBelow}
 use Rattle.vrp_partition.specs.Covering.{IsLeast, route_of}
-use Rattle.vrp_partition.specs.Prices.{AllFit}
 use Rattle.vrp_partition.specs.declared.cover.Column.{Column}
 use Rattle.vrp_partition.specs.declared.route.Route.{Route}
-use Rattle.vrp_partition.specs.declared.search.Chosen.{Chosen}
-use Rattle.vrp_partition.specs.declared.search.NodeOutcome.{NodeOutcome}
-use Rattle.vrp_partition.specs.declared.search.NodeOutcome.TheVariants.{Solved, Open}
+use Rattle.vrp_partition.specs.declared.bounding.Chosen.{Chosen}
+use Rattle.vrp_partition.specs.declared.bounding.OpenRoutes.{OpenRoutes}
+use Rattle.vrp_partition.specs.declared.bounding.NodeOutcome.{NodeOutcome}
+use Rattle.vrp_partition.specs.declared.bounding.NodeOutcome.TheVariants.{Solved, Open}
 
--- the node's answer, or routes that have the same answer
-abbrev pub IsOutcome : List ℕ → ℕ → List Route → ℕ → ℕ → ℕ → NodeOutcome → Type 0
-IsOutcome demands capacity pool customers trucks incumbent (Solved chosen) =
+-- routes of the pool, of which no choice costs less than a number up to the incumbent where none of the pool does; and what each
+-- choice of the pool costs at least
+pub record IsLeft (pool : List Route) (customers trucks incumbent : ℕ) (left : OpenRoutes) : Type 0 where
+  pub parts : All (Contains pool) left.routes.items
+  pub least : (limit : ℕ) → limit ≤ incumbent → NoneBelow left.routes.items customers trucks limit → NoneBelow pool customers trucks limit
+  pub bound : NoneBelow pool customers trucks left.lower_bound
+
+-- the node's answer, or the routes that are left of it
+abbrev pub IsOutcome : List Route → ℕ → ℕ → ℕ → NodeOutcome → Type 0
+IsOutcome pool customers trucks incumbent (Solved chosen) =
     IsCheapest pool customers trucks incumbent chosen.cost chosen.routes.items
-IsOutcome demands capacity pool customers trucks incumbent (Open kept) =
-    AllFit demands capacity kept.items
-    × ((found : ℕ) (routes : List Route) → IsCheapest kept.items customers trucks incumbent found routes
-    → IsCheapest pool customers trucks incumbent found routes)
+IsOutcome pool customers trucks incumbent (Open left) = IsLeft pool customers trucks incumbent left
 
 -- the routes of the columns that the exact cover found
 pub record IsLeastOf (columns : List Column) (customers trucks incumbent gap : ℕ) (chosen : Chosen) : Type 0 where

@@ -1,18 +1,23 @@
 //! A set partitioning: the cheapest choice of routes that together serve each customer once.
 #![tactic(auto)]
 
+mod bounding;
 mod cover;
+mod fleet;
 mod guide;
 mod law;
 mod narrowing;
+mod node;
 mod pool;
 mod priced;
 mod prices;
 mod route;
 mod search;
 
+pub use bounding::{Chosen, NodeOutcome, OpenRoutes};
 pub use cover::{Column, Cover, cheapest_cover};
-pub use guide::{Ask, Guide};
+pub use fleet::Fleet;
+pub use guide::{Ask, Guide, Tally};
 pub use law::{
     choices_branch, costly_routes_left_out, demand_brings_routes, no_choice_in_a_negative_gap,
     prices_bound_choices,
@@ -21,4 +26,4 @@ pub use narrowing::routes_within;
 pub use pool::{all_fit, apart, none_negative, reduced_costs, together, within_gap};
 pub use prices::{Cut, MOST_CUSTOMERS, PriceOffer, Prices, SCALE};
 pub use route::Route;
-pub use search::{Chosen, NodeOutcome, cheapest_choice};
+pub use search::{Found, Team, cheapest_choice};

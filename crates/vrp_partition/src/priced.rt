@@ -3,11 +3,11 @@ ghost use Rattle.std.specs.Prelude.{◌≡◌, IfOk, IfSome, int_le, length, map
 ghost use Rattle.vrp_partition.specs.Pricing.{IsPriced, MarksWithin};
 ghost use Rattle.vrp_partition.specs.Prices.{AllFit};
 
+use crate::bounding::gap_below;
 use crate::guide::Guide;
 use crate::pool::{none_negative, reduced_costs};
 use crate::prices::{MOST_CUSTOMERS, PriceOffer, Prices};
 use crate::route::Route;
-use crate::search::gap_below;
 use std::alloc::{AllocError, Global};
 
 /// Prices by which each choice of a pool is bounded, and the reduced costs of its routes, none of which is negative.

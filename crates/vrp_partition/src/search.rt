@@ -1,243 +1,290 @@
-//! Branch and bound: the routes of a node are priced, those whose reduced costs are above the gap are left out, and the others
-//! are searched by the exact cover, or branched on.
-ghost use Rattle.std.specs.Prelude.{◌≡◌, ◌≤◌, ◌≤ℤ◌, ◌<ℤ◌, ◌-◌, ◌^◌, IfNone, IfOk, IfSome, length, map, pos, unsigned_abs};
+//! Branch and bound: the cheapest choice of a pool, by several workers.
+ghost use Rattle.std.specs.Prelude.{◌≡◌, ◌≤◌, ◌<◌, ◌^◌, ◌++◌, ◌∷◌, [], ℕ, List, IfOk, OnOk, length};
 ghost use Rattle.std.specs.List.{All};
-ghost use Rattle.vrp_partition.specs.Choice.{IsCheapest};
-ghost use Rattle.vrp_partition.specs.Covering.{column_of, route_of};
-ghost use Rattle.vrp_partition.specs.Prices.{AllFit, AreValid, gap_of, reduced_cost_of};
-ghost use Rattle.vrp_partition.specs.Outcome.{IsLeastOf, IsOutcome};
-ghost use Rattle.vrp_partition.specs.declared.prices.TheConstants.{SCALE};
+ghost use Rattle.vrp_partition.specs.Branching.{AreLookedAt, CanLook, AreOpened, IsBest, IsEnd, IsFound, IsLookedAt, IsSearched, IfUnfinished, IsTaken, NodeState, TakesChoice};
+ghost use Rattle.vrp_partition.specs.Choice.{NoneBelow};
+ghost use Rattle.vrp_partition.specs.Prices.{AllFit};
+ghost use Rattle.vrp_partition.specs.declared.route.Route.{Route};
 
-use crate::cover::{Column, cheapest_cover};
-use crate::guide::Guide;
-use crate::pool::{apart, together, within_gap};
-use crate::priced::{PricedPool, valid_prices};
-use crate::prices::{PriceOffer, Prices, SCALE};
+use crate::bounding::Chosen;
+use crate::fleet::Fleet;
+use crate::guide::{Ask, Guide, Tally};
+use crate::node::{Branches, Node, NodeEnd, Task};
 use crate::route::Route;
 use std::alloc::{AllocError, Global};
+use std::marker::Model;
+use std::thread::{Threads, for_each_mut};
 
-// With more routes than these a node is branched on at once.
-const MOST_COLUMNS: usize = 3_000;
+// So many open nodes are looked at side by side, whoever works: so a search takes the same steps for every number of workers.
+const NODES_AT_ONCE: usize = 8;
 
-// How many nodes the exact cover may look at before its node is branched on.
-const MOST_COVER_NODES: u64 = 20_000;
-
-/// The routes of a choice, and what they cost. Where no choice below the incumbent was found, the cost is the incumbent's, and
-/// the routes are no choice.
-#[derive(Debug, Drop)]
-pub struct Chosen {
-    pub cost: u64,
-    pub routes: Vec<Route>,
+/// Who works on a search: so many workers, each in a thread of its own where one can be made; and who is asked whether it goes on, and
+/// is told how far it is.
+#[derive(Clone, Copy)]
+pub struct Team<'a, R, A> {
+    pub rt: &'a R,
+    pub alloc: Global,
+    pub workers: usize,
+    pub ask: &'a A,
 }
 
-/// What pricing makes of a node: it is solved, or the routes that are left have to be branched on.
+/// What a search found. Where no choice costs less than the incumbent, the cost is the incumbent's, and the routes are no choice.
 #[derive(Debug, Drop)]
-pub enum NodeOutcome {
-    Solved(Chosen),
-    Open(Vec<Route>),
+pub enum Found {
+    /// No choice costs less than this one and the incumbent.
+    Cheapest(Chosen),
+    /// The search ended before that is known: the cheapest choice so far, and what each choice costs at least.
+    Unfinished { best: Chosen, lower_bound: u64 },
 }
 
 /// The least cost below the incumbent's of a choice of the pool that serves the customers with so many trucks, and a choice of that
-/// cost; where there is none, the incumbent's cost. `None` where the budget is spent, of which a node takes one and as much as the
-/// guide says that it worked; or where the guide would not go on, and what was left of the budget is given up. The demands are those
-/// of customers 0 to 127, and each route of the pool has to fit one truck.
-pub fn cheapest_choice<P: Guide>(
-    alloc: Global,
-    guide: &mut P,
-    demands: &[u32],
-    capacity: u32,
-    trucks: u8,
+/// cost; where there is none, the incumbent's cost. The search is unfinished where the budget is spent, of which a round of nodes takes
+/// one and as much as the guides say that they worked; or where it was asked and does not go on: then what was left of the budget is
+/// given up. Each route of the pool has to fit one truck. Open nodes are looked at some at a time, the last ones first.
+pub fn cheapest_choice<R: Threads + Sync, P: Guide + Send, A: Ask>(
+    team: &Team<'_, R, A>,
+    guide: P,
+    fleet: &Fleet<'_>,
     pool: Vec<Route>,
     customers: u128,
     incumbent: u64,
     budget: &mut u64,
-) -> Result<Option<Chosen>, AllocError>
-    requires len { length demands.now ≡ 128 }
-    requires fit { AllFit demands.now capacity pool.items }
+) -> Result<Found, AllocError>
+    requires workers { 1 ≤ team.now.workers }
+    requires len { length fleet.now.demands.now ≡ 128 }
+    requires fit { AllFit fleet.now.demands.now fleet.now.capacity pool.items }
     requires incumbent { incumbent ≤ 2 ^ 32 }
-    ensures cheapest { IfOk result (λ answer. IfSome answer (λ chosen.
-        IsCheapest pool.items customers trucks incumbent chosen.cost chosen.routes.items)) }
+    ensures found { IfOk result (IsFound pool.items customers fleet.now.trucks incumbent) }
     ensures budget { budget.new ≤ budget.old }
-    ensures spent { IfOk result (λ answer. IfNone answer (budget.new ≡ 0)) }
+    ensures spent { IfOk result (IfUnfinished (budget.new ≡ 0)) }
 {
-    if *budget == 0 || !guide.should_continue() {
-        *budget = 0;
-        return Ok(None);
+    let mut search = Search::new(team.alloc, guide, pool, incumbent)?;
+    while !search.open_nodes.is_empty() {
+        if *budget == 0 || !team.ask.should_continue() {
+            *budget = 0;
+            let lower_bound = search.lower_bound();
+            let best = search.best;
+            return Ok(Found::Unfinished { best, lower_bound });
+        }
+        let work = search.round(team, fleet, customers)?;
+        *budget = (*budget - 1).saturating_sub(work);
+        team.ask.on_round(search.tally());
     }
-    let offer = guide.offer(pool.as_slice(), customers, incumbent)?;
-    *budget = (*budget - 1).saturating_sub(offer.work);
-    match price_node(
-        alloc, offer, demands, capacity, trucks, pool, customers, incumbent,
-    )? {
-        NodeOutcome::Solved(found) => Ok(Some(found)),
-        NodeOutcome::Open(left) => {
-            let group = guide.group(left.as_slice())?;
-            let joint = together(alloc, left.as_slice(), group)?;
-            let parted = apart(alloc, left.as_slice(), group)?;
-            let mut other = guide.fork()?;
-            let Some(first) = cheapest_choice(
-                alloc, guide, demands, capacity, trucks, joint, customers, incumbent, budget,
-            )?
-            else {
-                return Ok(None);
-            };
-            let less = first.cost;
-            let Some(second) = cheapest_choice(
-                alloc, &mut other, demands, capacity, trucks, parted, customers, less, budget,
-            )?
-            else {
-                return Ok(None);
-            };
-            if second.cost < less {
-                Ok(Some(second))
-            } else {
-                Ok(Some(first))
+    Ok(Found::Cheapest(search.best))
+}
+
+// A search: its open nodes, the cheapest choice so far, and how many nodes are done.
+#[derive(Debug, Drop)]
+pub(crate) struct Search<P: Guide> {
+    open_nodes: Vec<Node<P>>,
+    best: Chosen,
+    done: u64,
+}
+
+impl<P: Guide> Model for Search<P> {
+    ghost use Rattle.vrp_partition.specs.Branching.{SearchState};
+
+    ghost Value = { SearchState };
+
+    ghost view = { λ s. record { open_nodes = s.open_nodes.items; cost = s.best.cost; routes = s.best.routes.items } };
+}
+
+impl<P: Guide + Send> Search<P> {
+    // The search that begins with the node of the whole pool.
+    fn new(
+        alloc: Global,
+        guide: P,
+        pool: Vec<Route>,
+        incumbent: u64,
+    ) -> Result<Search<P>, AllocError>
+        ensures { IfOk result (λ search. (customers trucks : ℕ) → IsSearched pool.items customers trucks incumbent search search.open_nodes) }
+    {
+        let mut open_nodes = Vec::new(alloc);
+        open_nodes.push(Node::new(pool, 0, guide))?;
+        let routes = Vec::new(alloc);
+        Ok(Search {
+            open_nodes,
+            best: Chosen {
+                cost: incumbent,
+                routes,
+            },
+            done: 0,
+        })
+    }
+
+    // Looks at some open nodes, and answers how much the guides worked.
+    fn round<R: Threads + Sync, A>(
+        &mut self,
+        team: &Team<'_, R, A>,
+        fleet: &Fleet<'_>,
+        customers: u128,
+    ) -> Result<u64, AllocError>
+        requires workers { 1 ≤ team.now.workers }
+        requires len { length fleet.now.demands.now ≡ 128 }
+        requires search { (pool : List Route) × (incumbent : ℕ) × AllFit fleet.now.demands.now fleet.now.capacity pool
+            × (incumbent ≤ 2 ^ 32) × IsSearched pool customers fleet.now.trucks incumbent self.old self.old.open_nodes }
+        ensures { OnOk result ((pool : List Route) (incumbent : ℕ)
+            → IsSearched pool customers fleet.now.trucks incumbent self.old self.old.open_nodes
+            → IsSearched pool customers fleet.now.trucks incumbent self.new self.new.open_nodes) }
+    {
+        let task = Task {
+            demands: fleet.demands,
+            capacity: fleet.capacity,
+            trucks: fleet.trucks,
+            customers,
+            incumbent: self.best.cost,
+        };
+        let nodes = self.take_nodes(team.alloc)?;
+        let nodes = looked_at(team.rt, team.alloc, team.workers, &task, nodes);
+        let work = self.absorb_all(nodes)?;
+        Ok(work)
+    }
+
+    // Takes the last open nodes.
+    fn take_nodes(&mut self, alloc: Global) -> Result<Vec<Node<P>>, AllocError>
+        ensures cost { OnOk result (self.new.cost ≡ self.old.cost) }
+        ensures nodes { IfOk result (λ nodes. (pool : List Route) (customers trucks incumbent : ℕ)
+            → IsSearched pool customers trucks incumbent self.old self.old.open_nodes
+            → IsSearched pool customers trucks incumbent self.new (self.new.open_nodes ++ nodes.items)) }
+    {
+        let mut nodes = Vec::with_capacity(alloc, NODES_AT_ONCE)?;
+        for _ in 0..NODES_AT_ONCE {
+            self.take_node(&mut nodes)?;
+        }
+        Ok(nodes)
+    }
+
+    // Takes the last open node, if there is one.
+    fn take_node(&mut self, nodes: &mut Vec<Node<P>>) -> Result<(), AllocError>
+        ensures { OnOk result (IsTaken self.old nodes.old.items self.new nodes.new.items) }
+    {
+        match self.open_nodes.pop() {
+            Some(node) => {
+                nodes.push(node)?;
+                Ok(())
             }
+            None => Ok(()),
+        }
+    }
+
+    // Takes what came of the nodes, and answers how much the guides worked.
+    fn absorb_all(&mut self, mut nodes: Vec<Node<P>>) -> Result<u64, AllocError>
+        ensures { OnOk result ((pool : List Route) (customers trucks incumbent limit : ℕ)
+            → self.old.cost ≤ limit
+            → All (λ node. IfOk node.end (IsEnd node.pool customers trucks limit)) nodes.items
+            → IsSearched pool customers trucks incumbent self.old (self.old.open_nodes ++ nodes.items)
+            → IsSearched pool customers trucks incumbent self.new self.new.open_nodes) }
+    {
+        let mut work = 0u64;
+        while let Some(node) = nodes.pop() {
+            work = work.saturating_add(node.work);
+            self.absorb(node)?;
+        }
+        Ok(work)
+    }
+
+    // Takes what came of a node.
+    fn absorb(&mut self, node: Node<P>) -> Result<(), AllocError>
+        ensures falls { OnOk result (self.new.cost ≤ self.old.cost) }
+        ensures searched { OnOk result ((pool : List Route) (customers trucks incumbent limit : ℕ) (rest : List NodeState)
+            → self.old.cost ≤ limit
+            → IfOk node.end (IsEnd node.pool customers trucks limit)
+            → IsSearched pool customers trucks incumbent self.old (self.old.open_nodes ++ (rest ++ node ∷ []))
+            → IsSearched pool customers trucks incumbent self.new (self.new.open_nodes ++ rest)) }
+    {
+        let Node {
+            guide, end, other, ..
+        } = node;
+        self.done = self.done.saturating_add(1);
+        match end? {
+            NodeEnd::Solved(chosen) => {
+                self.take_choice(chosen);
+                Ok(())
+            }
+            NodeEnd::Branched(branches) => {
+                self.open_branches(branches, guide, other)?;
+                Ok(())
+            }
+        }
+    }
+
+    // Takes a choice where it costs less than the cheapest one so far.
+    fn take_choice(&mut self, chosen: Chosen)
+        ensures { TakesChoice self.old chosen self.new }
+    {
+        if chosen.cost < self.best.cost {
+            self.best = chosen;
+        }
+    }
+
+    // Opens both branches. The first is looked at first.
+    fn open_branches(
+        &mut self,
+        branches: Branches,
+        guide: P,
+        other: Option<P>,
+    ) -> Result<(), AllocError>
+        ensures best { OnOk result (IsBest self.old self.new) }
+        ensures opened { OnOk result (AreOpened branches self.old.open_nodes self.new.open_nodes) }
+    {
+        let Branches {
+            joint,
+            parted,
+            lower_bound,
+        } = branches;
+        // A node that was branched on has a guide for the second branch.
+        let Some(other) = other else {
+            return Err(AllocError);
+        };
+        self.open_nodes.push(Node::new(parted, lower_bound, other))?;
+        self.open_nodes.push(Node::new(joint, lower_bound, guide))?;
+        Ok(())
+    }
+
+    // What each choice costs at least.
+    fn lower_bound(&self) -> u64
+        ensures { (pool : List Route) (customers trucks incumbent : ℕ)
+            → IsSearched pool customers trucks incumbent self.now self.now.open_nodes
+            → NoneBelow pool customers trucks result }
+    {
+        let mut least = self.best.cost;
+        for index in 0..self.open_nodes.len() {
+            least = least.min(self.open_nodes[index].lower_bound);
+        }
+        least
+    }
+
+    // How far the search is.
+    fn tally(&self) -> Tally {
+        Tally {
+            done: self.done,
+            open: self.open_nodes.len() as u64,
+            incumbent: self.best.cost,
+            lower_bound: self.lower_bound(),
         }
     }
 }
 
-// A node by the prices that are offered, where they serve.
-fn price_node(
+// The nodes once they are looked at, side by side.
+fn looked_at<R: Threads + Sync, P: Guide + Send>(
+    rt: &R,
     alloc: Global,
-    offer: PriceOffer,
-    demands: &[u32],
-    capacity: u32,
-    trucks: u8,
-    pool: Vec<Route>,
-    customers: u128,
-    incumbent: u64,
-) -> Result<NodeOutcome, AllocError>
-    requires len { length demands.now ≡ 128 }
-    requires fit { AllFit demands.now capacity pool.items }
-    requires incumbent { incumbent ≤ 2 ^ 32 }
-    ensures { IfOk result (IsOutcome demands.now capacity pool.items customers trucks incumbent) }
+    workers: usize,
+    task: &Task<'_>,
+    mut nodes: Vec<Node<P>>,
+) -> Vec<Node<P>>
+    requires workers { 1 ≤ workers }
+    requires can { All (CanLook task.now) nodes.items }
+    ensures { AreLookedAt task.now nodes.items result.items }
 {
-    if incumbent == 0 {
-        let routes = Vec::new(alloc);
-        return Ok(NodeOutcome::Solved(Chosen { cost: 0, routes }));
-    }
-    match valid_prices(alloc, offer, demands, capacity, pool.as_slice(), customers)? {
-        Some(PricedPool { prices, costs }) => bound_node(
-            alloc, prices, costs, demands, capacity, trucks, pool, customers, incumbent,
-        ),
-        None => Ok(NodeOutcome::Open(pool)),
-    }
-}
-
-// A node by prices with no negative reduced cost. The demands and the capacity are read by the contract alone.
-fn bound_node(
-    alloc: Global,
-    prices: Prices,
-    costs: Vec<i64>,
-    _demands: &[u32],
-    _capacity: u32,
-    trucks: u8,
-    pool: Vec<Route>,
-    customers: u128,
-    incumbent: u64,
-) -> Result<NodeOutcome, AllocError>
-    requires fit { AllFit _demands.now _capacity pool.items }
-    requires some { 1 ≤ incumbent }
-    requires incumbent { incumbent ≤ 2 ^ 32 }
-    requires valid { AreValid prices pool.items customers }
-    requires costs { costs.items ≡ map (reduced_cost_of prices SCALE) pool.items }
-    requires none { All (λ cost. pos 0 ≤ℤ cost) costs.items }
-    ensures { IfOk result (IsOutcome _demands.now _capacity pool.items customers trucks incumbent) }
-{
-    let Some(gap) = gap_below(&prices, customers, trucks, incumbent) else {
-        let routes = Vec::new(alloc);
-        return Ok(NodeOutcome::Solved(Chosen {
-            cost: incumbent,
-            routes,
-        }));
-    };
-    let kept = within_gap(alloc, &prices, pool.as_slice(), costs.as_slice(), gap)?;
-    if kept.len() > MOST_COLUMNS {
-        return Ok(NodeOutcome::Open(kept));
-    }
-    match search_columns(
-        alloc,
-        &prices,
-        kept.as_slice(),
-        customers,
-        trucks,
-        incumbent,
-        gap,
-    )? {
-        Some(chosen) => Ok(NodeOutcome::Solved(chosen)),
-        None => Ok(NodeOutcome::Open(kept)),
-    }
-}
-
-// The gap between the lower bound and the costs below the incumbent's; `None` where it is negative.
-pub(crate) fn gap_below(prices: &Prices, customers: u128, trucks: u8, incumbent: u64) -> Option<i64>
-    requires some { 1 ≤ incumbent }
-    requires incumbent { incumbent ≤ 2 ^ 32 }
-    ensures none { IfNone result (gap_of prices.now SCALE customers trucks (incumbent - 1) <ℤ pos 0) }
-    ensures value { IfSome result (λ gap. gap ≡ gap_of prices.now SCALE customers trucks (incumbent - 1)) }
-    ensures some { IfSome result (λ gap. pos 0 ≤ℤ gap) }
-{
-    let gap = i128::from(SCALE * (incumbent - 1)) - prices.lower_bound(customers, trucks);
-    if gap < 0 { None } else { Some(gap as i64) }
-}
-
-// The exact cover over the routes as columns; `None` where its budget is spent.
-fn search_columns(
-    alloc: Global,
-    prices: &Prices,
-    kept: &[Route],
-    customers: u128,
-    trucks: u8,
-    incumbent: u64,
-    gap: i64,
-) -> Result<Option<Chosen>, AllocError>
-    ensures { IfOk result (λ answer. IfSome answer (IsLeastOf
-        (map (column_of prices.now SCALE) kept.now) customers trucks incumbent (unsigned_abs gap))) }
-{
-    let columns = columns_of(alloc, prices, kept)?;
-    let mut budget = MOST_COVER_NODES;
-    let Some(best) = cheapest_cover(
-        alloc,
-        columns.as_slice(),
-        customers,
-        trucks,
-        incumbent,
-        gap.unsigned_abs(),
-        &mut budget,
-    )?
-    else {
-        return Ok(None);
-    };
-    let routes = routes_of(alloc, best.parts.as_slice())?;
-    Ok(Some(Chosen {
-        cost: best.cost,
-        routes,
-    }))
-}
-
-// The routes of columns.
-fn routes_of(alloc: Global, columns: &[Column]) -> Result<Vec<Route>, AllocError>
-    ensures { IfOk result (λ routes. routes.items ≡ map route_of columns.now) }
-{
-    columns
-        .iter()
-        .map(|column| Route {
-            set: column.set,
-            cost: column.cost,
-        })
-        .collect(alloc)
-}
-
-// The routes as columns, with their reduced costs.
-fn columns_of(alloc: Global, prices: &Prices, pool: &[Route]) -> Result<Vec<Column>, AllocError>
-    ensures { IfOk result (λ columns. columns.items ≡ map (column_of prices.now SCALE) pool.now) }
-{
-    pool.iter()
-        .map(|route| Column {
-            set: route.set,
-            reduced_cost: prices.reduced_cost(route.set, route.cost).unsigned_abs(),
-            cost: route.cost,
-        })
-        .collect(alloc)
+    for_each_mut(
+        rt,
+        nodes.as_mut_slice(),
+        workers,
+        &|_, node: &mut Node<P>|
+            requires { CanLook task.now node.now }
+            ensures { IsLookedAt task.entry.now node.entry.now node.exit.now }
+        { node.look(alloc, task) },
+    );
+    nodes
 }

@@ -1,9 +1,10 @@
 //! Sets of customers that the solution comes to too seldom.
 use crate::cut::{Cut, CutKind, holds, only};
 use crate::fixed_point::{ONE, at};
-use crate::separation::{Broken, Fleet, Used};
+use crate::separation::{Broken, Used};
 use crate::subset_rows::PLACES;
 use std::alloc::{AllocError, Global};
+use vrp_partition::Fleet;
 
 // A solution breaks a cut if it comes to the set less often by so much.
 const LESS: i64 = ONE / 20;

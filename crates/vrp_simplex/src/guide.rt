@@ -1,9 +1,8 @@
 //! The guide of a search: it is asked for prices and for customers to branch on, and answers by the linear program.
 use crate::node::{MOST_IN_SIGHT, Node, Progress};
 use crate::program::Program;
-use crate::separation::Fleet;
 use std::alloc::{AllocError, Global};
-use vrp_partition::{Ask, Guide, MOST_CUSTOMERS, PriceOffer, Route, SCALE};
+use vrp_partition::{Ask, Fleet, Guide, MOST_CUSTOMERS, PriceOffer, Route, SCALE};
 
 /// A guide by the linear program over the routes of a node. It goes on from node to node, and `ask` is asked now and then whether to.
 #[derive(Debug, Drop)]

@@ -30,4 +30,3 @@ mod subset_rows;
 pub use dual_simplex::DualEnd;
 pub use guide::ProgramGuide;
 pub use program::Program;
-pub use separation::Fleet;

@@ -3,9 +3,8 @@ use crate::dual_simplex::DualEnd;
 use crate::fixed_point::UNIT;
 use crate::program::Program;
 use crate::row_prices::RowPrices;
-use crate::separation::Fleet;
 use std::alloc::{AllocError, Global};
-use vrp_partition::{Ask, PriceOffer, Route};
+use vrp_partition::{Fleet, Ask, PriceOffer, Route};
 
 /// The program has about so many routes in sight.
 pub(crate) const MOST_IN_SIGHT: usize = 20_000;

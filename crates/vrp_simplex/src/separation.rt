@@ -3,21 +3,7 @@ use crate::cut::{Cut, CutKind, holds};
 use crate::fixed_point::{ONE, at, put};
 use crate::program::{Basic, Program};
 use std::alloc::AllocError;
-
-/// What the customers demand, customers 0 to 127, what a truck can carry, and how many trucks there are.
-#[derive(Clone, Copy, Debug)]
-pub struct Fleet<'a> {
-    pub demands: &'a [u32],
-    pub capacity: u32,
-    pub trucks: u8,
-}
-
-impl Fleet<'_> {
-    /// What a customer demands.
-    pub(crate) fn demand(&self, customer: usize) -> u64 {
-        u64::from(self.demands.get(customer).copied().unwrap_or(0))
-    }
-}
+use vrp_partition::Fleet;
 
 /// A route that the solution uses, and how much of it.
 #[derive(Clone, Copy, Debug)]

@@ -1,0 +1,22 @@
+use Rattle.std.proofs.Common.{rules, ◌≡◌, ◌≤◌, ◌<◌, ◌^◌, ◌++◌, ◌∷◌, [], ℕ, suc, List, Ok, IfOk, OnOk, length, get_or, take, drop, refl, sym, ◌∙◌, ap, subst, append_assoc, append-nil, arith}
+use Rattle.std.specs.List.{All, Contains}
+use Rattle.std.proofs.Math.Seq.{take-append_seam}
+use Rattle.std.proofs.lemmas.List.Elements.{All-contains_itself, All-more, All-weaker}
+use Rattle.vrp_partition.specs.Branching.{AreBranches, AreLookedAt, AreOpened, CanLook, IsBest, IsEnd, IsFound, IsLookedAt, IsSearched, IsTaken, NodeState, SearchState, TakesChoice}
+use Rattle.vrp_partition.specs.Choice.{NoneBelow}
+use Rattle.vrp_partition.specs.Outcome.{IsOutcome, IsLeft}
+use Rattle.vrp_partition.specs.Prices.{AllFit, load_of}
+use Rattle.vrp_partition.specs.declared.route.Route.{Route}
+use Rattle.vrp_partition.proofs.search.Search.absorb_all.Given as goal
+
+-- what is left of the nodes
+abbrev pub invariant-loop-node : goal.invariant-loop-node
+invariant-loop-node g l = record {
+  falls : l.self.cost ≤ l.fn.self.cost;
+  left : (customers trucks limit : ℕ) → All (λ (n : NodeState). IfOk n.end (IsEnd n.pool customers trucks limit)) l.fn.nodes.items → All (λ (n : NodeState). IfOk n.end (IsEnd n.pool customers trucks limit)) l.nodes.items;
+  searched : (pool : List Route) (customers trucks incumbent limit : ℕ) → l.fn.self.cost ≤ limit → All (λ (n : NodeState). IfOk n.end (IsEnd n.pool customers trucks limit)) l.fn.nodes.items
+      → IsSearched pool customers trucks incumbent l.fn.self (l.fn.self.open_nodes ++ l.fn.nodes.items) → IsSearched pool customers trucks incumbent l.self (l.self.open_nodes ++ l.nodes.items);
+}
+
+abbrev pub decreases-loop-node : goal.decreases-loop-node
+decreases-loop-node g l = length l.nodes.items

@@ -1,0 +1,30 @@
+use Rattle.std.proofs.Common.{rules, ◌≡◌, ◌≤◌, ◌<◌, ◌^◌, ◌++◌, ◌∷◌, [], ℕ, suc, List, Ok, IfOk, OnOk, length, get_or, take, drop, refl, sym, ◌∙◌, ap, subst, append_assoc, append-nil, take_all, arith}
+use Rattle.std.specs.List.{All, Contains}
+use Rattle.std.proofs.Math.Seq.{take-append_seam}
+use Rattle.std.proofs.lemmas.List.Elements.{All-contains_itself, All-more, All-weaker}
+use Rattle.vrp_partition.specs.Branching.{AreBranches, AreLookedAt, AreOpened, CanLook, IsBest, IsEnd, IsFound, IsLookedAt, IsSearched, IsTaken, NodeState, SearchState, TakesChoice}
+use Rattle.vrp_partition.specs.Choice.{NoneBelow}
+use Rattle.vrp_partition.specs.Outcome.{IsOutcome, IsLeft}
+use Rattle.vrp_partition.specs.Prices.{AllFit, load_of}
+use Rattle.vrp_partition.specs.declared.route.Route.{Route}
+use Rattle.vrp_partition.proofs.SearchStates.{absorbed, all_but_last, begun, branched, ended, least_bound, left_branches, looked_search, nodes_fit, solved, taken_none, taken_one}
+use Rattle.vrp_partition.proofs.search.Search.lower_bound.Goals as goal
+
+pub loop-index-preserved : goal.loop-index-preserved
+loop-index-preserved g c =
+    let nodes = c.self.inside.open_nodes.items in
+    let before = c.loop-index.invariant in
+    let fits : NodeState → Type 0 = λ n. c.min-least.result ≤ n.lower_bound in
+    let less : c.min-least.result ≤ c.loop-index.least = omega (arith, c.min-least.ensures) in
+    record {
+      most = omega (arith, less, before.most);
+      all = All-more fits nodes c.loop-index.index c.index.result.now (omega (arith, c.loop-index-test.true, c.len-index-end.ensures, c.self.inside.open_nodes.ok)) (All-weaker (λ (n : NodeState). c.loop-index.least ≤ n.lower_bound) fits (λ n within. omega (arith, less, within)) (take c.loop-index.index nodes) before.all)
+          (subst fits c.index.ensures (omega (arith, c.min-least.ensures, ap (λ (n : NodeState). n.lower_bound) c.behind-self.view_is)));
+    }
+
+pub returns : goal.returns
+returns g c = λ pool customers trucks incumbent is.
+    let nodes = c.self.inside.open_nodes.items in
+    let fits : NodeState → Type 0 = λ n. c.loop-index.least ≤ n.lower_bound in
+    let all = subst (All fits) (take_all c.loop-index.index nodes (omega (arith, c.loop-index-test.false, c.len-index-end.ensures, c.self.inside.open_nodes.ok))) c.loop-index.invariant.all in
+    least_bound pool customers trucks incumbent _ _ nodes c.loop-index.invariant.most all (subst (λ (s : SearchState). IsSearched pool customers trucks incumbent s s.open_nodes) (sym c.self.view_is) is)
