@@ -156,14 +156,15 @@ fn place_of(pool: &RoutePool, set: u128) -> usize {
     pool.len()
 }
 
-// How many labels may be made, that of no customers among them, how many are enough to stop, and which limit is met. There are three
-// labels of fewer than two customers.
+// How many labels may be made, that of no customers among them, how many are enough to stop, and which limit is met. There are five
+// labels, three of them of fewer than two customers.
 const LIMITS: &[(u32, u64, Option<Limit>)] = &[
     (5, u64::MAX, None),
     (4, u64::MAX, Some(Limit::Labels)),
     (2, u64::MAX, Some(Limit::Labels)),
     (0, u64::MAX, Some(Limit::Labels)),
-    (5, 5, None),
+    (5, 6, None),
+    (5, 5, Some(Limit::Stopped)),
     (5, 3, Some(Limit::Stopped)),
     (5, 0, Some(Limit::Stopped)),
     (0, 0, Some(Limit::Stopped)),
