@@ -92,7 +92,7 @@ fn print_routes<R: Clock + Print + Eprint + AllocGlobal + Threads + Sync>(
         limit,
         workers,
         u32::MAX,
-        &|| true,
+        &|_labels| true,
     )?;
     print_time(rt, "routes", start.elapsed(rt)?)?;
     match listed {

@@ -36,7 +36,7 @@ pub(crate) fn found_plan<R: Abort + Threads + Sync, P: Guide>(
         limit,
         2,
         u32::MAX,
-        &|| true,
+        &|_labels| true,
     )?;
     let mut left = budget;
     match listed {

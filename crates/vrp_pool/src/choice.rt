@@ -117,7 +117,7 @@ fn listed<R: Threads + Sync, G: Gate + Sync>(
         limit,
         workers as u16,
         most_labels,
-        &|| gate.goes_on() && has_left(gate, half),
+        &|_labels| gate.goes_on() && has_left(gate, half),
     )
 }
 

@@ -1,5 +1,5 @@
 -- The routes of one length, as its labels are closed one by one.
-use Rattle.std.proofs.Common.{◌≡◌, ◌≢◌, ℕ, ◌+◌, ◌<◌, ◌≤◌, ◌==◌, if◌then◌else◌, true, inl, inr, None, Some, List, [], ◌∷◌, drop, length, get_or, set, sym, ap, subst, ◌∙◌, arith}
+use Rattle.std.proofs.Common.{◌≡◌, ◌≢◌, ℕ, ◌+◌, ◌<◌, ◌≤◌, ◌==◌, if◌then◌else◌, Bool, true, inl, inr, None, Some, List, [], ◌∷◌, drop, length, get_or, set, sym, ap, subst, ◌∙◌, arith}
 use Rattle.std.specs.Map.{lookup}
 use Rattle.std.proofs.lemmas.Bool.{cases_Bool, cases_eq, cases_lt, eqb-true}
 use Rattle.std.proofs.lemmas.Bool.Decides.{nat_tests}
@@ -7,7 +7,7 @@ use Rattle.std.proofs.lemmas.List.{append-nil, get_or-drop, get_or-set_other, ge
 use Rattle.std.proofs.lemmas.List.Elements.{Contains-get_or}
 use Rattle.vrp_model.specs.Order.{ComesBefore, IsEarlier}
 use Rattle.vrp_model.specs.Route.{route_cost}
-use Rattle.vrp_routes.specs.Closed.{AreClosed, HasPlaces, IsAdded, IsLeftOut, IsReplaced, TakesRoute, closed_at, no_closed, place_of, route_by}
+use Rattle.vrp_routes.specs.Closed.{AreClosedIn, HasPlaces, IsAdded, IsLeftOut, IsReplaced, TakesRoute, closed_at, no_closed, place_of, route_by}
 use Rattle.vrp_routes.specs.Label.{IsLabel, SettingOf, set_of}
 use Rattle.vrp_routes.specs.Level.{IsLevel}
 use Rattle.vrp_routes.specs.Pool.{IsListed}
@@ -80,26 +80,29 @@ pub record StandsAt (start from : ℕ) (set : ℕ) (closed : Closed) : Type 0 wh
   pub label : (closed_at closed at).label ≡ start + from
   pub there : place_of closed set ≡ Some at
 
-pub record ClosesSome (s : SettingOf) (start : ℕ) (stops : List (List ℕ)) (at : ℕ) (closed : Closed) : Type 0 where
+-- of those labels whose sets pass the test
+pub record ClosesSome (s : SettingOf) (mine : ℕ → Bool) (start : ℕ) (stops : List (List ℕ)) (at : ℕ) (closed : Closed) : Type 0 where
   pub each : (i : ℕ) → i < length closed.routes.items → IsOfLabel s start stops at (closed_at closed i)
-  pub every : (j : ℕ) → j < at → IsUseful s.relaxation.problem s.limit (get_or stops (start + j) []) → StandsAt start j (set_of (get_or stops (start + j) [])) closed
+  pub every : (j : ℕ) → j < at → mine (set_of (get_or stops (start + j) [])) ≡ true → IsUseful s.relaxation.problem s.limit (get_or stops (start + j) []) → StandsAt start j (set_of (get_or stops (start + j) [])) closed
 
-pub closes_none : (s : SettingOf) (start : ℕ) (stops : List (List ℕ)) (closed : Closed) → closed.routes.items ≡ [] → ClosesSome s start stops 0 closed
-closes_none s start stops closed none = record {
+pub closes_none : (s : SettingOf) (mine : ℕ → Bool) (start : ℕ) (stops : List (List ℕ)) (closed : Closed) → closed.routes.items ≡ [] → ClosesSome s mine start stops 0 closed
+closes_none s mine start stops closed none = record {
   each = λ i lt. absurd (omega (arith, lt, ap length none));
-  every = λ j lt useful. absurd (omega (arith, lt));
+  every = λ j lt own useful. absurd (omega (arith, lt));
 }
 
 later : (s : SettingOf) (start : ℕ) (stops : List (List ℕ)) (at : ℕ) (route : ClosedRoute) → IsOfLabel s start stops at route → IsOfLabel s start stops (at + 1) route
 later s start stops at route is = record { from = is.from; before = omega (arith, is.before); label = is.label; listed = is.listed }
 
 -- a label that is no useful route
-pub closes_not : (s : SettingOf) (start : ℕ) (stops : List (List ℕ)) (at : ℕ) (closed : Closed) → ClosesSome s start stops at closed → (IsUseful s.relaxation.problem s.limit (get_or stops (start + at) []) → ⊥) → ClosesSome s start stops (at + 1) closed
-closes_not s start stops at closed some none = record {
+pub closes_not : (s : SettingOf) (mine : ℕ → Bool) (start : ℕ) (stops : List (List ℕ)) (at : ℕ) (closed : Closed) → ClosesSome s mine start stops at closed → (mine (set_of (get_or stops (start + at) [])) ≡ true → IsUseful s.relaxation.problem s.limit (get_or stops (start + at) []) → ⊥) → ClosesSome s mine start stops (at + 1) closed
+closes_not s mine start stops at closed some none = record {
   each = λ i lt. later s start stops at (closed_at closed i) (some.each i lt);
-  every = λ j lt useful. elim (cases_lt j at) [
-    | inl less ↦ some.every j less useful
-    | inr here ↦ absurd (none (subst (λ n. IsUseful s.relaxation.problem s.limit (get_or stops (start + n) [])) (let same : j ≡ at = omega (arith, here, lt) in same) useful))
+  every = λ j lt own useful. elim (cases_lt j at) [
+    | inl less ↦ some.every j less own useful
+    | inr here ↦
+        let same : j ≡ at = omega (arith, here, lt) in
+        absurd (none (subst (λ n. mine (set_of (get_or stops (start + n) [])) ≡ true) same own) (subst (λ n. IsUseful s.relaxation.problem s.limit (get_or stops (start + n) [])) same useful))
   ];
 }
 
@@ -131,9 +134,9 @@ own_set s start stops at route one = one.listed.set ∙ ap (λ n. set_of (get_or
 mine_of : (s : SettingOf) (start : ℕ) (stops : List (List ℕ)) (at : ℕ) (route : ClosedRoute) → ClosesOne s start stops at route → IsOfLabel s start stops (at + 1) route
 mine_of s start stops at route one = record { from = at; before = omega arith; label = one.label; listed = one.listed }
 
-left_out_route : (s : SettingOf) (start : ℕ) (stops : List (List ℕ)) (at : ℕ) (old new : Closed) (route : ClosedRoute) → ClosesSome s start stops at old → HasPlaces old → ClosesOne s start stops at route → IsLeftOut old route new → ClosesSome s start stops (at + 1) new
-left_out_route s start stops at old new route some has one left_out =
-    subst (ClosesSome s start stops (at + 1)) (sym left_out.same) (closes_not s start stops at old some (λ useful.
+left_out_route : (s : SettingOf) (mine : ℕ → Bool) (start : ℕ) (stops : List (List ℕ)) (at : ℕ) (old new : Closed) (route : ClosedRoute) → ClosesSome s mine start stops at old → HasPlaces old → ClosesOne s start stops at route → IsLeftOut old route new → ClosesSome s mine start stops (at + 1) new
+left_out_route s mine start stops at old new route some has one left_out =
+    subst (ClosesSome s mine start stops (at + 1)) (sym left_out.same) (closes_not s mine start stops at old some (λ own useful.
     let (within, of_set) = has route.set left_out.at left_out.there in
     let other = some.each left_out.at within in
     let earlier = one.rises other.from other.before in
@@ -143,20 +146,20 @@ left_out_route s start stops at old new route some has one left_out =
       | inr more ↦ inr (omega (arith, left_out.no_dearer, more), earlier)
     ])))
 
-replaced_route : (s : SettingOf) (start : ℕ) (stops : List (List ℕ)) (at : ℕ) (old new : Closed) (route : ClosedRoute) → ClosesSome s start stops at old → HasPlaces old → ClosesOne s start stops at route → IsReplaced old route new → ClosesSome s start stops (at + 1) new
-replaced_route s start stops at old new route some has one taken = record {
+replaced_route : (s : SettingOf) (mine : ℕ → Bool) (start : ℕ) (stops : List (List ℕ)) (at : ℕ) (old new : Closed) (route : ClosedRoute) → ClosesSome s mine start stops at old → HasPlaces old → ClosesOne s start stops at route → IsReplaced old route new → ClosesSome s mine start stops (at + 1) new
+replaced_route s mine start stops at old new route some has one taken = record {
   each = λ i lt. elim (cases_eq i taken.at) [
     | inl same ↦ subst (IsOfLabel s start stops (at + 1)) (sym (ap (closed_at new) same ∙ replaced_same old new route taken there)) (mine_of s start stops at route one)
     | inr other ↦ subst (IsOfLabel s start stops (at + 1)) (sym (replaced_other old new route i taken other)) (later s start stops at (closed_at old i) (some.each i (omega (arith, lt, long))))
   ];
-  every = λ j lt useful. elim (cases_lt j at) [
+  every = λ j lt own useful. elim (cases_lt j at) [
     | inl less ↦
-        let stands = some.every j less useful in
+        let stands = some.every j less own useful in
         elim (cases_eq stands.at taken.at) [
           | inl same ↦ absurd (
               let other = some.each taken.at there in
-              let own : (closed_at old taken.at).label ≡ start + j = ap (λ n. (closed_at old n).label) (sym same) ∙ stands.label in
-              no_route_rival s stops route (closed_at old taken.at) (start + at) (start + j) one.listed other.listed one.label own (sym of_set) useful (inl taken.cheaper))
+              let labelled : (closed_at old taken.at).label ≡ start + j = ap (λ n. (closed_at old n).label) (sym same) ∙ stands.label in
+              no_route_rival s stops route (closed_at old taken.at) (start + at) (start + j) one.listed other.listed one.label labelled (sym of_set) useful (inl taken.cheaper))
           | inr other ↦ record {
             at = stands.at;
             within = omega (arith, stands.within, long);
@@ -184,17 +187,17 @@ replaced_route s start stops at old new route some has one taken = record {
     long : length new.routes.items ≡ length old.routes.items
     long = long_replaced old new route taken
 
-added_route : (s : SettingOf) (start : ℕ) (stops : List (List ℕ)) (at : ℕ) (old new : Closed) (route : ClosedRoute) → ClosesSome s start stops at old → ClosesOne s start stops at route → IsAdded old route new → ClosesSome s start stops (at + 1) new
-added_route s start stops at old new route some one added = record {
+added_route : (s : SettingOf) (mine : ℕ → Bool) (start : ℕ) (stops : List (List ℕ)) (at : ℕ) (old new : Closed) (route : ClosedRoute) → ClosesSome s mine start stops at old → ClosesOne s start stops at route → IsAdded old route new → ClosesSome s mine start stops (at + 1) new
+added_route s mine start stops at old new route some one added = record {
   each = λ i lt. elim (cases_lt i (length old.routes.items)) [
     | inl first ↦ subst (IsOfLabel s start stops (at + 1)) (sym (added_before old new route i added first)) (later s start stops at (closed_at old i) (some.each i first))
     | inr last ↦
         let end : i ≡ length old.routes.items = omega (arith, last, lt, long) in
         subst (IsOfLabel s start stops (at + 1)) (sym (ap (closed_at new) end ∙ added_last old new route added)) (mine_of s start stops at route one)
   ];
-  every = λ j lt useful. elim (cases_lt j at) [
+  every = λ j lt own useful. elim (cases_lt j at) [
     | inl less ↦
-        let stands = some.every j less useful in
+        let stands = some.every j less own useful in
         let set = set_of (get_or stops (start + j) []) in
         record {
           at = stands.at;
@@ -222,10 +225,10 @@ added_route s start stops at old new route some one added = record {
     itself : (n : ℕ) → (n == n) ≡ true
     itself n = grind (arith, nat_tests)
 
-pub closes_one : (s : SettingOf) (start : ℕ) (stops : List (List ℕ)) (at : ℕ) (old new : Closed) (route : ClosedRoute) → ClosesSome s start stops at old → HasPlaces old → ClosesOne s start stops at route → TakesRoute old route new → ClosesSome s start stops (at + 1) new
-closes_one s start stops at old new route some has one (inl left_out) = left_out_route s start stops at old new route some has one left_out
-closes_one s start stops at old new route some has one (inr (inl taken)) = replaced_route s start stops at old new route some has one taken
-closes_one s start stops at old new route some has one (inr (inr added)) = added_route s start stops at old new route some one added
+pub closes_one : (s : SettingOf) (mine : ℕ → Bool) (start : ℕ) (stops : List (List ℕ)) (at : ℕ) (old new : Closed) (route : ClosedRoute) → ClosesSome s mine start stops at old → HasPlaces old → ClosesOne s start stops at route → TakesRoute old route new → ClosesSome s mine start stops (at + 1) new
+closes_one s mine start stops at old new route some has one (inl left_out) = left_out_route s mine start stops at old new route some has one left_out
+closes_one s mine start stops at old new route some has one (inr (inl taken)) = replaced_route s mine start stops at old new route some has one taken
+closes_one s mine start stops at old new route some has one (inr (inr added)) = added_route s mine start stops at old new route some one added
 
 -- ---- a label's route
 
@@ -256,8 +259,8 @@ route_of_label s k start stops labels at label cost level some lt is cost_is =
       rises = λ j less. subst (λ (ys : List ℕ). IsEarlier ys xs) (label_stops start stops j) (subst (IsEarlier (get_or mine j [])) there (level.are.rising j at [] less within));
     }
 
-pub closes_all : (s : SettingOf) (k start : ℕ) (stops : List (List ℕ)) (labels : List Label) (at : ℕ) (closed : Closed) → IsLevel s k (drop start stops) labels → at ≡ length labels → ClosesSome s start stops at closed → AreClosed s k stops closed.routes.items
-closes_all s k start stops labels at closed level all some =
+pub closes_all : (s : SettingOf) (mine : ℕ → Bool) (k start : ℕ) (stops : List (List ℕ)) (labels : List Label) (at : ℕ) (closed : Closed) → IsLevel s k (drop start stops) labels → at ≡ length labels → ClosesSome s mine start stops at closed → AreClosedIn s k mine stops closed.routes.items
+closes_all s mine k start stops labels at closed level all some =
     let count = level.are.long in
     record {
       each = λ i d lt.
@@ -265,10 +268,10 @@ closes_all s k start stops labels at closed level all some =
           let route = closed_at closed i in
           subst (λ (r : ClosedRoute). IsListed s.relaxation.problem (route_by stops r) × (r.label < length stops)) (get_or_default closed.routes.items i no_closed d lt)
           (is.listed, omega (arith, is.label, is.before, all, count, length-drop start stops));
-      every = λ xs long useful.
+      every = λ xs long own useful.
           let begins : BeginsUseful s.relaxation.problem s.limit xs = ([], subst (IsUseful s.relaxation.problem s.limit) (sym (append-nil xs)) useful) in
           let (j, within, is) = level.every xs long begins in
           let there : get_or stops (start + j) [] ≡ xs = sym (label_stops start stops j) ∙ get_or_default (drop start stops) j [] xs within ∙ is in
-          let stands = some.every j (omega (arith, within, count, all)) (subst (IsUseful s.relaxation.problem s.limit) (sym there) useful) in
+          let stands = some.every j (omega (arith, within, count, all)) (subst (λ (ys : List ℕ). mine (set_of ys) ≡ true) (sym there) own) (subst (IsUseful s.relaxation.problem s.limit) (sym there) useful) in
           (closed_at closed stands.at, Contains-get_or closed.routes.items stands.at no_closed stands.within, ap (λ n. get_or stops n []) stands.label ∙ there);
     }

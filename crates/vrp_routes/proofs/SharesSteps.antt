@@ -1,47 +1,19 @@
 -- What several workers find, put together.
-use Rattle.std.proofs.Common.{◌≡◌, ℕ, ◌+◌, ◌-◌, ◌%◌, ◌<◌, true, inl, inr, nat_lt, Ok, Err, IfOk, Result, List, Vec, Global, [], ◌∷◌, ◌++◌, map, length, length-append, get_or, refl, sym, ap, subst, ◌∙◌, append_assoc, append-nil, eq-eqb, arith}
-use Rattle.std.proofs.lemmas.Bool.{cases_lt, eqb-true}
+use Rattle.std.proofs.Common.{◌≡◌, ℕ, ◌+◌, ◌-◌, ◌%◌, ◌<◌, true, inl, inr, nat_lt, Ok, Err, IfOk, Result, List, Vec, Global, [], ◌∷◌, ◌++◌, map, length, length-append, get_or, refl, sym, ap, subst, ◌∙◌, append_assoc, append-nil, arith}
+use Rattle.std.proofs.lemmas.Bool.{cases_lt}
 use Rattle.std.proofs.lemmas.Bool.Decides.{nat_tests}
-use Rattle.std.proofs.Math.Seq.{get_or-append_seam}
 use Rattle.std.proofs.lemmas.List.{get_or-append_right, get_or-map, get_or_append_left, get_or_push, length-map, map_push}
-use Rattle.std.proofs.lemmas.List.Elements.{All-nil}
-use Rattle.vrp_model.specs.Word.{last_symbol}
 use Rattle.vrp_routes.specs.Label.{SettingOf}
 use Rattle.vrp_routes.specs.Level.{IsShare}
-use Rattle.vrp_routes.specs.Merge.{IsMerged}
 use Rattle.vrp_routes.specs.Share.{has_rest, is_in_first}
 use Rattle.vrp_routes.specs.Shares.{AreParts}
 use Rattle.vrp_routes.specs.declared.label.Label.{Label}
-use Rattle.vrp_routes.proofs.MergeSteps.{merged_shares}
 
 is_below : (n m : ℕ) → nat_lt n m ≡ true → n < m
 is_below n m is = grind (arith, nat_tests)
 
 tests_below : (n m : ℕ) → n < m → nat_lt n m ≡ true
 tests_below n m lt = grind (arith, nat_tests)
-
-pub no_parts : (s : SettingOf) (k workers : ℕ) (before : List (List ℕ)) (labels : List Label) → labels ≡ [] → IsShare s k (is_in_first workers 0) before labels
-no_parts s k workers before labels none = subst (IsShare s k (is_in_first workers 0) before) (sym none) (record {
-  are = record {
-    each = All-nil _;
-    parents = All-nil _;
-    own = All-nil _;
-    ordered = λ i j d less lt. absurd (omega (arith, lt));
-  };
-  every = λ xs long mine useful. absurd (let below = is_below (last_symbol xs % workers) 0 mine in omega (arith, below));
-})
-
--- the share of the next worker is merged
-pub one_part_more : (s : SettingOf) (k workers m : ℕ) (before : List (List ℕ)) (left right merged : List Label) → IsShare s k (is_in_first workers m) before left → IsShare s k (has_rest workers m) before right → IsMerged left right merged → IsShare s k (is_in_first workers (m + 1)) before merged
-one_part_more s k workers m before left right merged share also is =
-    merged_shares s k (is_in_first workers m) (has_rest workers m) (is_in_first workers (m + 1)) before left right merged share also is
-    (λ c less same. (let below = is_below (c % workers) m less in let here = eqb-true (c % workers) m same in omega (arith, below, here)))
-    (λ c less. tests_below (c % workers) (m + 1) (let below = is_below (c % workers) m less in omega (arith, below)))
-    (λ c same. tests_below (c % workers) (m + 1) (let here = eqb-true (c % workers) m same in omega (arith, here)))
-    (λ c less. (let below = is_below (c % workers) (m + 1) less in elim (cases_lt (c % workers) m) [
-      | inl first ↦ inl (tests_below (c % workers) m first)
-      | inr last ↦ inr (eq-eqb (c % workers) m (omega (arith, below, last)))
-    ]))
 
 -- all customers are in one of all shares
 pub in_some_share : (workers c : ℕ) → 0 < workers → is_in_first workers workers c ≡ true
@@ -56,15 +28,6 @@ more_parts s k before shares xs ys first more i d lt = elim (cases_lt i (length 
       subst (λ (v : Vec Label Global). IsShare s k (has_rest shares (0 + i)) before v.items) (sym (get_or-append_right xs ys (length xs) i d refl above))
       (subst (λ n. IsShare s k (has_rest shares n) before (get_or ys (i - length xs) d).items) place (more (i - length xs) d (omega (arith, above, lt, length-append xs ys))))
 ]
-
--- the part of the next share
-pub part_at : (s : SettingOf) (k : ℕ) (before : List (List ℕ)) (shares : ℕ) (parts yielded rest : List (Vec Label Global)) (part : Vec Label Global) → parts ≡ yielded ++ part ∷ rest → AreParts s k before shares 0 parts → IsShare s k (has_rest shares (length yielded)) before part.items
-part_at s k before shares parts yielded rest part is are =
-    let at : get_or parts (length yielded) part ≡ part = ap (λ (vs : List (Vec Label Global)). get_or vs (length yielded) part) is ∙ get_or-append_seam yielded part rest part in
-    let within : length yielded < length parts = omega (arith, ap length is, length-append yielded (part ∷ rest)) in
-    let place : 0 + length yielded ≡ length yielded = omega arith in
-    subst (λ n. IsShare s k (has_rest shares n) before part.items) place
-    (subst (λ (v : Vec Label Global). IsShare s k (has_rest shares (0 + length yielded)) before v.items) at (are (length yielded) part within))
 
 -- ---- values
 
@@ -90,6 +53,11 @@ if_ok (Err e) P Q f holds = tt
 -- what is known of each job's result is known of each value
 pub of_value : {X E : Type 0} (r : Result X E) (x : X) (P : X → Type 0) → r ≡ Ok x → IfOk r P → P x
 of_value {X} {E} r x P is holds = subst (λ (t : Result X E). IfOk t P) is holds
+
+-- what holds of a value, and what else does
+pub both_ok : {X E : Type 0} (result : Result X E) (P Q : X → Type 0) → IfOk result P → IfOk result Q → IfOk result (λ x. P x × Q x)
+both_ok (Ok x) P Q one other = (one, other)
+both_ok (Err e) P Q one other = one
 
 -- an element of a list
 pub element : {X : Type 0} (xs : List X) (i : ℕ) → i < length xs → X

@@ -1,8 +1,9 @@
 -- The routes of one length as they are closed, of each set the cheapest.
-use Rattle.std.specs.Prelude.{◌≡◌, ◌⊎◌, ℕ, ◌<◌, ◌≤◌, ◌==◌, if◌then◌else◌, Option, None, Some, List, [], ◌∷◌, ◌++◌, length, slice_index_or, slice_set}
+use Rattle.std.specs.Prelude.{◌≡◌, ◌⊎◌, ℕ, ◌+◌, ◌*◌, ◌/◌, ◌%◌, ◌^◌, ◌<◌, ◌≤◌, ◌==◌, if◌then◌else◌, Bool, true, Option, None, Some, List, [], ◌∷◌, ◌++◌, Vec, length, slice_index_or, slice_set}
+use Rattle.std.specs.Global.{Global}
 use Rattle.std.specs.HashMap.{get}
 use Rattle.std.specs.List.{All, Contains}
-use Rattle.vrp_routes.specs.Label.{SettingOf}
+use Rattle.vrp_routes.specs.Label.{SettingOf, set_of}
 use Rattle.vrp_routes.specs.Pool.{IsListed, RouteOf}
 use Rattle.vrp_routes.specs.Useful.{IsUseful}
 use Rattle.vrp_routes.specs.declared.closed.Closed.{Closed}
@@ -52,3 +53,19 @@ TakesRoute old route new = IsLeftOut old route new ⊎ (IsReplaced old route new
 pub record AreClosed (s : SettingOf) (k : ℕ) (stops : List (List ℕ)) (routes : List ClosedRoute) : Type 0 where
   pub each : All (λ route. IsListed s.relaxation.problem (route_by stops route) × (route.label < length stops)) routes
   pub every : (xs : List ℕ) → length xs ≡ k → IsUseful s.relaxation.problem s.limit xs → (route : ClosedRoute) × Contains routes route × (slice_index_or stops route.label [] ≡ xs)
+
+-- which share closes a set
+abbrev pub closing_share : ℕ → ℕ
+closing_share set = (set / 2 ^ 64 + set % 2 ^ 64) % 2 ^ 64 * 6364136223846793005 % 2 ^ 64 / 2 ^ 61
+
+abbrev pub is_closed_in : ℕ → ℕ → Bool
+is_closed_in share set = closing_share set == share
+
+-- the routes with this many stops whose sets pass the test
+pub record AreClosedIn (s : SettingOf) (k : ℕ) (mine : ℕ → Bool) (stops : List (List ℕ)) (routes : List ClosedRoute) : Type 0 where
+  pub each : All (λ route. IsListed s.relaxation.problem (route_by stops route) × (route.label < length stops)) routes
+  pub every : (xs : List ℕ) → length xs ≡ k → mine (set_of xs) ≡ true → IsUseful s.relaxation.problem s.limit xs → (route : ClosedRoute) × Contains routes route × (slice_index_or stops route.label [] ≡ xs)
+
+-- these are the routes of the shares from the first one on
+abbrev pub AreClosedParts : SettingOf → ℕ → List (List ℕ) → List (Vec ClosedRoute Global) → Type 0
+AreClosedParts s k stops parts = (i : ℕ) (d : Vec ClosedRoute Global) → i < length parts → AreClosedIn s k (is_closed_in i) stops (slice_index_or parts i d).items

@@ -3,16 +3,16 @@ ghost use Rattle.std.specs.Prelude.{[], ◌≡◌, ◌==◌, if◌then◌else◌
 ghost use Rattle.vrp_routes.specs.Label.{IsLabel, SettingOf};
 
 /// What is counted along the beginning of a route, in the field a partial path from the depot.
-// The widest field is first, so that a label takes 64 bytes.
+// The wider a field the earlier it stands, and loads are no greater than MAX_CAPACITY: so a label takes 48 bytes.
 #[derive(Clone, Copy, Debug)]
 pub struct Label {
     // A bit for each customer.
     pub set: u128,
-    pub load: u64,
     pub cost: u64,
-    // The load in the units of the relaxation.
-    pub relaxed_load: u64,
     pub relaxed_cost: u64,
+    pub load: u32,
+    // The load in the units of the relaxation.
+    pub relaxed_load: u32,
     // Which label of one customer less this one goes on from.
     pub parent: u32,
     // 0 where there is none.
@@ -27,10 +27,10 @@ impl Label {
     {
         Label {
             set: 0,
-            load: 0,
             cost: 0,
-            relaxed_load: 0,
             relaxed_cost: 0,
+            load: 0,
+            relaxed_load: 0,
             parent: 0,
             first: 0,
             last: 0,

@@ -12,6 +12,7 @@ use crate::level::{Extended, Limit, extend_level};
 use crate::pool::RoutePool;
 use crate::sequences::Sequences;
 use crate::setting::Setting;
+use crate::tally::Tally;
 use std::alloc::Global;
 use std::thread::Threads;
 use vrp_bound::MemoryTables;
@@ -39,9 +40,9 @@ pub fn can_list(instance: &Instance) -> bool
 /// the relaxed instance, whoever is near which place. Beginnings of routes are extended customer by customer; one is dropped where it
 /// and its least completion by the tables are above the limit, or where another with the same customers and the same last one costs
 /// less, or as much and is earlier. At most `most_labels` beginnings are made, the one of no customers and those of the next length that
-/// are dropped later counted. Now and then it is asked whether to go on. Which limit is met, and when, is left open, and so is that the
-/// pool is the same for every number of workers.
-pub fn list_routes<R: Threads + Sync, F: Fn() -> bool>(
+/// are dropped later counted. Now and then it is asked whether to go on, and told how many beginnings were made so far; what number that
+/// is, is left open. Which limit is met, and when, is left open, and so is that the pool is the same for every number of workers.
+pub fn list_routes<R: Threads + Sync, F: Fn(u64) -> bool>(
     rt: &R,
     alloc: Global,
     relaxation: &Relaxation<'_>,
@@ -96,7 +97,7 @@ impl Listing {
     }
 
     // Goes on to the labels that are one customer longer.
-    fn step<R: Threads + Sync, F: Fn() -> bool>(
+    fn step<R: Threads + Sync, F: Fn(u64) -> bool>(
         &mut self,
         rt: &R,
         alloc: Global,
@@ -112,13 +113,17 @@ impl Listing {
             → IsListing setting.now k self.old → IsListing setting.now (k + 1) self.new)) }
     {
         let start = self.sequences.len() as u32;
-        let room = most_labels.saturating_sub(start) as usize;
-        let labels = match extend_level(rt, alloc, setting, &self.labels, workers, room, goes_on)? {
+        let tally = Tally {
+            made: u64::from(start),
+            room: most_labels.saturating_sub(start) as usize,
+        };
+        let extended = extend_level(rt, alloc, setting, &self.labels, workers, tally, goes_on)?;
+        let labels = match extended {
             Extended::Labels(labels) => labels,
             Extended::Met(limit) => return Ok(Some(limit)),
         };
         self.sequences.push_level(self.start, &labels)?;
-        let routes = close_level(alloc, setting, &labels, start)?;
+        let routes = close_level(rt, alloc, setting, &labels, start, workers)?;
         self.routes.extend_from_slice(&routes)?;
         self.labels = labels;
         self.start = start;

@@ -76,7 +76,7 @@ impl RoutePool {
         requires { at < length self.now }
         ensures { result ≡ (slice_index_or self.now at no_route).load }
     {
-        self.routes[at].load
+        u64::from(self.routes[at].load)
     }
 
     /// What a route costs.

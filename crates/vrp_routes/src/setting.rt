@@ -88,7 +88,7 @@ impl<'a> Setting<'a> {
             return None;
         }
         let relaxed_cost = label.relaxed_cost + relaxed.weight(label.last, 0);
-        let rest = self.whole_demand - label.relaxed_load;
+        let rest = self.whole_demand - label.relaxed_load as u64;
         let Some(least) = self.tables.bound(0, 0, rest) else {
             return None;
         };
@@ -117,11 +117,11 @@ impl<'a> Setting<'a> {
         if (label.set >> stop) & 1 == 1 {
             return None;
         }
-        let load = label.load + problem.demand(stop);
+        let load = label.load as u64 + problem.demand(stop);
         if load > problem.capacity() {
             return None;
         }
-        let relaxed_load = label.relaxed_load + relaxed.demand(stop);
+        let relaxed_load = label.relaxed_load as u64 + relaxed.demand(stop);
         if relaxed_load > relaxed.capacity() {
             return None;
         }
@@ -136,10 +136,10 @@ impl<'a> Setting<'a> {
         let cost = label.cost + problem.weight(label.last, stop);
         Some(Label {
             set: label.set | (1 << stop),
-            load,
             cost,
-            relaxed_load,
             relaxed_cost,
+            load: load as u32,
+            relaxed_load: relaxed_load as u32,
             parent,
             first: label.first_with(stop),
             last: stop,

@@ -52,12 +52,12 @@ pub(crate) fn listed<R: Abort + Threads + Sync>(
         limit,
         workers,
         most_labels,
-        true,
+        u64::MAX,
     );
     Some(found.expect(rt, "memory"))
 }
 
-/// What comes of it where walks have this memory, and whether to go on is always answered so.
+/// What comes of it where walks have this memory, and the list is stopped once so many labels are told of.
 pub(crate) fn by_memory<R: Threads + Sync>(
     rt: &R,
     alloc: Global,
@@ -66,7 +66,7 @@ pub(crate) fn by_memory<R: Threads + Sync>(
     limit: u64,
     workers: u16,
     most_labels: u32,
-    goes_on: bool,
+    enough: u64,
 ) -> Result<Listed, NoMemory>
     requires places { memory.places ≡ place_count relaxation.now.relaxed }
     requires few { place_count relaxation.now.problem ≤ 128 }
@@ -82,7 +82,7 @@ pub(crate) fn by_memory<R: Threads + Sync>(
         limit,
         workers,
         most_labels,
-        &|| goes_on,
+        &|labels| labels < enough,
     )
 }
 

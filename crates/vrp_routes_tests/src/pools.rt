@@ -136,8 +136,9 @@ fn assert_pool(
     assert_same(rt, pool.labels(), labels, "labels");
     assert_same(rt, pool.len(), routes.len(), "routes");
     assert_same(rt, pool.is_empty(), routes.is_empty(), "no routes");
-    for (at, &(stops, set, load, cost)) in routes.iter().enumerate() {
-        assert!(rt; at < pool.len());
+    for &(stops, set, load, cost) in routes {
+        let at = place_of(pool, set);
+        assert!(rt; at < pool.len(), "no route of {set}");
         let found = pool.stops(alloc, at).expect(rt, "memory");
         assert!(rt; found.as_slice() == stops, "{found:?} at {at}");
         let told = (pool.set(at), pool.load(at), pool.cost(at));
@@ -145,23 +146,37 @@ fn assert_pool(
     }
 }
 
-// How many labels may be made, that of no customers among them, whether to go on, and which limit is met.
-const LIMITS: &[(u32, bool, Option<Limit>)] = &[
-    (5, true, None),
-    (4, true, Some(Limit::Labels)),
-    (2, true, Some(Limit::Labels)),
-    (0, true, Some(Limit::Labels)),
-    (5, false, Some(Limit::Stopped)),
-    (0, false, Some(Limit::Stopped)),
+// Where the first route of this set stands, whose place is left open; the end where there is none.
+fn place_of(pool: &RoutePool, set: u128) -> usize {
+    for at in 0..pool.len() {
+        if pool.set(at) == set {
+            return at;
+        }
+    }
+    pool.len()
+}
+
+// How many labels may be made, that of no customers among them, how many are enough to stop, and which limit is met. There are five
+// labels, three of them of fewer than two customers.
+const LIMITS: &[(u32, u64, Option<Limit>)] = &[
+    (5, u64::MAX, None),
+    (4, u64::MAX, Some(Limit::Labels)),
+    (2, u64::MAX, Some(Limit::Labels)),
+    (0, u64::MAX, Some(Limit::Labels)),
+    (5, 6, None),
+    (5, 5, Some(Limit::Stopped)),
+    (5, 3, Some(Limit::Stopped)),
+    (5, 0, Some(Limit::Stopped)),
+    (0, 0, Some(Limit::Stopped)),
 ];
 
 #[test]
 fn limits_that_are_met(rt: HostRuntime) {
     let (rt, alloc) = (&rt, rt.alloc());
     let instance = at_points(rt, alloc, LINE, &[0, 1, 1], 2);
-    for &(most, goes_on, wanted) in LIMITS {
-        let met = met(rt, alloc, &instance, most, goes_on);
-        assert_same(rt, met, wanted, (most, goes_on));
+    for &(most, enough, wanted) in LIMITS {
+        let met = met(rt, alloc, &instance, most, enough);
+        assert_same(rt, met, wanted, (most, enough));
     }
 }
 
@@ -170,7 +185,7 @@ fn met<R: Abort + Threads + Sync>(
     alloc: Global,
     instance: &Instance,
     most_labels: u32,
-    goes_on: bool,
+    enough: u64,
 ) -> Option<Limit> {
     assert!(rt; can_list(instance) && instance.customers() == 2);
     let made = Relaxation::new(alloc, instance, 1, 1, &[0, 0, 0], &[]).expect(rt, "memory");
@@ -184,7 +199,7 @@ fn met<R: Abort + Threads + Sync>(
         1_000,
         2,
         most_labels,
-        goes_on,
+        enough,
     );
     match found.expect(rt, "memory") {
         Listed::Pool(_) => None,
@@ -220,7 +235,7 @@ fn pools_of_several_workers(rt: HostRuntime) {
     };
     let by_one = pool(rt, alloc, &instance, alone, 120);
     assert!(rt; by_one.labels() > 500);
-    for workers in [2, 3, 11, 40] {
+    for workers in [2, 3, 8, 11, 40] {
         let together = Setup { workers, ..alone };
         let by_all = pool(rt, alloc, &instance, together, 120);
         assert_same(rt, by_all.labels(), by_one.labels(), workers);
@@ -260,9 +275,10 @@ fn customers_at_the_limit(rt: HostRuntime) {
     };
     let pool = pool(rt, alloc, &last, setup, NO_COST);
     assert!(rt; pool.len() == 127);
-    assert_same(rt, pool.set(126), 1 << 127, "the last customer's set");
-    assert_same(rt, pool.cost(126), 254, "the last customer's cost");
-    let stops = pool.stops(alloc, 126).expect(rt, "memory");
+    let at = place_of(&pool, 1 << 127);
+    assert!(rt; at < 127, "no route of the last customer");
+    assert_same(rt, pool.cost(at), 254, "the last customer's cost");
+    let stops = pool.stops(alloc, at).expect(rt, "memory");
     assert!(rt; stops.as_slice() == [127].as_slice());
 }
 

@@ -1,61 +1,6 @@
-use Rattle.std.proofs.Common.{◌+◌, ◌<◌, [], drop, length, get_or, sym, subst, arith}
-use Rattle.vrp_routes.specs.Candidates.{no_label}
-use Rattle.vrp_routes.specs.Closed.{HasPlaces}
-use Rattle.vrp_routes.specs.Useful.{IsUseful}
-use Rattle.vrp_routes.specs.declared.closed.Closed.{Closed}
-use Rattle.vrp_routes.specs.declared.closed.ClosedRoute.{ClosedRoute}
-use Rattle.vrp_routes.proofs.ClosedSteps.{ClosesSome, closes_all, closes_none, closes_not, closes_one, label_stops, no_places, route_of_label, some_stops}
+use Rattle.vrp_routes.proofs.SharesSteps.{if_ok}
 use Rattle.vrp_routes.proofs.closed.close_level.Goals as goal
-use Rattle.vrp_routes.proofs.closed.close_level.Goals.{in-Some+in_ok-offer, in_default}
-
-pub loop-at-init : goal.loop-at-init
-loop-at-init c =
-    let closed : Closed = record { routes = c.new.result; by_set = c.new-2.result } in
-    record {
-      places = no_places closed c.new-2.ensures.empty;
-      closes = λ k stops some is. closes_none c.args.setting.now c.args.start stops closed c.new.ensures.items;
-    }
-
-pub close-requires : goal.close-requires
-close-requires c =
-    let (k, stops, is, some) = c.requires.level in
-    let mine = drop c.args.start stops in
-    let at = c.loop-at.at in
-    let lt : at < length mine = omega (arith, is.are.long, c.loop-at-test.true) in
-    record { label = (get_or mine at [], is.are.each at no_label lt, some_stops k (get_or mine at []) (is.are.size at [] lt) some) }
-
-pub loop-at-preserved : goal.loop-at-preserved
-loop-at-preserved c =
-    let s = c.args.setting.now in
-    let labels = c.args.labels.now in
-    let start = c.args.start in
-    let at = c.loop-at.at in
-    let old = c.loop-at.closed in
-    let label = get_or labels at no_label in
-    elim c.match-close.branch [
-      | in-Some+in_ok-offer w ↦ record {
-        places = subst HasPlaces (sym w.closed-is) w.in_ok-offer.ensures.places;
-        closes = λ k stops some is.
-            let mine = drop start stops in
-            let lt : at < length mine = omega (arith, is.are.long, c.loop-at-test.true) in
-            let is_label = is.are.each at no_label lt in
-            let route : ClosedRoute = record { set = label.set; load = label.load; cost = w.in-Some.cost; label = start + at } in
-            subst (ClosesSome s start stops (at + 1)) (sym w.closed-is)
-            (closes_one s start stops at old w.offer.new.self route (c.loop-at.invariant.closes k stops some is) c.loop-at.invariant.places
-            (route_of_label s k start stops labels at label w.in-Some.cost is some c.loop-at-test.true is_label (w.in-Some.ensures.cost (get_or mine at []) is_label))
-            w.in_ok-offer.ensures.offered);
-      }
-      | in_default w ↦ record {
-        places = subst HasPlaces (sym w.closed-is) c.loop-at.invariant.places;
-        closes = λ k stops some is.
-            let mine = drop start stops in
-            let lt : at < length mine = omega (arith, is.are.long, c.loop-at-test.true) in
-            subst (ClosesSome s start stops (at + 1)) (sym w.closed-is)
-            (closes_not s start stops at old (c.loop-at.invariant.closes k stops some is) (λ useful.
-            w.in_default.ensures.none (get_or mine at []) (is.are.each at no_label lt) (subst (IsUseful s.relaxation.problem s.limit) (sym (label_stops start stops at)) useful)));
-      }
-    ]
 
 pub returns : goal.returns
-returns c = λ k stops some is.
-    closes_all c.args.setting.now k c.args.start stops c.args.labels.now c.loop-at.at c.loop-at.closed is (omega (arith, c.loop-at-test.false, c.loop-at.auto.at-end)) (c.loop-at.invariant.closes k stops some is)
+returns g c =
+    if_ok c.joined.result _ _ (λ routes closed k stops some is. closed c.args.setting.now k stops (c.in_ok-parts.ensures.each k stops some is)) c.joined.ensures

@@ -12,7 +12,7 @@ loop-at-init c =
       count = refl;
       left = omega arith;
       right = omega arith;
-      some = subst (MergesSome left right 0 0) (sym c.new-merged.ensures.items) (merges_none left right);
+      some = subst (MergesSome left right 0 0) (sym c.in_ok-merged.ensures.items) (merges_none left right);
     }
 
 pub loop-at-preserved : goal.loop-at-preserved

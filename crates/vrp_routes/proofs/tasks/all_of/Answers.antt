@@ -1,7 +1,7 @@
 use Rattle.std.proofs.Common.{arith}
 use Rattle.std.proofs.lemmas.List.{nil_from_length}
 use Rattle.vrp_routes.proofs.SharesSteps.{all_values, one_value_more}
-use Rattle.vrp_routes.proofs.level.all_of.Goals as goal
+use Rattle.vrp_routes.proofs.tasks.all_of.Goals as goal
 
 pub loop-result-preserved : goal.loop-result-preserved
 loop-result-preserved g c =

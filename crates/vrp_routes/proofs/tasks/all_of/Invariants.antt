@@ -1,5 +1,5 @@
 use Rattle.std.proofs.Common.{◌≡◌, ◌++◌, Ok, map}
-use Rattle.vrp_routes.proofs.level.all_of.Given as goal
+use Rattle.vrp_routes.proofs.tasks.all_of.Given as goal
 
 -- those so far are values
 abbrev pub invariant-loop-result : goal.invariant-loop-result

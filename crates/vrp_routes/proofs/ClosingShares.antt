@@ -1,0 +1,57 @@
+-- The routes of all shares of the sets, put together.
+use Rattle.std.proofs.Common.{Global, Vec, ◌≡◌, ℕ, ◌+◌, ◌*◌, ◌/◌, ◌%◌, ◌^◌, ◌<◌, Bool, true, inl, inr, nat_lt, List, [], ◌∷◌, ◌++◌, length, length-append, get_or, sym, ap, subst, ◌∙◌, eq-eqb, arith}
+use Rattle.std.proofs.Math.Seq.{get_or-append_seam}
+use Rattle.std.proofs.lemmas.Bool.{cases_lt}
+use Rattle.std.proofs.lemmas.Bool.Decides.{nat_tests}
+use Rattle.std.proofs.lemmas.List.Elements.{All-append, All-nil, Contains-append_left, Contains-append_right}
+use Rattle.vrp_routes.specs.Closed.{AreClosed, AreClosedIn, AreClosedParts, closing_share, is_closed_in, route_by}
+use Rattle.vrp_routes.specs.Label.{SettingOf, set_of}
+use Rattle.vrp_routes.specs.Pool.{IsListed}
+use Rattle.vrp_routes.specs.declared.closed.ClosedRoute.{ClosedRoute}
+
+-- the set is closed in one of the first shares
+abbrev pub is_closed_before : ℕ → ℕ → Bool
+is_closed_before count set = nat_lt (closing_share set) count
+
+is_below : (n m : ℕ) → nat_lt n m ≡ true → n < m
+is_below n m is = grind (arith, nat_tests)
+
+tests_below : (n m : ℕ) → n < m → nat_lt n m ≡ true
+tests_below n m lt = grind (arith, nat_tests)
+
+pub no_shares_closed : (s : SettingOf) (k : ℕ) (stops : List (List ℕ)) (routes : List ClosedRoute) → routes ≡ [] → AreClosedIn s k (is_closed_before 0) stops routes
+no_shares_closed s k stops routes none = subst (AreClosedIn s k (is_closed_before 0) stops) (sym none) (record {
+  each = All-nil _;
+  every = λ xs long own useful. absurd (let below = is_below (closing_share (set_of xs)) 0 own in omega (arith, below));
+})
+
+pub one_share_more : (s : SettingOf) (k count : ℕ) (stops : List (List ℕ)) (old new : List ClosedRoute) → AreClosedIn s k (is_closed_before count) stops old → AreClosedIn s k (is_closed_in count) stops new → AreClosedIn s k (is_closed_before (count + 1)) stops (old ++ new)
+one_share_more s k count stops old new are also = record {
+  each = All-append (λ route. IsListed s.relaxation.problem (route_by stops route) × (route.label < length stops)) old new are.each also.each;
+  every = λ xs long own useful.
+      let share = closing_share (set_of xs) in
+      let below = is_below share (count + 1) own in
+      elim (cases_lt share count) [
+        | inl less ↦ (let (route, among, is) = are.every xs long (tests_below share count less) useful in (route, Contains-append_left old new route among, is))
+        | inr last ↦ (let (route, among, is) = also.every xs long (eq-eqb share count (omega (arith, below, last))) useful in (route, Contains-append_right old new route among, is))
+      ];
+}
+
+-- the routes of the next share
+pub share_at : (s : SettingOf) (k : ℕ) (stops : List (List ℕ)) (parts yielded rest : List (Vec ClosedRoute Global)) (part : Vec ClosedRoute Global) → parts ≡ yielded ++ part ∷ rest → AreClosedParts s k stops parts → AreClosedIn s k (is_closed_in (length yielded)) stops part.items
+share_at s k stops parts yielded rest part is are =
+    let at : get_or parts (length yielded) part ≡ part = ap (λ (vs : List (Vec ClosedRoute Global)). get_or vs (length yielded) part) is ∙ get_or-append_seam yielded part rest part in
+    let within : length yielded < length parts = omega (arith, ap length is, length-append yielded (part ∷ rest)) in
+    subst (λ (v : Vec ClosedRoute Global). AreClosedIn s k (is_closed_in (length yielded)) stops v.items) at (are (length yielded) part within)
+
+-- the highest bits of a number of 64 bits
+pub small_share : (n : ℕ) → n % 2 ^ 64 / 2 ^ 61 < 8
+small_share n = omega arith
+
+pub all_shares_closed : (s : SettingOf) (k : ℕ) (stops : List (List ℕ)) (routes : List ClosedRoute) → AreClosedIn s k (is_closed_before 8) stops routes → AreClosed s k stops routes
+all_shares_closed s k stops routes are = record {
+  each = are.each;
+  every = λ xs long useful.
+      let set = set_of xs in
+      are.every xs long (tests_below (closing_share set) 8 (small_share ((set / 2 ^ 64 + set % 2 ^ 64) % 2 ^ 64 * 6364136223846793005))) useful;
+}
