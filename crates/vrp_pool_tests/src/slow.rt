@@ -36,7 +36,15 @@ pub(crate) fn first_plan(rt: &impl Abort, alloc: Global, instance: &Instance) ->
         load: 0,
         cost: 0,
     };
-    search(rt, alloc, instance, start, &mut word, &mut first, MOST_SYMBOLS);
+    search(
+        rt,
+        alloc,
+        instance,
+        start,
+        &mut word,
+        &mut first,
+        MOST_SYMBOLS,
+    );
     first
 }
 

@@ -64,7 +64,7 @@ enum Ways {
 // The ways, what a truck carries, and how many trucks there are, if these are limited.
 type Given = (Ways, u64, Option<u16>);
 
-// Eight customers.
+// Eight customers. With four trucks the first plan of the last one costs more than without a limit.
 const SMALL: &[Given] = &[
     (Ways::Grid(3, 3), 3, None),
     (Ways::OneWay(8, 2, 1), 2, None),
@@ -116,7 +116,9 @@ const LARGER: &[(Given, u64, &[u16])] = &[
     (
         (Ways::OneWay(14, 3, 3), 2, Some(7)),
         30,
-        &[1, 8, 0, 3, 2, 0, 4, 5, 0, 6, 7, 0, 11, 9, 0, 13, 10, 0, 14, 12, 0],
+        &[
+            1, 8, 0, 3, 2, 0, 4, 5, 0, 6, 7, 0, 11, 9, 0, 13, 10, 0, 14, 12, 0,
+        ],
     ),
     (
         (Ways::BothWays(11, 3, 1), 3, Some(4)),
@@ -131,7 +133,9 @@ const LARGER: &[(Given, u64, &[u16])] = &[
     (
         (Ways::BothWays(14, 5, 3), 2, Some(7)),
         57,
-        &[1, 8, 0, 2, 10, 0, 3, 11, 0, 4, 14, 0, 5, 7, 0, 6, 13, 0, 9, 12, 0],
+        &[
+            1, 8, 0, 2, 10, 0, 3, 11, 0, 4, 14, 0, 5, 7, 0, 6, 13, 0, 9, 12, 0,
+        ],
     ),
 ];
 
@@ -147,10 +151,12 @@ fn instance_of(rt: &impl Abort, alloc: Global, (ways, capacity, trucks): Given) 
     let free = match ways {
         Ways::Grid(columns, rows) => grid(rt, alloc, (columns, rows), capacity),
         Ways::OneWay(customers, most, seed) => {
-            by_chance(rt, alloc, Layout::FullMatrix, (customers, most, seed), capacity)
+            let chance = (customers, most, seed);
+            by_chance(rt, alloc, Layout::FullMatrix, chance, capacity)
         }
         Ways::BothWays(customers, most, seed) => {
-            by_chance(rt, alloc, Layout::UpperRow, (customers, most, seed), capacity)
+            let chance = (customers, most, seed);
+            by_chance(rt, alloc, Layout::UpperRow, chance, capacity)
         }
     };
     match trucks {
@@ -208,12 +214,18 @@ fn assert_chosen_by_all<R: Abort + Threads + Wait + Sync>(
     for workers in [1, 2, 8] {
         let gate = Listener::from(from);
         let answer = answer_behind(rt, alloc, instance, (workers, pieces, BUDGET), &gate);
-        assert!(rt; matches!(answer, Answer::Proven(_)), "{wanted}, by {workers}");
+        assert!(rt;
+            matches!(answer, Answer::Proven(_)),
+            "{wanted}, by {workers}"
+        );
         let routes = gate.routes.load(Ordering::SeqCst);
         let done = gate.done.load(Ordering::SeqCst);
         assert!(rt; 1 <= routes && done == 0, "{routes} {done}, by {workers}");
         let cost = answer.plan().map(Plan::cost);
-        assert!(rt; cost == Some(wanted), "{cost:?} is not {wanted}, by {workers}");
+        assert!(rt;
+            cost == Some(wanted),
+            "{cost:?} is not {wanted}, by {workers}"
+        );
         let is_word = answer.plan().is_some_and(|plan| plan.word() == word);
         assert!(rt; is_word, "another plan of cost {wanted}, by {workers}");
     }
