@@ -40,8 +40,8 @@ impl fmt::Display for Stage {
     }
 }
 
-/// What is known of a run. Its text is one line, without an end; where no pieces are known it says nothing of them. Of labels it tells
-/// as long as routes are listed, and of nodes as long as is chosen.
+/// What is known of a run. Its text is one line, without an end; where no pieces are known it says nothing of them. It tells of labels
+/// while routes are listed, and of nodes while a choice among these is looked for.
 #[derive(Clone, Copy, Debug, PartialEq, Eq)]
 pub struct Line {
     pub stage: Stage,
@@ -51,11 +51,11 @@ pub struct Line {
     pub cost: Option<u64>,
     /// No plan costs less than this, where that is known.
     pub bound: Option<u64>,
-    /// How many labels were made so far, to list useful routes; 0 where none are told of.
+    /// How many labels were made so far, to list useful routes.
     pub labels: u64,
     /// How many useful routes there are; 0 where none are listed.
     pub routes: u64,
-    /// How many nodes of the choice are done with.
+    /// How many nodes of the choice are done.
     pub nodes_done: u64,
     /// How many nodes of the choice are open.
     pub nodes_open: u64,
@@ -99,7 +99,7 @@ impl Line {
         Ok(())
     }
 
-    // How many labels there are, as long as routes are listed.
+    // How many labels were made, while routes are listed, once there are any.
     fn write_labels<W: fmt::Write>(&self, f: &mut fmt::Formatter<W>) -> fmt::Result {
         if self.stage != Stage::Routes || self.labels == 0 {
             return Ok(());
@@ -115,7 +115,7 @@ impl Line {
         write!(f, ", {} useful routes", self.routes)
     }
 
-    // How many nodes are done with and open, as long as is chosen; until the root is told of there are none.
+    // How many nodes are done and open, while a choice is looked for, once there are any.
     fn write_nodes<W: fmt::Write>(&self, f: &mut fmt::Formatter<W>) -> fmt::Result {
         if self.stage != Stage::Choice || self.nodes_done == 0 && self.nodes_open == 0 {
             return Ok(());
