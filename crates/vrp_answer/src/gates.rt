@@ -12,8 +12,12 @@ pub enum News {
     Bound(u64),
     /// Useful routes are listed: those that can stand in the first plan.
     Routes,
+    /// So many labels were made so far, to list useful routes.
+    Labels(u64),
     /// This many useful routes are chosen among.
     Choice(u64),
+    /// Of the choice among them so many nodes are done, and so many are open.
+    Nodes { done: u64, open: u64 },
     /// This many pieces are searched.
     Pieces(u32),
     /// This many more partial plans were looked at.

@@ -40,7 +40,8 @@ impl fmt::Display for Stage {
     }
 }
 
-/// What is known of a run. Its text is one line, without an end; where no pieces are known it says nothing of them.
+/// What is known of a run. Its text is one line, without an end; where no pieces are known it says nothing of them. It tells of labels
+/// while routes are listed, and of nodes while a choice among these is looked for.
 #[derive(Clone, Copy, Debug, PartialEq, Eq)]
 pub struct Line {
     pub stage: Stage,
@@ -50,8 +51,14 @@ pub struct Line {
     pub cost: Option<u64>,
     /// No plan costs less than this, where that is known.
     pub bound: Option<u64>,
+    /// How many labels were made so far, to list useful routes.
+    pub labels: u64,
     /// How many useful routes there are; 0 where none are listed.
     pub routes: u64,
+    /// How many nodes of the choice are done.
+    pub nodes_done: u64,
+    /// How many nodes of the choice are open.
+    pub nodes_open: u64,
     /// How many pieces are done with.
     pub done: u64,
     /// How many pieces there are; 0 where the tree has not been cut.
@@ -69,7 +76,9 @@ impl fmt::Display for Line {
         }
         write!(f, "{}", self.stage)?;
         self.write_costs(f)?;
+        self.write_labels(f)?;
         self.write_routes(f)?;
+        self.write_nodes(f)?;
         self.write_pieces(f)
     }
 }
@@ -90,12 +99,32 @@ impl Line {
         Ok(())
     }
 
+    // How many labels were made, while routes are listed, once there are any.
+    fn write_labels<W: fmt::Write>(&self, f: &mut fmt::Formatter<W>) -> fmt::Result {
+        if self.stage != Stage::Routes || self.labels == 0 {
+            return Ok(());
+        }
+        write!(f, ", {} labels", self.labels)
+    }
+
     // How many useful routes there are, where they are listed.
     fn write_routes<W: fmt::Write>(&self, f: &mut fmt::Formatter<W>) -> fmt::Result {
         if self.routes == 0 {
             return Ok(());
         }
         write!(f, ", {} useful routes", self.routes)
+    }
+
+    // How many nodes are done and open, while a choice is looked for, once there are any.
+    fn write_nodes<W: fmt::Write>(&self, f: &mut fmt::Formatter<W>) -> fmt::Result {
+        if self.stage != Stage::Choice || self.nodes_done == 0 && self.nodes_open == 0 {
+            return Ok(());
+        }
+        write!(
+            f,
+            ", {} nodes done, {} open",
+            self.nodes_done, self.nodes_open
+        )
     }
 
     // How many pieces are done with, where there are any, and how much was looked at.

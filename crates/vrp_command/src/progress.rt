@@ -37,7 +37,10 @@ pub(crate) struct Progress<'a, T, G: Gate> {
     stage: AtomicU64,
     cost: AtomicU64,
     bound: AtomicU64,
+    labels: AtomicU64,
     routes: AtomicU64,
+    nodes_done: AtomicU64,
+    nodes_open: AtomicU64,
     pieces: AtomicU64,
     done: AtomicU64,
     looked: AtomicU64,
@@ -58,7 +61,10 @@ impl<'a, T: Clock + Eprint, G: Gate> Progress<'a, T, G> {
             stage: AtomicU64::new(FIRST_LOOK),
             cost: AtomicU64::new(NO_PLAN),
             bound: AtomicU64::new(0),
+            labels: AtomicU64::new(0),
             routes: AtomicU64::new(0),
+            nodes_done: AtomicU64::new(0),
+            nodes_open: AtomicU64::new(0),
             pieces: AtomicU64::new(0),
             done: AtomicU64::new(0),
             looked: AtomicU64::new(0),
@@ -108,7 +114,10 @@ impl<'a, T: Clock + Eprint, G: Gate> Progress<'a, T, G> {
             seconds: self.seconds(),
             cost: if cost == NO_PLAN { None } else { Some(cost) },
             bound: if bound == 0 { None } else { Some(bound) },
+            labels: self.labels.load(Ordering::Relaxed),
             routes: self.routes.load(Ordering::Relaxed),
+            nodes_done: self.nodes_done.load(Ordering::Relaxed),
+            nodes_open: self.nodes_open.load(Ordering::Relaxed),
             done: self.done.load(Ordering::Relaxed),
             pieces: self.pieces.load(Ordering::Relaxed),
             looked: self.looked.load(Ordering::Relaxed),
@@ -174,6 +183,15 @@ impl<'a, T: Clock + Eprint, G: Gate> Gate for Progress<'a, T, G> {
             News::Choice(routes) => {
                 self.routes.store(routes, Ordering::Relaxed);
                 self.comes_to(CHOICE);
+            }
+            News::Labels(labels) => {
+                self.labels.fetch_max(labels, Ordering::Relaxed);
+                self.tell_when_due();
+            }
+            News::Nodes { done, open } => {
+                self.nodes_done.store(done, Ordering::Relaxed);
+                self.nodes_open.store(open, Ordering::Relaxed);
+                self.tell_when_due();
             }
             News::Pieces(pieces) => {
                 self.pieces.store(u64::from(pieces), Ordering::Relaxed);

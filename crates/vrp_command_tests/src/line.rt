@@ -8,10 +8,26 @@ const NOTHING: Line = Line {
     seconds: Some(0),
     cost: None,
     bound: None,
+    labels: 0,
     routes: 0,
+    nodes_done: 0,
+    nodes_open: 0,
     done: 0,
     pieces: 0,
     looked: 0,
+};
+
+// What is known once a choice has begun.
+const CHOSEN: Line = Line {
+    stage: Stage::Choice,
+    seconds: Some(5),
+    cost: Some(521),
+    bound: Some(520),
+    labels: 30_000,
+    routes: 2_212,
+    nodes_done: 17,
+    nodes_open: 4,
+    ..NOTHING
 };
 
 const LINES: &[(Line, &str)] = &[
@@ -38,14 +54,72 @@ const LINES: &[(Line, &str)] = &[
     ),
     (
         Line {
+            stage: Stage::Routes,
+            cost: Some(521),
+            bound: Some(518),
+            ..NOTHING
+        },
+        "0 s, routes, cost 521, lower bound 518, gap 0.57%",
+    ),
+    (
+        Line {
+            stage: Stage::Routes,
+            seconds: Some(4),
+            cost: Some(521),
+            bound: Some(518),
+            labels: 1_234_567,
+            ..NOTHING
+        },
+        "4 s, routes, cost 521, lower bound 518, gap 0.57%, 1234567 labels",
+    ),
+    (
+        CHOSEN,
+        "5 s, choice, cost 521, lower bound 520, gap 0.19%, 2212 useful routes, 17 nodes done, 4 open",
+    ),
+    // The root alone, before and behind it.
+    (
+        Line {
+            nodes_done: 0,
+            nodes_open: 1,
+            ..CHOSEN
+        },
+        "5 s, choice, cost 521, lower bound 520, gap 0.19%, 2212 useful routes, 0 nodes done, 1 open",
+    ),
+    (
+        Line {
+            nodes_done: 1,
+            nodes_open: 0,
+            ..CHOSEN
+        },
+        "5 s, choice, cost 521, lower bound 520, gap 0.19%, 2212 useful routes, 1 nodes done, 0 open",
+    ),
+    // Behind the choice nothing is told of its nodes.
+    (
+        Line {
+            stage: Stage::Search,
+            pieces: 64,
+            ..CHOSEN
+        },
+        "5 s, search, cost 521, lower bound 520, gap 0.19%, 2212 useful routes, 0 of 64 pieces, 0 partial plans",
+    ),
+    (
+        Line {
+            stage: Stage::Ended(Status::Proven),
+            bound: Some(521),
+            ..CHOSEN
+        },
+        "5 s, Proven, cost 521, lower bound 521, gap 0.00%, 2212 useful routes",
+    ),
+    (
+        Line {
             stage: Stage::Search,
             seconds: Some(12),
             cost: Some(521),
             bound: Some(518),
-            routes: 0,
             done: 3,
             pieces: 64,
             looked: 1_234_567,
+            ..NOTHING
         },
         "12 s, search, cost 521, lower bound 518, gap 0.57%, 3 of 64 pieces, 1234567 partial plans",
     ),

@@ -8,4 +8,6 @@ mod gatherer;
 #[cfg(test)]
 mod seat_board;
 #[cfg(test)]
+mod slow;
+#[cfg(test)]
 mod solver;

@@ -14,6 +14,7 @@ use vrp_pool::{Answer, Gate, MAX_WORKERS, NoGate, solve};
 use vrp_search::{Cutting, MAX_PIECES};
 
 mod by_routes;
+mod choices_with_ties;
 mod gated;
 mod stopped;
 

@@ -62,6 +62,7 @@ impl Gate for GoesOn {
                 self.routes.fetch_max(routes, Ordering::SeqCst);
             }
             News::FirstPlan | News::Prices | News::Routes | News::Pieces(_) => {}
+            News::Labels(_) | News::Nodes { .. } => {}
         }
     }
 
