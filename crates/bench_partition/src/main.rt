@@ -1,5 +1,5 @@
 //! How fast the cheapest choice among the routes of a pool is found. The command line names a file with the pool, the cost that is
-//! known, of which a cheaper choice is sought, 0 standing for the file's, and how much budget the search has. The file's first
+//! known, of which a cheaper choice is sought, 0 standing for the file's, how much budget the search has, and how many workers. The file's first
 //! line has a truck's capacity, a cost below which there is a choice, and each customer's demand; each line after it a route's cost and
 //! its customers. What was found goes to standard output, and how long it took to standard error.
 #![tactic(auto)]
@@ -8,14 +8,15 @@ ghost use Rattle.std.specs.Prelude.{◌≡◌, ◌^◌, ◌≤◌, ◌<◌, leng
 
 use anyhow::{Context, Result, ensure};
 use std::alloc::{AllocError, Global};
-use std::cell::Cell;
 use std::rt::{Clock, Files};
+use std::sync::atomic::{AtomicU64, Ordering};
+use std::thread::Threads;
 use std::time::Instant;
 use std::{env, fs};
 use vrp_partition::{
-    Ask, Chosen, Guide, MOST_CUSTOMERS, PriceOffer, Route, all_fit, cheapest_choice,
+    Ask, Fleet, Found, Guide, MOST_CUSTOMERS, PriceOffer, Route, Team, all_fit, cheapest_choice,
 };
-use vrp_simplex::{Fleet, ProgramGuide};
+use vrp_simplex::ProgramGuide;
 
 // The search is always to go on.
 #[derive(Debug, Clone, Copy)]
@@ -28,19 +29,18 @@ impl Ask for Always {
 }
 
 // What is counted of a search: its nodes, the steps of the linear program, and the reduced costs that were looked at.
-#[derive(Clone, Copy)]
 struct Counts {
-    nodes: u64,
-    primal_steps: u64,
-    dual_steps: u64,
-    looks: u64,
+    nodes: AtomicU64,
+    primal_steps: AtomicU64,
+    dual_steps: AtomicU64,
+    looks: AtomicU64,
 }
 
 // A guide whose nodes are counted.
 #[derive(Drop)]
 struct Counted<'a> {
     guide: ProgramGuide<'a, Always>,
-    counts: &'a Cell<Counts>,
+    counts: &'a Counts,
 }
 
 impl Guide for Counted<'_> {
@@ -57,17 +57,13 @@ impl Guide for Counted<'_> {
         let (primal, dual) = self.guide.steps();
         let offer = self.guide.offer(pool, customers, incumbent)?;
         let (more_primal, more_dual) = self.guide.steps();
-        let counts = self.counts.get();
-        self.counts.set(Counts {
-            nodes: counts.nodes.saturating_add(1),
-            primal_steps: counts
-                .primal_steps
-                .saturating_add(more_primal.saturating_sub(primal)),
-            dual_steps: counts
-                .dual_steps
-                .saturating_add(more_dual.saturating_sub(dual)),
-            looks: counts.looks.saturating_add(offer.work),
-        });
+        let counts = self.counts;
+        counts.nodes.fetch_add(1, Ordering::SeqCst);
+        let primal_steps = more_primal.saturating_sub(primal);
+        counts.primal_steps.fetch_add(primal_steps, Ordering::SeqCst);
+        let dual_steps = more_dual.saturating_sub(dual);
+        counts.dual_steps.fetch_add(dual_steps, Ordering::SeqCst);
+        counts.looks.fetch_add(offer.work, Ordering::SeqCst);
         Ok(offer)
     }
 
@@ -98,12 +94,16 @@ fn main(rt: HostRuntime) -> Result<()> {
     let name = words.next().context("no file is named")?;
     let cost = words.next().context("no cost is named")?.parse::<u64>()?;
     let budget = words.next().context("no budget is named")?.parse::<u64>()?;
+    let workers = match words.next() {
+        Some(word) => word.parse::<usize>()?,
+        None => 1,
+    };
     let text = fs::read_to_string(&rt, name.as_str())?;
     let mut pool = read(rt.alloc(), text.as_str())?;
     if cost > 0 {
         pool.known_cost = cost;
     }
-    choose(&rt, name.as_str(), pool, budget)
+    choose(&rt, name.as_str(), pool, budget, workers)
 }
 
 // The pool of a file.
@@ -144,36 +144,46 @@ fn read_route(line: &str) -> Result<Route> {
 }
 
 // Seeks the cheapest choice, and prints what was found and how long it took.
-fn choose<R: Clock + Print + Eprint + AllocGlobal>(
+fn choose<R: Clock + Print + Eprint + AllocGlobal + Threads + Sync>(
     rt: &R,
     name: &str,
     pool: Pool,
     budget: u64,
+    workers: usize,
 ) -> Result<()> {
     let count = pool.routes.len();
-    let counts = Cell::new(Counts {
-        nodes: 0,
-        primal_steps: 0,
-        dual_steps: 0,
-        looks: 0,
-    });
+    let counts = Counts {
+        nodes: AtomicU64::new(0),
+        primal_steps: AtomicU64::new(0),
+        dual_steps: AtomicU64::new(0),
+        looks: AtomicU64::new(0),
+    };
     let start = Instant::now(rt)?;
-    let found = search(rt.alloc(), pool, budget, &counts)?;
+    let found = search(rt, rt.alloc(), pool, budget, workers, &counts)?;
     let milliseconds = start.elapsed(rt)?.as_millis();
     match found {
-        Some(chosen) => {
+        Found::Cheapest(chosen) => {
             let (cost, few) = (chosen.cost, chosen.routes.len());
             println!(rt; "{name}: {count} routes, {cost} by {few}")?;
         }
-        None => println!(rt; "{name}: {count} routes, open")?,
+        Found::Unfinished { lower_bound, .. } => {
+            println!(rt; "{name}: {count} routes, open, at least {lower_bound}")?;
+        }
     }
-    print_counts(rt, counts.get())?;
+    print_counts(rt, &counts)?;
     eprintln!(rt; "{milliseconds} milliseconds")?;
     Ok(())
 }
 
 // The cheapest choice of a pool, by a guide whose nodes are counted.
-fn search(alloc: Global, pool: Pool, budget: u64, counts: &Cell<Counts>) -> Result<Option<Chosen>> {
+fn search<R: Threads + Sync>(
+    rt: &R,
+    alloc: Global,
+    pool: Pool,
+    budget: u64,
+    workers: usize,
+    counts: &Counts,
+) -> Result<Found> {
     let Pool {
         demands,
         customers,
@@ -182,6 +192,7 @@ fn search(alloc: Global, pool: Pool, budget: u64, counts: &Cell<Counts>) -> Resu
         routes,
     } = pool;
     ensure!(known_cost <= 1 << 32, "the cost {known_cost}");
+    ensure!(workers > 0, "no worker");
     ensure!(
         all_fit(routes.as_slice(), &demands, capacity),
         "a route is too heavy"
@@ -192,30 +203,33 @@ fn search(alloc: Global, pool: Pool, budget: u64, counts: &Cell<Counts>) -> Resu
         trucks: u8::MAX,
     };
     let guide = ProgramGuide::new(alloc, fleet, Vec::new(alloc), &Always);
-    let mut guide = Counted { guide, counts };
-    let mut budget = budget;
-    Ok(cheapest_choice(
+    let team = Team {
+        rt,
         alloc,
-        &mut guide,
-        &demands,
-        capacity,
-        u8::MAX,
+        workers,
+        ask: &Always,
+    };
+    let mut budget = budget;
+    let guide = Counted { guide, counts };
+    let found = cheapest_choice(
+        &team,
+        guide,
+        &fleet,
         routes,
         customers,
         known_cost,
         &mut budget,
-    )?)
+    )?;
+    Ok(found)
 }
 
-fn print_counts(rt: &impl Print, counts: Counts) -> Result<()> {
-    let Counts {
-        nodes,
-        primal_steps,
-        dual_steps,
-        looks,
-    } = counts;
+fn print_counts(rt: &impl Print, counts: &Counts) -> Result<()> {
+    let nodes = counts.nodes.load(Ordering::SeqCst);
+    let primal = counts.primal_steps.load(Ordering::SeqCst);
+    let dual = counts.dual_steps.load(Ordering::SeqCst);
+    let looks = counts.looks.load(Ordering::SeqCst);
     println!(rt;
-        "{nodes} nodes, {primal_steps} primal and {dual_steps} dual steps, {looks} looks"
+        "{nodes} nodes, {primal} primal and {dual} dual steps, {looks} looks"
     )?;
     Ok(())
 }

@@ -4,22 +4,35 @@ use std::alloc::Global;
 use std::process::Abort;
 use std::thread::Threads;
 use vrp_bound::MemoryTables;
-use vrp_canonical::canonical_plan;
+use vrp_canonical::{PlanSearch, canonical_plan};
 use vrp_memory::Memory;
 use vrp_model::{Instance, NO_COST, NoMemory, Plan};
-use vrp_partition::Guide;
+use vrp_partition::{Ask, Guide, Team};
 use vrp_prices::Relaxation;
 use vrp_routes::{Listed, can_list, list_routes};
 
-/// The plan that is found from a known one, by a guide and within a budget.
-pub(crate) fn found_plan<R: Abort + Threads + Sync, P: Guide>(
+/// Who is asked whether a search goes on.
+#[derive(Clone, Copy, Debug)]
+pub(crate) struct Asks {
+    pub(crate) goes_on: bool,
+}
+
+impl Ask for Asks {
+    fn should_continue(&self) -> bool {
+        self.goes_on
+    }
+}
+
+/// What is found by two workers from a known plan, by a guide and within a budget.
+pub(crate) fn found_plan<R: Abort + Threads + Sync, P: Guide + Send>(
     rt: &R,
     alloc: Global,
     instance: &Instance,
     known: &Plan,
     guide: &P,
+    ask: Asks,
     budget: u64,
-) -> Result<Option<Plan>, NoMemory> {
+) -> Result<Option<PlanSearch>, NoMemory> {
     let limit = known.cost();
     assert!(rt; can_list(instance));
     assert!(rt; limit <= NO_COST);
@@ -39,8 +52,17 @@ pub(crate) fn found_plan<R: Abort + Threads + Sync, P: Guide>(
         &|_labels| true,
     )?;
     let mut left = budget;
+    let team = Team {
+        rt,
+        alloc,
+        workers: 2,
+        ask: &ask,
+    };
     match listed {
-        Listed::Pool(pool) => canonical_plan(alloc, instance, &pool, known, guide, &mut left),
+        Listed::Pool(pool) => {
+            let found = canonical_plan(&team, instance, &pool, known, guide, &mut left)?;
+            Ok(Some(found))
+        }
         Listed::Met(_) => Ok(None),
     }
 }

@@ -1,7 +1,7 @@
 //! Plans found are the first ones, as a slow program finds them.
 
 use crate::assertion::assert_same;
-use crate::found::found_plan;
+use crate::found::{Asks, found_plan};
 use crate::guides::{Habit, Habitual};
 use crate::instances::{FIVE, SQUARE, at_points, with_ways};
 use crate::random::Random;
@@ -9,6 +9,7 @@ use crate::slow::{First, first_plan};
 use std::alloc::Global;
 use std::process::Abort;
 use std::thread::Threads;
+use vrp_canonical::PlanSearch;
 use vrp_model::{Instance, Plan};
 use vrp_tree::lawful_plan;
 
@@ -98,6 +99,14 @@ fn plans_of<R: Abort + Threads + Sync>(rt: &R, alloc: Global, instance: &Instanc
     plans
 }
 
+// The first plan, where it was found.
+fn first_of(found: Option<PlanSearch>) -> Option<Plan> {
+    match found {
+        Some(PlanSearch::First(plan)) => Some(plan),
+        _ => None,
+    }
+}
+
 const GUIDES: &[(Habit, u64)] = &[(Habit::Zeros, 1), (Habit::Random, 2), (Habit::Random, 3)];
 
 fn by_guides<R: Abort + Threads + Sync>(
@@ -115,8 +124,9 @@ fn by_guides<R: Abort + Threads + Sync>(
             habit,
             random,
         };
-        let found = found_plan(rt, alloc, instance, known, &guide, 1_000_000);
-        let plan = found.expect(rt, "memory").expect(rt, "a plan");
+        let ask = Asks { goes_on: true };
+        let found = found_plan(rt, alloc, instance, known, &guide, ask, 1_000_000);
+        let plan = first_of(found.expect(rt, "memory")).expect(rt, "a plan");
         assert_same(rt, plan.cost(), first.cost, "cost");
         assert!(rt; plan.word() == first.word.as_slice(), "{:?}", plan.word());
         plans = plans.saturating_add(1);
@@ -147,8 +157,11 @@ fn budgets_and_guides_that_stop(rt: HostRuntime) {
             habit,
             random,
         };
-        let found = found_plan(rt, alloc, &instance, &known, &guide, budget);
-        let plan = found.expect(rt, "memory");
+        let ask = Asks {
+            goes_on: habit != Habit::Stopping,
+        };
+        let found = found_plan(rt, alloc, &instance, &known, &guide, ask, budget);
+        let plan = first_of(found.expect(rt, "memory"));
         assert_same(rt, plan.is_some(), wanted, (habit, budget));
     }
 }

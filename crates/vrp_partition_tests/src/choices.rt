@@ -1,17 +1,20 @@
 //! The cheapest choice by hand, and beside every choice of random pools, by guides that know nothing.
 
 use crate::assertion::assert_same;
-use crate::guides::{HABITS, Habit, Habitual};
+use crate::guides::{Asks, HABITS, Habit, Habitual};
 use crate::random::{Random, all_customers};
 use crate::slow::{cost_of_choice, least_cost};
 use std::alloc::Global;
 use std::process::Abort;
-use vrp_partition::{Chosen, MOST_CUSTOMERS, Route, all_fit, cheapest_choice, routes_within};
+use std::thread::Threads;
+use vrp_partition::{
+    Chosen, Fleet, Found, MOST_CUSTOMERS, Route, Team, all_fit, cheapest_choice, routes_within,
+};
 
 // A route: its customers and its cost.
-type Told = (u128, u32);
+type Pair = (u128, u32);
 
-const THREE: &[Told] = &[
+const THREE: &[Pair] = &[
     (0b0010, 10),
     (0b0100, 10),
     (0b1000, 10),
@@ -21,7 +24,7 @@ const THREE: &[Told] = &[
     (0b1110, 25),
 ];
 
-const FOUR: &[Told] = &[
+const FOUR: &[Pair] = &[
     (0b00110, 5),
     (0b11000, 5),
     (0b01010, 4),
@@ -33,7 +36,7 @@ const FOUR: &[Told] = &[
 const MUCH: u64 = 1 << 32;
 
 // A pool, customers, trucks, the incumbent's cost and the least cost.
-const BY_HAND: &[(&[Told], u128, u8, u64, u64)] = &[
+const BY_HAND: &[(&[Pair], u128, u8, u64, u64)] = &[
     (THREE, 0b1110, 128, MUCH, 22),
     (THREE, 0b1110, 128, 23, 22),
     (THREE, 0b1110, 128, 22, 22),
@@ -86,9 +89,9 @@ fn choices_by_hand(rt: HostRuntime) {
     }
 }
 
-// Each customer demands 1.
-fn choice(
-    rt: &impl Abort,
+// The cheapest choice, where the search ends, by any number of workers. Each customer demands 1.
+fn choice<R: Abort + Threads + Sync>(
+    rt: &R,
     alloc: Global,
     habit: Habit,
     capacity: u32,
@@ -98,29 +101,104 @@ fn choice(
     incumbent: u64,
     nodes: u64,
 ) -> Option<Chosen> {
-    let demands = [1u32; MOST_CUSTOMERS];
-    assert!(rt; all_fit(pool.as_slice(), &demands, capacity));
-    assert!(rt; incumbent <= MUCH);
-    let mut guide = Habitual {
-        alloc,
+    let asked = Asked {
         habit,
-        random: Random(nodes),
-    };
-    let mut budget = nodes;
-    let found = cheapest_choice(
-        alloc,
-        &mut guide,
-        &demands,
         capacity,
         trucks,
-        pool,
         customers,
         incumbent,
+        budget: nodes,
+    };
+    let one = found_by(rt, alloc, 1, asked, &pool);
+    for workers in [2, 3, 8] {
+        let other = found_by(rt, alloc, workers, asked, &pool);
+        assert_same(rt, told_of(&other), told_of(&one), workers);
+    }
+    match one {
+        Found::Cheapest(chosen) => Some(chosen),
+        Found::Unfinished { .. } => None,
+    }
+}
+
+// What is asked of a search.
+#[derive(Clone, Copy, Debug)]
+struct Asked {
+    habit: Habit,
+    capacity: u32,
+    trucks: u8,
+    customers: u128,
+    incumbent: u64,
+    budget: u64,
+}
+
+// What so many workers find.
+fn found_by<R: Abort + Threads + Sync>(
+    rt: &R,
+    alloc: Global,
+    workers: usize,
+    asked: Asked,
+    pool: &[Route],
+) -> Found {
+    let demands = [1u32; MOST_CUSTOMERS];
+    assert!(rt; all_fit(pool, &demands, asked.capacity));
+    assert!(rt; asked.incumbent <= MUCH && workers > 0);
+    let guide = Habitual {
+        alloc,
+        habit: asked.habit,
+        random: Random(asked.budget),
+    };
+    let ask = Asks {
+        goes_on: asked.habit != Habit::Stopping,
+    };
+    let team = Team {
+        rt,
+        alloc,
+        workers,
+        ask: &ask,
+    };
+    let fleet = Fleet {
+        demands: &demands,
+        capacity: asked.capacity,
+        trucks: asked.trucks,
+    };
+    let mut budget = asked.budget;
+    let found = cheapest_choice(
+        &team,
+        guide,
+        &fleet,
+        Vec::from_slice(alloc, pool).expect(rt, "memory"),
+        asked.customers,
+        asked.incumbent,
         &mut budget,
     );
     let found = found.expect(rt, "memory");
-    assert!(rt; found.is_some() || budget == 0, "{budget} nodes are left");
+    assert!(rt; told_of(&found).finished || budget == 0, "{budget} are left");
     found
+}
+
+// What is compared of what is found.
+#[derive(Clone, Copy, Debug, PartialEq)]
+struct Told {
+    finished: bool,
+    cost: u64,
+    routes: usize,
+    customers: u128,
+    lower_bound: u64,
+}
+
+fn told_of(found: &Found) -> Told {
+    let (finished, chosen, lower_bound) = match found {
+        Found::Cheapest(chosen) => (true, chosen, chosen.cost),
+        Found::Unfinished { best, lower_bound } => (false, best, *lower_bound),
+    };
+    let customers = chosen.routes.iter().fold(0, |set, route| set | route.set);
+    Told {
+        finished,
+        cost: chosen.cost,
+        routes: chosen.routes.len(),
+        customers,
+        lower_bound,
+    }
 }
 
 // Below the incumbent the routes are a choice of that cost.

@@ -2,7 +2,19 @@
 
 use crate::random::Random;
 use std::alloc::{AllocError, Global};
-use vrp_partition::{Cut, Guide, MOST_CUSTOMERS, PriceOffer, Route};
+use vrp_partition::{Ask, Cut, Guide, MOST_CUSTOMERS, PriceOffer, Route};
+
+/// Who is asked whether a search goes on.
+#[derive(Clone, Copy, Debug)]
+pub(crate) struct Asks {
+    pub(crate) goes_on: bool,
+}
+
+impl Ask for Asks {
+    fn should_continue(&self) -> bool {
+        self.goes_on
+    }
+}
 
 /// What a guide answers.
 #[derive(Clone, Copy, Debug, PartialEq)]

@@ -14,39 +14,66 @@ use std::alloc::Global;
 use std::thread::Threads;
 use vrp_answer::{Answer, Gate, News, Shared};
 use vrp_bound::MemoryTables;
-use vrp_canonical::{canonical_plan, fleet};
+use vrp_canonical::{PlanSearch, canonical_plan, fleet};
 use vrp_memory::{MOST_NEAR, Memory};
 use vrp_model::{Instance, NoMemory, Plan, first_is_cheapest, plans_cost_less};
-use vrp_partition::{Ask, MOST_CUSTOMERS};
+use vrp_partition::{Ask, Fleet, MOST_CUSTOMERS, Tally, Team};
 use vrp_prices::Relaxation;
 use vrp_routes::{Listed, RoutePool, can_list, list_routes};
-use vrp_simplex::{Fleet, ProgramGuide};
+use vrp_simplex::ProgramGuide;
+use vrp_tree::lawful_plan;
 
 // How many labels may be made, whatever the budget: so many take some two and a half gigabytes.
 const MOST_LABELS: u64 = 30_000_000;
 
-/// The proven plan by useful routes. `None` where a limit is met before it is found: there are too many customers or labels, or the
-/// budget is spent, or the gate stops the search. A label that is made, and a reduced cost that is looked at, count as a partial plan.
+/// What useful routes came to: the answer, if the first plan was found; else a plan that was found meanwhile, if any.
+#[derive(Drop)]
+pub(crate) struct RoutesAnswer {
+    pub(crate) answer: Option<Answer>,
+    pub(crate) better: Option<Plan>,
+}
+
+// The first plan, if it was found; else a plan that was found meanwhile, if any.
+#[derive(Drop)]
+pub(crate) struct RoutesPlan {
+    first: Option<Plan>,
+    better: Option<Plan>,
+}
+
+/// The proven plan by useful routes. There is no answer without a memory, and where a limit is met before it is found: there are too
+/// many customers or labels, or the budget is spent, or the gate stops the search. A label that is made, and a reduced cost that is
+/// looked at, count as a partial plan.
 pub(crate) fn answer_by_routes<R: Threads + Sync, G: Gate + Sync>(
     shared: &Shared<'_, R, G>,
     relaxation: &Relaxation<'_>,
-    memory: Memory,
+    memory: Option<Memory>,
     workers: u32,
-) -> Result<Option<Answer>, NoMemory>
+) -> Result<RoutesAnswer, NoMemory>
     requires problem { relaxation.now.problem ≡ shared.now.problem }
-    requires places { memory.places ≡ place_count shared.now.problem }
+    requires places { IfSome memory (λ memory. memory.places ≡ place_count shared.now.problem) }
     requires some_worker { 1 ≤ workers }
     requires few_workers { workers ≤ 64 }
-    ensures answer { IfOk result (λ found. IfSome found (AnswersAll shared.now.problem)) }
-    ensures no_dearer { IfOk result (λ found. IfSome found (λ answer. cost_of (known_plan answer) ≤ cost_of shared.now.first)) }
+    ensures answer { IfOk result (λ found. IfSome found.answer (AnswersAll shared.now.problem)) }
+    ensures no_dearer { IfOk result (λ found. IfSome found.answer (λ answer. cost_of (known_plan answer) ≤ cost_of shared.now.first)) }
+    ensures better { IfOk result (λ found. IfSome found.better (IsPlanOf shared.now.problem)) }
 {
-    let Some(known) = shared.first else {
-        return Ok(None);
+    let (Some(known), Some(memory)) = (shared.first, memory) else {
+        return Ok(RoutesAnswer {
+            answer: None,
+            better: None,
+        });
     };
     first_is_cheapest();
-    match plan_by_routes(shared, relaxation, memory, workers, known)? {
-        Some(plan) => Ok(Some(Answer::Proven(plan))),
-        None => Ok(None),
+    let RoutesPlan { first, better } = plan_by_routes(shared, relaxation, memory, workers, known)?;
+    match first {
+        Some(plan) => Ok(RoutesAnswer {
+            answer: Some(Answer::Proven(plan)),
+            better,
+        }),
+        None => Ok(RoutesAnswer {
+            answer: None,
+            better,
+        }),
     }
 }
 
@@ -57,16 +84,21 @@ fn plan_by_routes<R: Threads + Sync, G: Gate + Sync>(
     memory: Memory,
     workers: u32,
     known: &Plan,
-) -> Result<Option<Plan>, NoMemory>
+) -> Result<RoutesPlan, NoMemory>
     requires problem { relaxation.now.problem ≡ shared.now.problem }
     requires places { memory.places ≡ place_count shared.now.problem }
     requires some_worker { 1 ≤ workers }
     requires few_workers { workers ≤ 64 }
     requires known { IsPlanOf shared.now.problem known.now }
-    ensures { IfOk result (λ found. IfSome found (IsFirst shared.now.problem)) }
+    ensures first { IfOk result (λ found. IfSome found.first (IsFirst shared.now.problem)) }
+    ensures better { IfOk result (λ found. IfSome found.better (IsPlanOf shared.now.problem)) }
 {
+    let none = RoutesPlan {
+        first: None,
+        better: None,
+    };
     if !can_list(shared.instance) {
-        return Ok(None);
+        return Ok(none);
     }
     // A plan costs less than none.
     plans_cost_less();
@@ -82,9 +114,9 @@ fn plan_by_routes<R: Threads + Sync, G: Gate + Sync>(
     )? {
         Listed::Pool(pool) => {
             budget = budget.saturating_sub(pool.labels() as u64);
-            chosen_plan(shared, &pool, known, budget)
+            chosen_plan(shared, &pool, known, workers, budget)
         }
-        Listed::Met(_) => Ok(None),
+        Listed::Met(_) => Ok(none),
     }
 }
 
@@ -117,7 +149,10 @@ fn listed<R: Threads + Sync, G: Gate + Sync>(
         limit,
         workers as u16,
         most_labels,
-        &|_labels| gate.goes_on() && has_left(gate, half),
+        &|labels| {
+            gate.hears(News::Labels(labels));
+            gate.goes_on() && has_left(gate, half)
+        },
     )
 }
 
@@ -130,46 +165,77 @@ fn has_left<G: Gate>(gate: &G, milliseconds: Option<u64>) -> bool {
 }
 
 // The first of the cheapest choices of a pool, which was listed with the cost of the plan that is known.
-fn chosen_plan<R, G: Gate>(
+fn chosen_plan<R: Threads + Sync, G: Gate + Sync>(
     shared: &Shared<'_, R, G>,
     pool: &RoutePool,
     known: &Plan,
+    workers: u32,
     budget: u64,
-) -> Result<Option<Plan>, NoMemory>
+) -> Result<RoutesPlan, NoMemory>
     requires few { place_count shared.now.problem ≤ 128 }
+    requires some_worker { 1 ≤ workers }
     requires pool { IsPool shared.now.problem known.now.cost pool.now }
     requires known { IsPlanOf shared.now.problem known.now }
-    ensures { IfOk result (λ found. IfSome found (IsFirst shared.now.problem)) }
+    ensures first { IfOk result (λ found. IfSome found.first (IsFirst shared.now.problem)) }
+    ensures better { IfOk result (λ found. IfSome found.better (IsPlanOf shared.now.problem)) }
 {
     shared.gate.hears(News::Choice(pool.len() as u64));
     let demands = demands_of(shared.alloc, shared.instance)?;
     let fleet = Fleet {
-        demands: &demands,
+        demands: demands.as_slice(),
         capacity: shared.instance.capacity() as u32,
         trucks: fleet(shared.instance),
     };
-    let ask = AskedGate { gate: shared.gate };
+    let ask = AskedGate {
+        gate: shared.gate,
+        known: known.cost(),
+    };
+    let team = Team {
+        rt: shared.rt,
+        alloc: shared.alloc,
+        workers: workers as usize,
+        ask: &ask,
+    };
     let guide = ProgramGuide::new(shared.alloc, fleet, sets_of(shared.alloc, known)?, &ask);
     let mut budget = budget;
-    canonical_plan(
-        shared.alloc,
-        shared.instance,
-        pool,
-        known,
-        &guide,
-        &mut budget,
-    )
+    match canonical_plan(&team, shared.instance, pool, known, &guide, &mut budget)? {
+        PlanSearch::First(plan) => Ok(RoutesPlan {
+            first: Some(plan),
+            better: None,
+        }),
+        PlanSearch::Unfinished(word) => Ok(RoutesPlan {
+            first: None,
+            better: lawful_plan(shared.alloc, shared.instance, word.as_slice())?,
+        }),
+    }
 }
 
-// What the guide is asked by: it goes on where the gate does.
+// What a search among routes is asked by, and told to: it goes on where the gate does.
 #[derive(Drop)]
 struct AskedGate<'a, G: Gate> {
     gate: &'a G,
+    // What the known plan costs.
+    known: u64,
 }
 
 impl<G: Gate> Ask for AskedGate<'_, G> {
     fn should_continue(&self) -> bool {
         self.gate.goes_on()
+    }
+
+    fn on_round(&self, tally: Tally) {
+        let Tally {
+            done,
+            open,
+            incumbent,
+            lower_bound,
+        } = tally;
+        self.gate.hears(News::Nodes { done, open });
+        // The pool has each route of a first plan that costs no more than the known one.
+        self.gate.hears(News::Bound(lower_bound.min(self.known)));
+        if incumbent < self.known {
+            self.gate.hears(News::Plan(incumbent));
+        }
     }
 }
 

@@ -11,7 +11,7 @@ ghost use Rattle.vrp_pool.specs.declared.solver.TheConstants.{MAX_WORKERS};
 ghost use Rattle.vrp_answer.specs.Answer.{AnswersAll, IsAnswer, known_plan};
 ghost use Rattle.vrp_answer.specs.Outcomes.{words_of};
 
-use crate::choice::{answer_by_routes, copied_memory};
+use crate::choice::{RoutesAnswer, answer_by_routes, copied_memory};
 use crate::preparation::{LEAST_PREPARED_BUDGET, first_plan, prices_found};
 use crate::team::searched_by_all;
 use std::alloc::Global;
@@ -221,13 +221,15 @@ fn solve_by_routes<R: Threads + Wait + Sync, G: Gate + Sync>(
     ensures answer { IfOk result (IsAnswer shared.now.problem cutting shared.now.budget shared.now.may_stop) }
     ensures no_dearer { IfOk result (λ answer. cost_of (known_plan answer) ≤ cost_of shared.now.first) }
 {
-    if let Some(memory) = memory {
-        if let Some(answer) = answer_by_routes(shared, relaxation, memory, workers)? {
-            hear_plan(shared.gate, answer.plan());
-            return Ok(answer);
-        }
+    let RoutesAnswer { answer, better } = answer_by_routes(shared, relaxation, memory, workers)?;
+    if let Some(answer) = answer {
+        hear_plan(shared.gate, answer.plan());
+        return Ok(answer);
     }
-    solve_pieces(&shared.by_prices(prices), cutting, workers)
+    let priced = shared.by_prices(prices);
+    let answer = solve_pieces(&priced.with_plan(better.as_ref()), cutting, workers);
+    drop(better);
+    answer
 }
 
 // Searches all pieces of a cutting by this many workers, who draw them from one pile.

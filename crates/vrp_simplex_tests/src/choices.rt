@@ -4,29 +4,32 @@ use crate::assertion::assert_same;
 use crate::random::{Random, all_customers};
 use crate::slow::{cost_of_choice, least_cost};
 use std::alloc::Global;
-use std::cell::Cell;
 use std::process::Abort;
-use vrp_partition::{Ask, Chosen, MOST_CUSTOMERS, Route, all_fit, cheapest_choice};
-use vrp_simplex::{Fleet, ProgramGuide};
+use std::sync::atomic::{AtomicU64, Ordering};
+use std::thread::Threads;
+use vrp_partition::{
+    Ask, Chosen, Fleet, Found, MOST_CUSTOMERS, Route, Team, all_fit, cheapest_choice,
+};
+use vrp_simplex::ProgramGuide;
 
 /// The search goes on until it has asked so often.
 #[derive(Debug, Drop)]
 pub(crate) struct Until {
-    left: Cell<u64>,
+    left: AtomicU64,
 }
 
 impl Until {
     pub(crate) fn new(count: u64) -> Until {
         Until {
-            left: Cell::new(count),
+            left: AtomicU64::new(count),
         }
     }
 }
 
 impl Ask for Until {
     fn should_continue(&self) -> bool {
-        let left = self.left.get();
-        self.left.set(left.saturating_sub(1));
+        let left = self.left.load(Ordering::SeqCst);
+        self.left.store(left.saturating_sub(1), Ordering::SeqCst);
         left > 0
     }
 }
@@ -47,7 +50,12 @@ struct Asked {
     budget: u64,
 }
 
-fn choice(rt: &impl Abort, alloc: Global, asked: &Asked, pool: &[Route]) -> Option<Chosen> {
+fn choice<R: Abort + Threads + Sync>(
+    rt: &R,
+    alloc: Global,
+    asked: &Asked,
+    pool: &[Route],
+) -> Option<Chosen> {
     let demands = [1u32; MOST_CUSTOMERS];
     assert!(rt; all_fit(pool, &demands, asked.capacity));
     assert!(rt; asked.incumbent <= MUCH);
@@ -61,20 +69,27 @@ fn choice(rt: &impl Abort, alloc: Global, asked: &Asked, pool: &[Route]) -> Opti
         known.push(route.set).expect(rt, "memory");
     }
     let ask = Until::new(asked.asks);
-    let mut guide = ProgramGuide::new(alloc, fleet, known, &ask);
+    let team = Team {
+        rt,
+        alloc,
+        workers: 2,
+        ask: &ask,
+    };
+    let guide = ProgramGuide::new(alloc, fleet, known, &ask);
     let mut budget = asked.budget;
     let found = cheapest_choice(
-        alloc,
-        &mut guide,
-        &demands,
-        asked.capacity,
-        asked.trucks,
+        &team,
+        guide,
+        &fleet,
         Vec::from_slice(alloc, pool).expect(rt, "memory"),
         asked.customers,
         asked.incumbent,
         &mut budget,
     );
-    found.expect(rt, "memory")
+    match found.expect(rt, "memory") {
+        Found::Cheapest(chosen) => Some(chosen),
+        Found::Unfinished { .. } => None,
+    }
 }
 
 // Below the incumbent the routes are a choice of that cost.

@@ -4,8 +4,8 @@ use crate::assertion::assert_same;
 use crate::choices::Until;
 use std::alloc::Global;
 use std::process::Abort;
-use vrp_partition::{MOST_CUSTOMERS, Route};
-use vrp_simplex::{DualEnd, Fleet, Program};
+use vrp_partition::{Fleet, MOST_CUSTOMERS, Route};
+use vrp_simplex::{DualEnd, Program};
 
 // A route: its customers and its cost.
 type Told = (u128, u32);

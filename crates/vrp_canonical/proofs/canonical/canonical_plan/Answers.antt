@@ -1,4 +1,4 @@
-use Rattle.std.proofs.Common.{Some, ap, ◌≡◌, ◌+◌, ◌≤◌, Vec, ℕ, Global, List, map, sym, subst, ◌∙◌, arith}
+use Rattle.std.proofs.Common.{rules, Some, ap, ◌≡◌, ◌+◌, ◌≤◌, Vec, ℕ, Global, List, map, sym, subst, ◌∙◌, arith}
 use Rattle.vrp_canonical.specs.Ordering.{AreOrdered, chosen_of, route_of, stops_of}
 use Rattle.vrp_canonical.specs.Reaching.{IsFleet, IsTask}
 use Rattle.vrp_canonical.specs.declared.ordered.ListedRoute.{ListedRoute}
@@ -15,7 +15,7 @@ use Rattle.vrp_routes.specs.Pool.{IsPool}
 use Rattle.vrp_canonical.proofs.canonical.canonical_plan.Goals as goal
 
 pub plan_among-found-requires : goal.plan_among-found-requires
-plan_among-found-requires g c =
+plan_among-found-requires g c κs =
     let p = c.args.instance.now in
     let pool = c.args.pool.now in
     let limit = c.args.known.now.cost in
@@ -33,4 +33,4 @@ plan_among-found-requires g c =
     let task = canonical_task p limit pool chosen.routes.items unserved trucks chosen.cost c.in-Some-3.ordered.items c.whole_problem-within.ensures.problem c.requires.pool c.whole_problem-within.ensures.fleet all
     (subst (λ (rs : List Route). IsCheapest rs unserved trucks (limit + 1) chosen.cost chosen.routes.items) routes
     (subst (λ n. IsCheapest c.as_slice-all.result.now unserved trucks (n + 1) chosen.cost chosen.routes.items) (c.whole_problem-within.ensures.most ∙ c.cost.ensures) cheapest)) within are in
-    subst (λ (xs : List ListedRoute). IsTask p chosen.cost (map stops_of xs) (map route_of xs) (record { unserved = unserved; trucks = trucks; most = chosen.cost })) (sym c.as_slice-3.ensures.value) task
+    (search rules, (search rules, subst (λ (xs : List ListedRoute). IsTask p chosen.cost (map stops_of xs) (map route_of xs) (record { unserved = unserved; trucks = trucks; most = chosen.cost })) (sym c.as_slice-3.ensures.value) task))
