@@ -29,6 +29,7 @@ impl Ask for Always {
 }
 
 // What is counted of a search: its nodes, the steps of the linear program, and the reduced costs that were looked at.
+#[derive(Drop)]
 struct Counts {
     nodes: AtomicU64,
     primal_steps: AtomicU64,

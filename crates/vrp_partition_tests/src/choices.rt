@@ -114,7 +114,12 @@ fn choice<R: Abort + Threads + Sync>(
         let other = found_by(rt, alloc, workers, asked, &pool);
         assert_same(rt, told_of(&other), told_of(&one), workers);
     }
-    match one {
+    cheapest(one)
+}
+
+// The choice, where the search ended.
+fn cheapest(found: Found) -> Option<Chosen> {
+    match found {
         Found::Cheapest(chosen) => Some(chosen),
         Found::Unfinished { .. } => None,
     }
