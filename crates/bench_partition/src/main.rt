@@ -61,7 +61,9 @@ impl Guide for Counted<'_> {
         let counts = self.counts;
         counts.nodes.fetch_add(1, Ordering::SeqCst);
         let primal_steps = more_primal.saturating_sub(primal);
-        counts.primal_steps.fetch_add(primal_steps, Ordering::SeqCst);
+        counts
+            .primal_steps
+            .fetch_add(primal_steps, Ordering::SeqCst);
         let dual_steps = more_dual.saturating_sub(dual);
         counts.dual_steps.fetch_add(dual_steps, Ordering::SeqCst);
         counts.looks.fetch_add(offer.work, Ordering::SeqCst);
@@ -229,8 +231,6 @@ fn print_counts(rt: &impl Print, counts: &Counts) -> Result<()> {
     let primal = counts.primal_steps.load(Ordering::SeqCst);
     let dual = counts.dual_steps.load(Ordering::SeqCst);
     let looks = counts.looks.load(Ordering::SeqCst);
-    println!(rt;
-        "{nodes} nodes, {primal} primal and {dual} dual steps, {looks} looks"
-    )?;
+    println!(rt; "{nodes} nodes, {primal} primal and {dual} dual steps, {looks} looks")?;
     Ok(())
 }

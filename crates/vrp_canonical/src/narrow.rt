@@ -45,7 +45,8 @@ pub fn narrow<R: Threads + Sync, P: Guide + Send, A: Ask>(
     let mut high = end;
     while high - low > 1 {
         let middle = middle_between(searches, pool, customer, low, high);
-        let Some(lower) = reaches_between(alloc, searches, pool, rest, customer, low, middle)? else {
+        let Some(lower) = reaches_between(alloc, searches, pool, rest, customer, low, middle)?
+        else {
             return Ok(None);
         };
         if lower {

@@ -120,14 +120,6 @@ pub fn search_within<R: Threads + Sync, P: Guide + Send, A: Ask>(
     let fork = guide.fork()?;
     let pool = Vec::from_slice(team.alloc, routes)?;
     let incumbent = rest.most + 1;
-    let found = cheapest_choice(
-        team,
-        fork,
-        &fleet,
-        pool,
-        rest.unserved,
-        incumbent,
-        budget,
-    )?;
+    let found = cheapest_choice(team, fork, &fleet, pool, rest.unserved, incumbent, budget)?;
     Ok(Some(found))
 }

@@ -8,7 +8,7 @@ use Rattle.std.proofs.lemmas.Int.{ints}
 use Rattle.std.proofs.lemmas.List.{get_or-map, length-map}
 use Rattle.std.proofs.lemmas.List.Elements.{All-contains, All-contains_itself, All-filter, All-map, All-weaker}
 use Rattle.std.proofs.lemmas.List.Sums.{sum_by-cons}
-use Rattle.vrp_partition.specs.Choice.{IsCheapest, IsChoice, NoneBelow, cost_of, set_of}
+use Rattle.vrp_partition.specs.Choice.{IsCheapest, IsChoice, NoneBelow, cost_of}
 use Rattle.vrp_partition.specs.Covering.{IsLeast, column_of, column_set, columns_reduced_cost, route_of}
 use Rattle.vrp_partition.specs.Prices.{AreValid, NoneNegative, Prices, is_within_gap, lower_bound_of, reduced_cost_of, gap_of, total}
 use Rattle.vrp_partition.specs.declared.cover.Column.{Column}

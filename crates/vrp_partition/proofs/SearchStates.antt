@@ -1,6 +1,6 @@
 -- What is known of a search after each step: nodes are taken, looked at, and absorbed.
-use Rattle.std.proofs.Common.{◌≡◌, ◌==◌, true, ℕ, suc, ◌<◌, ◌≤◌, ◌⊎◌, inl, inr, List, [], ◌∷◌, ◌++◌, length, get_or, refl, sym, ◌∙◌, ap, subst, append-nil, arith}
-use Rattle.std.specs.List.{All, Contains, filter}
+use Rattle.std.proofs.Common.{◌≡◌, ◌==◌, true, ℕ, ◌<◌, ◌≤◌, inl, inr, List, [], ◌∷◌, ◌++◌, length, get_or, refl, sym, ◌∙◌, ap, subst, append-nil, arith}
+use Rattle.std.specs.List.{All, Contains}
 use Rattle.std.proofs.lemmas.Bool.Decides.{nat_tests}
 use Rattle.std.proofs.lemmas.List.Elements.{All-append, All-cons, All-contains, All-contains_itself, All-filter, All-head, All-nil, All-tail, All-weaker}
 use Rattle.vrp_partition.specs.Branching.{AreBranches, AreLeftBranches, AreLookedAt, AreOpened, IsBest, IsSearched, IsUnlooked, NodeState, SearchState, TakesChoice}

@@ -193,7 +193,10 @@ impl<P: Guide + Send> Search<P> {
             → IsSearched pool customers trucks incumbent self.new (self.new.open_nodes ++ rest)) }
     {
         let Node {
-            guide, end, other, ..
+            guide,
+            end,
+            other,
+            ..
         } = node;
         self.done = self.done.saturating_add(1);
         match end? {

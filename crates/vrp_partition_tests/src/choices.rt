@@ -177,7 +177,10 @@ fn found_by<R: Abort + Threads + Sync>(
         &mut budget,
     );
     let found = found.expect(rt, "memory");
-    assert!(rt; told_of(&found).finished || budget == 0, "{budget} are left");
+    assert!(rt;
+        told_of(&found).finished || budget == 0,
+        "{budget} are left"
+    );
     found
 }
 

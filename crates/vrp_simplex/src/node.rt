@@ -4,7 +4,7 @@ use crate::fixed_point::UNIT;
 use crate::program::Program;
 use crate::row_prices::RowPrices;
 use std::alloc::{AllocError, Global};
-use vrp_partition::{Fleet, Ask, PriceOffer, Route};
+use vrp_partition::{Ask, Fleet, PriceOffer, Route};
 
 /// The program has about so many routes in sight.
 pub(crate) const MOST_IN_SIGHT: usize = 20_000;

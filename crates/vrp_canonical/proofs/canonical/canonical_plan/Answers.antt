@@ -7,7 +7,6 @@ use Rattle.vrp_model.specs.Problem.{Problem, customers}
 use Rattle.vrp_partition.specs.Choice.{IsCheapest}
 use Rattle.vrp_partition.specs.declared.route.Route.{Route}
 use Rattle.vrp_partition.specs.declared.bounding.Chosen.{Chosen}
-use Rattle.vrp_partition.specs.declared.search.Found.{Found}
 use Rattle.vrp_partition.specs.declared.search.Found.TheVariants.{Cheapest}
 use Rattle.vrp_partition.specs.Branching.{IsFound}
 use Rattle.vrp_routes.specs.Label.{set_of}

@@ -1,4 +1,4 @@
-use Rattle.std.proofs.Common.{◌≡◌, ◌≤◌, ◌<◌, ◌-◌, ℕ, ℤ, pos, ◌≤ℤ◌, ◌<ℤ◌, refl, List, filter, map, IfSome, ◌∙◌, ap, sym, subst, to_z, of_z, w64, SFits, unsigned_abs, rules}
+use Rattle.std.proofs.Common.{◌≡◌, ◌<◌, ◌-◌, ℕ, ℤ, pos, ◌≤ℤ◌, ◌<ℤ◌, refl, List, filter, map, IfSome, ◌∙◌, ap, sym, subst, to_z, of_z, w64, SFits, unsigned_abs, rules}
 use Rattle.std.proofs.lemmas.Int.{to_z-of_z}
 use Rattle.std.specs.List.{All, Contains}
 use Rattle.vrp_partition.specs.Choice.{IsCheapest, NoneBelow}

@@ -1,10 +1,6 @@
-use Rattle.std.proofs.Common.{rules, ◌≡◌, ◌≤◌, ◌<◌, ◌^◌, ◌++◌, ◌∷◌, [], ℕ, suc, List, Ok, IfOk, OnOk, length, get_or, take, refl, sym, ◌∙◌, ap, subst, arith}
-use Rattle.std.specs.List.{All}
-use Rattle.vrp_partition.specs.Branching.{AreBranches, AreLookedAt, AreOpened, CanLook, IsBest, IsEnd, IsFound, IsLookedAt, IsSearched, NodeState, SearchState, TakesChoice}
-use Rattle.vrp_partition.specs.Choice.{NoneBelow}
-use Rattle.vrp_partition.specs.Prices.{AllFit, load_of}
-use Rattle.vrp_partition.specs.declared.route.Route.{Route}
-use Rattle.vrp_partition.proofs.SearchStates.{begun, branched, ended, least_bound, left_branches, looked_search, nodes_fit, solved, taken_one}
+use Rattle.std.proofs.Common.{◌++◌, ◌∷◌, [], List, refl, ◌∙◌, ap}
+use Rattle.vrp_partition.specs.Branching.{NodeState}
+use Rattle.vrp_partition.proofs.SearchStates.{begun}
 use Rattle.vrp_partition.proofs.search.Search.new.Goals as goal
 
 pub returns : goal.returns

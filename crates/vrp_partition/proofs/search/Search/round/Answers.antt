@@ -1,13 +1,8 @@
-use Rattle.std.proofs.Common.{rules, ◌≡◌, ◌≤◌, ◌<◌, ◌^◌, ◌++◌, ◌∷◌, [], ℕ, suc, List, Ok, IfOk, OnOk, length, get_or, take, drop, refl, sym, ◌∙◌, ap, subst, append_assoc, append-nil, take_all, arith}
-use Rattle.std.specs.List.{All, Contains}
-use Rattle.std.proofs.Math.Seq.{take-append_seam}
-use Rattle.std.proofs.lemmas.List.Elements.{All-contains_itself, All-more, All-weaker}
-use Rattle.vrp_partition.specs.Branching.{AreBranches, AreLookedAt, AreOpened, CanLook, IsBest, IsEnd, IsFound, IsLookedAt, IsSearched, IsTaken, NodeState, SearchState, TakesChoice}
-use Rattle.vrp_partition.specs.Choice.{NoneBelow}
-use Rattle.vrp_partition.specs.Outcome.{IsOutcome, IsLeft}
-use Rattle.vrp_partition.specs.Prices.{AllFit, load_of}
+use Rattle.std.proofs.Common.{◌≤◌, List, IfOk, get_or, sym, ap, subst, arith}
+use Rattle.vrp_partition.specs.Branching.{IsEnd, SearchState}
+use Rattle.vrp_partition.specs.Prices.{load_of}
 use Rattle.vrp_partition.specs.declared.route.Route.{Route}
-use Rattle.vrp_partition.proofs.SearchStates.{absorbed, all_but_last, begun, branched, ended, least_bound, left_branches, looked_search, nodes_fit, solved, taken_none, taken_one}
+use Rattle.vrp_partition.proofs.SearchStates.{looked_search, nodes_fit}
 use Rattle.vrp_partition.proofs.search.Search.round.Goals as goal
 
 pub looked_at-nodes-requires-clause-can : goal.looked_at-nodes-requires-clause-can
@@ -32,5 +27,5 @@ returns g c = λ pool incumbent is.
     let looked = looked_search pool customers fleet.trucks incumbent c.take_nodes.new.self c.take_nodes.new.self.open_nodes c.in_ok-nodes.nodes.items new _ c.looked_at-nodes.ensures taken in
     c.in_ok-work.ensures pool customers fleet.trucks incumbent limit (omega (arith, c.in_ok-nodes.ensures.cost, ap (λ (s : SearchState). s.cost) c.self.view_is))
     (λ k d lt.
-        let at = c.looked_at-nodes.ensures.each k d (omega (arith, lt, c.looked_at-nodes.ensures.many)) in
-        subst (λ (routes : List Route). IfOk (get_or new k d).end (IsEnd routes customers fleet.trucks limit)) (sym at.pool) at.end) looked
+    let at = c.looked_at-nodes.ensures.each k d (omega (arith, lt, c.looked_at-nodes.ensures.many)) in
+    subst (λ (routes : List Route). IfOk (get_or new k d).end (IsEnd routes customers fleet.trucks limit)) (sym at.pool) at.end) looked

@@ -1,15 +1,7 @@
-use Rattle.std.proofs.Common.{rules, ◌≡◌, ◌≤◌, ◌<◌, ◌^◌, ◌++◌, ◌∷◌, [], ℕ, suc, List, Ok, IfOk, OnOk, length, get_or, take, drop, refl, sym, ◌∙◌, ap, subst, append_assoc, append-nil, take_all, arith}
-use Rattle.std.specs.List.{All, Contains}
-use Rattle.std.proofs.Math.Seq.{take-append_seam}
-use Rattle.std.proofs.lemmas.List.Elements.{All-contains_itself, All-more, All-weaker}
-use Rattle.vrp_partition.specs.Branching.{AreBranches, AreLookedAt, AreOpened, CanLook, IsBest, IsEnd, IsFound, IsLookedAt, IsSearched, IsTaken, NodeState, SearchState, TakesChoice}
-use Rattle.vrp_partition.specs.Choice.{NoneBelow}
-use Rattle.vrp_partition.specs.Outcome.{IsOutcome, IsLeft}
-use Rattle.vrp_partition.specs.Prices.{AllFit, load_of}
-use Rattle.vrp_partition.specs.declared.route.Route.{Route}
-use Rattle.vrp_partition.proofs.SearchStates.{absorbed, all_but_last, begun, branched, ended, least_bound, left_branches, looked_search, nodes_fit, solved, taken_none, taken_one}
+use Rattle.std.proofs.Common.{◌++◌, List, sym, ◌∙◌, ap, subst}
+use Rattle.vrp_partition.specs.Branching.{IsBest, IsSearched, NodeState, SearchState}
+use Rattle.vrp_partition.proofs.SearchStates.{taken_none, taken_one}
 use Rattle.vrp_partition.proofs.search.Search.take_node.Goals as goal
-
 use Rattle.vrp_partition.proofs.search.Search.take_node.Goals.{in-Some+in_ok-push-in-Some, in-None}
 
 pub returns : goal.returns
