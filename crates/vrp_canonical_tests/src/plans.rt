@@ -107,6 +107,20 @@ fn first_of(found: Option<PlanSearch>) -> Option<Plan> {
     }
 }
 
+// What the plan costs that a search tells of which ended unfinished, if its word is one.
+fn cost_told(
+    rt: &impl Abort,
+    alloc: Global,
+    instance: &Instance,
+    found: &Option<PlanSearch>,
+) -> Option<u64> {
+    let Some(PlanSearch::Unfinished(word)) = found else {
+        return None;
+    };
+    let plan = lawful_plan(alloc, instance, word.as_slice()).expect(rt, "memory");
+    plan.map(|plan| plan.cost())
+}
+
 const GUIDES: &[(Habit, u64)] = &[(Habit::Zeros, 1), (Habit::Random, 2), (Habit::Random, 3)];
 
 fn by_guides<R: Abort + Threads + Sync>(
@@ -134,13 +148,13 @@ fn by_guides<R: Abort + Threads + Sync>(
     plans
 }
 
-// A guide, a budget, and whether a plan is found.
-const LIMITS: &[(Habit, u64, bool)] = &[
-    (Habit::Zeros, 1_000, true),
-    (Habit::Zeros, 2, true),
-    (Habit::Zeros, 1, false),
-    (Habit::Zeros, 0, false),
-    (Habit::Stopping, 1_000, false),
+// A guide, a budget, whether the first plan is found, and whether a cheapest one is told of else.
+const LIMITS: &[(Habit, u64, bool, bool)] = &[
+    (Habit::Zeros, 1_000, true, false),
+    (Habit::Zeros, 2, true, false),
+    (Habit::Zeros, 1, false, true),
+    (Habit::Zeros, 0, false, false),
+    (Habit::Stopping, 1_000, false, false),
 ];
 
 // One truck carries all, and one round is the cheapest: one search finds it, and one more that no earlier route will do.
@@ -150,7 +164,8 @@ fn budgets_and_guides_that_stop(rt: HostRuntime) {
     let instance = at_points(rt, alloc, FIVE, &[0, 1, 1, 1, 1], 4);
     let singles = Plan::singles(alloc, &instance).expect(rt, "memory");
     let known = singles.expect(rt, "a truck for each");
-    for &(habit, budget, wanted) in LIMITS {
+    let first = first_plan(rt, alloc, &instance).expect(rt, "a plan");
+    for &(habit, budget, wanted, told) in LIMITS {
         let random = Random(5);
         let guide = Habitual {
             alloc,
@@ -161,7 +176,10 @@ fn budgets_and_guides_that_stop(rt: HostRuntime) {
             goes_on: habit != Habit::Stopping,
         };
         let found = found_plan(rt, alloc, &instance, &known, &guide, ask, budget);
-        let plan = first_of(found.expect(rt, "memory"));
+        let found = found.expect(rt, "memory");
+        let cost = cost_told(rt, alloc, &instance, &found);
+        assert_same(rt, cost, told.then_some(first.cost), (habit, budget));
+        let plan = first_of(found);
         assert_same(rt, plan.is_some(), wanted, (habit, budget));
     }
 }

@@ -57,7 +57,13 @@ pub(crate) fn answer_by_routes<R: Threads + Sync, G: Gate + Sync>(
     ensures no_dearer { IfOk result (λ found. IfSome found.answer (λ answer. cost_of (known_plan answer) ≤ cost_of shared.now.first)) }
     ensures better { IfOk result (λ found. IfSome found.better (IsPlanOf shared.now.problem)) }
 {
-    let (Some(known), Some(memory)) = (shared.first, memory) else {
+    let Some(known) = shared.first else {
+        return Ok(RoutesAnswer {
+            answer: None,
+            better: None,
+        });
+    };
+    let Some(memory) = memory else {
         return Ok(RoutesAnswer {
             answer: None,
             better: None,

@@ -4,7 +4,7 @@ use Rattle.vrp_answer.specs.Answer.{AnswersAll}
 use Rattle.vrp_answer.specs.declared.answers.Answer.{Answer}
 use Rattle.vrp_pool.proofs.solver.solve_by_routes.Goals as goal
 
-pub returns-in-Some-2-clause-answer : goal.returns-in-Some-2-clause-answer
-returns-in-Some-2-clause-answer g c =
+pub returns-in-Some-clause-answer : goal.returns-in-Some-clause-answer
+returns-in-Some-clause-answer g c =
     let s = c.args.shared.now in
-    subst (λ (found : Option Answer). IfSome found (AnswersAll s.problem)) c.in-Some-2.is c.in_ok-answer.ensures.answer c.args.cutting s.budget s.may_stop
+    subst (λ (found : Option Answer). IfSome found (AnswersAll s.problem)) c.in-Some.is c.in_ok-answer.ensures.answer c.args.cutting s.budget s.may_stop
