@@ -1,59 +1,19 @@
--- Parts that stand side by side become one, round by round.
-use Rattle.std.proofs.Common.{Global, Vec, ◌≡◌, ℕ, ◌+◌, ◌*◌, ◌/◌, ◌%◌, ◌<◌, ◌≤◌, ◌==◌, Bool, true, inl, inr, nat_lt, List, [], length, map, get_or, sym, subst, ◌∙◌, eq-eqb, arith}
-use Rattle.std.proofs.Math.Nat.{div-div-eq-div-mul, div-one}
-use Rattle.std.proofs.lemmas.Bool.{and_from, and_parts, cases_eq, cases_lt, eqb-true}
-use Rattle.std.proofs.lemmas.Bool.Decides.{nat_tests}
-use Rattle.std.proofs.lemmas.List.{get_or-map, get_or_past, length-map}
-use Rattle.std.proofs.lemmas.List.Elements.{All-nil}
+-- Parts become one list of labels, part by part of a range of parents, and range by range.
+use Rattle.std.proofs.Common.{Global, Vec, ◌≡◌, ℕ, ◌+◌, ◌%◌, ◌<◌, ◌≤◌, Bool, true, inl, inr, nat_lt, ◌-◌, List, [], ◌++◌, length, length-append, map, get_or, refl, sym, subst, ap, ◌∙◌, eq-eqb, arith}
+use Rattle.std.specs.List.{All, AllPairs, Contains}
+use Rattle.std.proofs.lemmas.Bool.{cases_lt, eqb-true}
+use Rattle.std.proofs.lemmas.List.{get_or-append_right, get_or-map, get_or_append_left, get_or_past, length-map}
+use Rattle.std.proofs.lemmas.List.Elements.{All-append, All-contains, All-nil, Contains-append_left, Contains-append_right, Contains-get_or}
 use Rattle.vrp_model.specs.Word.{last_symbol}
-use Rattle.vrp_routes.specs.Label.{SettingOf}
-use Rattle.vrp_routes.specs.Level.{IsShare}
-use Rattle.vrp_routes.specs.Merge.{IsMerged, labels_at}
-use Rattle.vrp_routes.specs.Share.{has_rest, is_in_first, is_in_part}
+use Rattle.vrp_routes.specs.Label.{IsLabel, SettingOf}
+use Rattle.vrp_routes.specs.Level.{ComesFirst, IsShare, sequences, stops_of}
+use Rattle.vrp_routes.specs.Merge.{AreMerged, CanMerge, EndApart, IsBetween, IsCut, IsMerged, labels_at}
+use Rattle.vrp_routes.specs.Share.{has_rest, is_in_first}
 use Rattle.vrp_routes.specs.Shares.{AreParts}
 use Rattle.vrp_routes.specs.declared.label.Label.{Label}
-use Rattle.vrp_routes.proofs.MergeSteps.{merged_shares, merges_all, merges_none}
+use Rattle.vrp_routes.proofs.MergeSteps.{still_contains}
+use Rattle.vrp_routes.proofs.RisingParents.{is_below, tests_below}
 use Rattle.vrp_routes.proofs.SharesSteps.{element}
-
--- ---- shares by another test
-
-pub no_share : (s : SettingOf) (k : ℕ) (mine : ℕ → Bool) (before : List (List ℕ)) (labels : List Label) → labels ≡ [] → ((c : ℕ) → mine c ≡ true → ⊥) → IsShare s k mine before labels
-no_share s k mine before labels empty none = subst (IsShare s k mine before) (sym empty) (record {
-  are = record {
-    each = All-nil _;
-    parents = All-nil _;
-    own = All-nil _;
-    ordered = λ i j d less lt. absurd (omega (arith, lt));
-  };
-  every = λ xs long own useful. absurd (none (last_symbol xs) own);
-})
-
-pub same_share : (s : SettingOf) (k : ℕ) (mine other : ℕ → Bool) (before : List (List ℕ)) (labels : List Label) → ((c : ℕ) → mine c ≡ true → other c ≡ true) → ((c : ℕ) → other c ≡ true → mine c ≡ true) → IsShare s k mine before labels → IsShare s k other before labels
-same_share s k mine other before labels to from share = record {
-  are = record {
-    each = share.are.each;
-    parents = share.are.parents;
-    own = λ i d lt. to (get_or labels i d).last (share.are.own i d lt);
-    ordered = share.are.ordered;
-  };
-  every = λ xs long own useful. share.every xs long (from (last_symbol xs) own) useful;
-}
-
--- ---- which customers are in a part
-
-is_below : (n m : ℕ) → nat_lt n m ≡ true → n < m
-is_below n m is = grind (arith, nat_tests)
-
-tests_below : (n m : ℕ) → n < m → nat_lt n m ≡ true
-tests_below n m lt = grind (arith, nat_tests)
-
-in_part : (shares count width part c : ℕ) → is_in_part shares count width part c ≡ true → (c % shares / width ≡ part) × (c % shares < count)
-in_part shares count width part c is =
-    let (one, two) = and_parts (c % shares / width == part) (nat_lt (c % shares) count) is in
-    (eqb-true (c % shares / width) part one, is_below (c % shares) count two)
-
-to_part : (shares count width part c : ℕ) → c % shares / width ≡ part → c % shares < count → is_in_part shares count width part c ≡ true
-to_part shares count width part c is below = and_from (c % shares / width == part) (nat_lt (c % shares) count) (eq-eqb (c % shares / width) part is) (tests_below (c % shares) count below)
 
 -- ---- the parts
 
@@ -63,60 +23,120 @@ labels_there parts i d lt = get_or-map (λ (part : Vec Label Global). part.items
 pub labels_behind : (parts : List (Vec Label Global)) (i : ℕ) → length parts ≤ i → labels_at parts i ≡ []
 labels_behind parts i over = get_or_past (map (λ (part : Vec Label Global). part.items) parts) i [] (omega (arith, over, length-map parts (λ (part : Vec Label Global). part.items)))
 
--- each part has the labels of the shares whose numbers, divided by a width, are its own
-pub record AreMerging (s : SettingOf) (k : ℕ) (before : List (List ℕ)) (shares count : ℕ) (parts : List (Vec Label Global)) : Type 0 where
-  pub width : ℕ
-  pub below : (r : ℕ) → r < count → r / width < length parts
-  pub each : (i : ℕ) → IsShare s k (is_in_part shares count width i) before (labels_at parts i)
+has_labels : (s : SettingOf) (k : ℕ) (before : List (List ℕ)) (shares : ℕ) (parts : List (Vec Label Global)) → AreParts s k before shares 0 parts → (i : ℕ) → i < length parts → IsShare s k (has_rest shares i) before (labels_at parts i)
+has_labels s k before shares parts are i lt =
+    let part = element parts i lt in
+    let place : 0 + i ≡ i = omega arith in
+    subst (IsShare s k (has_rest shares i) before) (sym (labels_there parts i part lt)) (subst (λ n. IsShare s k (has_rest shares n) before (get_or parts i part).items) place (are i part lt))
 
-pub merging_first : (s : SettingOf) (k : ℕ) (before : List (List ℕ)) (shares : ℕ) (parts : List (Vec Label Global)) → AreParts s k before shares 0 parts → AreMerging s k before shares (length parts) parts
-merging_first s k before shares parts are = record {
-  width = 1;
-  below = λ r lt. (let same : r / 1 ≡ r = div-one r in omega (arith, same, lt));
-  each = λ i. elim (cases_lt i (length parts)) [
-    | inl lt ↦ has_part i lt
-    | inr over ↦ no_share s k (is_in_part shares (length parts) 1 i) before (labels_at parts i) (labels_behind parts i over) (λ c own. (let (here, within) = in_part shares (length parts) 1 i c own in let same : c % shares / 1 ≡ c % shares = div-one (c % shares) in omega (arith, same, here, within, over)))
+-- parts of different shares can be merged
+pub shares_can_merge : (s : SettingOf) (k : ℕ) (before : List (List ℕ)) (shares : ℕ) (parts : List (Vec Label Global)) → AreParts s k before shares 0 parts → CanMerge parts
+shares_can_merge s k before shares parts are = record {
+  rising = λ i. elim (cases_lt i (length parts)) [
+    | inl lt ↦ (has_labels s k before shares parts are i lt).are.ordered
+    | inr over ↦ subst (AllPairs ComesFirst) (sym (labels_behind parts i over)) (λ a b d less lt. absurd (omega (arith, lt)))
+  ];
+  apart = λ i j less. elim (cases_lt j (length parts)) [
+    | inl lt ↦ λ a b d e within inside same.
+        let one = (has_labels s k before shares parts are i (omega (arith, less, lt))).are.own a d within in
+        let other = (has_labels s k before shares parts are j lt).are.own b e inside in
+        let first : (get_or (labels_at parts i) a d).last % shares ≡ i = eqb-true ((get_or (labels_at parts i) a d).last % shares) i one in
+        let second : (get_or (labels_at parts j) b e).last % shares ≡ j = eqb-true ((get_or (labels_at parts j) b e).last % shares) j other in
+        omega (arith, sym first ∙ ap (λ n. n % shares) same ∙ second, less)
+    | inr over ↦ λ a b d e within inside same. absurd (omega (arith, subst (λ (ls : List Label). b < length ls) (labels_behind parts j over) inside))
   ];
 }
-  where
-    has_part : (i : ℕ) → i < length parts → IsShare s k (is_in_part shares (length parts) 1 i) before (labels_at parts i)
-    has_part i lt =
-        let part = element parts i lt in
-        let place : 0 + i ≡ i = omega arith in
-        let own : IsShare s k (has_rest shares i) before (labels_at parts i) = subst (IsShare s k (has_rest shares i) before) (sym (labels_there parts i part lt)) (subst (λ n. IsShare s k (has_rest shares n) before (get_or parts i part).items) place (are i part lt)) in
-        same_share s k (has_rest shares i) (is_in_part shares (length parts) 1 i) before (labels_at parts i)
-        (λ c is. (let here = eqb-true (c % shares) i is in to_part shares (length parts) 1 i c (div-one (c % shares) ∙ here) (omega (arith, here, lt))))
-        (λ c is. (let (here, within) = in_part shares (length parts) 1 i c is in eq-eqb (c % shares) i (sym (div-one (c % shares)) ∙ here)))
-        own
 
-pub merging_more : (s : SettingOf) (k : ℕ) (before : List (List ℕ)) (shares count : ℕ) (old new : List (Vec Label Global)) → AreMerging s k before shares count old → length old ≤ 2 * length new
-    → ((i : ℕ) → IsMerged (labels_at old (2 * i)) (labels_at old (2 * i + 1)) (labels_at new i)) → AreMerging s k before shares count new
-merging_more s k before shares count old new are half merged = record {
-  width = are.width * 2;
-  below = λ r lt. (let first = are.below r lt in let halves : r / are.width / 2 ≡ r / (are.width * 2) = div-div-eq-div-mul r are.width 2 in omega (arith, first, halves, half));
-  each = λ i.
-      merged_shares s k (is_in_part shares count are.width (2 * i)) (is_in_part shares count are.width (2 * i + 1)) (is_in_part shares count (are.width * 2) i) before (labels_at old (2 * i)) (labels_at old (2 * i + 1)) (labels_at new i) (are.each (2 * i)) (are.each (2 * i + 1)) (merged i)
-      (λ c one other. (let (here, _) = in_part shares count are.width (2 * i) c one in let (there, _) = in_part shares count are.width (2 * i + 1) c other in omega (arith, here, there)))
-      (λ c one. (let (here, within) = in_part shares count are.width (2 * i) c one in to_part shares count (are.width * 2) i c (omega (arith, here, halves c)) within))
-      (λ c other. (let (here, within) = in_part shares count are.width (2 * i + 1) c other in to_part shares count (are.width * 2) i c (omega (arith, here, halves c)) within))
-      (λ c both. (let (here, within) = in_part shares count (are.width * 2) i c both in elim (cases_eq (c % shares / are.width) (2 * i)) [
-        | inl same ↦ inl (to_part shares count are.width (2 * i) c same within)
-        | inr apart ↦ inr (to_part shares count are.width (2 * i + 1) c (omega (arith, apart, here, halves c)) within)
-      ]));
+-- ---- part by part
+
+pub merges_no_part : (parts : List (Vec Label Global)) (from to : ℕ) → AreMerged parts 0 from to []
+merges_no_part parts from to = record {
+  among = All-nil _;
+  all = λ i lt label some between. absurd (omega (arith, lt));
+  ordered = λ i j d less lt. absurd (omega (arith, lt));
+}
+
+pub merges_part : (parts : List (Vec Label Global)) (n from to : ℕ) (old cut new : List Label) → CanMerge parts → AreMerged parts n from to old → IsCut from to (labels_at parts n) cut → IsMerged old cut new → AreMerged parts (n + 1) from to new
+merges_part parts n from to old cut new can are is merged = record {
+  among = λ at d lt. All-contains Among (old ++ cut) (get_or new at d) (All-append Among old cut
+      (λ i e within. (let (between, (part, less, some)) = are.among i e within in (between, (part, omega (arith, less), some))))
+      (λ i e within. (let (some, between) = is.among i e within in (between, (n, omega arith, some)))))
+      (merged.among at d lt);
+  all = λ i lt label some between. elim (cases_lt i n) [
+    | inl less ↦ All-contains (Contains new) old label merged.lefts (are.all i less label some between)
+    | inr no_less ↦ All-contains (Contains new) cut label merged.rights (is.all label (subst (λ m. Contains (labels_at parts m) label) (let same : i ≡ n = omega (arith, lt, no_less) in same) some) between)
+  ];
+  ordered = merged.ordered apart are.ordered is.ordered;
 }
   where
-    halves : (c : ℕ) → c % shares / are.width / 2 ≡ c % shares / (are.width * 2)
-    halves c = div-div-eq-div-mul (c % shares) are.width 2
+    Among : Label → Type 0
+    Among label = IsBetween from to label × ((i : ℕ) × (i < n + 1) × Contains (labels_at parts i) label)
 
--- the one part that is left has the labels of all shares
-pub merging_last : (s : SettingOf) (k : ℕ) (before : List (List ℕ)) (shares count : ℕ) (parts : List (Vec Label Global)) → length parts ≤ 1 → AreMerging s k before shares count parts → IsShare s k (is_in_first shares count) before (labels_at parts 0)
-merging_last s k before shares count parts one are =
-    same_share s k (is_in_part shares count are.width 0) (is_in_first shares count) before (labels_at parts 0)
-    (λ c is. (let (here, within) = in_part shares count are.width 0 c is in tests_below (c % shares) count within))
-    (λ c is. (let within = is_below (c % shares) count is in let first = are.below (c % shares) within in to_part shares count are.width 0 c (omega (arith, first, one)) within))
-    (are.each 0)
+    apart : EndApart old cut
+    apart i j d e lt within same =
+        let (_, (part, less, (place, inside, is_there))) = are.among i d lt in
+        let ((other, also, is_here), _) = is.among j e within in
+        can.apart part n less place other (get_or old i d) (get_or cut j e) inside also (ap (λ l. l.last) is_there ∙ same ∙ sym (ap (λ l. l.last) is_here))
 
--- no labels are merged with none
-pub merged_none : (left right merged : List Label) → left ≡ [] → right ≡ [] → merged ≡ [] → IsMerged left right merged
-merged_none left right merged none also neither =
-    subst (λ (ls : List Label). IsMerged ls right merged) (sym none) (subst (λ (ls : List Label). IsMerged [] ls merged) (sym also) (subst (IsMerged [] []) (sym neither) (merges_all [] [] 0 0 [] (merges_none [] []) (omega arith) (omega arith))))
+-- ---- range by range
+
+all_pairs_append : {X : Type 0} (R : X → X → Type 0) (xs ys : List X) → AllPairs R xs → AllPairs R ys → ((i j : ℕ) (d e : X) → i < length xs → j < length ys → R (get_or xs i d) (get_or ys j e)) → AllPairs R (xs ++ ys)
+all_pairs_append R xs ys one other across i j d less lt = elim (cases_lt j (length xs)) [
+  | inl inside ↦ subst (λ x. R x (get_or (xs ++ ys) j d)) (sym (left i (omega (arith, less, inside)))) (subst (R (get_or xs i d)) (sym (left j inside)) (one i j d less inside))
+  | inr outside ↦ subst (R (get_or (xs ++ ys) i d)) (sym (right j outside)) (elim (cases_lt i (length xs)) [
+    | inl inside ↦ subst (λ x. R x (get_or ys (j - length xs) d)) (sym (left i inside)) (across i (j - length xs) d d inside (omega (arith, lt, outside, length-append xs ys)))
+    | inr behind ↦ subst (λ x. R x (get_or ys (j - length xs) d)) (sym (right i behind)) (other (i - length xs) (j - length xs) d (omega (arith, less, behind)) (omega (arith, lt, outside, length-append xs ys)))
+  ])
+]
+  where
+    left : (n : ℕ) → n < length xs → get_or (xs ++ ys) n d ≡ get_or xs n d
+    left n inside = get_or_append_left xs ys d n inside
+
+    right : (n : ℕ) → length xs ≤ n → get_or (xs ++ ys) n d ≡ get_or ys (n - length xs) d
+    right n outside = get_or-append_right xs ys (length xs) n d refl outside
+
+pub merges_no_range : (parts : List (Vec Label Global)) → AreMerged parts (length parts) 0 0 []
+merges_no_range parts = record {
+  among = All-nil _;
+  all = λ i lt label some between. absurd (omega (arith, between.0, between.1));
+  ordered = λ i j d less lt. absurd (omega (arith, lt));
+}
+
+pub merges_range : (parts : List (Vec Label Global)) (count from middle to : ℕ) (old more : List Label) → from ≤ middle → middle ≤ to → AreMerged parts count from middle old → AreMerged parts count middle to more → AreMerged parts count from to (old ++ more)
+merges_range parts count from middle to old more below above are also = record {
+  among = All-append Among old more
+      (λ i d lt. (let (between, some) = are.among i d lt in ((between.0, omega (arith, between.1, above)), some)))
+      (λ i d lt. (let (between, some) = also.among i d lt in ((omega (arith, between.0, below), between.1), some)));
+  all = λ i lt label some between. elim (cases_lt label.parent middle) [
+    | inl less ↦ Contains-append_left old more label (are.all i lt label some (between.0, less))
+    | inr no_less ↦ Contains-append_right old more label (also.all i lt label some (omega (arith, no_less), between.1))
+  ];
+  ordered = all_pairs_append ComesFirst old more are.ordered also.ordered (λ i j d e lt within. (let (one, _) = are.among i d lt in let (other, _) = also.among j e within in inl (omega (arith, one.1, other.0))));
+}
+  where
+    Among : Label → Type 0
+    Among label = IsBetween from to label × ((i : ℕ) × (i < count) × Contains (labels_at parts i) label)
+
+-- ---- the labels of all shares
+
+pub merged_shares : (s : SettingOf) (k : ℕ) (before : List (List ℕ)) (shares : ℕ) (parts : List (Vec Label Global)) (to : ℕ) (labels : List Label) → AreParts s k before shares 0 parts → length before ≤ to → AreMerged parts (length parts) 0 to labels → IsShare s k (is_in_first shares (length parts)) before labels
+merged_shares s k before shares parts to labels are below merged = record {
+  are = record {
+    each = keep (λ l. IsLabel s (stops_of before l) l) (λ i lt. (part i lt).are.each);
+    parents = keep (λ l. l.parent < length before) (λ i lt. (part i lt).are.parents);
+    own = keep (λ l. is_in_first shares (length parts) l.last ≡ true) (λ i lt a d within. tests_below ((get_or (labels_at parts i) a d).last % shares) (length parts) (let here = eqb-true ((get_or (labels_at parts i) a d).last % shares) i ((part i lt).are.own a d within) in omega (arith, here, lt)));
+    ordered = merged.ordered;
+  };
+  every = λ xs long mine useful.
+      let i = last_symbol xs % shares in
+      let lt : i < length parts = is_below i (length parts) mine in
+      still_contains before (labels_at parts i) labels xs
+      (λ a d within. merged.all i lt (get_or (labels_at parts i) a d) (Contains-get_or (labels_at parts i) a d within) (omega arith, omega (arith, (part i lt).are.parents a d within, below)))
+      ((part i lt).every xs long (eq-eqb i i refl) useful);
+}
+  where
+    part : (i : ℕ) → i < length parts → IsShare s k (has_rest shares i) before (labels_at parts i)
+    part i lt = has_labels s k before shares parts are i lt
+
+    keep : (P : Label → Type 0) → ((i : ℕ) → i < length parts → All P (labels_at parts i)) → All P labels
+    keep P each a d lt = (let (_, (i, within, some)) = merged.among a d lt in All-contains P (labels_at parts i) (get_or labels a d) (each i within) some)

@@ -100,7 +100,7 @@ merges_all left right i j merged some all also = record {
 
 -- ---- the shares of two lists
 
-still_contains : (before : List (List ℕ)) (labels merged : List Label) (xs : List ℕ) → All (Contains merged) labels → Contains (sequences before labels) xs → Contains (sequences before merged) xs
+pub still_contains : (before : List (List ℕ)) (labels merged : List Label) (xs : List ℕ) → All (Contains merged) labels → Contains (sequences before labels) xs → Contains (sequences before merged) xs
 still_contains before labels merged xs all (at, lt, is) =
     let within : at < length labels = omega (arith, lt, length-map labels (stops_of before)) in
     let there : stops_of before (get_or labels at no_label) ≡ xs = sym (get_or-map (stops_of before) labels at no_label xs within) ∙ is in

@@ -1,5 +1,5 @@
--- Two lists of labels as one.
-use Rattle.std.specs.Prelude.{◌≡◌, ℕ, ◌<◌, List, [], ◌++◌, Vec, length, map, slice_index_or}
+-- Lists of labels as one.
+use Rattle.std.specs.Prelude.{◌≡◌, ℕ, ◌+◌, ◌*◌, ◌<◌, ◌≤◌, List, [], ◌++◌, Vec, length, map, slice_index_or}
 use Rattle.std.specs.Global.{Global}
 use Rattle.std.specs.List.{All, AllPairs, Contains}
 use Rattle.vrp_routes.specs.Level.{ComesFirst}
@@ -19,3 +19,29 @@ pub record IsMerged (left right merged : List Label) : Type 0 where
 -- the labels of a part; none behind the last one
 abbrev pub labels_at : List (Vec Label Global) → ℕ → List Label
 labels_at parts i = slice_index_or (map (λ part. part.items) parts) i []
+
+-- each part is in order, and no two of them have labels that end alike
+pub record CanMerge (parts : List (Vec Label Global)) : Type 0 where
+  pub rising : (i : ℕ) → AllPairs ComesFirst (labels_at parts i)
+  pub apart : (i j : ℕ) → i < j → EndApart (labels_at parts i) (labels_at parts j)
+
+-- the label goes on from one whose number is at least this, and below that
+abbrev pub IsBetween : ℕ → ℕ → Label → Type 0
+IsBetween from to label = (from ≤ label.parent) × (label.parent < to)
+
+-- the labels of a list that go on from those between two numbers, in order where the list is
+pub record IsCut (from to : ℕ) (labels cut : List Label) : Type 0 where
+  pub among : All (λ label. Contains labels label × IsBetween from to label) cut
+  pub all : (label : Label) → Contains labels label → IsBetween from to label → Contains cut label
+  pub ordered : AllPairs ComesFirst cut
+
+-- the labels of the first parts that go on from those between two numbers, in order
+pub record AreMerged (parts : List (Vec Label Global)) (count from to : ℕ) (merged : List Label) : Type 0 where
+  pub among : All (λ label. IsBetween from to label × ((i : ℕ) × (i < count) × Contains (labels_at parts i) label)) merged
+  pub all : (i : ℕ) → i < count → (label : Label) → Contains (labels_at parts i) label → IsBetween from to label → Contains merged label
+  pub ordered : AllPairs ComesFirst merged
+
+-- the labels of all parts, by ranges of so many parents, the first of which begins with this one
+abbrev pub AreRanges : List (Vec Label Global) → ℕ → ℕ → List (Vec Label Global) → Type 0
+AreRanges parts from width ranges = (i : ℕ) (d : Vec Label Global) → i < length ranges
+    → AreMerged parts (length parts) (from + i * width) (from + i * width + width) (slice_index_or ranges i d).items

@@ -1,5 +1,5 @@
 -- Shares of the customers, one for each worker.
-use Rattle.std.specs.Prelude.{ℕ, ◌/◌, ◌%◌, ◌==◌, ◌&&◌, Bool, nat_lt}
+use Rattle.std.specs.Prelude.{ℕ, ◌%◌, ◌==◌, Bool, nat_lt}
 use Rattle.vrp_routes.specs.declared.share.Share.{Share}
 
 -- the customer's number leaves this rest, divided by how many shares there are
@@ -13,7 +13,3 @@ is_in share = has_rest share.shares share.rest
 -- the customer is in one of the first shares
 abbrev pub is_in_first : ℕ → ℕ → ℕ → Bool
 is_in_first shares count customer = nat_lt (customer % shares) count
-
--- the customer is in one of the first shares, and the share's number, divided by this width, is the part's
-abbrev pub is_in_part : ℕ → ℕ → ℕ → ℕ → ℕ → Bool
-is_in_part shares count width part customer = (customer % shares / width == part) && nat_lt (customer % shares) count

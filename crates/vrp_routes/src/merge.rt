@@ -1,11 +1,14 @@
 //! Labels that several workers found, in one order.
-ghost use Rattle.std.specs.Prelude.{◌≡◌, ◌⊎◌, ◌+◌, ◌*◌, ◌<◌, ◌≤◌, ℕ, List, IfOk, IsTrue, false, length, slice_index_or, vec_len};
+ghost use Rattle.std.specs.Prelude.{◌≡◌, ◌⊎◌, ◌+◌, ◌*◌, ◌^◌, ◌<◌, ◌≤◌, ℕ, List, Vec, OnOk, IfOk, IsTrue, false, length, slice_index_or, vec_len};
+ghost use Rattle.std.specs.Global.{Global};
+ghost use Rattle.std.specs.List.{AllPairs};
 ghost use Rattle.vrp_routes.specs.Candidates.{no_label};
 ghost use Rattle.vrp_routes.specs.Label.{SettingOf};
 ghost use Rattle.vrp_routes.specs.Level.{ComesFirst, IsShare};
-ghost use Rattle.vrp_routes.specs.Merge.{IsMerged, labels_at};
+ghost use Rattle.vrp_routes.specs.Merge.{AreMerged, AreRanges, CanMerge, IsCut, IsMerged, labels_at};
 ghost use Rattle.vrp_routes.specs.Share.{is_in_first};
 ghost use Rattle.vrp_routes.specs.Shares.{AreParts};
+ghost use Rattle.vrp_routes.specs.declared.label.Label.{Label};
 
 use crate::label::Label;
 use crate::tasks::values_of;
@@ -13,75 +16,123 @@ use std::alloc::Global;
 use std::thread::Threads;
 use vrp_model::NoMemory;
 
-/// The labels of all parts, by rising parent, and of one parent by rising last customer. Of two parts that stand side by side one is
-/// made, round by round, so that a label of eight parts is copied three times.
+// The labels of so many parents are merged at once: so many lie close by for a processor.
+const PARENTS_AT_ONCE: usize = 16_384;
+
+/// The labels of all parts, whose parents are so many, by rising parent, and of one parent by rising last customer. Each worker merges
+/// those of one range of parents at a time.
 pub fn all_merged<R: Threads + Sync>(
     rt: &R,
     alloc: Global,
-    parts: Vec<Vec<Label>>,
+    parts: &[Vec<Label>],
+    parents: usize,
     workers: u16,
 ) -> Result<Vec<Label>, NoMemory>
     requires workers { 0 < workers }
+    requires can { CanMerge parts.now }
+    requires few { parents < 2 ^ 32 }
     ensures { IfOk result (λ labels. (s : SettingOf) (k : ℕ) (before : List (List ℕ)) (shares : ℕ)
-        → 0 < shares → AreParts s k before shares 0 parts.items
-        → IsShare s k (is_in_first shares (vec_len parts)) before labels.items) }
+        → AreParts s k before shares 0 parts.now → length before ≤ parents
+        → IsShare s k (is_in_first shares (length parts.now)) before labels.items) }
 {
-    let mut parts = parts;
-    while parts.len() > 1 {
-        parts = merged_in_pairs(rt, alloc, &parts, workers)?;
+    let mut merged = Vec::with_capacity(alloc, label_count(parts))?;
+    let mut from = 0;
+    while from < parents {
+        let ranges = ranges_from(rt, alloc, parts, from, workers)?;
+        append_ranges(&mut merged, &ranges)?;
+        from += usize::from(workers) * PARENTS_AT_ONCE;
     }
-    match parts.pop() {
-        Some(labels) => Ok(labels),
-        None => Ok(Vec::new(alloc)),
-    }
+    Ok(merged)
 }
 
-// Of two parts that stand side by side one; the last part may have none at its side.
-fn merged_in_pairs<R: Threads + Sync>(
+// How many labels there are.
+fn label_count(parts: &[Vec<Label>]) -> usize {
+    parts
+        .iter()
+        .fold(0usize, |sum, part| sum.saturating_add(part.len()))
+}
+
+// The labels of some ranges of parents, the first of which begins with this one: of one range for each worker.
+fn ranges_from<R: Threads + Sync>(
     rt: &R,
     alloc: Global,
     parts: &[Vec<Label>],
+    from: usize,
     workers: u16,
 ) -> Result<Vec<Vec<Label>>, NoMemory>
     requires workers { 0 < workers }
-    ensures count { IfOk result (λ merged. 2 * vec_len merged ≤ length parts.now + 1) }
-    ensures all { IfOk result (λ merged. length parts.now ≤ 2 * vec_len merged) }
-    ensures each { IfOk result (λ merged. (i : ℕ)
-        → IsMerged (labels_at parts.now (2 * i)) (labels_at parts.now (2 * i + 1)) (labels_at merged.items i)) }
+    requires can { CanMerge parts.now }
+    requires few { from < 2 ^ 32 }
+    ensures count { IfOk result (λ ranges. vec_len ranges ≡ workers) }
+    ensures each { IfOk result (λ ranges. AreRanges parts.now from PARENTS_AT_ONCE ranges.items) }
 {
-    let pairs = parts.len().div_ceil(2);
     values_of(
         rt,
         alloc,
         workers,
-        pairs,
-        &|pair: usize| -> Result<Vec<Label>, NoMemory>
-            requires { 2 * pair < length parts.now }
-            ensures { IfOk result (λ merged.
-                IsMerged (labels_at parts.entry.now (2 * pair)) (labels_at parts.entry.now (2 * pair + 1)) merged.items) }
-        { merged_pair(alloc, parts, pair) },
+        usize::from(workers),
+        &|range: usize| -> Result<Vec<Label>, NoMemory>
+            requires can { CanMerge parts.now }
+            requires few { from + range * PARENTS_AT_ONCE + PARENTS_AT_ONCE < 2 ^ 64 }
+            ensures { IfOk result (λ merged. AreMerged parts.entry.now (length parts.entry.now)
+                (from + range * PARENTS_AT_ONCE) (from + range * PARENTS_AT_ONCE + PARENTS_AT_ONCE) merged.items) }
+        {
+            let first = from + range * PARENTS_AT_ONCE;
+            merged_between(alloc, parts, first, first + PARENTS_AT_ONCE)
+        },
     )
 }
 
-// The labels of a part with an even number and of the one behind it.
-fn merged_pair(alloc: Global, parts: &[Vec<Label>], pair: usize) -> Result<Vec<Label>, NoMemory>
-    requires { 2 * pair < length parts.now }
-    ensures { IfOk result (λ merged.
-        IsMerged (labels_at parts.now (2 * pair)) (labels_at parts.now (2 * pair + 1)) merged.items) }
+// Appends the labels of some ranges.
+fn append_ranges(merged: &mut Vec<Label>, ranges: &[Vec<Label>]) -> Result<(), NoMemory>
+    ensures { OnOk result ((parts : List (Vec Label Global)) (from : ℕ)
+        → AreMerged parts (length parts) 0 from merged.old.items → AreRanges parts from PARENTS_AT_ONCE ranges.now
+        → AreMerged parts (length parts) 0 (from + length ranges.now * PARENTS_AT_ONCE) merged.new.items) }
 {
-    let left = labels_of(parts, 2 * pair);
-    let right = labels_of(parts, 2 * pair + 1);
-    merged(alloc, left, right)
+    for index in 0..ranges.len() {
+        merged.extend_from_slice(ranges[index].as_slice())?;
+    }
+    Ok(())
 }
 
-// The labels of a part; none behind the last one.
-fn labels_of(parts: &[Vec<Label>], at: usize) -> &[Label]
-    ensures { result.now ≡ labels_at parts.now at }
+// The labels of all parts whose parents have numbers from one on and below another.
+fn merged_between(
+    alloc: Global,
+    parts: &[Vec<Label>],
+    from: usize,
+    to: usize,
+) -> Result<Vec<Label>, NoMemory>
+    requires can { CanMerge parts.now }
+    requires some { from ≤ to }
+    ensures { IfOk result (λ merged. AreMerged parts.now (length parts.now) from to merged.items) }
 {
-    match parts.get(at) {
-        Some(part) => part,
-        None => &[],
+    let mut labels = Vec::new(alloc);
+    for index in 0..parts.len() {
+        let more = labels_between(parts[index].as_slice(), from, to);
+        labels = merged(alloc, &labels, more)?;
     }
+    Ok(labels)
+}
+
+// The labels whose parents have numbers from one on and below another.
+fn labels_between(labels: &[Label], from: usize, to: usize) -> &[Label]
+    requires rising { AllPairs ComesFirst labels.now }
+    requires some { from ≤ to }
+    ensures { IsCut from to labels.now result.now }
+{
+    let low = place_from(labels, from);
+    let high = place_from(labels, to);
+    &labels[low..high]
+}
+
+// The first place of a label whose parent's number is no less than this.
+fn place_from(labels: &[Label], parent: usize) -> usize
+    requires rising { AllPairs ComesFirst labels.now }
+    ensures within { result ≤ length labels.now }
+    ensures below { (i : ℕ) (d : Label) → i < result → (slice_index_or labels.now i d).parent < parent }
+    ensures above { (i : ℕ) (d : Label) → result ≤ i → i < length labels.now → parent ≤ (slice_index_or labels.now i d).parent }
+{
+    labels.partition_point(|label| (label.parent as usize) < parent)
 }
 
 // The labels of both lists.

@@ -1,10 +1,12 @@
 use Rattle.std.proofs.Common.{◌≡◌, ◌+◌, ◌<◌, ◌++◌, length, length-append, vec_len, ap, sym, subst, arith}
 use Rattle.vrp_routes.specs.Extended.{IfParts}
 use Rattle.vrp_routes.specs.Level.{IsLevel, IsShare}
+use Rattle.vrp_routes.specs.Merge.{CanMerge}
 use Rattle.vrp_routes.specs.Share.{is_in_first}
 use Rattle.vrp_routes.specs.Shares.{AreParts}
 use Rattle.vrp_routes.specs.declared.level.Parts.{Parts}
 use Rattle.vrp_routes.proofs.Extensions.{whole_level}
+use Rattle.vrp_routes.proofs.MergeRounds.{shares_can_merge}
 use Rattle.vrp_routes.proofs.SharesSteps.{in_some_share, more_parts}
 use Rattle.vrp_routes.proofs.level.extend_level.Goals as goal
 
@@ -28,17 +30,30 @@ loop-first-preserved g c =
           (more_parts s (k + 1) stops shares parts more (known.parts k stops is) (subst (λ n. AreParts s (k + 1) stops shares n more) (sym known.count) also));
     }
 
+pub all_merged-requires-clause-can : goal.all_merged-requires-clause-can
+all_merged-requires-clause-can g c κs within =
+    let (k, stops, is) = c.requires.level in
+    subst CanMerge (sym c.deref.ensures.value) (shares_can_merge c.args.setting.now (k + 1) stops c.max-shares.result c.loop-first.parts.items (c.loop-first.invariant.parts k stops is))
+
 pub returns-clause-level : goal.returns-clause-level
 returns-clause-level g c = λ k stops is.
     let s = c.args.setting.now in
     let shares = c.max-shares.result in
+    let parts = c.loop-first.parts.items in
     let some : 0 < shares = omega (arith, c.max-shares.ensures, c.requires.workers) in
-    let all : vec_len c.loop-first.parts ≡ shares = omega (arith, c.loop-first.parts.ok, c.loop-first.invariant.count, c.loop-first.invariant.within, c.loop-first-test.false) in
-    let share = subst (λ n. IsShare s (k + 1) (is_in_first shares n) stops c.in_ok-next.next.items) all (c.in_ok-next.ensures s (k + 1) stops shares some (c.loop-first.invariant.parts k stops is)) in
+    let there : c.deref.result.now ≡ parts = c.deref.ensures.value in
+    let all : length c.deref.result.now ≡ shares = omega (arith, ap length there, c.loop-first.invariant.count, c.loop-first.invariant.within, c.loop-first-test.false) in
+    let are : AreParts s (k + 1) stops shares 0 c.deref.result.now = subst (AreParts s (k + 1) stops shares 0) (sym there) (c.loop-first.invariant.parts k stops is) in
+    let share = subst (λ n. IsShare s (k + 1) (is_in_first shares n) stops c.in_ok-next.next.items) all (c.in_ok-next.ensures s (k + 1) stops shares are (omega (arith, is.are.long, c.len.ensures))) in
     whole_level s k (is_in_first shares shares) stops c.args.labels.now c.in_ok-next.next.items is (λ customer. in_some_share shares customer some) share
 
 pub returns-clause-parents : goal.returns-clause-parents
 returns-clause-parents g c =
     let (k, stops, is) = c.requires.level in
-    let share : IsShare c.args.setting.now (k + 1) (is_in_first c.max-shares.result (vec_len c.loop-first.parts)) stops c.in_ok-next.next.items = c.in_ok-next.ensures c.args.setting.now (k + 1) stops c.max-shares.result (omega (arith, c.max-shares.ensures, c.requires.workers)) (c.loop-first.invariant.parts k stops is) in
+    let s = c.args.setting.now in
+    let shares = c.max-shares.result in
+    let parts = c.loop-first.parts.items in
+    let there : c.deref.result.now ≡ parts = c.deref.ensures.value in
+    let are : AreParts s (k + 1) stops shares 0 c.deref.result.now = subst (AreParts s (k + 1) stops shares 0) (sym there) (c.loop-first.invariant.parts k stops is) in
+    let share : IsShare s (k + 1) (is_in_first shares (length c.deref.result.now)) stops c.in_ok-next.next.items = c.in_ok-next.ensures s (k + 1) stops shares are (omega (arith, is.are.long, c.len.ensures)) in
     λ i d lt. omega (arith, share.are.parents i d lt, is.are.long)

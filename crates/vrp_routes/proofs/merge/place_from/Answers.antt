@@ -1,0 +1,18 @@
+use Rattle.std.proofs.Common.{◌≡◌, ◌<◌, ◌≤◌, ℕ, true, false, rules, of_calls, nat_lt, length, get_or, sym, ◌∙◌, arith}
+use Rattle.std.specs.List.Sorted.{IsPartitionPoint}
+use Rattle.std.proofs.lemmas.Fn.{always_returns_same}
+use Rattle.vrp_routes.specs.declared.label.Label.{Label}
+use Rattle.vrp_routes.proofs.RisingParents.{is_below, not_below, parted_by_parent}
+use Rattle.vrp_routes.proofs.merge.place_from.Goals as goal
+
+pub returns-clause-below : goal.returns-clause-below
+returns-clause-below c =
+    let labels = c.args.labels.now in
+    let point = c.partition_point.ensures.partitioned (λ label. nat_lt label.parent c.args.parent) (always_returns_same _ _ _ (λ a r f k. search (rules, of_calls))) (parted_by_parent labels c.args.parent c.requires.rising) in
+    λ i d less. is_below (get_or labels i d).parent c.args.parent (point.0 i d (omega arith) less)
+
+pub returns-clause-above : goal.returns-clause-above
+returns-clause-above c =
+    let labels = c.args.labels.now in
+    let point = c.partition_point.ensures.partitioned (λ label. nat_lt label.parent c.args.parent) (always_returns_same _ _ _ (λ a r f k. search (rules, of_calls))) (parted_by_parent labels c.args.parent c.requires.rising) in
+    λ i d from lt. not_below (get_or labels i d).parent c.args.parent (point.1 i d from lt)
