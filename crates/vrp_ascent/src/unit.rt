@@ -9,7 +9,7 @@ use vrp_walks::Size;
 pub(crate) const MAX_ROUND: u64 = 20_000_000;
 
 // The most cells of a table by place, room and rest.
-const MAX_HOMES: u64 = 16_000_000;
+const MAX_HOMES: u64 = 40_000_000;
 
 // More halvings than any capacity has.
 const HALVINGS: u32 = 40;

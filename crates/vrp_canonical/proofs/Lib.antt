@@ -9,4 +9,5 @@ pub mod Narrowing
 pub mod NextRoutes
 pub mod OrderedPools
 pub mod PlanChoices
+pub mod Replies
 pub mod Rising

@@ -38,7 +38,7 @@ pub enum PlanSearch {
 /// of the first plan again and again, each time by forks of the guide, which need not be trusted. Unfinished where the budget was spent
 /// or a search would not go on, where an amount doesn't fit 32 bits, or where no choice costs as little as the known plan: when, is left
 /// open, and so is how much of the budget is spent.
-pub fn canonical_plan<R: Threads + Sync, P: Guide + Send, A: Ask>(
+pub fn canonical_plan<R: Threads + Sync, P: Guide + Send, A: Ask + Sync>(
     team: &Team<'_, R, A>,
     instance: &Instance,
     pool: &RoutePool,
@@ -157,7 +157,7 @@ fn narrowed_routes<P: Guide>(
 }
 
 // The first plan, whose routes are among these.
-fn plan_among<R: Threads + Sync, P: Guide + Send, A: Ask>(
+fn plan_among<R: Threads + Sync, P: Guide + Send, A: Ask + Sync>(
     alloc: Global,
     instance: &Instance,
     searches: &mut Searches<'_, R, P, A>,

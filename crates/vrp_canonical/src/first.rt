@@ -6,6 +6,7 @@ ghost use Rattle.vrp_model.specs.Order.{IsFirst};
 ghost use Rattle.vrp_model.specs.Problem.{Problem};
 
 use crate::narrow::narrow;
+use crate::question::{Answered, Question};
 use crate::residual::Residual;
 use crate::run::run_from;
 use crate::searches::Searches;
@@ -14,9 +15,9 @@ use std::thread::Threads;
 use vrp_partition::{Ask, Guide, Route};
 
 /// The places in the pool of the first plan's routes, where the pool is in the order of its routes' stops and the residual problem is
-/// the whole one, at the first plan's cost. The routes are taken in runs that share a customer. `None` where an answer wasn't known,
+/// the whole one, at the first plan's cost. The routes are taken in runs that share a customer; questions are asked ahead. `None` where an answer wasn't known,
 /// and where a route has no customer.
-pub fn first_places<R: Threads + Sync, P: Guide + Send, A: Ask>(
+pub fn first_places<R: Threads + Sync, P: Guide + Send, A: Ask + Sync>(
     alloc: Global,
     searches: &mut Searches<'_, R, P, A>,
     pool: &[Route],
@@ -27,6 +28,7 @@ pub fn first_places<R: Threads + Sync, P: Guide + Send, A: Ask>(
         → IsTask p limit stops pool.now whole → IsFirst p (plan_at stops chosen.items whole.most))) }
 {
     let mut chosen = Vec::new(alloc);
+    let mut answers = Vec::new(alloc);
     let mut rest = whole;
     let mut index = 0;
     while index < pool.len() {
@@ -37,8 +39,17 @@ pub fn first_places<R: Threads + Sync, P: Guide + Send, A: Ask>(
             if set == 0 {
                 return Ok(None);
             }
+            if !reach_to(&answers, index) {
+                answers = searches.ask_ahead(pool, rest, index)?;
+            }
             let run = run_from(pool, rest.unserved, index);
-            let Some(at) = narrow(alloc, searches, pool, rest, run.customer, index, run.end)? else {
+            let question = Question {
+                rest,
+                customer: run.customer,
+                low: index,
+                high: run.end,
+            };
+            let Some(at) = narrow(alloc, searches, pool, &answers, question)? else {
                 return Ok(None);
             };
             if at < run.end {
@@ -54,4 +65,12 @@ pub fn first_places<R: Threads + Sync, P: Guide + Send, A: Ask>(
         }
     }
     Ok(Some(chosen))
+}
+
+// Whether answers are about this place, or later ones. It need not be trusted.
+fn reach_to(answers: &[Answered], index: usize) -> bool {
+    match answers.last() {
+        Some(answered) => index <= answered.question.low,
+        None => false,
+    }
 }

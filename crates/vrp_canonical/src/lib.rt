@@ -1,6 +1,7 @@
 //! The first plan from a complete pool of routes, route by route.
 #![tactic(auto)]
 
+mod ahead;
 mod canonical;
 mod everyone;
 mod first;
@@ -10,6 +11,7 @@ mod loads;
 mod narrow;
 mod ordered;
 mod part;
+mod question;
 mod residual;
 mod run;
 mod searches;

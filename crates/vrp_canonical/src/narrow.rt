@@ -1,52 +1,59 @@
 //! The place of the next route within a run, found by halves of it.
 ghost use Rattle.std.specs.Prelude.{◌≡◌, ◌+◌, ◌<◌, ◌≤◌, ℕ, List, IfOk, IfSome, length};
 ghost use Rattle.std.specs.Int.{bit_at};
-ghost use Rattle.vrp_canonical.specs.Passing.{AllHave, IsAnswer, IsBegun, IsNarrowed};
+ghost use Rattle.std.specs.List.{All};
+ghost use Rattle.vrp_canonical.specs.Asking.{Answers, IsRight};
+ghost use Rattle.vrp_canonical.specs.Passing.{AllHave, IsBegun, IsNarrowed};
 ghost use Rattle.vrp_canonical.specs.Reaching.{IsTask};
 ghost use Rattle.vrp_canonical.specs.declared.residual.Residual.{Residual};
 ghost use Rattle.vrp_model.specs.Problem.{Problem};
 
 use crate::part::part_between;
-use crate::residual::Residual;
+use crate::question::{Answered, Question, answer_to};
 use crate::searches::Searches;
 use std::alloc::{AllocError, Global};
 use std::thread::Threads;
 use vrp_partition::{Ask, Guide, Route};
 
-/// The place of the next route of the first plan, if it stands in a run of routes that have a customer in common; else the end of the
-/// run. `None` where an answer wasn't known.
-pub fn narrow<R: Threads + Sync, P: Guide + Send, A: Ask>(
+/// The place of the next route of the first plan, if it stands in a run of routes that have a customer in common: the question asks
+/// for one between the run's places. Else the end of the run. `None` where an answer wasn't known. Answers that are known are used.
+pub fn narrow<R: Threads + Sync, P: Guide + Send, A: Ask + Sync>(
     alloc: Global,
     searches: &mut Searches<'_, R, P, A>,
     pool: &[Route],
-    rest: Residual,
-    customer: u32,
-    index: usize,
-    end: usize,
+    answers: &[Answered],
+    question: Question,
 ) -> Result<Option<usize>, AllocError>
-    requires customer { customer < 128 }
-    requires unserved { bit_at rest.unserved customer ≡ 1 }
-    requires end { end ≤ length pool.now }
-    requires some { index < end }
-    requires have { AllHave pool.now rest.unserved customer index end }
-    ensures from { IfOk result (λ answer. IfSome answer (λ at. index ≤ at)) }
-    ensures to { IfOk result (λ answer. IfSome answer (λ at. at ≤ end)) }
+    requires right { All (IsRight pool.now) answers.now }
+    requires unserved { bit_at question.rest.unserved question.customer ≡ 1 }
+    requires end { question.high ≤ length pool.now }
+    requires some { question.low < question.high }
+    requires have { AllHave pool.now question.rest.unserved question.customer question.low question.high }
+    ensures from { IfOk result (λ answer. IfSome answer (λ at. question.low ≤ at)) }
+    ensures to { IfOk result (λ answer. IfSome answer (λ at. at ≤ question.high)) }
     ensures next { IfOk result (λ answer. IfSome answer (λ at. (p : Problem) (limit : ℕ) (stops : List (List ℕ))
         (whole : Residual) (chosen : List ℕ) → (task : IsTask p limit stops pool.now whole)
-        → IsBegun p stops task.plan whole index chosen rest → IsNarrowed p stops task.plan whole chosen rest end at)) }
+        → IsBegun p stops task.plan whole question.low chosen question.rest
+        → IsNarrowed p stops task.plan whole chosen question.rest question.high at)) }
 {
-    let Some(some) = reaches_between(alloc, searches, pool, rest, customer, index, end)? else {
+    let Some(some) = answer_of(alloc, searches, pool, answers, question)? else {
         return Ok(None);
     };
     if !some {
-        return Ok(Some(end));
+        return Ok(Some(question.high));
     }
-    let mut low = index;
-    let mut high = end;
+    let customer = question.customer;
+    let mut low = question.low;
+    let mut high = question.high;
     while high - low > 1 {
         let middle = middle_between(searches, pool, customer, low, high);
-        let Some(lower) = reaches_between(alloc, searches, pool, rest, customer, low, middle)?
-        else {
+        let lower_half = Question {
+            rest: question.rest,
+            customer,
+            low,
+            high: middle,
+        };
+        let Some(lower) = answer_of(alloc, searches, pool, answers, lower_half)? else {
             return Ok(None);
         };
         if lower {
@@ -58,25 +65,49 @@ pub fn narrow<R: Threads + Sync, P: Guide + Send, A: Ask>(
     Ok(Some(low))
 }
 
-// Whether the unserved customers can be served so that this one is in a route between two places, by routes from the first place on.
-fn reaches_between<R: Threads + Sync, P: Guide + Send, A: Ask>(
+// The answer to a question: one that is known, or else by a search.
+fn answer_of<R: Threads + Sync, P: Guide + Send, A: Ask + Sync>(
     alloc: Global,
     searches: &mut Searches<'_, R, P, A>,
     pool: &[Route],
-    rest: Residual,
-    customer: u32,
-    low: usize,
-    high: usize,
+    answers: &[Answered],
+    question: Question,
 ) -> Result<Option<bool>, AllocError>
-    requires { customer < 128 }
-    ensures { IfOk result (λ answer. IfSome answer (IsAnswer pool.now rest customer low high)) }
+    requires right { All (IsRight pool.now) answers.now }
+    ensures { IfOk result (λ answer. IfSome answer (Answers pool.now question)) }
 {
+    if let Some(answered) = answer_to(answers, question) {
+        let yes = answered.yes;
+        if yes {
+            searches.know(answered.choice.as_slice())?;
+        }
+        return Ok(Some(yes));
+    }
+    let answer = searched_answer(alloc, searches, pool, question)?;
+    Ok(answer)
+}
+
+// The answer to a question by a search.
+fn searched_answer<R: Threads + Sync, P: Guide + Send, A: Ask + Sync>(
+    alloc: Global,
+    searches: &mut Searches<'_, R, P, A>,
+    pool: &[Route],
+    question: Question,
+) -> Result<Option<bool>, AllocError>
+    ensures { IfOk result (λ answer. IfSome answer (Answers pool.now question)) }
+{
+    let Question {
+        rest,
+        customer,
+        low,
+        high,
+    } = question;
     let part = part_between(alloc, pool, rest.unserved, customer, low, high)?;
     searches.reaches(part.as_slice(), rest)
 }
 
 // A place between two others to ask up to: just before the place of the route that is likely, or else just behind it.
-fn middle_between<R: Threads + Sync, P: Guide + Send, A: Ask>(
+fn middle_between<R: Threads + Sync, P: Guide + Send, A: Ask + Sync>(
     searches: &Searches<'_, R, P, A>,
     pool: &[Route],
     customer: u32,
@@ -96,8 +127,8 @@ fn middle_between<R: Threads + Sync, P: Guide + Send, A: Ask>(
     }
 }
 
-// The first place between two others of a route with this set and cost.
-fn likely_place(pool: &[Route], low: usize, high: usize, route: Option<Route>) -> Option<usize>
+/// The first place between two others of a route with this set and cost.
+pub fn likely_place(pool: &[Route], low: usize, high: usize, route: Option<Route>) -> Option<usize>
     requires { high ≤ length pool.now }
     ensures from { IfSome result (λ at. low ≤ at) }
     ensures to { IfSome result (λ at. at < high) }

@@ -5,7 +5,7 @@ ghost use Rattle.vrp_canonical.specs.Passing.{IsAfter};
 use vrp_partition::Route;
 
 /// A residual problem: the customers that are unserved, a bit for each, how many trucks are left, and what their routes may cost.
-#[derive(Clone, Copy, Debug)]
+#[derive(Clone, Copy, Debug, PartialEq, Eq)]
 pub struct Residual {
     pub unserved: u128,
     pub trucks: u8,

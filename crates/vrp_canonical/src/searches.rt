@@ -55,7 +55,7 @@ impl<'a, R, P: Guide, A> Searches<'a, R, P, A> {
     }
 }
 
-impl<R: Threads + Sync, P: Guide + Send, A: Ask> Searches<'_, R, P, A> {
+impl<R: Threads + Sync, P: Guide + Send, A: Ask + Sync> Searches<'_, R, P, A> {
     /// Whether some routes of the part serve the unserved customers with the trucks that are left and cost no more than they may.
     /// `None` where that isn't known.
     pub fn reaches(&mut self, part: &[Route], rest: Residual) -> Result<Option<bool>, AllocError>
@@ -82,6 +82,12 @@ impl<R: Threads + Sync, P: Guide + Send, A: Ask> Searches<'_, R, P, A> {
         }
         self.known = chosen.routes;
         Ok(Some(true))
+    }
+
+    /// Takes another choice as the known one.
+    pub fn know(&mut self, choice: &[Route]) -> Result<(), AllocError> {
+        self.known = Vec::from_slice(self.team.alloc, choice)?;
+        Ok(())
     }
 
     /// A route that is likely to serve the customer. It need not be trusted, and which it is, is left open.

@@ -13,15 +13,19 @@ pub const ENOUGH_MOVES: u32 = 20_000;
 
 const RUNS: u64 = 4;
 
+// So many runs of more moves than enough there are: they are asked for where each unit of cost counts.
+const RUNS_OF_MORE: u64 = 8;
+
 /// For each of its moves a run looks at this many positions at most.
 const POSITIONS_A_MOVE: u64 = 2_000;
 
 /// A plan near the best, by ruin and recreate, of Christiaens and Vanden Berghe (2020): from a plan strings of customers are taken
 /// out of a few routes that lie close together, and put back one by one where that costs least. The new plan is kept where it
-/// isn't dearer than the last by a threshold or more, which falls to nothing. There are four runs of this many moves each; with many
-/// customers there are fewer moves, since for each move at most 2,000 positions are looked at on average. The first run starts
-/// from the plan by savings, and each other from the best plan so far. What is answered is the best of all these plans, the first by
-/// cost and then by word, and the same at each call, unless it is told to stop: before each move it is asked whether to go on.
+/// isn't dearer than the last by a threshold or more, which falls to nothing. There are four runs of this many moves each, and eight
+/// where that is more than `ENOUGH_MOVES`; with many customers there are fewer moves, since for each move at most 2,000 positions are
+/// looked at on average. The first run starts from the plan by savings, and each other from the best plan so far. What is answered is
+/// the best of all these plans, the first by cost and then by word, and the same at each call, unless it is told to stop: before each
+/// move it is asked whether to go on.
 ///
 /// With a limit on trucks no route is opened beyond it. Where savings find no plan within the limit, the first run starts with
 /// nobody served; customers who find no place are tried again in each move, and a move that leaves more of them unserved is
@@ -43,7 +47,12 @@ pub fn first_plan<F: Fn() -> bool>(
     }
     let setting = Setting::new(alloc, instance)?;
     let threshold = threshold(instance, moves);
-    for number in 1..RUNS + 1 {
+    let runs = if moves > ENOUGH_MOVES {
+        RUNS_OF_MORE
+    } else {
+        RUNS
+    };
+    for number in 1..runs + 1 {
         let word = word_of_run(alloc, &setting, &best, threshold, number, goes_on)?;
         best = better(alloc, instance, &word, best)?;
     }

@@ -4,7 +4,7 @@ use crate::assertion::assert_same;
 use crate::guides::{Asks, HABITS, Habit, Habitual};
 use crate::random::{Random, all_customers};
 use crate::slow::{cost_of_choice, least_cost};
-use std::alloc::Global;
+use std::alloc::{AllocError, Global};
 use std::process::Abort;
 use std::thread::Threads;
 use vrp_partition::{
@@ -75,10 +75,7 @@ fn choices_by_hand(rt: HostRuntime) {
     let (rt, alloc) = (&rt, rt.alloc());
     for &(told, customers, trucks, incumbent, cost) in BY_HAND {
         for &habit in HABITS {
-            let mut pool = Vec::new(alloc);
-            for &(set, cost) in told {
-                pool.push(Route { set, cost }).expect(rt, "memory");
-            }
+            let pool = pool_of(rt, alloc, told);
             let found = choice(
                 rt, alloc, habit, 128, trucks, pool, customers, incumbent, 100,
             );
@@ -87,6 +84,14 @@ fn choices_by_hand(rt: HostRuntime) {
             assert_routes(rt, &found, customers, trucks, incumbent);
         }
     }
+}
+
+fn pool_of(rt: &impl Abort, alloc: Global, told: &[Pair]) -> Vec<Route> {
+    let mut pool = Vec::new(alloc);
+    for &(set, cost) in told {
+        pool.push(Route { set, cost }).expect(rt, "memory");
+    }
+    pool
 }
 
 // The cheapest choice, where the search ends, by any number of workers. Each customer demands 1.
@@ -144,6 +149,25 @@ fn found_by<R: Abort + Threads + Sync>(
     asked: Asked,
     pool: &[Route],
 ) -> Found {
+    let mut budget = asked.budget;
+    let found = searched_by(rt, alloc, workers, asked, pool, &mut budget);
+    let found = found.expect(rt, "memory");
+    assert!(rt;
+        told_of(&found).finished || budget == 0,
+        "{budget} are left"
+    );
+    found
+}
+
+// What comes of a search by so many workers.
+fn searched_by<R: Abort + Threads + Sync>(
+    rt: &R,
+    alloc: Global,
+    workers: usize,
+    asked: Asked,
+    pool: &[Route],
+    budget: &mut u64,
+) -> Result<Found, AllocError> {
     let demands = [1u32; MOST_CUSTOMERS];
     assert!(rt; all_fit(pool, &demands, asked.capacity));
     assert!(rt; asked.incumbent <= MUCH && workers > 0);
@@ -166,22 +190,15 @@ fn found_by<R: Abort + Threads + Sync>(
         capacity: asked.capacity,
         trucks: asked.trucks,
     };
-    let mut budget = asked.budget;
-    let found = cheapest_choice(
+    cheapest_choice(
         &team,
         guide,
         &fleet,
         Vec::from_slice(alloc, pool).expect(rt, "memory"),
         asked.customers,
         asked.incumbent,
-        &mut budget,
-    );
-    let found = found.expect(rt, "memory");
-    assert!(rt;
-        told_of(&found).finished || budget == 0,
-        "{budget} are left"
-    );
-    found
+        budget,
+    )
 }
 
 // What is compared of what is found.
@@ -328,6 +345,26 @@ fn pools_that_are_branched_on(rt: HostRuntime) {
             9,
         );
         assert_same(rt, found.is_some(), false, "it would not go on");
+    }
+}
+
+// A guide that gets no memory ends a search with that error, whoever works.
+#[test]
+fn memory_refused_to_a_guide(rt: HostRuntime) {
+    let (rt, alloc) = (&rt, rt.alloc());
+    let pool = pool_of(rt, alloc, FOUR);
+    for workers in [1, 2] {
+        let asked = Asked {
+            habit: Habit::NoMemory,
+            capacity: 3,
+            trucks: 128,
+            customers: 0b11110,
+            incumbent: MUCH,
+            budget: 9,
+        };
+        let mut budget = asked.budget;
+        let found = searched_by(rt, alloc, workers, asked, &pool, &mut budget);
+        assert_same(rt, found.is_err(), true, workers);
     }
 }
 

@@ -33,6 +33,8 @@ pub(crate) enum Habit {
     Idle,
     /// Prices of 0, and it would not go on.
     Stopping,
+    /// No prices, since memory is refused.
+    NoMemory,
 }
 
 /// All of them that branch.
@@ -55,7 +57,7 @@ pub(crate) struct Habitual {
 impl Habitual {
     fn dual(&mut self) -> i64 {
         match self.habit {
-            Habit::Zeros | Habit::Idle | Habit::Stopping => 0,
+            Habit::Zeros | Habit::Idle | Habit::Stopping | Habit::NoMemory => 0,
             Habit::Random => i64::from(self.random.next() % (1 << 26)) - (1 << 24),
             Habit::Highest => 1 << 52,
             Habit::Lowest => -(1 << 52),
@@ -96,6 +98,9 @@ impl Guide for Habitual {
         _customers: u128,
         _incumbent: u64,
     ) -> Result<PriceOffer, AllocError> {
+        if self.habit == Habit::NoMemory {
+            return Err(AllocError);
+        }
         let mut duals = Vec::new(self.alloc);
         for _ in 0..MOST_CUSTOMERS {
             duals.push(self.dual())?;

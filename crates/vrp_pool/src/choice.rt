@@ -23,8 +23,8 @@ use vrp_routes::{Listed, RoutePool, can_list, list_routes};
 use vrp_simplex::ProgramGuide;
 use vrp_tree::lawful_plan;
 
-// How many labels may be made, whatever the budget: so many take some two and a half gigabytes.
-const MOST_LABELS: u64 = 30_000_000;
+// How many labels may be made, whatever the budget: so many take less than three gigabytes.
+const MOST_LABELS: u64 = 40_000_000;
 
 /// What useful routes came to: the answer, if the first plan was found; else a plan that was found meanwhile, if any.
 #[derive(Drop)]

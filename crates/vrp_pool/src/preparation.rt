@@ -23,6 +23,14 @@ const MORE_MOVES: u32 = 3 * ENOUGH_MOVES;
 // The most customers near each place that walks remember: with more, a round takes longer than it gains.
 const MOST_REMEMBERED: usize = 3;
 
+// From so many customers on there are so many useful routes that better prices pay.
+const MANY_FOR_ROUTES: u16 = 60;
+
+// So many times as many steps towards prices then, and so many customers near each place.
+const MORE_STEPS: u64 = 5;
+
+const MORE_REMEMBERED: usize = 4;
+
 /// A plan near the best, if one is found: by savings, and where many partial plans may be looked at in all, by ruin and recreate
 /// too.
 pub(crate) fn first_plan<R, G: Gate>(shared: &Shared<'_, R, G>) -> Result<Option<Plan>, NoMemory>
@@ -49,7 +57,7 @@ pub(crate) fn first_plan<R, G: Gate>(shared: &Shared<'_, R, G>) -> Result<Option
 }
 
 /// Prices, with the first plan's cost to aim at, if there is such a plan and prices are found.
-// A step towards prices takes a tenth of the time that a partial plan does: so there are as many.
+// A step towards prices takes a tenth of the time that a partial plan does: so there are as many, or some times as many.
 pub(crate) fn prices_found<'a, R, G: Gate>(
     shared: &Shared<'a, R, G>,
 ) -> Result<Option<FoundPrices<'a>>, NoMemory>
@@ -61,12 +69,18 @@ pub(crate) fn prices_found<'a, R, G: Gate>(
     };
     let gate = shared.gate;
     gate.hears(News::Prices);
+    let budget = shared.budget_in_all();
+    let (near, steps) = if shared.instance.customers() < MANY_FOR_ROUTES {
+        (MOST_REMEMBERED, budget)
+    } else {
+        (MORE_REMEMBERED, budget.saturating_mul(MORE_STEPS))
+    };
     find_prices(
         shared.alloc,
         shared.instance,
         plan.cost(),
-        MOST_REMEMBERED,
-        shared.budget_in_all(),
+        near,
+        steps,
         &|| gate.goes_on(),
     )
 }

@@ -1,12 +1,12 @@
 -- Parts become one list of labels, part by part of a range of parents, and range by range.
-use Rattle.std.proofs.Common.{Global, Vec, ◌≡◌, ℕ, ◌+◌, ◌%◌, ◌<◌, ◌≤◌, Bool, true, inl, inr, nat_lt, ◌-◌, List, [], ◌++◌, length, length-append, map, get_or, refl, sym, subst, ap, ◌∙◌, eq-eqb, arith}
+use Rattle.std.proofs.Common.{Global, Vec, ◌≡◌, ℕ, ◌+◌, ◌%◌, ◌<◌, ◌≤◌, true, inl, inr, ◌-◌, List, [], ◌++◌, length, length-append, map, get_or, refl, sym, subst, ap, ◌∙◌, eq-eqb, arith}
 use Rattle.std.specs.List.{All, AllPairs, Contains}
 use Rattle.std.proofs.lemmas.Bool.{cases_lt, eqb-true}
 use Rattle.std.proofs.lemmas.List.{get_or-append_right, get_or-map, get_or_append_left, get_or_past, length-map}
 use Rattle.std.proofs.lemmas.List.Elements.{All-append, All-contains, All-nil, Contains-append_left, Contains-append_right, Contains-get_or}
 use Rattle.vrp_model.specs.Word.{last_symbol}
 use Rattle.vrp_routes.specs.Label.{IsLabel, SettingOf}
-use Rattle.vrp_routes.specs.Level.{ComesFirst, IsShare, sequences, stops_of}
+use Rattle.vrp_routes.specs.Level.{ComesFirst, IsShare, stops_of}
 use Rattle.vrp_routes.specs.Merge.{AreMerged, CanMerge, EndApart, IsBetween, IsCut, IsMerged, labels_at}
 use Rattle.vrp_routes.specs.Share.{has_rest, is_in_first}
 use Rattle.vrp_routes.specs.Shares.{AreParts}

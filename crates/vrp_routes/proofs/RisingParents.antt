@@ -1,13 +1,13 @@
 -- Labels in order, and the numbers of their parents.
 use Rattle.std.proofs.Common.{◌≡◌, ℕ, ◌+◌, ◌-◌, ◌<◌, ◌≤◌, true, false, inl, inr, nat_lt, List, drop, take, length, get_or, sym, subst, ap, ◌∙◌, arith}
-use Rattle.std.specs.List.{All, AllPairs, Contains}
+use Rattle.std.specs.List.{AllPairs}
 use Rattle.std.specs.List.Sorted.{IsPartitionedBy}
 use Rattle.std.proofs.lemmas.Bool.{cases_lt}
 use Rattle.std.proofs.lemmas.Bool.Decides.{nat_tests}
 use Rattle.std.proofs.lemmas.List.{get_or-drop, get_or-take, get_or_default, length-drop, length-take}
 use Rattle.vrp_routes.specs.Candidates.{no_label}
 use Rattle.vrp_routes.specs.Level.{ComesFirst}
-use Rattle.vrp_routes.specs.Merge.{IsBetween, IsCut}
+use Rattle.vrp_routes.specs.Merge.{IsCut}
 use Rattle.vrp_routes.specs.declared.label.Label.{Label}
 
 pub is_below : (n m : ℕ) → nat_lt n m ≡ true → n < m

@@ -6,7 +6,6 @@ use Rattle.vrp_canonical.proofs.CanonicalPlans.{canonical_task, told}
 use Rattle.vrp_model.specs.Problem.{Problem, customers}
 use Rattle.vrp_partition.specs.Choice.{IsCheapest}
 use Rattle.vrp_partition.specs.declared.route.Route.{Route}
-use Rattle.vrp_partition.specs.declared.bounding.Chosen.{Chosen}
 use Rattle.vrp_partition.specs.declared.search.Found.TheVariants.{Cheapest}
 use Rattle.vrp_partition.specs.Branching.{IsFound}
 use Rattle.vrp_routes.specs.Label.{set_of}
@@ -32,4 +31,4 @@ plan_among-found-requires g c κs =
     let task = canonical_task p limit pool chosen.routes.items unserved trucks chosen.cost c.in-Some-3.ordered.items c.whole_problem-within.ensures.problem c.requires.pool c.whole_problem-within.ensures.fleet all
     (subst (λ (rs : List Route). IsCheapest rs unserved trucks (limit + 1) chosen.cost chosen.routes.items) routes
     (subst (λ n. IsCheapest c.as_slice-all.result.now unserved trucks (n + 1) chosen.cost chosen.routes.items) (c.whole_problem-within.ensures.most ∙ c.cost.ensures) cheapest)) within are in
-    (search rules, (search rules, subst (λ (xs : List ListedRoute). IsTask p chosen.cost (map stops_of xs) (map route_of xs) (record { unserved = unserved; trucks = trucks; most = chosen.cost })) (sym c.as_slice-3.ensures.value) task))
+    (search rules, (search rules, (search rules, subst (λ (xs : List ListedRoute). IsTask p chosen.cost (map stops_of xs) (map route_of xs) (record { unserved = unserved; trucks = trucks; most = chosen.cost })) (sym c.as_slice-3.ensures.value) task)))

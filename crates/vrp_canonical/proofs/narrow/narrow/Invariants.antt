@@ -7,13 +7,13 @@ use Rattle.vrp_canonical.proofs.narrow.narrow.Given as goal
 
 abbrev pub invariant-loop-high : goal.invariant-loop-high
 invariant-loop-high g l = record {
-  from : l.index ≤ l.low;
+  from : l.question.low ≤ l.low;
   some : l.low < l.high;
-  to : l.high ≤ l.end;
+  to : l.high ≤ l.question.high;
   begun : (p : Problem) (limit : ℕ) (stops : List (List ℕ)) (whole : Residual) (chosen : List ℕ) (task : IsTask p limit stops l.pool whole)
-      → IsBegun p stops task.plan whole l.index chosen l.rest → IsBegun p stops task.plan whole l.low chosen l.rest;
+      → IsBegun p stops task.plan whole l.question.low chosen l.question.rest → IsBegun p stops task.plan whole l.low chosen l.question.rest;
   below : (p : Problem) (limit : ℕ) (stops : List (List ℕ)) (whole : Residual) (chosen : List ℕ) (task : IsTask p limit stops l.pool whole)
-      → IsBegun p stops task.plan whole l.index chosen l.rest → GoesBelow p stops whole.most (routes_at stops chosen) l.high;
+      → IsBegun p stops task.plan whole l.question.low chosen l.question.rest → GoesBelow p stops whole.most (routes_at stops chosen) l.high;
 }
 
 abbrev pub decreases-loop-high : goal.decreases-loop-high

@@ -1,4 +1,4 @@
-use Rattle.std.proofs.Common.{◌≡◌, ◌+◌, ◌<◌, ◌++◌, length, length-append, vec_len, ap, sym, subst, arith}
+use Rattle.std.proofs.Common.{◌≡◌, ◌+◌, ◌<◌, ◌++◌, length, length-append, ap, sym, subst, arith}
 use Rattle.vrp_routes.specs.Extended.{IfParts}
 use Rattle.vrp_routes.specs.Level.{IsLevel, IsShare}
 use Rattle.vrp_routes.specs.Merge.{CanMerge}

@@ -1,8 +1,7 @@
-use Rattle.std.proofs.Common.{◌≡◌, ◌∙◌, ◌+◌, ◌*◌, List, Vec, Global, length, sym, subst, ap, arith}
+use Rattle.std.proofs.Common.{◌≡◌, ◌+◌, ◌*◌, length, sym, subst, ap, arith}
 use Rattle.vrp_routes.specs.Merge.{AreMerged, AreRanges}
-use Rattle.vrp_routes.specs.declared.label.Label.{Label}
 use Rattle.vrp_routes.specs.declared.merge.TheConstants.{PARENTS_AT_ONCE}
-use Rattle.vrp_routes.proofs.MergeRounds.{merged_shares, merges_no_range}
+use Rattle.vrp_routes.proofs.MergeRounds.{merged_shares}
 use Rattle.vrp_routes.proofs.merge.all_merged.Goals as goal
 
 pub loop-from-preserved : goal.loop-from-preserved

@@ -1,7 +1,6 @@
-use Rattle.std.proofs.Common.{◌≡◌, ◌∙◌, ◌+◌, ◌*◌, ◌++◌, ◌<◌, Global, Vec, List, [], length, get_or, sym, ap, subst, arith}
+use Rattle.std.proofs.Common.{◌≡◌, ◌∙◌, ◌+◌, ◌*◌, ◌++◌, Global, Vec, List, length, get_or, sym, ap, subst, arith}
 use Rattle.vrp_routes.specs.Merge.{AreMerged}
 use Rattle.vrp_routes.specs.declared.label.Label.{Label}
-use Rattle.vrp_routes.specs.declared.merge.TheConstants.{PARENTS_AT_ONCE}
 use Rattle.vrp_routes.proofs.MergeRounds.{merges_range}
 use Rattle.vrp_routes.proofs.merge.append_ranges.Goals as goal
 

@@ -1,4 +1,4 @@
-use Rattle.std.proofs.Common.{◌≤◌, arith}
+use Rattle.std.proofs.Common.{arith}
 use Rattle.vrp_routes.proofs.RisingParents.{cut_between, places_rise}
 use Rattle.vrp_routes.proofs.merge.labels_between.Goals as goal
 

@@ -1,9 +1,9 @@
-use Rattle.std.proofs.Common.{◌≡◌, ◌∙◌, ◌+◌, List, get_or, sym, ap, subst, arith}
+use Rattle.std.proofs.Common.{◌≡◌, ◌∙◌, List, sym, ap, subst}
 use Rattle.std.specs.List.{AllPairs}
 use Rattle.vrp_routes.specs.Level.{ComesFirst}
 use Rattle.vrp_routes.specs.Merge.{IsCut, IsMerged, labels_at}
 use Rattle.vrp_routes.specs.declared.label.Label.{Label}
-use Rattle.vrp_routes.proofs.MergeRounds.{labels_there, merges_no_part, merges_part}
+use Rattle.vrp_routes.proofs.MergeRounds.{labels_there, merges_part}
 use Rattle.vrp_routes.proofs.merge.merged_between.Goals as goal
 
 pub labels_between-more-requires-clause-rising : goal.labels_between-more-requires-clause-rising

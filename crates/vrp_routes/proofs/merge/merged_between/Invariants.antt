@@ -1,4 +1,3 @@
-use Rattle.std.proofs.Common.{length}
 use Rattle.vrp_routes.specs.Merge.{AreMerged}
 use Rattle.vrp_routes.proofs.merge.merged_between.Given as goal
 

@@ -1,7 +1,5 @@
-use Rattle.std.proofs.Common.{◌≡◌, ◌<◌, ◌≤◌, ℕ, true, false, rules, of_calls, nat_lt, length, get_or, sym, ◌∙◌, arith}
-use Rattle.std.specs.List.Sorted.{IsPartitionPoint}
+use Rattle.std.proofs.Common.{rules, of_calls, nat_lt, get_or, arith}
 use Rattle.std.proofs.lemmas.Fn.{always_returns_same}
-use Rattle.vrp_routes.specs.declared.label.Label.{Label}
 use Rattle.vrp_routes.proofs.RisingParents.{is_below, not_below, parted_by_parent}
 use Rattle.vrp_routes.proofs.merge.place_from.Goals as goal
 

@@ -1,0 +1,39 @@
+//! Questions about parts of the pool, and their answers.
+ghost use Rattle.std.specs.Prelude.{◌≡◌, ◌<◌, IfSome};
+ghost use Rattle.std.specs.List.{Contains};
+
+use crate::residual::Residual;
+use vrp_partition::Route;
+
+/// Whether the unserved customers can be served so that this one is in a route between two places of the pool, by routes from the
+/// first of them on.
+#[derive(Clone, Copy, Debug, PartialEq, Eq)]
+pub struct Question {
+    pub rest: Residual,
+    pub customer: u32,
+    pub low: usize,
+    pub high: usize,
+    ghost place: { customer < 128 },
+}
+
+/// A question and its answer. Where that is yes, the routes are a choice which says so; they need not be trusted.
+#[derive(Debug, Drop)]
+pub struct Answered {
+    pub question: Question,
+    pub yes: bool,
+    pub choice: Vec<Route>,
+}
+
+/// The answer to a question, if it is among these.
+pub fn answer_to(answers: &[Answered], question: Question) -> Option<&Answered>
+    ensures among { IfSome result (λ answered. Contains answers.now answered.now) }
+    ensures question { IfSome result (λ answered. answered.now.question ≡ question) }
+{
+    for index in 0..answers.len() {
+        let answered = &answers[index];
+        if answered.question == question {
+            return Some(answered);
+        }
+    }
+    None
+}
