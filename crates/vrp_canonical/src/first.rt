@@ -15,8 +15,8 @@ use std::thread::Threads;
 use vrp_partition::{Ask, Guide, Route};
 
 /// The places in the pool of the first plan's routes, where the pool is in the order of its routes' stops and the residual problem is
-/// the whole one, at the first plan's cost. The routes are taken in runs that share a customer; questions are asked ahead. `None` where an answer wasn't known,
-/// and where a route has no customer.
+/// the whole one, at the first plan's cost. The routes are taken in runs that share a customer; questions are asked ahead. `None` where
+/// an answer wasn't known, and where a route has no customer.
 pub fn first_places<R: Threads + Sync, P: Guide + Send, A: Ask + Sync>(
     alloc: Global,
     searches: &mut Searches<'_, R, P, A>,

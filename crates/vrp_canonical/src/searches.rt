@@ -1,5 +1,5 @@
 //! Answers by searches over parts of the pool.
-ghost use Rattle.std.specs.Prelude.{◌≡◌, ◌+◌, ◌<◌, ◌≤◌, ◌↔◌, IfOk, IfSome, IsTrue};
+ghost use Rattle.std.specs.Prelude.{◌≡◌, ◌+◌, ◌<◌, ◌≤◌, ◌↔◌, IfOk, IfSome, IsTrue, OnOk};
 ghost use Rattle.vrp_canonical.specs.Reaching.{Reaches};
 ghost use Rattle.vrp_partition.specs.Branching.{IsFound};
 
@@ -85,7 +85,9 @@ impl<R: Threads + Sync, P: Guide + Send, A: Ask + Sync> Searches<'_, R, P, A> {
     }
 
     /// Takes another choice as the known one.
-    pub fn know(&mut self, choice: &[Route]) -> Result<(), AllocError> {
+    pub fn know(&mut self, choice: &[Route]) -> Result<(), AllocError>
+        ensures { OnOk result (self.new.known.items ≡ choice.now) }
+    {
         self.known = Vec::from_slice(self.team.alloc, choice)?;
         Ok(())
     }

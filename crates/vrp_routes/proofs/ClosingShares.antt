@@ -1,23 +1,17 @@
 -- The routes of all shares of the sets, put together.
-use Rattle.std.proofs.Common.{Global, Vec, ◌≡◌, ℕ, ◌+◌, ◌*◌, ◌/◌, ◌%◌, ◌^◌, ◌<◌, Bool, true, inl, inr, nat_lt, List, [], ◌∷◌, ◌++◌, length, length-append, get_or, sym, ap, subst, ◌∙◌, eq-eqb, arith}
+use Rattle.std.proofs.Common.{Global, Vec, ◌≡◌, ℕ, ◌+◌, ◌*◌, ◌/◌, ◌%◌, ◌^◌, ◌<◌, Bool, inl, inr, nat_lt, List, [], ◌∷◌, ◌++◌, length, length-append, get_or, sym, ap, subst, ◌∙◌, eq-eqb, arith}
 use Rattle.std.proofs.Math.Seq.{get_or-append_seam}
 use Rattle.std.proofs.lemmas.Bool.{cases_lt}
-use Rattle.std.proofs.lemmas.Bool.Decides.{nat_tests}
 use Rattle.std.proofs.lemmas.List.Elements.{All-append, All-nil, Contains-append_left, Contains-append_right}
 use Rattle.vrp_routes.specs.Closed.{AreClosed, AreClosedIn, AreClosedParts, closing_share, is_closed_in, route_by}
 use Rattle.vrp_routes.specs.Label.{SettingOf, set_of}
 use Rattle.vrp_routes.specs.Pool.{IsListed}
 use Rattle.vrp_routes.specs.declared.closed.ClosedRoute.{ClosedRoute}
+use Rattle.vrp_routes.proofs.NumbersBelow.{is_below, tests_below}
 
 -- the set is closed in one of the first shares
 abbrev pub is_closed_before : ℕ → ℕ → Bool
 is_closed_before count set = nat_lt (closing_share set) count
-
-is_below : (n m : ℕ) → nat_lt n m ≡ true → n < m
-is_below n m is = grind (arith, nat_tests)
-
-tests_below : (n m : ℕ) → n < m → nat_lt n m ≡ true
-tests_below n m lt = grind (arith, nat_tests)
 
 pub no_shares_closed : (s : SettingOf) (k : ℕ) (stops : List (List ℕ)) (routes : List ClosedRoute) → routes ≡ [] → AreClosedIn s k (is_closed_before 0) stops routes
 no_shares_closed s k stops routes none = subst (AreClosedIn s k (is_closed_before 0) stops) (sym none) (record {

@@ -12,7 +12,7 @@ use Rattle.vrp_routes.specs.Share.{has_rest, is_in_first}
 use Rattle.vrp_routes.specs.Shares.{AreParts}
 use Rattle.vrp_routes.specs.declared.label.Label.{Label}
 use Rattle.vrp_routes.proofs.MergeSteps.{still_contains}
-use Rattle.vrp_routes.proofs.RisingParents.{is_below, tests_below}
+use Rattle.vrp_routes.proofs.NumbersBelow.{is_below, tests_below}
 use Rattle.vrp_routes.proofs.SharesSteps.{element}
 
 -- ---- the parts

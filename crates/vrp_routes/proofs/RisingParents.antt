@@ -1,23 +1,14 @@
 -- Labels in order, and the numbers of their parents.
-use Rattle.std.proofs.Common.{◌≡◌, ℕ, ◌+◌, ◌-◌, ◌<◌, ◌≤◌, true, false, inl, inr, nat_lt, List, drop, take, length, get_or, sym, subst, ap, ◌∙◌, arith}
+use Rattle.std.proofs.Common.{◌≡◌, ℕ, ◌+◌, ◌-◌, ◌<◌, ◌≤◌, inl, inr, nat_lt, List, drop, take, length, get_or, sym, subst, ap, ◌∙◌, arith}
 use Rattle.std.specs.List.{AllPairs}
 use Rattle.std.specs.List.Sorted.{IsPartitionedBy}
 use Rattle.std.proofs.lemmas.Bool.{cases_lt}
-use Rattle.std.proofs.lemmas.Bool.Decides.{nat_tests}
 use Rattle.std.proofs.lemmas.List.{get_or-drop, get_or-take, get_or_default, length-drop, length-take}
 use Rattle.vrp_routes.specs.Candidates.{no_label}
 use Rattle.vrp_routes.specs.Level.{ComesFirst}
 use Rattle.vrp_routes.specs.Merge.{IsCut}
 use Rattle.vrp_routes.specs.declared.label.Label.{Label}
-
-pub is_below : (n m : ℕ) → nat_lt n m ≡ true → n < m
-is_below n m is = grind (arith, nat_tests)
-
-pub tests_below : (n m : ℕ) → n < m → nat_lt n m ≡ true
-tests_below n m lt = grind (arith, nat_tests)
-
-pub not_below : (n m : ℕ) → nat_lt n m ≡ false → m ≤ n
-not_below n m is = grind (arith, nat_tests)
+use Rattle.vrp_routes.proofs.NumbersBelow.{is_below, tests_below}
 
 parents_rise : (labels : List Label) → AllPairs ComesFirst labels → (i j : ℕ) (d : Label) → i ≤ j → j < length labels → (get_or labels i d).parent ≤ (get_or labels j d).parent
 parents_rise labels rising i j d le lt = elim (cases_lt i j) [

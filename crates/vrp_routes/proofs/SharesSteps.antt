@@ -1,19 +1,13 @@
 -- What several workers find, put together.
-use Rattle.std.proofs.Common.{◌≡◌, ℕ, ◌+◌, ◌-◌, ◌%◌, ◌<◌, true, inl, inr, nat_lt, Ok, Err, IfOk, Result, List, Vec, Global, [], ◌∷◌, ◌++◌, map, length, length-append, get_or, refl, sym, ap, subst, ◌∙◌, append_assoc, append-nil, arith}
+use Rattle.std.proofs.Common.{◌≡◌, ℕ, ◌+◌, ◌-◌, ◌%◌, ◌<◌, true, inl, inr, Ok, Err, IfOk, Result, List, Vec, Global, [], ◌∷◌, ◌++◌, map, length, length-append, get_or, refl, sym, ap, subst, ◌∙◌, append_assoc, append-nil, arith}
 use Rattle.std.proofs.lemmas.Bool.{cases_lt}
-use Rattle.std.proofs.lemmas.Bool.Decides.{nat_tests}
 use Rattle.std.proofs.lemmas.List.{get_or-append_right, get_or-map, get_or_append_left, get_or_push, length-map, map_push}
 use Rattle.vrp_routes.specs.Label.{SettingOf}
 use Rattle.vrp_routes.specs.Level.{IsShare}
 use Rattle.vrp_routes.specs.Share.{has_rest, is_in_first}
 use Rattle.vrp_routes.specs.Shares.{AreParts}
 use Rattle.vrp_routes.specs.declared.label.Label.{Label}
-
-is_below : (n m : ℕ) → nat_lt n m ≡ true → n < m
-is_below n m is = grind (arith, nat_tests)
-
-tests_below : (n m : ℕ) → n < m → nat_lt n m ≡ true
-tests_below n m lt = grind (arith, nat_tests)
+use Rattle.vrp_routes.proofs.NumbersBelow.{tests_below}
 
 -- all customers are in one of all shares
 pub in_some_share : (workers c : ℕ) → 0 < workers → is_in_first workers workers c ≡ true

@@ -1,6 +1,7 @@
 use Rattle.std.proofs.Common.{rules, of_calls, nat_lt, get_or, arith}
 use Rattle.std.proofs.lemmas.Fn.{always_returns_same}
-use Rattle.vrp_routes.proofs.RisingParents.{is_below, not_below, parted_by_parent}
+use Rattle.vrp_routes.proofs.NumbersBelow.{is_below, not_below}
+use Rattle.vrp_routes.proofs.RisingParents.{parted_by_parent}
 use Rattle.vrp_routes.proofs.merge.place_from.Goals as goal
 
 pub returns-clause-below : goal.returns-clause-below
