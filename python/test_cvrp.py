@@ -1,0 +1,258 @@
+#!/usr/bin/env python3
+"""Tests the module `cvrp` with a fake program and, where it is built, with the real one; and that the man page and the completions
+name the options that there are.
+
+    python3 python/test_cvrp.py
+"""
+
+import json
+import os
+import re
+import shutil
+import subprocess
+import sys
+import tempfile
+import unittest
+from pathlib import Path
+
+HERE = Path(__file__).resolve().parent
+TOP = HERE.parent
+sys.path.insert(0, str(HERE))
+
+import cvrp  # noqa: E402
+
+PROGRAM = TOP / "crates/cvrp/out/cvrp"
+SMALL = TOP / "examples/E-n7-k2.vrp"
+
+# What the program printed of E-n7-k2: without options, with a budget of 1 for one piece, and with one truck.
+PROVEN = (
+    '{"capacity":3,"cost":114,"customers":6,"depot":1,"lower_bound":114,"options":{"budget":10000000,"depot":null,"pieces":64,'
+    '"seconds":null,"trucks":null,"workers":1},"routes":[{"cost":57,"load":3,"nodes":[2,3,4]},{"cost":57,"load":3,"nodes":[5,6,7]}],'
+    '"verdict":"Proven"}\n'
+)
+OPEN = (
+    '{"capacity":3,"cost":220,"customers":6,"depot":1,"lower_bound":88,"options":{"budget":1,"depot":null,"pieces":1,"seconds":null,'
+    '"trucks":null,"workers":1},"routes":[{"cost":20,"load":1,"nodes":[2]},{"cost":40,"load":1,"nodes":[3]},{"cost":50,"load":1,'
+    '"nodes":[4]},{"cost":50,"load":1,"nodes":[5]},{"cost":40,"load":1,"nodes":[6]},{"cost":20,"load":1,"nodes":[7]}],'
+    '"verdict":"Open"}\n'
+)
+NO_PLAN = (
+    '{"capacity":3,"cost":null,"customers":6,"depot":1,"lower_bound":null,"options":{"budget":10000000,"depot":null,"pieces":64,'
+    '"seconds":null,"trucks":1,"workers":1},"routes":[],"verdict":"NoPlan"}\n'
+)
+# The same form by hand, as of a file whose nodes 1 and 4 are depots.
+TWO_DEPOTS = (
+    '{"capacity":3,"cost":50,"customers":3,"depot":4,"lower_bound":50,"options":{"budget":10000000,"depot":4,"pieces":64,'
+    '"seconds":null,"trucks":null,"workers":1},"routes":[{"cost":30,"load":2,"nodes":[3,2]},{"cost":20,"load":1,"nodes":[5]}],'
+    '"verdict":"Proven"}\n'
+)
+
+# Keeps its words, its input and the plan that it is to begin with, and answers what it was told to.
+FAKE = """\
+#!{python}
+import json, os, sys
+room = os.path.dirname(os.path.abspath(__file__))
+words = sys.argv[1:]
+start = open(words[words.index("--start") + 1]).read() if "--start" in words else None
+seen = dict(words=words, input=sys.stdin.buffer.read().decode("latin-1"), start=start)
+json.dump(seen, open(os.path.join(room, "seen"), "w"))
+answer = json.load(open(os.path.join(room, "answer")))
+sys.stderr.write(answer["errors"])
+sys.stdout.write(answer["output"])
+sys.exit(answer["status"])
+"""
+
+
+class WithFakeProgram(unittest.TestCase):
+    def setUp(self):
+        self.room = Path(tempfile.mkdtemp())
+        self.addCleanup(shutil.rmtree, self.room)
+        self.program = self.room / "fake"
+        self.program.write_text(FAKE.format(python=sys.executable))
+        self.program.chmod(0o755)
+
+    def will_answer(self, output="", status=0, errors=""):
+        (self.room / "answer").write_text(json.dumps({"output": output, "status": status, "errors": errors}))
+
+    def seen(self):
+        return json.loads((self.room / "seen").read_text())
+
+    def test_proven(self):
+        self.will_answer(PROVEN)
+        found = cvrp.solve(SMALL, program=self.program)
+        wanted = cvrp.Solution([[1, 2, 3], [4, 5, 6]], [[2, 3, 4], [5, 6, 7]], 114, 114, True, "Proven")
+        self.assertEqual(found, wanted)
+        self.assertEqual(self.seen(), {"words": ["--format", "json"], "input": SMALL.read_text(), "start": None})
+
+    def test_open(self):
+        self.will_answer(OPEN, status=1)
+        found = cvrp.solve(SMALL, program=self.program)
+        self.assertEqual((found.cost, found.lower_bound, found.proven, found.verdict), (220, 88, False, "Open"))
+        self.assertEqual(found.routes, [[k] for k in range(1, 7)])
+
+    def test_no_plan(self):
+        self.will_answer(NO_PLAN)
+        found = cvrp.solve(SMALL, trucks=1, program=self.program)
+        self.assertEqual(found, cvrp.Solution([], [], None, None, False, "NoPlan"))
+
+    def test_two_depots(self):
+        self.will_answer(TWO_DEPOTS)
+        found = cvrp.solve(SMALL, program=self.program)
+        self.assertEqual((found.routes, found.nodes), ([[2, 1], [3]], [[3, 2], [5]]))
+
+    def test_refused(self):
+        for status, text in [(2, "error: invalid value"), (3, "cvrp: line 3: bad number"), (4, "cvrp: out of memory"), (5, "cvrp: read fault")]:
+            self.will_answer(status=status, errors=text + "\n")
+            with self.assertRaises(cvrp.Refused) as caught:
+                cvrp.solve(SMALL, program=self.program)
+            self.assertEqual((str(caught.exception), caught.exception.status), (text, status))
+
+    def test_another_end(self):
+        self.will_answer(status=70, errors="cvrp: the program could not be built: see above\n")
+        with self.assertRaisesRegex(RuntimeError, "status 70: cvrp: the program could not be built"):
+            cvrp.solve(SMALL, program=self.program)
+        with self.assertRaises(FileNotFoundError):
+            cvrp.solve(SMALL, program=self.room / "none")
+
+    def test_words(self):
+        self.will_answer(PROVEN)
+        cvrp.solve(str(SMALL), seconds=60, workers=4, trucks=2, program=str(self.program))
+        self.assertEqual(self.seen()["words"], ["--format", "json", "--seconds", "60", "--workers", "4", "--trucks", "2"])
+
+    def test_start_as_lists(self):
+        self.will_answer(PROVEN)
+        cvrp.solve(SMALL, start=((1, 2, 3), [6, 5, 4]), program=self.program)
+        seen = self.seen()
+        self.assertEqual(seen["start"], "Route #1: 1 2 3\nRoute #2: 6 5 4\n")
+        self.assertFalse(os.path.exists(seen["words"][-1]), "the plan's file is left")
+
+    def test_start_as_a_path(self):
+        self.will_answer(PROVEN)
+        plan = TOP / "examples/plans/E-n7-k2.sol"
+        for path in [plan, os.path.relpath(plan)]:
+            cvrp.solve(SMALL, start=path, program=self.program)
+            seen = self.seen()
+            self.assertEqual((seen["words"][-2:], seen["start"]), (["--start", str(plan)], plan.read_text()))
+
+    def test_read(self):
+        found = cvrp.read(SMALL)
+        self.assertEqual((found.name, found.dimension, found.text), ("E-n7-k2", 7, SMALL.read_text()))
+        cases = [
+            (b"NAME: two words \r\nDIMENSION:\t5.1e1 nodes\r\nEOF\nNAME : late\n", "two words", 51),
+            (b" NAME\n DIMENSION : many\n", None, None),
+            (b"COMMENT : caf\xe9\nDIMENSION 7\nDIMENSION 8\n1 2 3\n", None, 7),
+            (b"EOF\nDIMENSION : 7\n", None, None),
+        ]
+        self.will_answer(PROVEN)
+        for data, name, dimension in cases:
+            path = self.room / "file"
+            path.write_bytes(data)
+            found = cvrp.read(path)
+            self.assertEqual((found.name, found.dimension), (name, dimension), data)
+            cvrp.solve(found, program=self.program)
+            self.assertEqual(self.seen()["input"].encode("latin-1"), data)
+
+    def test_example(self):
+        """The example's plan reaches the program, and its text tells what came."""
+        for output, status, told in [(PROVEN, 0, "no lawful plan costs less."), (OPEN, 1, "No lawful plan costs less than 88.")]:
+            self.will_answer(output, status)
+            words = [sys.executable, "-I", str(TOP / "examples/prove_pyvrp.py"), str(self.program)]
+            ran = subprocess.run(words, stdout=subprocess.PIPE, stderr=subprocess.PIPE)
+            self.assertEqual((ran.returncode, ran.stderr), (0, b""))
+            self.assertIn(told, ran.stdout.decode())
+        # The same routes as the example's plan on file.
+        wanted = (TOP / "examples/E-n51-k5.sol").read_text().replace("Cost 521\n", "")
+        self.assertEqual(self.seen()["start"], wanted)
+
+
+@unittest.skipUnless(PROGRAM.exists(), "the program isn't built: ./cvrp --version builds it")
+class WithTheProgram(unittest.TestCase):
+    def test_proven(self):
+        found = cvrp.solve(SMALL, seconds=60, workers=2, start=[[1], [2], [3], [4], [5], [6]], program=PROGRAM)
+        self.assertEqual(found, cvrp.Solution([[1, 2, 3], [4, 5, 6]], [[2, 3, 4], [5, 6, 7]], 114, 114, True, "Proven"))
+
+    def test_no_plan(self):
+        self.assertEqual(cvrp.solve(SMALL, trucks=1, program=PROGRAM), cvrp.Solution([], [], None, None, False, "NoPlan"))
+
+    def test_refused(self):
+        with self.assertRaisesRegex(cvrp.Refused, "^cvrp: start plan: route 1: customer 1 is served twice$"):
+            cvrp.solve(SMALL, start=[[1, 2, 1]], program=PROGRAM)
+        with self.assertRaisesRegex(cvrp.Refused, "^cvrp: missing TYPE$"):
+            cvrp.solve(cvrp.Instance("EOF\n"), program=PROGRAM)
+        with self.assertRaises(cvrp.Refused) as caught:
+            cvrp.solve(SMALL, workers=0, program=PROGRAM)
+        self.assertEqual(caught.exception.status, 2)
+
+    def test_example(self):
+        words = [sys.executable, "-I", str(TOP / "examples/prove_pyvrp.py"), str(PROGRAM)]
+        ran = subprocess.run(words, stdout=subprocess.PIPE, check=True)
+        self.assertIn(b"PyVRP's plan costs 521, cvrp's 521.\nThat is proven", ran.stdout)
+
+
+class Options(unittest.TestCase):
+    """The man page and the completions beside the command line that the program defines."""
+
+    @classmethod
+    def setUpClass(cls):
+        cls.source = (TOP / "crates/vrp_request/src/grammar.rt").read_text()
+        cls.names = re.findall(r'(?:Arg::new|\bnode)\(alloc, "([a-z-]+)"\)', cls.source)
+        cls.all = {*cls.names, "help", "version"}
+        cls.forms = re.findall(r'"([a-z]+)"', re.search(r"FORMATS: .*= \[(.*)\]", cls.source)[1])
+        cls.man = (TOP / "man/cvrp.1").read_text().replace("\\-", "-")
+        cls.bash = (TOP / "completions/cvrp.bash").read_text()
+        cls.zsh = (TOP / "completions/_cvrp").read_text()
+
+    def paragraph(self, name):
+        """The man page's text on an option."""
+        found = re.search(rf'^\.TP\n\.(?:B|BI|BR) .*--{name}\b.*\n((?:(?!\.TP|\.SH).*\n)*)', self.man, re.MULTILINE)
+        self.assertIsNotNone(found, f"no paragraph on --{name}")
+        return " ".join(found[1].split())
+
+    def test_all_were_read(self):
+        self.assertEqual(len(self.names), self.source.count(".arg("))
+        self.assertEqual(len(set(self.names)), len(self.names))
+        self.assertIn("workers", self.names)
+        self.assertIn("json", self.forms)
+
+    def test_names(self):
+        for text in (self.man, self.bash, self.zsh):
+            self.assertEqual(set(re.findall(r"--([a-z-]+)", text)), self.all)
+        synopsis = self.man[self.man.index(".SH SYNOPSIS") : self.man.index(".SH DESCRIPTION")]
+        self.assertEqual(set(re.findall(r"--([a-z-]+)", synopsis)), self.all)
+        offered = re.search(r"local options='(.*)'", self.bash)[1]
+        self.assertEqual({word[2:] for word in offered.split()}, self.all)
+        heads = re.findall(r"^    '(?:\(- \*\)'\{-[a-zA-Z],)?--([a-z]+)", self.zsh, re.MULTILINE)
+        self.assertEqual(set(heads), self.all)
+
+    def test_paragraphs(self):
+        for name in self.all:
+            self.assertGreater(len(self.paragraph(name)), 10)
+
+    def test_ranges_and_defaults(self):
+        ranges = 0
+        for name in self.names:
+            help_text = re.search(rf'const {name.upper()}: &str =\s*"(.*?)";', self.source, re.DOTALL)[1].replace("\\n", " ")
+            found = re.search(r"From 1 to \d+; default [^.]*", help_text)
+            if found:
+                ranges += 1
+                self.assertIn(found[0], self.paragraph(name), name)
+        self.assertEqual(ranges, self.source.count("From 1 to "))
+
+    def test_forms(self):
+        offered = [re.search(r"compgen -W '(.*)' --", self.bash)[1].split(), re.search(r"form:\((.*)\)", self.zsh)[1].split()]
+        self.assertEqual(offered, [self.forms, self.forms])
+        for form in self.forms:
+            self.assertRegex(self.man, rf"\.TP\n\.B {form}\n")
+
+    def test_version(self):
+        version = re.search(r'VERSION: &str = "(.*)"', self.source)[1]
+        self.assertIn(f'"cvrp {version}"', self.man.splitlines()[0])
+
+    @unittest.skipUnless(shutil.which("groff"), "no groff here")
+    def test_man_page_is_sound(self):
+        ran = subprocess.run(["groff", "-man", "-Tutf8", "-ww", str(TOP / "man/cvrp.1")], stdout=subprocess.DEVNULL, stderr=subprocess.PIPE)
+        self.assertEqual((ran.returncode, ran.stderr), (0, b""))
+
+
+if __name__ == "__main__":
+    unittest.main()
