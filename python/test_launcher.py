@@ -31,7 +31,7 @@ FAKE_RT = """\
 #!/usr/bin/env bash
 crate=$(basename "$PWD")
 echo "begin $1 $crate" >> "$ROOM/log"
-[ "$crate" != "$(cat "$ROOM/slow" 2> /dev/null)" ] || sleep 30
+[ "$crate" != "$(cat "$ROOM/slow" 2> /dev/null)" ] || { echo $$ > "$ROOM/pid"; sleep 30; }
 sleep 0.05
 echo "end $1 $crate" >> "$ROOM/log"
 [ "$crate" != "$(cat "$ROOM/fail" 2> /dev/null)" ] || { echo "no proof of $crate"; exit 1; }
@@ -87,12 +87,13 @@ class Launcher(unittest.TestCase):
     def begun(self):
         return [line[6:] for line in self.asked() if line.startswith("begin ")]
 
-    def wait_for(self, line):
+    def wait_for(self, text, name="log"):
+        path = self.room / name
         for _ in range(200):
-            if line in ((self.room / "log").read_text() if (self.room / "log").exists() else ""):
+            if path.exists() and text in path.read_text():
                 return
             time.sleep(0.05)
-        self.fail(f"never seen: {line}")
+        self.fail(f"never seen: {text}")
 
     def change(self, path, text):
         # File systems keep times to some milliseconds.
@@ -186,11 +187,12 @@ class Launcher(unittest.TestCase):
             _, errors = run.communicate(timeout=20)
         self.assertLess(time.monotonic() - begun, 10, "what ran was not ended")
         (self.room / "slow").unlink()
-        if number != signal.SIGKILL:
-            self.assertEqual(run.returncode, -number)
-            self.assertIn("cvrp: the program could not be built: interrupted\n", errors)
-            self.assertIn("program one", self.program.read_text())
-            self.assert_clean()
+        self.assertEqual(run.returncode, -number)
+        *lines, last = errors.splitlines()
+        self.assertEqual(last, "cvrp: the program could not be built: interrupted")
+        self.assertEqual([line for line in lines if not line.startswith("cvrp: proving ")], [])
+        self.assertIn("program one", self.program.read_text())
+        self.assert_clean()
         self.assertEqual(self.launch()[:2], (3, "program two: \n"))
         self.assert_clean()
 
@@ -202,6 +204,24 @@ class Launcher(unittest.TestCase):
 
     def test_interrupted_while_linking(self):
         self.interrupt("cvrp", signal.SIGTERM)
+
+    def test_killed(self):
+        """What a killed launcher began still runs, but the next launcher doesn't wait for it, and finds the old program."""
+        self.launch()
+        self.change("crates/cvrp/src/main.rt", "two")
+        (self.room / "slow").write_text("cvrp")
+        with self.begin() as run:
+            self.wait_for("\n", "pid")
+            run.kill()
+            run.wait(timeout=20)
+            (self.room / "slow").unlink()
+            (self.room / "fail").write_text("left")
+            self.assertEqual(self.launch()[0], 70)
+            self.assertIn("program one", self.program.read_text())
+            (self.room / "fail").unlink()
+            self.assertEqual(self.launch()[:2], (3, "program two: \n"))
+            os.killpg(os.getpgid(int((self.room / "pid").read_text())), signal.SIGTERM)
+        self.assert_clean()
 
     def test_interrupted_with_half_a_program(self):
         (self.room / "half").touch()
