@@ -1,5 +1,5 @@
 //! A plan laid out on a page: its routes, its places and what stands below them.
-ghost use Rattle.vrp_export.specs.Stops.{HaveStopsIn};
+ghost use Rattle.vrp_export.specs.Stops.{ArePlaces, HaveStopsIn};
 
 use crate::frame::Frame;
 use crate::points::{Point, Points};
@@ -13,8 +13,27 @@ use vrp_model::{Instance, Plan};
 pub(crate) struct Track {
     /// The depot first.
     pub(crate) corners: Vec<Point>,
-    pub(crate) load: u64,
-    pub(crate) cost: u64,
+    /// Its load and its cost, in words.
+    pub(crate) told: String,
+}
+
+impl Track {
+    /// The corners of its customers.
+    pub(crate) fn stops(&self) -> &[Point] {
+        match self.corners.as_slice() {
+            [_, stops @ ..] => stops,
+            [] => &[],
+        }
+    }
+
+    /// The corners of its ways to the depot and back: its first customer, the depot and its last one.
+    pub(crate) fn legs(&self) -> Option<[Point; 3]> {
+        match self.corners.as_slice() {
+            [depot, only] => Some([*only, *depot, *only]),
+            [depot, first, .., last] => Some([*first, *depot, *last]),
+            _ => None,
+        }
+    }
 }
 
 /// A place on the page.
@@ -40,11 +59,20 @@ pub(crate) fn tracks(
         let stops = plan.route(index);
         tracks.push(Track {
             corners: corners(alloc, stops, points.by_place(), frame)?,
-            load: load(instance, stops),
-            cost: cost(instance, stops),
+            told: told(alloc, instance, stops)?,
         })?;
     }
     Ok(tracks)
+}
+
+// The load and the cost of a route, in words.
+fn told(alloc: Global, instance: &Instance, stops: &[u16]) -> Result<String, AllocError>
+    requires { ArePlaces instance.now stops.now }
+{
+    let load = load(instance, stops);
+    let capacity = instance.capacity();
+    let cost = cost(instance, stops);
+    format!(in alloc; "load {load} of {capacity}, cost {cost}")
 }
 
 // The depot and the stops of a route on the page.

@@ -68,7 +68,13 @@ impl Frame {
         }
     }
 
-    /// How high the map is on the page, with its margins.
+    /// How wide the map is on the page, with its margins.
+    pub(crate) fn width(self) -> i64 {
+        self.scaled(self.right.saturating_sub(self.left))
+            .saturating_add(2 * MARGIN)
+    }
+
+    /// How high it is.
     pub(crate) fn height(self) -> i64 {
         self.scaled(self.top.saturating_sub(self.bottom))
             .saturating_add(2 * MARGIN)

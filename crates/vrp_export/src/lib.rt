@@ -4,6 +4,7 @@
 mod drawing;
 mod frame;
 mod json;
+mod layout;
 mod picture;
 mod points;
 mod route;

@@ -4,9 +4,10 @@ ghost use Rattle.std.specs.Option.{ForSome, option_map};
 ghost use Rattle.vrp_model.specs.Route.{IsPlanOf};
 
 use crate::drawing::{Mark, Track, caption, marks, tracks};
-use crate::frame::{Frame, MARGIN, SIDE};
+use crate::frame::{Frame, MARGIN};
+use crate::layout::{CAPTION_LETTERS, LIST_LETTERS, Layout, SAMPLE, SPACE};
 use crate::points::{Point, Points};
-use crate::style::{color, dashes};
+use crate::style::{Sizes, color};
 use std::alloc::Global;
 use std::fmt;
 use vrp_answer::Finding;
@@ -15,17 +16,12 @@ use vrp_model::{Instance, NoMemory};
 // The most customers whose nodes are written beside them.
 const MOST_LABELS: usize = 150;
 
-// The most routes that are listed beside the map.
+// The most routes that are listed. Of more the ways to the depot and back are drawn thin and pale.
 const MOST_LISTED: usize = 24;
 
-// How wide that list is, and how far its lines are apart, in units of the page.
-const LIST_WIDTH: i64 = 3_400;
-
-const LIST_STEP: i64 = 320;
-
 /// The plan as an SVG picture: the routes over the points of their places, each in a colour and dashes of its own, which differ in grey
-/// too, the depot as a square, the nodes' numbers and the list of the routes where there is room, and below the map the cost and the
-/// verdict. Without a plan there are the places alone.
+/// too, the depot as a square, the nodes' numbers and the list of the routes where they are few, and below these the cost and the
+/// verdict. Where there are many routes their ways to the depot and back are thin and pale. Without a plan there are the places alone.
 ///
 /// The text is left open.
 pub fn picture_text(
@@ -42,22 +38,46 @@ pub fn picture_text(
         Some(plan) => tracks(alloc, instance, plan, points, frame)?,
         None => Vec::new(alloc),
     };
+    let caption = caption(alloc, finding)?;
     let picture = Picture {
-        height: frame.height(),
-        capacity: instance.capacity(),
+        layout: layout(frame, &tracks, caption.as_str()),
+        sizes: Sizes::of(instance.customers()),
         tracks,
         marks: marks(alloc, instance, points, frame)?,
-        caption: caption(alloc, finding)?,
+        caption,
     };
     Ok(picture.to_string(alloc)?)
+}
+
+// Where things lie on the page of these routes.
+fn layout(frame: Frame, tracks: &[Track], caption: &str) -> Layout {
+    let listed = listed(tracks);
+    Layout::around(frame, listed.len(), longest(listed), caption.len())
+}
+
+// The routes that are listed: all of them, or none where they are many.
+fn listed(tracks: &[Track]) -> &[Track] {
+    if tracks.len() <= MOST_LISTED {
+        tracks
+    } else {
+        &[]
+    }
+}
+
+// How many letters the longest text of the list has.
+fn longest(tracks: &[Track]) -> usize {
+    let mut longest = 0;
+    for track in tracks {
+        longest = longest.max(track.told.len());
+    }
+    longest.saturating_add("#24: ".len())
 }
 
 // What is drawn.
 #[derive(Drop)]
 struct Picture {
-    // Of the map, with its margins.
-    height: i64,
-    capacity: u64,
+    layout: Layout,
+    sizes: Sizes,
     tracks: Vec<Track>,
     marks: Vec<Mark>,
     caption: String,
@@ -68,20 +88,20 @@ impl fmt::Display for Picture {
 
     fn fmt<W: fmt::Write>(&self, f: &mut fmt::Formatter<W>) -> fmt::Result {
         self.write_heading(f)?;
-        self.write_tracks(f)?;
-        self.write_marks(f)?;
+        if self.has_pale_legs() {
+            self.write_legs(f)?;
+            self.write_inner_tracks(f)?;
+        } else {
+            self.write_tracks(f)?;
+        }
         if self.has_labels() {
             self.write_labels(f)?;
         }
+        self.write_marks(f)?;
         if self.has_list() {
             self.write_list(f)?;
         }
-        let y = self.height.saturating_add(100);
-        writeln!(
-            f,
-            "<text x=\"{MARGIN}\" y=\"{y}\" font-size=\"280\">{}</text>\n</svg>",
-            self.caption.as_str()
-        )
+        self.write_caption(f)
     }
 }
 
@@ -91,21 +111,19 @@ impl Picture {
         self.marks.len() <= MOST_LABELS + 1
     }
 
-    // Whether there is room for a list of the routes.
+    // Whether there are so many routes that their ways to the depot and back would hide the others.
+    fn has_pale_legs(&self) -> bool {
+        self.tracks.len() > MOST_LISTED
+    }
+
+    // Whether there is a list of the routes.
     fn has_list(&self) -> bool {
-        !self.tracks.is_empty() && self.tracks.len() <= MOST_LISTED
+        !listed(&self.tracks).is_empty()
     }
 
     // The size of the page, its title and its ground.
     fn write_heading<W: fmt::Write>(&self, f: &mut fmt::Formatter<W>) -> fmt::Result {
-        let map = SIDE + 2 * MARGIN;
-        let (width, listed) = if self.has_list() {
-            (map + LIST_WIDTH, self.tracks.len() as i64)
-        } else {
-            (map, 0)
-        };
-        let list = listed.saturating_mul(LIST_STEP).saturating_add(2 * MARGIN);
-        let height = self.height.max(list).saturating_add(MARGIN);
+        let Layout { width, height, .. } = self.layout;
         writeln!(
             f,
             "<svg xmlns=\"http://www.w3.org/2000/svg\" viewBox=\"0 0 {width} {height}\" width=\"{}\" height=\"{}\" font-family=\"sans-serif\">",
@@ -119,23 +137,50 @@ impl Picture {
         )
     }
 
-    // The routes.
+    // The routes, each from the depot and back to it.
     fn write_tracks<W: fmt::Write>(&self, f: &mut fmt::Formatter<W>) -> fmt::Result {
+        self.write_pens(f)?;
+        for (index, track) in self.tracks.iter().enumerate() {
+            write_pen(f, index, self.sizes)?;
+            write_corners(f, &track.corners)?;
+            write!(f, "Z")?;
+            write_title(f, index, track)?;
+        }
+        writeln!(f, "</g>")
+    }
+
+    // The routes, each from its first customer to its last.
+    fn write_inner_tracks<W: fmt::Write>(&self, f: &mut fmt::Formatter<W>) -> fmt::Result {
+        self.write_pens(f)?;
+        for (index, track) in self.tracks.iter().enumerate() {
+            write_pen(f, index, self.sizes)?;
+            write_corners(f, track.stops())?;
+            write_title(f, index, track)?;
+        }
+        writeln!(f, "</g>")
+    }
+
+    // The heading of the routes.
+    fn write_pens<W: fmt::Write>(&self, f: &mut fmt::Formatter<W>) -> fmt::Result {
         writeln!(
             f,
-            "<g fill=\"none\" stroke-width=\"36\" stroke-linejoin=\"round\">"
+            "<g fill=\"none\" stroke-width=\"{}\" stroke-linejoin=\"round\">",
+            self.sizes.line
+        )
+    }
+
+    // The ways from the depot to the routes and back, thin and pale.
+    fn write_legs<W: fmt::Write>(&self, f: &mut fmt::Formatter<W>) -> fmt::Result {
+        writeln!(
+            f,
+            "<g fill=\"none\" stroke-width=\"8\" stroke-opacity=\"0.4\">"
         )?;
         for (index, track) in self.tracks.iter().enumerate() {
-            write_pen(f, index)?;
-            write_corners(f, &track.corners)?;
-            writeln!(
-                f,
-                "<title>Route #{}: load {} of {}, cost {}</title></path>",
-                index + 1,
-                track.load,
-                self.capacity,
-                track.cost
-            )?;
+            if let Some(legs) = track.legs() {
+                write!(f, "<path stroke=\"{}\" d=\"", color(index))?;
+                write_corners(f, &legs)?;
+                writeln!(f, "\"/>")?;
+            }
         }
         writeln!(f, "</g>")
     }
@@ -144,23 +189,30 @@ impl Picture {
     fn write_marks<W: fmt::Write>(&self, f: &mut fmt::Formatter<W>) -> fmt::Result {
         for (place, mark) in self.marks.iter().enumerate() {
             if place == 0 {
-                write_depot(f, mark)?;
+                write_depot(f, mark, self.sizes.depot)?;
             } else {
-                write_customer(f, mark)?;
+                write_customer(f, mark, self.sizes.dot)?;
             }
         }
         Ok(())
     }
 
-    // The nodes' numbers.
+    // The nodes' numbers, each to the right of its mark and above it.
     fn write_labels<W: fmt::Write>(&self, f: &mut fmt::Formatter<W>) -> fmt::Result {
         writeln!(
             f,
-            "<g font-size=\"170\" stroke=\"#ffffff\" stroke-width=\"40\" paint-order=\"stroke\">"
+            "<g font-size=\"{}\" stroke=\"#ffffff\" stroke-width=\"40\" paint-order=\"stroke\">",
+            self.sizes.letters
         )?;
-        for mark in &self.marks {
-            let x = mark.at.x.saturating_add(70);
-            let y = mark.at.y.saturating_sub(70);
+        for (place, mark) in self.marks.iter().enumerate() {
+            let mark_size = if place == 0 {
+                self.sizes.depot
+            } else {
+                self.sizes.dot
+            };
+            let away = mark_size.saturating_add(20);
+            let x = mark.at.x.saturating_add(away);
+            let y = mark.at.y.saturating_sub(away);
             writeln!(f, "<text x=\"{x}\" y=\"{y}\">{}</text>", mark.node)?;
         }
         writeln!(f, "</g>")
@@ -168,78 +220,92 @@ impl Picture {
 
     // The list of the routes, each behind its line.
     fn write_list<W: fmt::Write>(&self, f: &mut fmt::Formatter<W>) -> fmt::Result {
-        writeln!(f, "<g font-size=\"200\" stroke-width=\"36\">")?;
-        let x = SIDE + 2 * MARGIN;
-        let mut y = MARGIN;
+        writeln!(
+            f,
+            "<g font-size=\"{LIST_LETTERS}\" stroke-width=\"{}\">",
+            self.sizes.line
+        )?;
         for (index, track) in self.tracks.iter().enumerate() {
-            write_pen(f, index)?;
-            writeln!(f, "M{x} {y}h600\"/>")?;
-            let corner = Point {
-                x: x + 700,
-                y: y.saturating_add(70),
-            };
-            self.write_listed(f, index, track, corner)?;
-            y = y.saturating_add(LIST_STEP);
+            let Point { x, y } = self.layout.listed(index);
+            write_pen(f, index, self.sizes)?;
+            writeln!(f, "M{x} {y}h{SAMPLE}\"/>")?;
+            let x = x.saturating_add(SAMPLE + SPACE);
+            let y = y.saturating_add(70);
+            let number = index.saturating_add(1);
+            writeln!(
+                f,
+                "<text x=\"{x}\" y=\"{y}\">#{number}: {}</text>",
+                track.told.as_str()
+            )?;
         }
         writeln!(f, "</g>")
     }
 
-    // What the list says of the route of this index.
-    fn write_listed<W: fmt::Write>(
-        &self,
-        f: &mut fmt::Formatter<W>,
-        index: usize,
-        track: &Track,
-        corner: Point,
-    ) -> fmt::Result {
+    // What stands below all else.
+    fn write_caption<W: fmt::Write>(&self, f: &mut fmt::Formatter<W>) -> fmt::Result {
+        let Point { x, y } = self.layout.caption();
         writeln!(
             f,
-            "<text x=\"{}\" y=\"{}\">#{}: {} of {}, cost {}</text>",
-            corner.x,
-            corner.y,
-            index.saturating_add(1),
-            track.load,
-            self.capacity,
-            track.cost
+            "<text x=\"{x}\" y=\"{y}\" font-size=\"{CAPTION_LETTERS}\">{}</text>\n</svg>",
+            self.caption.as_str()
         )
     }
 }
 
 // A square, and what is known of the depot.
-fn write_depot<W: fmt::Write>(f: &mut fmt::Formatter<W>, mark: &Mark) -> fmt::Result {
-    let x = mark.at.x.saturating_sub(110);
-    let y = mark.at.y.saturating_sub(110);
+fn write_depot<W: fmt::Write>(f: &mut fmt::Formatter<W>, mark: &Mark, half: i64) -> fmt::Result {
+    let x = mark.at.x.saturating_sub(half);
+    let y = mark.at.y.saturating_sub(half);
+    let side = half.saturating_mul(2);
     writeln!(
         f,
-        "<rect x=\"{x}\" y=\"{y}\" width=\"220\" height=\"220\"><title>depot, node {}</title></rect>",
+        "<rect x=\"{x}\" y=\"{y}\" width=\"{side}\" height=\"{side}\"><title>depot, node {}</title></rect>",
         mark.node
     )
 }
 
 // A dot, and what is known of a customer.
-fn write_customer<W: fmt::Write>(f: &mut fmt::Formatter<W>, mark: &Mark) -> fmt::Result {
+fn write_customer<W: fmt::Write>(
+    f: &mut fmt::Formatter<W>,
+    mark: &Mark,
+    radius: i64,
+) -> fmt::Result {
     writeln!(
         f,
-        "<circle cx=\"{}\" cy=\"{}\" r=\"50\"><title>node {}, demand {}</title></circle>",
+        "<circle cx=\"{}\" cy=\"{}\" r=\"{radius}\"><title>node {}, demand {}</title></circle>",
         mark.at.x, mark.at.y, mark.node, mark.demand
     )
 }
 
 // The beginning of a path that has the colour and the dashes of the route of this index.
-fn write_pen<W: fmt::Write>(f: &mut fmt::Formatter<W>, index: usize) -> fmt::Result {
+fn write_pen<W: fmt::Write>(f: &mut fmt::Formatter<W>, index: usize, sizes: Sizes) -> fmt::Result {
     write!(
         f,
         "<path stroke=\"{}\" stroke-dasharray=\"{}\" d=\"",
         color(index),
-        dashes(index)
+        sizes.dashes(index)
     )
 }
 
-// The way through these corners and back to the first.
+// The way through these corners.
 fn write_corners<W: fmt::Write>(f: &mut fmt::Formatter<W>, corners: &[Point]) -> fmt::Result {
     for (index, corner) in corners.iter().enumerate() {
         let step = if index == 0 { 'M' } else { 'L' };
         write!(f, "{step}{} {}", corner.x, corner.y)?;
     }
-    write!(f, "Z\">")
+    Ok(())
+}
+
+// The end of a path, with what is known of the route of this index.
+fn write_title<W: fmt::Write>(
+    f: &mut fmt::Formatter<W>,
+    index: usize,
+    track: &Track,
+) -> fmt::Result {
+    let number = index.saturating_add(1);
+    writeln!(
+        f,
+        "\"><title>Route #{number}: {}</title></path>",
+        track.told.as_str()
+    )
 }

@@ -3,3 +3,7 @@
 
 #[cfg(test)]
 mod export;
+#[cfg(test)]
+mod fixture;
+#[cfg(test)]
+mod pages;

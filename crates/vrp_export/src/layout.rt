@@ -1,0 +1,147 @@
+//! Where the list of the routes and the caption lie on a page.
+ghost use Rattle.std.specs.Prelude.{◌≤◌, ◌≤ℤ◌, pos};
+
+use crate::frame::{Frame, MARGIN};
+use crate::points::Point;
+
+/// How large the letters of the list are, in units of the page.
+pub(crate) const LIST_LETTERS: i64 = 200;
+
+/// How large those of the caption are.
+pub(crate) const CAPTION_LETTERS: i64 = 280;
+
+/// How long the line is that stands before each route of the list.
+pub(crate) const SAMPLE: i64 = 600;
+
+/// How far its text is from that line.
+pub(crate) const SPACE: i64 = 100;
+
+// How far apart the lines of the list are.
+const STEP: i64 = 320;
+
+/// Where things lie on a page.
+#[derive(Clone, Copy, Debug, PartialEq, Eq)]
+pub(crate) struct Layout {
+    /// How wide the page is.
+    pub(crate) width: i64,
+    /// How high it is.
+    pub(crate) height: i64,
+    // Where the list begins.
+    list: Point,
+    // How many routes stand in each column of it.
+    rows: usize,
+    // How far apart these columns are.
+    column: i64,
+}
+
+impl Layout {
+    /// The layout of a page with a list of this many routes, whose longest text and whose caption have this many letters. The list stands
+    /// beside the map, where that is high enough, and else below it, in as many columns as there is room for.
+    pub(crate) fn around(map: Frame, routes: usize, longest: usize, caption: usize) -> Layout {
+        let written = text_width(caption, CAPTION_LETTERS).saturating_add(2 * MARGIN);
+        let layout = if routes == 0 {
+            Layout::without_list(map)
+        } else if signed(routes).saturating_mul(STEP) <= map.height().saturating_sub(2 * MARGIN) {
+            Layout::beside(map, routes, longest)
+        } else {
+            Layout::below(map, routes, longest)
+        };
+        Layout {
+            width: layout.width.max(written),
+            ..layout
+        }
+    }
+
+    // The map alone.
+    fn without_list(map: Frame) -> Layout {
+        Layout {
+            width: map.width(),
+            height: map.height().saturating_add(MARGIN),
+            list: Point { x: 0, y: 0 },
+            rows: 0,
+            column: 0,
+        }
+    }
+
+    // With the list beside the map.
+    fn beside(map: Frame, routes: usize, longest: usize) -> Layout {
+        let column = column_width(longest);
+        Layout {
+            width: map.width().saturating_add(column),
+            height: map.height().saturating_add(MARGIN),
+            list: Point {
+                x: map.width(),
+                y: MARGIN,
+            },
+            rows: routes,
+            column,
+        }
+    }
+
+    // With the list below the map.
+    fn below(map: Frame, routes: usize, longest: usize) -> Layout {
+        let column = column_width(longest);
+        let columns = columns(map.width().saturating_sub(MARGIN), column);
+        let rows = routes.div_ceil(columns);
+        let list = signed(rows).saturating_add(1).saturating_mul(STEP);
+        Layout {
+            width: signed(columns)
+                .saturating_mul(column)
+                .saturating_add(MARGIN)
+                .max(map.width()),
+            height: map.height().saturating_add(list).saturating_add(MARGIN),
+            list: Point {
+                x: MARGIN,
+                y: map.height(),
+            },
+            rows,
+            column,
+        }
+    }
+
+    /// Where the route of this index begins in the list.
+    pub(crate) fn listed(self, index: usize) -> Point {
+        let rows = self.rows.max(1);
+        let x = signed(index / rows).saturating_mul(self.column);
+        let y = signed(index % rows).saturating_mul(STEP);
+        Point {
+            x: self.list.x.saturating_add(x),
+            y: self.list.y.saturating_add(y),
+        }
+    }
+
+    /// Where the caption begins.
+    pub(crate) fn caption(self) -> Point {
+        Point {
+            x: MARGIN,
+            y: self.height.saturating_sub(MARGIN - SPACE),
+        }
+    }
+}
+
+// How wide a column of the list is, with the room behind it, where its longest text has this many letters.
+fn column_width(longest: usize) -> i64
+    ensures { pos 1 ≤ℤ result }
+{
+    text_width(longest, LIST_LETTERS)
+        .saturating_add(SAMPLE + SPACE + MARGIN)
+        .max(1)
+}
+
+// How many columns of this width have room, at least one.
+fn columns(room: i64, column: i64) -> usize
+    requires { pos 1 ≤ℤ column }
+    ensures { 1 ≤ result }
+{
+    usize::try_from(room / column).unwrap_or(1).max(1)
+}
+
+// How wide a text is at most. On average its letters are no wider than three fifths of their size.
+fn text_width(letters: usize, size: i64) -> i64 {
+    signed(letters).saturating_mul(size) / 5 * 3
+}
+
+// A count as a length.
+fn signed(count: usize) -> i64 {
+    i64::try_from(count).unwrap_or(i64::MAX)
+}
