@@ -12,7 +12,8 @@ use Rattle.serde_json.specs.declared.value.Value.{Value}
 use Rattle.vrp_answer.specs.Finding.{FindingOf}
 use Rattle.vrp_export.specs.Inner.Document.{document_of, route_object}
 use Rattle.vrp_export.specs.Inner.Routes.{AreRoutes, IsRoute}
-use Rattle.vrp_export.specs.Json.{IsDocument, nodes_of, number_or_null, options_told, routes_told}
+use Rattle.vrp_export.specs.Gap.{IsGapOf}
+use Rattle.vrp_export.specs.Json.{IsDocument, cost_told, customers_of, nodes_of, number_or_null, numbers_of, options_told, routes_told}
 use Rattle.vrp_export.specs.declared.json.Settings.{Settings}
 use Rattle.vrp_model.specs.Problem.{Problem, node_of}
 
@@ -38,12 +39,15 @@ next_route p routes index stops found values value so_far is longer pushed =
 
 -- ---- how deep it nests
 
-numbers_shallow : (p : Problem) (stops : List ℕ) → items_depth (items_of (map (λ place. number (unsigned (node_of p place))) stops)) ≡ 0
-numbers_shallow p [] = refl
-numbers_shallow p (place ∷ stops) = ap (λ n. max 0 n) (numbers_shallow p stops)
+numbers_shallow : (number_of : ℕ → ℕ) (stops : List ℕ) → items_depth (items_of (map (λ place. number (unsigned (number_of place))) stops)) ≡ 0
+numbers_shallow number_of [] = refl
+numbers_shallow number_of (place ∷ stops) = ap (λ n. max 0 n) (numbers_shallow number_of stops)
 
-route_depth : (p : Problem) (stops : List ℕ) (cost load : ℕ) → depth (route_object cost load (nodes_of p stops)) ≡ 2
-route_depth p stops cost load = ap (λ n. suc (max 0 (max 0 (max (suc n) 0)))) (numbers_shallow p stops)
+numbers_depth : (number_of : ℕ → ℕ) (stops : List ℕ) → depth (numbers_of number_of stops) ≡ 1
+numbers_depth number_of stops = ap suc (numbers_shallow number_of stops)
+
+route_depth : (p : Problem) (stops : List ℕ) (cost load : ℕ) → depth (route_object cost load (customers_of stops) (nodes_of p stops)) ≡ 2
+route_depth p stops cost load = rw (numbers_depth (λ place. place) stops, numbers_depth (node_of p) stops) refl
 
 routes_shallow : (p : Problem) (routes : List (List ℕ)) (values : List Data) → AreRoutes p routes values → items_depth (items_of values) ≤ 2
 routes_shallow p [] [] are = omega arith
@@ -65,14 +69,16 @@ options_depth asked =
     let trucks = number_depth asked.trucks in
     rw (depot, seconds, trucks) (omega arith)
 
-pub document_shallow : (p : Problem) (finding : FindingOf) (asked : Settings) (routes : List (List ℕ)) (values : List Data) → AreRoutes p routes values → depth (document_of p finding values (options_told asked)) ≤ 4
-document_shallow p finding asked routes values are =
+pub document_shallow : (p : Problem) (finding : FindingOf) (gap : Option ℕ) (asked : Settings) (routes : List (List ℕ)) (values : List Data) → AreRoutes p routes values
+    → depth (document_of p finding gap values (options_told asked)) ≤ 4
+document_shallow p finding gap asked routes values are =
     let few : suc (items_depth (items_of values)) ≤ 3 = omega (arith, routes_shallow p routes values are) in
-    let one : depth (number_or_null (option_map (λ plan. plan.cost) finding.plan)) ≤ 3 = omega (arith, number_depth (option_map (λ plan. plan.cost) finding.plan)) in
+    let one : depth (number_or_null (cost_told finding)) ≤ 3 = omega (arith, number_depth (cost_told finding)) in
     let other : depth (number_or_null finding.lower_bound) ≤ 3 = omega (arith, number_depth finding.lower_bound) in
+    let between : depth (number_or_null gap) ≤ 3 = omega (arith, number_depth gap) in
     let options : depth (options_told asked) ≤ 3 = omega (arith, options_depth asked) in
     let none : 0 ≤ 3 = omega arith in
-    let most = max-le none (max-le one (max-le none (max-le none (max-le other (max-le options (max-le few (max-le none none))))))) in
+    let most = max-le none (max-le one (max-le none (max-le none (max-le between (max-le other (max-le options (max-le few (max-le none none)))))))) in
     omega (arith, most)
 
 -- ---- what stands in it
@@ -87,20 +93,35 @@ nodes_listed p (stops ∷ routes) (value ∷ values) are =
     let rest = nodes_listed p routes values are.1 in
     cc
 
+pub customers_listed : (p : Problem) (routes : List (List ℕ)) (values : List Data) → AreRoutes p routes values → map (get (codes "customers")) values ≡ map (λ stops. Some (customers_of stops)) routes
+customers_listed p [] [] are = refl
+customers_listed p [] (value ∷ values) are = absurd are
+customers_listed p (stops ∷ routes) [] are = absurd are
+customers_listed p (stops ∷ routes) (value ∷ values) are =
+    let (cost, load, is) = are.0 in
+    let here : get (codes "customers") value ≡ Some (customers_of stops) = ap (get (codes "customers")) is in
+    let rest = customers_listed p routes values are.1 in
+    cc
+
 -- an option of a small number
 pub null_or_number : (n : Option ℕ) (value : Data) → MatchOption n (value ≡ null) (λ m. value ≡ number (unsigned m)) → value ≡ number_or_null n
 null_or_number None value is = is
 null_or_number (Some m) value is = is
 
-pub is_document : (p : Problem) (finding : FindingOf) (asked : Settings) (values : List Data) (value : Data) → value ≡ document_of p finding values (options_told asked) → AreRoutes p (routes_told finding.plan) values → IsDocument p finding asked value
-is_document p finding asked values value is are =
+pub is_document : (p : Problem) (finding : FindingOf) (gap : Option ℕ) (asked : Settings) (values : List Data) (value : Data) → value ≡ document_of p finding gap values (options_told asked)
+    → IsGapOf (cost_told finding) finding.lower_bound gap → AreRoutes p (routes_told finding.plan) values → IsDocument p finding asked value
+is_document p finding gap asked values value is least are =
     record {
       verdict = ap (get (codes "verdict")) is;
       cost = ap (get (codes "cost")) is;
       lower_bound = ap (get (codes "lower_bound")) is;
+      gap = gap;
+      least = least;
+      gap_told = ap (get (codes "gap")) is;
       routes = values;
       listed = ap (get (codes "routes")) is;
       nodes = nodes_listed p (routes_told finding.plan) values are;
+      served = customers_listed p (routes_told finding.plan) values are;
       customers = ap (get (codes "customers")) is;
       capacity = ap (get (codes "capacity")) is;
       depot = ap (get (codes "depot")) is;

@@ -6,6 +6,7 @@ use Rattle.serde_json.specs.Find.{get}
 use Rattle.serde_json.specs.Read.{read}
 use Rattle.serde_json.specs.View.{items_of}
 use Rattle.vrp_answer.specs.Finding.{FindingOf, status_text}
+use Rattle.vrp_export.specs.Gap.{IsGapOf}
 use Rattle.vrp_export.specs.declared.json.Settings.{Settings}
 use Rattle.vrp_model.specs.Problem.{Problem, node_of, place_count}
 use Rattle.vrp_model.specs.Route.{PricedPlan}
@@ -15,9 +16,17 @@ abbrev pub number_or_null : Option ℕ → Data
 number_or_null None = null
 number_or_null (Some n) = number (unsigned n)
 
+-- a route's stops, each by its number
+abbrev pub numbers_of : (ℕ → ℕ) → List ℕ → Data
+numbers_of number_of stops = array (items_of (map (λ place. number (unsigned (number_of place))) stops))
+
 -- the file's node numbers of a route's stops
 abbrev pub nodes_of : Problem → List ℕ → Data
-nodes_of p stops = array (items_of (map (λ place. number (unsigned (node_of p place))) stops))
+nodes_of p stops = numbers_of (node_of p) stops
+
+-- the customers of a route by CVRPLIB's numbers: their places, since the depot is place 0
+abbrev pub customers_of : List ℕ → Data
+customers_of stops = numbers_of (λ place. place) stops
 
 -- the routes of a plan, if there is one
 abbrev pub routes_told : Option PricedPlan → List (List ℕ)
@@ -30,14 +39,22 @@ options_told asked =
     object (member (codes "budget") (number (unsigned asked.budget)) (member (codes "depot") (number_or_null asked.depot) (member (codes "pieces") (number (unsigned asked.pieces))
     (member (codes "seconds") (number_or_null asked.seconds) (member (codes "trucks") (number_or_null asked.trucks) (member (codes "workers") (number (unsigned asked.workers)) no_members))))))
 
--- the object's verdict, cost and lower bound, the nodes of each route, what is told of the problem, and how the run was asked for
+-- what the plan costs, if there is one
+abbrev pub cost_told : FindingOf → Option ℕ
+cost_told finding = option_map (λ plan. plan.cost) finding.plan
+
+-- the object's verdict, cost, lower bound and gap, the nodes and the customers of each route, what is told of the problem, and how the run was asked for
 pub record IsDocument (p : Problem) (finding : FindingOf) (asked : Settings) (document : Data) : Type 0 where
   pub verdict : get (codes "verdict") document ≡ Some (string (status_text finding.status))
-  pub cost : get (codes "cost") document ≡ Some (number_or_null (option_map (λ plan. plan.cost) finding.plan))
+  pub cost : get (codes "cost") document ≡ Some (number_or_null (cost_told finding))
   pub lower_bound : get (codes "lower_bound") document ≡ Some (number_or_null finding.lower_bound)
+  pub gap : Option ℕ
+  pub least : IsGapOf (cost_told finding) finding.lower_bound gap
+  pub gap_told : get (codes "gap") document ≡ Some (number_or_null gap)
   pub routes : List Data
   pub listed : get (codes "routes") document ≡ Some (array (items_of routes))
   pub nodes : map (get (codes "nodes")) routes ≡ map (λ stops. Some (nodes_of p stops)) (routes_told finding.plan)
+  pub served : map (get (codes "customers")) routes ≡ map (λ stops. Some (customers_of stops)) (routes_told finding.plan)
   pub customers : get (codes "customers") document ≡ Some (number (unsigned (place_count p - 1)))
   pub capacity : get (codes "capacity") document ≡ Some (number (unsigned p.capacity))
   pub depot : get (codes "depot") document ≡ Some (number (unsigned (node_of p 0)))

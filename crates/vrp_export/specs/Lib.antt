@@ -1,3 +1,4 @@
+pub mod Gap
 pub mod Inner
 pub mod Json
 pub mod Stops

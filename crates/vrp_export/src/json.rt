@@ -6,10 +6,11 @@ ghost use Rattle.serde_json.specs.View.{items_view, view};
 ghost use Rattle.vrp_answer.specs.Finding.{told_by};
 ghost use Rattle.vrp_export.specs.Inner.Document.{document_of, route_object};
 ghost use Rattle.vrp_export.specs.Inner.Routes.{AreRoutes};
-ghost use Rattle.vrp_export.specs.Json.{IsJsonOf, IsLineOf, nodes_of, number_or_null, options_told, routes_told};
+ghost use Rattle.vrp_export.specs.Json.{IsJsonOf, IsLineOf, customers_of, nodes_of, number_or_null, options_told, routes_told};
 ghost use Rattle.vrp_export.specs.Stops.{ArePlaces, HaveStopsIn};
 ghost use Rattle.vrp_model.specs.Route.{IsPlanOf};
 
+use crate::gap::gap_of;
 use crate::route::{cost, load};
 use serde_json::{Value, json};
 use std::alloc::{AllocError, Global};
@@ -33,9 +34,10 @@ pub struct Settings {
     pub trucks: Option<u16>,
 }
 
-/// What is told of an instance as one JSON object and a line feed. It has the members `capacity`, `cost`, `customers`, `depot`,
-/// `lower_bound`, `options`, `routes`, each of them with its `cost`, `load` and `nodes`, and `verdict`. Nodes have the file's numbers.
-/// What isn't known is `null`, and without a plan there are no routes.
+/// What is told of an instance as one JSON object and a line feed. It has the members `capacity`, `cost`, `customers`, `depot`, `gap`,
+/// `lower_bound`, `options`, `routes`, each of them with its `cost`, `customers`, `load` and `nodes`, and `verdict`. Nodes have the
+/// file's numbers, and the customers of a route those of CVRPLIB: from 1 on by rising node, the depot left out. The gap is how far the
+/// plan may be from the best, in hundredths of a percent, rounded up. What isn't known is `null`, and without a plan there are no routes.
 ///
 /// What stands in `load` and `cost` of a route is left open.
 pub fn json_text(
@@ -49,7 +51,8 @@ pub fn json_text(
 {
     let routes = routes_of(alloc, instance, finding.plan)?;
     let options = options_of(alloc, settings)?;
-    let document = document(alloc, instance, finding, routes, options)?;
+    let gap = gap_of(instance, finding);
+    let document = document(alloc, instance, finding, gap, routes, options)?;
     Ok(line_of(alloc, document)?)
 }
 
@@ -64,20 +67,22 @@ fn line_of(alloc: Global, object: Value) -> Result<String, AllocError>
     Ok(text)
 }
 
-// The object, with these routes and options.
+// The object, with this gap, these routes and options.
 fn document(
     alloc: Global,
     instance: &Instance,
     finding: &Finding<'_>,
+    gap: Option<u64>,
     routes: Vec<Value>,
     options: Value,
 ) -> Result<Value, AllocError>
     ensures { IfOk result (λ value. view value
-        ≡ document_of instance.now (told_by finding.now) (map view routes.items) (view options)) }
+        ≡ document_of instance.now (told_by finding.now) gap (map view routes.items) (view options)) }
 {
     let verdict = finding.status.as_str();
     let cost = or_null(cost_of(finding.plan));
     let lower_bound = or_null(finding.lower_bound);
+    let gap = or_null(gap);
     let customers = instance.customers();
     let capacity = instance.capacity();
     let depot = instance.node(0);
@@ -85,6 +90,7 @@ fn document(
         "verdict": verdict,
         "cost": cost,
         "lower_bound": lower_bound,
+        "gap": gap,
         "customers": customers,
         "capacity": capacity,
         "depot": depot,
@@ -162,12 +168,24 @@ fn objects_of(alloc: Global, instance: &Instance, plan: &Plan) -> Result<Vec<Val
 fn route_of(alloc: Global, instance: &Instance, stops: &[u16]) -> Result<Value, AllocError>
     requires { ArePlaces instance.now stops.now }
     ensures { IfOk result (λ route. (cost load : ℕ)
-        × (view route ≡ route_object cost load (nodes_of instance.now stops.now))) }
+        × (view route ≡ route_object cost load (customers_of stops.now) (nodes_of instance.now stops.now))) }
 {
     let cost = cost(instance, stops);
     let load = load(instance, stops);
+    let customers = customer_numbers(alloc, stops)?;
     let nodes = node_numbers(alloc, instance, stops)?;
-    json!(in alloc; {"nodes": nodes, "load": load, "cost": cost})
+    json!(in alloc; {"nodes": nodes, "customers": customers, "load": load, "cost": cost})
+}
+
+// CVRPLIB's numbers of these stops: their places.
+fn customer_numbers(alloc: Global, stops: &[u16]) -> Result<Vec<Value>, AllocError>
+    ensures { IfOk result (λ customers. array (items_view customers.items) ≡ customers_of stops.now) }
+{
+    let mut customers = Vec::with_capacity(alloc, stops.len())?;
+    for place in stops {
+        customers.push(Value::from(*place))?;
+    }
+    Ok(customers)
 }
 
 // The file's node numbers of these stops.

@@ -3,6 +3,7 @@
 
 mod drawing;
 mod frame;
+mod gap;
 mod json;
 mod layout;
 mod picture;

@@ -18,11 +18,12 @@ fn solutions(rt: HostRuntime) {
     assert_text(&rt, text.as_str(), TWO_ROUTES);
 }
 
+// The customers are the nodes but the depot, numbered from 1. 17 is 1 below 18, and 1 of 17 is 588.2 hundredths of a percent.
 const TWO_ROUTES_JSON: &str =
-    "{\"capacity\":10,\"cost\":18,\"customers\":3,\"depot\":2,\"lower_bound\":17,\"options\":{\"budget\":1000,\"depot\":2,\"pieces\":64,\"seconds\":null,\"trucks\":null,\"workers\":2},\"routes\":[{\"cost\":12,\"load\":9,\"nodes\":[1,3]},{\"cost\":6,\"load\":7,\"nodes\":[4]}],\"verdict\":\"Open\"}\n";
+    "{\"capacity\":10,\"cost\":18,\"customers\":3,\"depot\":2,\"gap\":589,\"lower_bound\":17,\"options\":{\"budget\":1000,\"depot\":2,\"pieces\":64,\"seconds\":null,\"trucks\":null,\"workers\":2},\"routes\":[{\"cost\":12,\"customers\":[1,2],\"load\":9,\"nodes\":[1,3]},{\"cost\":6,\"customers\":[3],\"load\":7,\"nodes\":[4]}],\"verdict\":\"Open\"}\n";
 
 const NO_PLAN_JSON: &str =
-    "{\"capacity\":10,\"cost\":null,\"customers\":3,\"depot\":2,\"lower_bound\":null,\"options\":{\"budget\":1000,\"depot\":2,\"pieces\":64,\"seconds\":null,\"trucks\":null,\"workers\":2},\"routes\":[],\"verdict\":\"NoPlan\"}\n";
+    "{\"capacity\":10,\"cost\":null,\"customers\":3,\"depot\":2,\"gap\":null,\"lower_bound\":null,\"options\":{\"budget\":1000,\"depot\":2,\"pieces\":64,\"seconds\":null,\"trucks\":null,\"workers\":2},\"routes\":[],\"verdict\":\"NoPlan\"}\n";
 
 #[test]
 fn objects(rt: HostRuntime) {
@@ -35,6 +36,36 @@ fn objects(rt: HostRuntime) {
     let none = told(None, Status::NoPlan, None);
     let text = json_text(alloc, &four, &none, SETTINGS).expect(&rt, "memory");
     assert_text(&rt, text.as_str(), NO_PLAN_JSON);
+}
+
+// What is known of a plan that costs 18, and the gap.
+const GAPS: &[(Status, Option<u64>, &str)] = &[
+    (Status::Proven, Some(18), "0"),
+    (Status::Open, Some(18), "0"),
+    (Status::Open, Some(17), "589"),
+    (Status::Open, Some(16), "1250"),
+    (Status::Open, Some(9), "10000"),
+    (Status::Open, Some(7), "15715"),
+    (Status::Open, Some(1), "170000"),
+    (Status::Open, Some(0), "null"),
+    (Status::Lawful, None, "null"),
+];
+
+#[test]
+fn gaps(rt: HostRuntime) {
+    let alloc = rt.alloc();
+    let four = instance(&rt, alloc, FOUR);
+    let plan = plan(&rt, alloc, &four, TWO_ROUTES);
+    for (status, lower_bound, gap) in GAPS {
+        let finding = told(Some(&plan), *status, *lower_bound);
+        let text = json_text(alloc, &four, &finding, SETTINGS).expect(&rt, "memory");
+        let wanted = format!(in alloc; "\"gap\":{gap},").expect(&rt, "memory");
+        assert!(&rt;
+            text.as_str().contains(wanted.as_str()),
+            "{}",
+            text.as_str()
+        );
+    }
 }
 
 // Six units of the plane are 9,200 of the page, and the depot's point is half way between the left and the right one.
@@ -172,6 +203,8 @@ fn largest(rt: HostRuntime) {
     assert!(&rt; count(text.as_str(), "Route #") == 1_199);
     let text = json_text(alloc, &instance, &finding, SETTINGS).expect(&rt, "memory");
     assert!(&rt; count(text.as_str(), "\"nodes\":[") == 1_199);
+    assert!(&rt; count(text.as_str(), "\"customers\":[") == 1_199);
+    assert!(&rt; count(text.as_str(), "\"gap\":0,") == 1);
     let text = picture_text(alloc, &instance, &finding, &points).expect(&rt, "memory");
     assert!(&rt; count(text.as_str(), "r=\"22\"") == 1_199);
     assert!(&rt; count(text.as_str(), "<path") == 2 * 1_199);

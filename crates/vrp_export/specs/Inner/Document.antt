@@ -1,19 +1,19 @@
 -- The objects of the JSON, member by member.
-use Rattle.std.specs.Option.{option_map}
-use Rattle.std.specs.Prelude.{ℕ, ◌-◌, List, codes}
+use Rattle.std.specs.Prelude.{ℕ, ◌-◌, Option, List, codes}
 use Rattle.serde_json.specs.Data.{Data, array, member, no_members, number, object, string, unsigned}
 use Rattle.serde_json.specs.View.{items_of}
 use Rattle.vrp_answer.specs.Finding.{FindingOf, status_text}
-use Rattle.vrp_export.specs.Json.{number_or_null}
+use Rattle.vrp_export.specs.Json.{cost_told, number_or_null}
 use Rattle.vrp_model.specs.Problem.{Problem, node_of, place_count}
 
--- the document, with these routes and options
-abbrev pub document_of : Problem → FindingOf → List Data → Data → Data
-document_of p finding routes options =
-    object (member (codes "capacity") (number (unsigned p.capacity)) (member (codes "cost") (number_or_null (option_map (λ plan. plan.cost) finding.plan)) (member (codes "customers") (number (unsigned (place_count p - 1)))
-    (member (codes "depot") (number (unsigned (node_of p 0))) (member (codes "lower_bound") (number_or_null finding.lower_bound) (member (codes "options") options
-    (member (codes "routes") (array (items_of routes)) (member (codes "verdict") (string (status_text finding.status)) no_members))))))))
+-- the document, with this gap, these routes and options
+abbrev pub document_of : Problem → FindingOf → Option ℕ → List Data → Data → Data
+document_of p finding gap routes options =
+    object (member (codes "capacity") (number (unsigned p.capacity)) (member (codes "cost") (number_or_null (cost_told finding)) (member (codes "customers") (number (unsigned (place_count p - 1)))
+    (member (codes "depot") (number (unsigned (node_of p 0))) (member (codes "gap") (number_or_null gap) (member (codes "lower_bound") (number_or_null finding.lower_bound) (member (codes "options") options
+    (member (codes "routes") (array (items_of routes)) (member (codes "verdict") (string (status_text finding.status)) no_members)))))))))
 
 -- a route
-abbrev pub route_object : ℕ → ℕ → Data → Data
-route_object cost load nodes = object (member (codes "cost") (number (unsigned cost)) (member (codes "load") (number (unsigned load)) (member (codes "nodes") nodes no_members)))
+abbrev pub route_object : ℕ → ℕ → Data → Data → Data
+route_object cost load customers nodes =
+    object (member (codes "cost") (number (unsigned cost)) (member (codes "customers") customers (member (codes "load") (number (unsigned load)) (member (codes "nodes") nodes no_members))))

@@ -15,6 +15,7 @@ returns c =
     let asked = c.args.settings in
     let objects = map view c.in_ok-routes.routes.items in
     let object = view c.in_ok-document.document in
-    let is : object ≡ document_of p finding objects (options_told asked) = c.in_ok-document.ensures ∙ ap (document_of p finding objects) c.in_ok-options.ensures in
-    let shallow = subst (λ (d : Data). depth d ≤ 4) (sym is) (document_shallow p finding asked (routes_told finding.plan) objects c.in_ok-routes.ensures) in
-    record { value = object; line = c.in_ok-line_of.ensures shallow; document = is_document p finding asked objects object is c.in_ok-routes.ensures }
+    let gap = c.gap_of-gap.result in
+    let is : object ≡ document_of p finding gap objects (options_told asked) = c.in_ok-document.ensures ∙ ap (document_of p finding gap objects) c.in_ok-options.ensures in
+    let shallow = subst (λ (d : Data). depth d ≤ 4) (sym is) (document_shallow p finding gap asked (routes_told finding.plan) objects c.in_ok-routes.ensures) in
+    record { value = object; line = c.in_ok-line_of.ensures shallow; document = is_document p finding gap asked objects object is c.gap_of-gap.ensures c.in_ok-routes.ensures }
