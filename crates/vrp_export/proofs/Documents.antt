@@ -1,6 +1,5 @@
 -- The objects of the JSON: how deep they nest, and what stands in them.
 use Rattle.std.proofs.Common.{◌≡◌, ◌∙◌, ℕ, zero, suc, ◌+◌, ◌≤◌, Option, None, Some, List, [], ◌∷◌, ◌++◌, take, ap, refl, add-one, arith, max}
-use Rattle.std.specs.Option.{option_map}
 use Rattle.std.specs.Prelude.{MatchOption, codes, map}
 use Rattle.std.specs.List.{slice_get}
 use Rattle.std.proofs.Math.Nat.{max-le}
