@@ -123,7 +123,7 @@ fn bound_node(
 }
 
 // The lower bound, rounded up to whole units of cost; 0 where it is negative, or doesn't fit.
-fn whole_lower_bound(prices: &Prices, customers: u128, trucks: u8) -> u64
+pub(crate) fn whole_lower_bound(prices: &Prices, customers: u128, trucks: u8) -> u64
     ensures { 0 < result → gap_of prices.now SCALE customers trucks (result - 1) <ℤ pos 0 }
 {
     let bound = prices.lower_bound(customers, trucks);

@@ -6,7 +6,8 @@ ghost use Rattle.vrp_partition.specs.Pricing.{MarksWithin, StandsInNone};
 ghost use Rattle.vrp_partition.specs.declared.route.Route.{Route};
 ghost use Rattle.vrp_partition.specs.Prices.{AllFit};
 
-use crate::guide::Guide;
+use crate::fleet::Fleet;
+use crate::guide::{Ask, Guide, Tally};
 use crate::priced::marks_by_prices;
 use crate::route::Route;
 use std::alloc::{AllocError, Global};
@@ -21,49 +22,62 @@ pub(crate) struct Kept {
     pub routes: Vec<Route>,
 }
 
-/// For each route of the pool whether it may stand in a choice of so many trucks that costs no more than the limit: one that may not
-/// is `false`. The guide is asked for prices, and again for those that are left as long as it would branch on nobody. How many are
-/// `false` is left open. The demands are those of customers 0 to 127, and each route of the pool has to fit one truck.
-pub fn routes_within<P: Guide>(
+// What a round of prices leaves, and what it tells: what each choice costs at least, and how much the guide worked.
+#[derive(Drop)]
+struct Round {
+    kept: Kept,
+    lower_bound: u64,
+    work: u64,
+}
+
+/// For each route of the pool whether it may stand in a choice of the fleet's trucks that costs no more than the limit: one that may not
+/// is `false`. The guide is asked for prices, and again for those that are left as long as it would branch on nobody and the budget
+/// lasts, of which each round takes one and as much as the guide says that it worked; `ask` is told of each round. How many are `false`
+/// is left open, and so is what is spent. The demands are those of customers 0 to 127, and each route of the pool has to fit one truck.
+pub fn routes_within<P: Guide, A: Ask>(
     alloc: Global,
     guide: &mut P,
-    demands: &[u32],
-    capacity: u32,
-    trucks: u8,
+    ask: &A,
+    fleet: &Fleet<'_>,
     pool: &[Route],
     customers: u128,
     limit: u32,
+    budget: &mut u64,
 ) -> Result<Vec<bool>, AllocError>
-    requires len { length demands.now ≡ 128 }
-    requires fit { AllFit demands.now capacity pool.now }
-    ensures { IfOk result (λ marks. MarksWithin pool.now customers trucks limit marks.items) }
+    requires len { length fleet.now.demands.now ≡ 128 }
+    requires fit { AllFit fleet.now.demands.now fleet.now.capacity pool.now }
+    ensures marks { IfOk result (λ marks. MarksWithin pool.now customers fleet.now.trucks limit marks.items) }
+    ensures budget { budget.new ≤ budget.old }
 {
-    let kept = narrowed_in_rounds(
-        alloc, guide, demands, capacity, trucks, pool, customers, limit,
-    )?;
+    let kept = narrowed_in_rounds(alloc, guide, ask, fleet, pool, customers, limit, budget)?;
     marks_of(alloc, pool.len(), kept.places.as_slice())
 }
 
 // The routes that rounds of prices leave.
-fn narrowed_in_rounds<P: Guide>(
+fn narrowed_in_rounds<P: Guide, A: Ask>(
     alloc: Global,
     guide: &mut P,
-    demands: &[u32],
-    capacity: u32,
-    trucks: u8,
+    ask: &A,
+    fleet: &Fleet<'_>,
     pool: &[Route],
     customers: u128,
     limit: u32,
+    budget: &mut u64,
 ) -> Result<Kept, AllocError>
-    requires len { length demands.now ≡ 128 }
-    requires fit { AllFit demands.now capacity pool.now }
-    ensures { IfOk result (IsNarrowed pool.now customers trucks limit) }
+    requires len { length fleet.now.demands.now ≡ 128 }
+    requires fit { AllFit fleet.now.demands.now fleet.now.capacity pool.now }
+    ensures kept { IfOk result (IsNarrowed pool.now customers fleet.now.trucks limit) }
+    ensures budget { budget.new ≤ budget.old }
 {
     let mut kept = all_routes(alloc, pool)?;
     for _ in 0..MOST_ROUNDS {
-        kept = narrowed(
-            alloc, guide, demands, capacity, trucks, pool, kept, customers, limit,
-        )?;
+        if *budget == 0 {
+            return Ok(kept);
+        }
+        let round = narrowed(alloc, guide, fleet, pool, kept, customers, limit)?;
+        *budget = (*budget - 1).saturating_sub(round.work);
+        ask.on_round(tally_of(&round, limit));
+        kept = round.kept;
         if guide.group(kept.routes.as_slice())? != 0 || !guide.should_continue() {
             return Ok(kept);
         }
@@ -71,34 +85,47 @@ fn narrowed_in_rounds<P: Guide>(
     Ok(kept)
 }
 
+// How far the search is after a round: nobody has looked at its first node yet. Nothing is promised of it.
+fn tally_of(round: &Round, limit: u32) -> Tally {
+    let incumbent = u64::from(limit) + 1;
+    Tally {
+        done: 0,
+        open: 1,
+        incumbent,
+        lower_bound: round.lower_bound.min(incumbent),
+    }
+}
+
 // Those of the routes that may stand in such a choice by prices for them.
 fn narrowed<P: Guide>(
     alloc: Global,
     guide: &mut P,
-    demands: &[u32],
-    capacity: u32,
-    trucks: u8,
+    fleet: &Fleet<'_>,
     pool: &[Route],
     kept: Kept,
     customers: u128,
     limit: u32,
-) -> Result<Kept, AllocError>
-    requires len { length demands.now ≡ 128 }
-    requires fit { AllFit demands.now capacity pool.now }
-    requires narrowed { IsNarrowed pool.now customers trucks limit kept }
-    ensures { IfOk result (IsNarrowed pool.now customers trucks limit) }
+) -> Result<Round, AllocError>
+    requires len { length fleet.now.demands.now ≡ 128 }
+    requires fit { AllFit fleet.now.demands.now fleet.now.capacity pool.now }
+    requires narrowed { IsNarrowed pool.now customers fleet.now.trucks limit kept }
+    ensures { IfOk result (λ round. IsNarrowed pool.now customers fleet.now.trucks limit round.kept) }
 {
-    let marks = marks_by_prices(
+    let priced = marks_by_prices(
         alloc,
         guide,
-        demands,
-        capacity,
-        trucks,
+        fleet,
         kept.routes.as_slice(),
         customers,
         limit,
     )?;
-    marked(alloc, pool, kept.places.as_slice(), marks.as_slice())
+    let marks = priced.marks.as_slice();
+    let kept = marked(alloc, pool, kept.places.as_slice(), marks)?;
+    Ok(Round {
+        kept,
+        lower_bound: priced.lower_bound,
+        work: priced.work,
+    })
 }
 
 // All routes of the pool.

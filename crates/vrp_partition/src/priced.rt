@@ -3,7 +3,8 @@ ghost use Rattle.std.specs.Prelude.{◌≡◌, IfOk, IfSome, int_le, length, map
 ghost use Rattle.vrp_partition.specs.Pricing.{IsPriced, MarksWithin};
 ghost use Rattle.vrp_partition.specs.Prices.{AllFit};
 
-use crate::bounding::gap_below;
+use crate::bounding::{gap_below, whole_lower_bound};
+use crate::fleet::Fleet;
 use crate::guide::Guide;
 use crate::pool::{none_negative, reduced_costs};
 use crate::prices::{MOST_CUSTOMERS, PriceOffer, Prices};
@@ -17,27 +18,63 @@ pub(crate) struct PricedPool {
     pub costs: Vec<i64>,
 }
 
-/// For each route of the pool whether it may stand in a choice of so many trucks that costs no more than the limit, by prices that
-/// the guide offers for the pool: one that may not is `false`. How many are `false` is left open.
+/// What prices make of a pool: for each route whether it may stand in a choice of so many trucks that costs no more than the limit, one
+/// that may not is `false`; what each choice costs at least; and how much the guide worked.
+#[derive(Debug, Drop)]
+pub(crate) struct PricedMarks {
+    pub marks: Vec<bool>,
+    pub lower_bound: u64,
+    pub work: u64,
+}
+
+/// The marks of a pool by prices that the guide offers for it. How many are `false` is left open, and so is the lower bound, which is
+/// only told.
 pub(crate) fn marks_by_prices<P: Guide>(
     alloc: Global,
     guide: &mut P,
-    demands: &[u32],
-    capacity: u32,
-    trucks: u8,
+    fleet: &Fleet<'_>,
     pool: &[Route],
     customers: u128,
     limit: u32,
-) -> Result<Vec<bool>, AllocError>
-    requires len { length demands.now ≡ 128 }
-    requires fit { AllFit demands.now capacity pool.now }
-    ensures { IfOk result (λ marks. MarksWithin pool.now customers trucks limit marks.items) }
+) -> Result<PricedMarks, AllocError>
+    requires len { length fleet.now.demands.now ≡ 128 }
+    requires fit { AllFit fleet.now.demands.now fleet.now.capacity pool.now }
+    ensures { IfOk result (λ priced. MarksWithin pool.now customers fleet.now.trucks limit priced.marks.items) }
 {
     let incumbent = u64::from(limit) + 1;
     let offer = guide.offer(pool, customers, incumbent)?;
-    let Some(priced) = valid_prices(alloc, offer, demands, capacity, pool, customers)? else {
-        return vec![in alloc; true; pool.len()];
+    let work = offer.work;
+    let Some(priced) = valid_prices(alloc, offer, fleet.demands, fleet.capacity, pool, customers)?
+    else {
+        let marks = vec![in alloc; true; pool.len()]?;
+        return Ok(PricedMarks {
+            marks,
+            lower_bound: 0,
+            work,
+        });
     };
+    let lower_bound = whole_lower_bound(&priced.prices, customers, fleet.trucks);
+    let marks = marks_below(alloc, &priced, pool, customers, fleet.trucks, limit)?;
+    Ok(PricedMarks {
+        marks,
+        lower_bound,
+        work,
+    })
+}
+
+// The marks of a priced pool.
+fn marks_below(
+    alloc: Global,
+    priced: &PricedPool,
+    pool: &[Route],
+    customers: u128,
+    trucks: u8,
+    limit: u32,
+) -> Result<Vec<bool>, AllocError>
+    requires priced { IsPriced pool.now customers priced.now }
+    ensures { IfOk result (λ marks. MarksWithin pool.now customers trucks limit marks.items) }
+{
+    let incumbent = u64::from(limit) + 1;
     match gap_below(&priced.prices, customers, trucks, incumbent) {
         Some(gap) => marks_within(alloc, priced.costs.as_slice(), gap),
         None => marks_within(alloc, priced.costs.as_slice(), -1),

@@ -424,15 +424,21 @@ fn marks(
         habit,
         random: Random(u64::from(limit)),
     };
+    let fleet = Fleet {
+        demands: &demands,
+        capacity: 3,
+        trucks,
+    };
+    let mut budget = u64::MAX;
     let marks = routes_within(
         alloc,
         &mut guide,
-        &demands,
-        3,
-        trucks,
+        &Always,
+        &fleet,
         pool,
         all_customers(),
         limit,
+        &mut budget,
     );
     marks.expect(rt, "memory")
 }

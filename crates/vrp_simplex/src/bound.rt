@@ -1,8 +1,12 @@
 //! The lower bound by the program's prices.
+use crate::fixed_point::wide_product;
 use crate::program::Program;
 use crate::row_prices::RowPrices;
 use std::alloc::AllocError;
 use vrp_partition::Route;
+
+// Larger prices are no solution's: sums of them may have wrapped.
+const MOST_PRICE: u64 = 1 << 50;
 
 impl Program {
     /// A lower bound by the prices, as a price, with the signs that a bound wants: the sum of the prices, and the least reduced cost
@@ -19,16 +23,17 @@ impl Program {
         }
         self.count_looks(rest.len());
         let customers = i64::try_from(self.customer_rows()).unwrap_or(0);
-        Ok(self.price_sum().wrapping_add(least.wrapping_mul(customers)))
+        let lowered = wide_product(least, customers);
+        Ok(as_bound(self.price_sum().wrapping_add(lowered)))
     }
 
     /// The sum of the prices, each times its row's right-hand side, not raised.
-    pub(crate) fn price_sum(&self) -> i64 {
-        let mut sum = 0i64;
+    pub(crate) fn price_sum(&self) -> i128 {
+        let mut sum = 0i128;
         for (row, &price) in self.prices.iter().enumerate() {
             let cut = row.checked_sub(self.customer_rows());
             let side = cut.map_or(1, |cut| self.cuts.get(cut).map_or(0, |cut| cut.side()));
-            sum = sum.wrapping_add(price.wrapping_mul(side));
+            sum = sum.wrapping_add(wide_product(price, side));
         }
         sum
     }
@@ -40,4 +45,9 @@ impl Program {
             *price = cut.fit(*price);
         }
     }
+}
+
+/// A sum of prices as a bound; nothing where it is too large for one.
+pub(crate) fn as_bound(sum: i128) -> i64 {
+    i64::try_from(sum).unwrap_or(i64::MIN)
 }

@@ -43,11 +43,15 @@ impl Program {
     }
 
     /// The prices of the rows, by the basis.
-    pub(crate) fn make_prices(&mut self) {
+    pub(crate) fn make_prices(&mut self) -> Result<(), AllocError> {
+        self.wide_prices.clear();
         let columns = self.inverse.chunks_exact(self.stride.max(1));
         for (price, column) in self.prices.iter_mut().zip(columns) {
-            *price = as_price(dot(column, self.costs.as_slice()));
+            let wide = dot(column, self.costs.as_slice());
+            *price = as_price(wide);
+            self.wide_prices.push(wide)?;
         }
+        Ok(())
     }
 
     /// The reduced costs of all routes, by the prices.

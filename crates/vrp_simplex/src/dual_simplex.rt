@@ -1,4 +1,5 @@
 //! The dual simplex.
+use crate::bound::as_bound;
 use crate::fixed_point::{ONE, UNIT, at, is_quotient_at_most, product, quotient};
 use crate::program::{Basic, Program};
 use crate::rows::{Pair, Pairs, no_pairs, sums};
@@ -26,6 +27,9 @@ const MORE_LISTED: usize = 6;
 
 // After so many steps it is asked whether the search goes on.
 const STEPS_BETWEEN: u64 = 64;
+
+// By so much a column's entry in the leaving row may be another by the row than by the column, before the inverse is made anew.
+const MOST_APART: i64 = ONE >> 20;
 
 // A row that is to leave the basis, how far its value is from where it may be, and on which side.
 #[derive(Clone, Copy)]
@@ -90,7 +94,7 @@ impl Program {
         let mut many = many;
         let mut end = DualEnd::StepLimit;
         for _ in 0..MOST_SHORTLISTS {
-            self.make_prices();
+            self.make_prices()?;
             self.reduce();
             self.make_shortlist(many)?;
             let start = if self.is_shortened() {
@@ -139,7 +143,7 @@ impl Program {
                 return Ok(DualEnd::Feasible);
             }
             // Not what the solution costs, which is more by the raises.
-            let low = self.price_sum();
+            let low = as_bound(self.price_sum());
             if low > enough {
                 return Ok(DualEnd::AboveLimit);
             }
@@ -173,13 +177,21 @@ impl Program {
             rows,
         } = scratch;
         self.write_pairs(leaving, pairs);
-        let Some(entering) = self.entering(pairs) else {
+        let found = self.entering(pairs);
+        let Some(entering) = found.basic else {
             return Ok(false);
         };
         self.write_direction(entering, rows, direction.as_mut_slice())?;
         self.dual_steps = self.dual_steps.saturating_add(1);
         let count = self.shortlist.listed.len();
         self.count_looks(count);
+        let moves = at(direction.as_slice(), leaving.row);
+        let apart = moves.wrapping_mul(leaving.sign).wrapping_sub(found.largest);
+        if self.exchanges > 0 && apart.saturating_abs() > MOST_APART {
+            self.invert()?;
+            self.make_prices()?;
+            return Ok(true);
+        }
         self.pivot(leaving.row, entering, direction.as_slice())?;
         Ok(true)
     }
@@ -192,7 +204,7 @@ impl Program {
             self.exchange(row, entering, direction, value)
         } else {
             self.invert()?;
-            self.make_prices();
+            self.make_prices()?;
             Ok(())
         }
     }
@@ -231,7 +243,7 @@ impl Program {
     }
 
     // The column that comes into the basis.
-    fn entering(&self, pairs: &Pairs) -> Option<Basic> {
+    fn entering(&self, pairs: &Pairs) -> Entering {
         let mut entering = Entering {
             least: i64::MAX,
             largest: 0,
@@ -247,7 +259,7 @@ impl Program {
             let moves = line.wrapping_mul(found.slack());
             entering.look(moves, self.reduced_slack(cut), Basic::Slack(cut));
         }
-        entering.basic
+        entering
     }
 
     // Raises the prices along a ray, by so much.

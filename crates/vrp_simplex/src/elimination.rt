@@ -1,6 +1,6 @@
-//! The inverse made anew.
+//! The inverse made anew; a basis that has none, or nearly none, is made one that has.
 use crate::fixed_point::{ONE, at, dot, low_half, product, put, quotient};
-use crate::program::Program;
+use crate::program::{Basic, Program};
 use std::alloc::{AllocError, Global};
 use std::mem;
 
@@ -9,6 +9,8 @@ use std::mem;
 struct Matrix {
     height: usize,
     cells: Vec<i64>,
+    // Which row of the program each row was at first.
+    origins: Vec<usize>,
     // What stands in the pivot's row.
     pivot: Vec<Entry>,
 }
@@ -20,18 +22,32 @@ struct Entry {
     number: i64,
 }
 
+// A smaller pivot shows that a column of the basis nearly depends on those before it.
+const LEAST_PIVOT: i64 = ONE >> 12;
+
 impl Program {
-    /// Makes the inverse and the values anew from the basis, by elimination. Where the basis has none, they stay.
+    /// Makes the inverse and the values anew from the basis, by elimination. A column that depends on those before it leaves the
+    /// basis for an artificial one.
     pub(crate) fn invert(&mut self) -> Result<(), AllocError> {
         self.exchanges = 0;
         let mut matrix = self.matrix()?;
         for column in 0..self.height() {
             if !matrix.eliminate(column)? {
-                return Ok(());
+                let row = matrix.replace(column);
+                self.put_artificial(column, row);
+                matrix.eliminate(column)?;
             }
         }
         self.read_inverse(&matrix);
         Ok(())
+    }
+
+    // Puts the artificial column of a row into a place of the basis.
+    fn put_artificial(&mut self, place: usize, row: usize) {
+        if let Some(basic) = self.basis.get_mut(place) {
+            *basic = Basic::Artificial(row);
+        }
+        put(self.costs.as_mut_slice(), place, self.artificial_cost);
     }
 
     // The basis beside the rows of one.
@@ -67,9 +83,14 @@ impl Program {
 impl Matrix {
     fn new(alloc: Global, height: usize) -> Result<Matrix, AllocError> {
         let size = height.saturating_mul(height).saturating_mul(2);
+        let mut origins = Vec::with_capacity(alloc, height)?;
+        for row in 0..height {
+            origins.push(row)?;
+        }
         Ok(Matrix {
             height,
             cells: vec![in alloc; 0; size]?,
+            origins,
             pivot: Vec::new(alloc),
         })
     }
@@ -87,7 +108,7 @@ impl Matrix {
     // Makes a column one of the unit's. False where it has no pivot.
     fn eliminate(&mut self, column: usize) -> Result<bool, AllocError> {
         let (row, size) = self.largest(column);
-        if size < ONE >> 20 {
+        if size < LEAST_PIVOT {
             return Ok(false);
         }
         self.swap(column, row);
@@ -104,6 +125,18 @@ impl Matrix {
             }
         }
         Ok(true)
+    }
+
+    // Makes a column that of the unit in the pivot's row, as it was at first: what was done to that is beside it. Answers that row.
+    fn replace(&mut self, column: usize) -> usize {
+        let origin = self.origins.get(column).copied().unwrap_or(column);
+        let from = self.height.saturating_add(origin);
+        let width = self.width();
+        for cells in self.cells.chunks_exact_mut(width.max(1)) {
+            let number = at(cells, from);
+            put(cells, column, number);
+        }
+        origin
     }
 
     // The row, from the pivot's on, with the largest number in a column.
@@ -131,6 +164,9 @@ impl Matrix {
             for (left, right) in row.iter_mut().zip(behind) {
                 mem::swap(left, right);
             }
+        }
+        if second < self.origins.len() {
+            self.origins.as_mut_slice().swap(first, second);
         }
     }
 

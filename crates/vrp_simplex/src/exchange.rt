@@ -1,10 +1,19 @@
 //! Exchanges in the basis.
-use crate::fixed_point::{as_price, at, product, put, quotient, subtract_times, wide_product};
-use crate::program::{Basic, Program};
+use crate::fixed_point::{
+    UNIT, as_price, at, product, put, quotient, subtract_times, wide_product, wide_times,
+};
+use crate::program::{Basic, Column, Program};
 use std::alloc::AllocError;
 
 // After so many exchanges the inverse is made anew.
 const MOST_EXCHANGES: u64 = 100;
+
+/// A row whose value moves as a column comes in, and by how much of it.
+#[derive(Clone, Copy, Debug)]
+pub(crate) struct Touched {
+    row: usize,
+    moves: i64,
+}
 
 impl Program {
     /// A column comes into the basis at a row, with a value; it is seen in this direction. The prices are those of the basis, before
@@ -17,17 +26,22 @@ impl Program {
         value: i64,
     ) -> Result<(), AllocError> {
         let cost = self.cost_of(entering);
+        let reduced = self.wide_reduced_cost(entering);
         put(self.costs.as_mut_slice(), row, cost);
         subtract_times(self.values.as_mut_slice(), direction, value);
         put(self.values.as_mut_slice(), row, value);
+        self.touch(direction)?;
         let pivot = at(direction, row);
-        let costs = self.costs.as_slice();
+        let touched = self.touched.as_slice();
         let columns = self.inverse.chunks_exact_mut(self.stride.max(1));
-        for (column, price) in columns.zip(self.prices.iter_mut()) {
+        let prices = self.prices.iter_mut().zip(self.wide_prices.iter_mut());
+        for (column, (price, wide)) in columns.zip(prices) {
             let before = at(column, row);
             if before != 0 {
                 let factor = quotient(before, pivot);
-                *price = as_price(exchange_in(column, row, factor, direction, costs));
+                exchange_in(column, row, factor, touched);
+                *wide = wide.wrapping_add(wide_times(reduced, factor));
+                *price = as_price(*wide);
             }
         }
         if let Some(place) = self.basis.get_mut(row) {
@@ -36,28 +50,61 @@ impl Program {
         self.exchanges = self.exchanges.saturating_add(1);
         if self.exchanges >= MOST_EXCHANGES {
             self.invert()?;
-            self.make_prices();
+            self.make_prices()?;
         }
         Ok(())
     }
+
+    // Lists the rows that a direction moves.
+    fn touch(&mut self, direction: &[i64]) -> Result<(), AllocError> {
+        self.touched.clear();
+        for (row, &moves) in direction.iter().enumerate() {
+            if moves != 0 {
+                self.touched.push(Touched { row, moves })?;
+            }
+        }
+        Ok(())
+    }
+
+    // The reduced cost of a column, as wide as the prices that it is made of.
+    fn wide_reduced_cost(&self, basic: Basic) -> i128 {
+        match basic {
+            Basic::Route(route) => match self.columns.get(route) {
+                Some(column) => self.wide_rest(column),
+                None => 0,
+            },
+            Basic::Slack(cut) => {
+                let price = self.wide_price(self.cut_row(cut));
+                let slack = self.cuts.get(cut).map_or(0, |found| found.slack());
+                price.wrapping_mul(i128::from(slack.wrapping_neg()))
+            }
+            Basic::Artificial(_) | Basic::Gone(_) => 0,
+        }
+    }
+
+    // What a column costs, less the prices of its rows.
+    fn wide_rest(&self, column: &Column) -> i128 {
+        let mut rest = wide_product(column.cost, UNIT);
+        for quad in column.of(self.quads.as_slice()) {
+            for &row in quad.iter() {
+                rest = rest.wrapping_sub(self.wide_price(usize::from(row)));
+            }
+        }
+        rest
+    }
+
+    fn wide_price(&self, row: usize) -> i128 {
+        self.wide_prices.get(row).copied().unwrap_or(0)
+    }
 }
 
-// Exchanges a row in a column of the inverse. Returns the column's product with the costs.
+// Exchanges a row in a column of the inverse.
 #[inline(always)]
-fn exchange_in(
-    column: &mut [i64],
-    row: usize,
-    factor: i64,
-    direction: &[i64],
-    costs: &[i64],
-) -> i128 {
-    let mut sum = 0i128;
-    for (cell, (&down, &cost)) in column.iter_mut().zip(direction.iter().zip(costs)) {
-        let next = cell.wrapping_sub(product(down, factor));
-        *cell = next;
-        sum = sum.wrapping_add(wide_product(next, cost));
+fn exchange_in(column: &mut [i64], row: usize, factor: i64, touched: &[Touched]) {
+    for &Touched { row, moves } in touched {
+        if let Some(cell) = column.get_mut(row) {
+            *cell = cell.wrapping_sub(product(moves, factor));
+        }
     }
-    let more = factor.wrapping_sub(at(column, row));
     put(column, row, factor);
-    sum.wrapping_add(wide_product(more, at(costs, row)))
 }

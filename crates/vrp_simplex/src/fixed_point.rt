@@ -32,6 +32,12 @@ pub(crate) fn product(left: i64, right: i64) -> i64 {
     low_half(wide_product(left, right).wrapping_add(HALF) >> 40)
 }
 
+/// A price in units of 1/2^40, times a value.
+#[inline(always)]
+pub(crate) fn wide_times(price: i128, value: i64) -> i128 {
+    price.wrapping_mul(i128::from(value)).wrapping_add(HALF) >> 40
+}
+
 /// A quotient of values, cut; by 0, 0.
 pub(crate) fn quotient(upper: i64, lower: i64) -> i64 {
     let upper = i128::from(upper).wrapping_mul(WIDE_ONE);

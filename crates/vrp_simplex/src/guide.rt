@@ -1,4 +1,6 @@
 //! The guide of a search: it is asked for prices and for customers to branch on, and answers by the linear program.
+use crate::fixed_point::UNIT;
+use crate::inherited::Inherited;
 use crate::node::{MOST_IN_SIGHT, Node, Progress};
 use crate::program::Program;
 use std::alloc::{AllocError, Global};
@@ -13,6 +15,8 @@ pub struct ProgramGuide<'a, A: Ask> {
     // The sets of routes that are to be in sight from the first.
     known: Vec<u128>,
     program: Option<Program>,
+    // What was offered last.
+    last: Option<Inherited>,
     progress: Progress,
 }
 
@@ -26,6 +30,7 @@ impl<'a, A: Ask> ProgramGuide<'a, A> {
             ask,
             known,
             program: None,
+            last: None,
             progress: Progress::new(true),
         }
     }
@@ -55,6 +60,10 @@ impl<'a, A: Ask> ProgramGuide<'a, A> {
                 self.first_program(pool, customers)?
             }
         };
+        let (best, best_bound) = match self.last.take() {
+            Some(last) if last.customers == customers => (Some(last.prices), last.bound),
+            _ => (None, i64::MIN),
+        };
         Ok(Node {
             alloc: self.alloc,
             ask: self.ask,
@@ -63,8 +72,9 @@ impl<'a, A: Ask> ProgramGuide<'a, A> {
             rest,
             limit,
             progress: self.progress,
-            best: None,
-            best_bound: i64::MIN,
+            best,
+            best_bound,
+            own_bound: i64::MIN,
         })
     }
 
@@ -86,8 +96,17 @@ impl<'a, A: Ask> ProgramGuide<'a, A> {
                 }
             }
         }
-        let trucks = self.fleet.trucks;
-        let program = Program::new(self.alloc, customers, trucks, sample.as_slice())?;
+        let cuts = match &self.last {
+            Some(last) => last.cuts(self.alloc, customers, &self.fleet)?,
+            None => Vec::new(self.alloc),
+        };
+        let program = Program::with_cuts(
+            self.alloc,
+            customers,
+            self.fleet.trucks,
+            cuts.as_slice(),
+            sample.as_slice(),
+        )?;
         Ok((program, rest))
     }
 }
@@ -114,19 +133,7 @@ impl<A: Ask> Guide for ProgramGuide<'_, A> {
         let mut node = self.node(pool, customers, limit)?;
         let before = node.program.looked_at();
         node.run()?;
-        let Node {
-            program,
-            progress,
-            best,
-            ..
-        } = node;
-        let work = program.looked_at().saturating_sub(before);
-        self.program = Some(program);
-        self.progress = progress;
-        match best {
-            Some(offer) => Ok(PriceOffer { work, ..offer }),
-            None => no_prices(self.alloc),
-        }
+        self.keep(node, before)
     }
 
     fn group(&mut self, pool: &[Route]) -> Result<u128, AllocError> {
@@ -143,14 +150,49 @@ impl<A: Ask> Guide for ProgramGuide<'_, A> {
             Some(program) if !self.progress.is_paused => Some(program.clone()?),
             _ => None,
         };
+        let last = match &self.last {
+            Some(last) => Some(last.clone()?),
+            None => None,
+        };
         Ok(ProgramGuide {
             alloc: self.alloc,
             fleet: self.fleet,
             ask: self.ask,
             known: Vec::new(self.alloc),
             program,
+            last,
             progress: Progress::new(false),
         })
+    }
+}
+
+impl<'a, A: Ask> ProgramGuide<'a, A> {
+    // Keeps a node's program and its prices for the next node, and offers the prices. A bound can't fall from node to node: where that
+    // of the program did, it is stuck, and the next node begins with a new one.
+    fn keep(&mut self, node: Node<'a, A>, before: u64) -> Result<PriceOffer, AllocError> {
+        let Node {
+            program,
+            progress,
+            best,
+            best_bound,
+            own_bound,
+            ..
+        } = node;
+        let work = program.looked_at().saturating_sub(before);
+        let customers = program.customers;
+        let is_stuck = own_bound < best_bound.saturating_sub(UNIT) && !progress.is_root;
+        self.progress = progress;
+        self.program = if is_stuck { None } else { Some(program) };
+        let Some(prices) = best else {
+            return no_prices(self.alloc);
+        };
+        let offer = prices.offer(self.alloc, work)?;
+        self.last = Some(Inherited {
+            customers,
+            bound: best_bound,
+            prices,
+        });
+        Ok(offer)
     }
 }
 

@@ -15,6 +15,7 @@ mod elimination;
 mod exchange;
 mod fixed_point;
 mod guide;
+mod inherited;
 mod node;
 mod primal_simplex;
 mod program;

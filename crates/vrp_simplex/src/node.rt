@@ -4,7 +4,7 @@ use crate::fixed_point::UNIT;
 use crate::program::Program;
 use crate::row_prices::RowPrices;
 use std::alloc::{AllocError, Global};
-use vrp_partition::{Ask, Fleet, PriceOffer, Route};
+use vrp_partition::{Ask, Fleet, Route};
 
 /// The program has about so many routes in sight.
 pub(crate) const MOST_IN_SIGHT: usize = 20_000;
@@ -29,7 +29,7 @@ const MOST_DUAL_STEPS: u64 = 5_000;
 
 const MOST_FIRST_STEPS: u64 = 20_000;
 
-const MOST_STEPS_A_PASS: u64 = 3_000;
+const MOST_STEPS_A_PASS: u64 = 20_000;
 
 // The rest is looked through so often, and each time so many routes come in.
 const MOST_PASSES: usize = 60;
@@ -92,8 +92,11 @@ pub(crate) struct Node<'a, A: Ask> {
     // What a choice that is sought costs at most, as a price.
     pub(crate) limit: i64,
     pub(crate) progress: Progress,
-    pub(crate) best: Option<PriceOffer>,
+    // The prices that bound best, of those before this node too.
+    pub(crate) best: Option<RowPrices>,
     pub(crate) best_bound: i64,
+    // What the program's own prices bound at best.
+    pub(crate) own_bound: i64,
 }
 
 impl<A: Ask> Node<'_, A> {
@@ -155,7 +158,7 @@ impl<A: Ask> Node<'_, A> {
     // Solves the program over the whole pool.
     fn solve(&mut self) -> Result<(), AllocError> {
         if self.progress.is_root && self.progress.round == 0 {
-            self.program.primal_simplex(self.ask, MOST_FIRST_STEPS)?;
+            self.program.solve_first(self.ask, MOST_FIRST_STEPS)?;
         } else if !self.solve_anew()? {
             return Ok(());
         }
@@ -164,6 +167,7 @@ impl<A: Ask> Node<'_, A> {
 
     // Solves the program after a change. False where the bound is above the limit.
     fn solve_anew(&mut self) -> Result<bool, AllocError> {
+        self.finish_primal()?;
         let limit = if self.rest.is_empty() {
             self.limit
         } else {
@@ -185,6 +189,16 @@ impl<A: Ask> Node<'_, A> {
         }
     }
 
+    // The dual simplex wants reduced costs that are not negative: where steps ended early, the primal simplex goes on first.
+    fn finish_primal(&mut self) -> Result<(), AllocError> {
+        self.program.make_prices()?;
+        self.program.reduce();
+        if self.program.has_negative() {
+            self.program.primal_simplex(self.ask, MOST_STEPS_A_PASS)?;
+        }
+        Ok(())
+    }
+
     // Routes of the rest with negative reduced costs come into sight, until there are none.
     fn look_through_rest(&mut self) -> Result<(), AllocError> {
         for _ in 0..MOST_PASSES {
@@ -203,7 +217,7 @@ impl<A: Ask> Node<'_, A> {
 
     // The routes of the rest with the least reduced costs come into sight, if those are negative. False where none is.
     fn take_negative(&mut self) -> Result<bool, AllocError> {
-        self.program.make_prices();
+        self.program.make_prices()?;
         let prices = RowPrices::new(&self.program)?;
         let nothing = self.program.tolerance().wrapping_neg().wrapping_sub(1);
         let mut some = Vec::new(self.alloc);
@@ -229,12 +243,12 @@ impl<A: Ask> Node<'_, A> {
         Ok(!some.is_empty())
     }
 
-    // Offers the prices of today, if they bound better than those before. Returns their bound.
+    // Takes the prices of today, if they bound better than those before. Returns their bound.
     fn record(&mut self) -> Result<i64, AllocError> {
         let bound = self.program.lower_bound(self.rest.as_slice())?;
+        self.own_bound = self.own_bound.max(bound);
         if self.best.is_none() || bound > self.best_bound {
-            let prices = RowPrices::new(&self.program)?;
-            self.best = Some(prices.offer(&self.program, 0)?);
+            self.best = Some(RowPrices::new(&self.program)?);
             self.best_bound = bound;
         }
         Ok(bound)

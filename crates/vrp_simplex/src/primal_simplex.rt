@@ -44,7 +44,7 @@ impl Program {
     pub fn primal_simplex<A: Ask>(&mut self, ask: &A, most: u64) -> Result<(), AllocError> {
         let last = self.primal_steps.saturating_add(most);
         for _ in 0..u64::MAX {
-            self.make_prices();
+            self.make_prices()?;
             let mut some = self.candidates()?;
             if some.is_empty() || self.primal_steps > last || !ask.should_continue() {
                 break;

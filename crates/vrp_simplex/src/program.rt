@@ -1,5 +1,6 @@
 //! The linear program, and its rows.
 use crate::cut::{Cut, CutKind};
+use crate::exchange::Touched;
 use crate::fixed_point::at;
 use crate::raises::Raise;
 use crate::rows::{MOST_ROWS, Quad};
@@ -80,6 +81,8 @@ pub struct Program {
     pub(crate) inverse: Vec<i64>,
     pub(crate) stride: usize,
     pub(crate) prices: Vec<i64>,
+    // The same in units of 1/2^40, as they were when the inverse last changed.
+    pub(crate) wide_prices: Vec<i128>,
     pub(crate) artificial_cost: i64,
     pub(crate) dearest: i64,
     pub(crate) primal_steps: u64,
@@ -87,6 +90,8 @@ pub struct Program {
     pub(crate) looked_at: u64,
     // How many exchanges there were since the inverse was made anew.
     pub(crate) exchanges: u64,
+    // The rows that the last exchange moved.
+    pub(crate) touched: Vec<Touched>,
     // By which the right-hand sides are raised.
     pub(crate) raises: Vec<Raise>,
     pub(crate) random: u64,
@@ -103,7 +108,37 @@ impl Program {
         trucks: u8,
         pool: &[Route],
     ) -> Result<Program, AllocError> {
-        let mut program = Program {
+        Program::with_cuts(alloc, customers, trucks, &[], pool)
+    }
+
+    /// The same with cuts, as many as there is room for.
+    pub(crate) fn with_cuts(
+        alloc: Global,
+        customers: u128,
+        trucks: u8,
+        cuts: &[Cut],
+        pool: &[Route],
+    ) -> Result<Program, AllocError> {
+        let mut program = Program::empty(alloc, customers);
+        if u32::from(trucks) < customers.count_ones() {
+            program.cuts.push(Cut {
+                set: customers,
+                kind: CutKind::Trucks(u32::from(trucks)),
+            })?;
+        }
+        for cut in cuts {
+            if program.has_room() {
+                program.cuts.push(*cut)?;
+            }
+        }
+        program.add_routes(pool)?;
+        program.begin()?;
+        Ok(program)
+    }
+
+    // A program with no row and no column.
+    fn empty(alloc: Global, customers: u128) -> Program {
+        Program {
             alloc,
             customers,
             routes: Vec::new(alloc),
@@ -119,25 +154,18 @@ impl Program {
             inverse: Vec::new(alloc),
             stride: 0,
             prices: Vec::new(alloc),
+            wide_prices: Vec::new(alloc),
             artificial_cost: 4,
             dearest: 1,
             primal_steps: 0,
             dual_steps: 0,
             looked_at: 0,
             exchanges: 0,
+            touched: Vec::new(alloc),
             raises: Vec::new(alloc),
             random: 12345,
             raise_shift: 0,
-        };
-        if u32::from(trucks) < customers.count_ones() {
-            program.cuts.push(Cut {
-                set: customers,
-                kind: CutKind::Trucks(u32::from(trucks)),
-            })?;
         }
-        program.add_routes(pool)?;
-        program.begin()?;
-        Ok(program)
     }
 
     /// Adds those of the routes that serve none but the program's customers.

@@ -15,6 +15,11 @@ impl Program {
     pub(crate) fn restart<A: Ask>(&mut self, ask: &A, most: u64) -> Result<(), AllocError> {
         self.raise_shift = self.raise_shift.saturating_add(LESS_RAISED);
         self.begin()?;
+        self.solve_first(ask, most)
+    }
+
+    /// Solves the program from artificial columns on. They are made dearer while some have a value. What comes of it is left open.
+    pub(crate) fn solve_first<A: Ask>(&mut self, ask: &A, most: u64) -> Result<(), AllocError> {
         self.primal_simplex(ask, most)?;
         for _ in 0..DEARER {
             if !self.has_artificial() || !ask.should_continue() {

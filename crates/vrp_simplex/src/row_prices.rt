@@ -2,7 +2,7 @@
 use crate::cut::CutKind;
 use crate::fixed_point::{at, price_of};
 use crate::program::Program;
-use std::alloc::AllocError;
+use std::alloc::{AllocError, Global};
 use vrp_partition::{Cut, PriceOffer, Route};
 
 // The dual of a customer whom no route may serve.
@@ -14,7 +14,7 @@ const MOST_DUAL: i64 = 1 << 52;
 const MOST_CUT_PRICE: u64 = 1 << 50;
 
 /// The prices of a program's rows.
-#[derive(Debug, Drop)]
+#[derive(Clone, Debug, Drop)]
 pub(crate) struct RowPrices {
     duals: [i64; 128],
     truck_price: u64,
@@ -89,20 +89,23 @@ impl RowPrices {
         if rest > mark { None } else { Some(rest) }
     }
 
+    /// The subset-row cuts that have a price.
+    pub(crate) fn subset_rows(&self) -> &[Cut] {
+        self.subset_rows.as_slice()
+    }
+
+    /// The capacity cuts that have a price.
+    pub(crate) fn capacity_cuts(&self) -> &[Cut] {
+        self.capacity_cuts.as_slice()
+    }
+
     /// These prices as an offer, found by so many looks.
-    pub(crate) fn offer(self, program: &Program, work: u64) -> Result<PriceOffer, AllocError> {
-        let duals = Vec::from_slice(program.alloc, &self.duals)?;
-        let RowPrices {
-            truck_price,
-            subset_rows,
-            capacity_cuts,
-            ..
-        } = self;
+    pub(crate) fn offer(&self, alloc: Global, work: u64) -> Result<PriceOffer, AllocError> {
         Ok(PriceOffer {
-            duals,
-            subset_rows,
-            capacity_cuts,
-            truck_price,
+            duals: Vec::from_slice(alloc, &self.duals)?,
+            subset_rows: Vec::from_slice(alloc, self.subset_rows.as_slice())?,
+            capacity_cuts: Vec::from_slice(alloc, self.capacity_cuts.as_slice())?,
+            truck_price: self.truck_price,
             work,
         })
     }

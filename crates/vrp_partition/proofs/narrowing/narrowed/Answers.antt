@@ -10,7 +10,7 @@ use Rattle.vrp_partition.proofs.narrowing.narrowed.Goals as goal
 
 pub marks_by_prices-requires-clause-fit : goal.marks_by_prices-requires-clause-fit
 marks_by_prices-requires-clause-fit g c =
-    subst (AllFit c.args.demands.now c.args.capacity) (sym c.as_slice.ensures.value) (fit_kept c.args.pool.now c.args.kept.routes.items c.args.kept.places.items c.args.demands.now c.args.capacity c.requires.narrowed.are c.requires.narrowed.inside c.requires.fit)
+    subst (AllFit c.args.fleet.now.demands.now c.args.fleet.now.capacity) (sym c.as_slice.ensures.value) (fit_kept c.args.pool.now c.args.kept.routes.items c.args.kept.places.items c.args.fleet.now.demands.now c.args.fleet.now.capacity c.requires.narrowed.are c.requires.narrowed.inside c.requires.fit)
 
 pub returns : goal.returns
 returns g c =
@@ -19,10 +19,6 @@ returns g c =
     let same = c.as_slice-2.ensures.value in
     let routes = c.as_slice.result.now in
     let are : routes ≡ map (route_at pool) places = c.as_slice.ensures.value ∙ (c.requires.narrowed.are ∙ ap (map (route_at pool)) (sym same)) in
-    let rest = subst (λ (ks : List ℕ). (k : ℕ) → k < length pool → (Contains ks k → ⊥) → StandsInNone pool c.args.customers c.args.trucks c.args.limit (route_at pool k)) (sym same) c.requires.narrowed.rest in
-    let within = subst (MarksWithin routes c.args.customers c.args.trucks c.args.limit) (sym c.as_slice-3.ensures.value) c.in_ok-marks.ensures in
-    IfOk-weaker c.marked.result
-    (λ kept. (customers trucks limit : ℕ) (routes : List Route) → routes ≡ map (route_at pool) places
-    → ((k : ℕ) → k < length pool → (Contains places k → ⊥) → StandsInNone pool customers trucks limit (route_at pool k))
-    → MarksWithin routes customers trucks limit c.as_slice-3.result.now → IsNarrowed pool customers trucks limit kept)
-    (IsNarrowed pool c.args.customers c.args.trucks c.args.limit) (λ kept made. made c.args.customers c.args.trucks c.args.limit routes are rest within) c.marked.ensures
+    let rest = subst (λ (ks : List ℕ). (k : ℕ) → k < length pool → (Contains ks k → ⊥) → StandsInNone pool c.args.customers c.args.fleet.now.trucks c.args.limit (route_at pool k)) (sym same) c.requires.narrowed.rest in
+    let within = subst (MarksWithin routes c.args.customers c.args.fleet.now.trucks c.args.limit) (sym c.as_slice-marks.ensures.value) c.in_ok-priced.ensures in
+    c.in_ok-kept.ensures c.args.customers c.args.fleet.now.trucks c.args.limit routes are rest within
