@@ -1,11 +1,10 @@
 -- From the cheapest choice of the pool to the first plan.
 use Rattle.std.proofs.Common.{◌≡◌, ℕ, ◌+◌, ◌≤◌, Option, Some, None, IfSome, List, map, sym, ap, subst, ◌∙◌, arith}
-use Rattle.vrp_canonical.specs.Ordering.{AreOrdered, chosen_of, route_of, stops_of}
+use Rattle.vrp_canonical.specs.Ordering.{AreOrdered, route_of, stops_of}
 use Rattle.vrp_canonical.specs.Reaching.{IsFleet, IsTask, plan_at}
 use Rattle.vrp_canonical.specs.declared.ordered.ListedRoute.{ListedRoute}
 use Rattle.vrp_canonical.specs.declared.residual.Residual.{Residual}
 use Rattle.vrp_canonical.proofs.Answered.{cheapest_first}
-use Rattle.vrp_canonical.proofs.OrderedPools.{stops_in, whole_pool}
 use Rattle.vrp_model.specs.Order.{IsFirst}
 use Rattle.vrp_model.specs.Problem.{IsProblem, Problem, customers}
 use Rattle.vrp_model.specs.Route.{IsPlanOf, PricedPlan, plan_cost}
@@ -14,7 +13,6 @@ use Rattle.vrp_model.proofs.FirstPlans.{same_routes}
 use Rattle.vrp_partition.specs.Choice.{IsCheapest}
 use Rattle.vrp_partition.specs.declared.route.Route.{Route}
 use Rattle.vrp_routes.specs.Label.{set_of}
-use Rattle.vrp_routes.specs.Pool.{IsPool, RouteOf}
 
 -- a fact of what is there
 pub told : {X : Type 0} (o : Option X) (x : X) (P : X → Type 0) → o ≡ Some x → IfSome o P → P x
@@ -29,13 +27,13 @@ both_told (Some x) P Q R give p q = give x p q
 abbrev pub GivesFirst : List Route → Residual → List ℕ → Type 0
 GivesFirst pool whole places = (p : Problem) (limit : ℕ) (stops : List (List ℕ)) → IsTask p limit stops pool whole → IsFirst p (plan_at stops places whole.most)
 
-pub canonical_task : (p : Problem) (limit : ℕ) (pool : List RouteOf) (chosen : List Route) (unserved trucks found : ℕ) (ordered : List ListedRoute)
-    → IsProblem p → IsPool p limit pool → IsFleet p trucks → unserved ≡ set_of (customers p)
-    → IsCheapest (map chosen_of pool) unserved trucks (limit + 1) found chosen → found ≤ limit → AreOrdered p found ordered
+pub canonical_task : (p : Problem) (limit : ℕ) (narrowed ordered : List ListedRoute) (chosen : List Route) (unserved trucks found : ℕ)
+    → IsProblem p → AreOrdered p limit narrowed → IsFleet p trucks → unserved ≡ set_of (customers p)
+    → IsCheapest (map route_of narrowed) unserved trucks (limit + 1) found chosen → found ≤ limit → AreOrdered p found ordered
     → IsTask p found (map stops_of ordered) (map route_of ordered) (record { unserved = unserved; trucks = trucks; most = found })
-canonical_task p limit pool chosen unserved trucks found ordered problem is_pool fleet all cheapest within are =
-    let (plan, first, cost) = cheapest_first p limit (map stops_in pool) (map chosen_of pool) chosen trucks (limit + 1) found problem (whole_pool p limit pool is_pool) fleet within
-    (subst (λ n. IsCheapest (map chosen_of pool) n trucks (limit + 1) found chosen) all cheapest) (omega (arith, within)) in
+canonical_task p limit narrowed ordered chosen unserved trucks found problem are_narrowed fleet all cheapest within are =
+    let (plan, first, cost) = cheapest_first p limit (map stops_of narrowed) (map route_of narrowed) chosen trucks (limit + 1) found problem are_narrowed.pool_of fleet within
+    (subst (λ n. IsCheapest (map route_of narrowed) n trucks (limit + 1) found chosen) all cheapest) (omega (arith, within)) in
     record {
       pool_of = are.pool_of;
       rising = are.rising;

@@ -114,7 +114,7 @@ impl<P: Guide + Send> Asked<P> {
 
 impl<R: Threads + Sync, P: Guide + Send, A: Ask + Sync> Searches<'_, R, P, A> {
     /// Answers to the questions that come up from a place on if the choice that is known is the first plan, up to the first yes, by
-    /// which it is not. Which questions these are is left open.
+    /// which it is not. Which questions these are is left open, and so is how much of the budget is spent.
     pub fn ask_ahead(
         &mut self,
         pool: &[Route],

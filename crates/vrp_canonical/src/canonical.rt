@@ -20,7 +20,7 @@ use crate::trucks::fleet;
 use std::alloc::Global;
 use std::thread::Threads;
 use vrp_model::{Instance, NoMemory, Plan};
-use vrp_partition::{Ask, Found, Guide, Route, Team, all_fit, routes_within};
+use vrp_partition::{Ask, Fleet, Found, Guide, Route, Team, all_fit, routes_within};
 use vrp_routes::RoutePool;
 
 /// What a search for the first plan came to.
@@ -34,8 +34,9 @@ pub enum PlanSearch {
 }
 
 /// The first plan of an instance, by cost and then symbol by symbol, from a pool that was listed with the cost of a known plan as its
-/// limit. The cheapest choice of the pool is searched for, of which the team's asked one is told how far it is, and then the next route
-/// of the first plan again and again, each time by forks of the guide, which need not be trusted. Unfinished where the budget was spent
+/// limit. The pool is narrowed to the routes that may stand in a choice within the limit; the cheapest choice of these is searched for,
+/// of which the team's asked one is told how far it is, and then the next route of the first plan again and again, each time by forks of
+/// the guide, which need not be trusted. Unfinished where the budget was spent
 /// or a search would not go on, where an amount doesn't fit 32 bits, or where no choice costs as little as the known plan: when, is left
 /// open, and so is how much of the budget is spent.
 pub fn canonical_plan<R: Threads + Sync, P: Guide + Send, A: Ask + Sync>(
@@ -61,7 +62,17 @@ pub fn canonical_plan<R: Threads + Sync, P: Guide + Send, A: Ask + Sync>(
     };
     let all = routes.as_slice();
     let within = whole_problem(instance, known.cost());
-    let chosen = match search_within(team, guide, &loads, all, within, budget)? {
+    // The guide keeps what it finds of the narrowed pool for the searches.
+    let mut guide = guide.fork()?;
+    let Some(ordered) = narrowed_routes(
+        alloc, &mut guide, team.ask, &loads, pool, all, within, budget,
+    )?
+    else {
+        return unfinished(alloc);
+    };
+    let narrowed = routes_of(alloc, ordered.as_slice())?;
+    let found = search_within(team, &guide, &loads, narrowed.as_slice(), within, budget)?;
+    let chosen = match found {
         Some(Found::Cheapest(chosen)) => chosen,
         Some(Found::Unfinished { best, .. }) => {
             let word = word_of_choice(alloc, pool, all, best.routes.as_slice())?;
@@ -75,21 +86,24 @@ pub fn canonical_plan<R: Threads + Sync, P: Guide + Send, A: Ask + Sync>(
     let most = chosen.cost;
     let word = word_of_choice(alloc, pool, all, chosen.routes.as_slice())?;
     let whole = Residual { most, ..within };
-    let Some(ordered) = narrowed_routes(alloc, guide, &loads, pool, all, whole)? else {
+    let ask = team.ask;
+    let left = narrowed_again(
+        alloc, &mut guide, ask, &loads, pool, all, ordered, within, whole, budget,
+    )?;
+    let Some(ordered) = left else {
         return Ok(PlanSearch::Unfinished(word));
     };
-    let quiet = Quiet { ask: team.ask };
-    let team = Team {
-        rt: team.rt,
-        alloc,
-        workers: team.workers,
-        ask: &quiet,
-    };
-    let mut searches = Searches::new(&team, guide, &loads, *budget, chosen.routes);
-    let found = plan_among(alloc, instance, &mut searches, ordered.as_slice(), whole);
-    // No search gives any back; it is said here, since the pass is proved for whoever answers.
-    *budget = searches.budget.min(*budget);
-    match found? {
+    let ordered = ordered.as_slice();
+    match plan_by_pass(
+        team,
+        instance,
+        &guide,
+        &loads,
+        chosen.routes,
+        ordered,
+        whole,
+        budget,
+    )? {
         Some(plan) => Ok(PlanSearch::First(plan)),
         None => Ok(PlanSearch::Unfinished(word)),
     }
@@ -120,40 +134,97 @@ fn whole_problem(instance: &Instance, most: u64) -> Residual
 
 // The routes of the pool that may stand in a choice that costs no more than it may, in the order of their stops. `routes` are those of
 // the pool, as a choice sees them.
-fn narrowed_routes<P: Guide>(
+fn narrowed_routes<P: Guide, A: Ask>(
     alloc: Global,
-    guide: &P,
+    guide: &mut P,
+    ask: &A,
     loads: &Loads,
     pool: &RoutePool,
     routes: &[Route],
     whole: Residual,
+    budget: &mut u64,
 ) -> Result<Option<Vec<ListedRoute>>, NoMemory>
     requires { routes.now ≡ map chosen_of pool.now }
-    ensures { IfOk result (λ found. IfSome found (λ ordered. (p : Problem) (limit : ℕ)
+    ensures ordered { IfOk result (λ found. IfSome found (λ ordered. (p : Problem) (limit : ℕ)
         → IsPool p limit pool.now → IsFleet p whole.trucks → whole.unserved ≡ set_of (customers p) → whole.most ≤ limit
         → AreOrdered p whole.most ordered.items)) }
+    ensures budget { budget.new ≤ budget.old }
 {
-    let demands = loads.demands.as_slice();
+    let fleet = Fleet {
+        demands: loads.demands.as_slice(),
+        capacity: loads.capacity,
+        trucks: whole.trucks,
+    };
     let Ok(limit) = u32::try_from(whole.most) else {
         return Ok(None);
     };
-    if !all_fit(routes, demands, loads.capacity) {
+    if !all_fit(routes, fleet.demands, fleet.capacity) {
         return Ok(None);
     }
-    let mut fork = guide.fork()?;
-    let marks = routes_within(
-        alloc,
-        &mut fork,
-        demands,
-        loads.capacity,
-        whole.trucks,
-        routes,
-        whole.unserved,
-        limit,
-    )?;
+    let unserved = whole.unserved;
+    let marks = routes_within(alloc, guide, ask, &fleet, routes, unserved, limit, budget)?;
     let listed = marked_routes(alloc, pool, routes, marks.as_slice())?;
     let ordered = in_order(listed)?;
     Ok(ordered)
+}
+
+// The same for a choice that costs less than before; `ordered` are the routes within what it cost then.
+fn narrowed_again<P: Guide, A: Ask>(
+    alloc: Global,
+    guide: &mut P,
+    ask: &A,
+    loads: &Loads,
+    pool: &RoutePool,
+    routes: &[Route],
+    ordered: Vec<ListedRoute>,
+    before: Residual,
+    whole: Residual,
+    budget: &mut u64,
+) -> Result<Option<Vec<ListedRoute>>, NoMemory>
+    requires routes { routes.now ≡ map chosen_of pool.now }
+    requires ordered { (p : Problem) (limit : ℕ)
+        → IsPool p limit pool.now → IsFleet p whole.trucks → whole.unserved ≡ set_of (customers p) → before.most ≤ limit
+        → AreOrdered p before.most ordered.items }
+    ensures ordered { IfOk result (λ found. IfSome found (λ ordered. (p : Problem) (limit : ℕ)
+        → IsPool p limit pool.now → IsFleet p whole.trucks → whole.unserved ≡ set_of (customers p) → whole.most ≤ limit
+        → AreOrdered p whole.most ordered.items)) }
+    ensures budget { budget.new ≤ budget.old }
+{
+    if whole.most == before.most {
+        return Ok(Some(ordered));
+    }
+    narrowed_routes(alloc, guide, ask, loads, pool, routes, whole, budget)
+}
+
+// The first plan, whose routes are among these, by a pass over them. A choice that is known answers some questions by itself.
+fn plan_by_pass<R: Threads + Sync, P: Guide + Send, A: Ask + Sync>(
+    team: &Team<'_, R, A>,
+    instance: &Instance,
+    guide: &P,
+    loads: &Loads,
+    known: Vec<Route>,
+    ordered: &[ListedRoute],
+    whole: Residual,
+    budget: &mut u64,
+) -> Result<Option<Plan>, NoMemory>
+    requires workers { 1 ≤ team.now.workers }
+    requires task { IsTask instance.now whole.most (map stops_of ordered.now) (map route_of ordered.now) whole }
+    ensures first { IfOk result (λ found. IfSome found (IsFirst instance.now)) }
+    ensures budget { budget.new ≤ budget.old }
+{
+    let alloc = team.alloc;
+    let quiet = Quiet { ask: team.ask };
+    let team = Team {
+        rt: team.rt,
+        alloc,
+        workers: team.workers,
+        ask: &quiet,
+    };
+    let mut searches = Searches::new(&team, guide, loads, *budget, known);
+    let found = plan_among(alloc, instance, &mut searches, ordered, whole);
+    // No search gives any back; it is said here, since the pass is proved for whoever answers.
+    *budget = searches.budget.min(*budget);
+    found
 }
 
 // The first plan, whose routes are among these.

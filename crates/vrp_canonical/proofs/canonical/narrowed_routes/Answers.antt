@@ -14,17 +14,17 @@ use Rattle.vrp_routes.specs.Label.{set_of}
 use Rattle.vrp_routes.specs.Pool.{IsPool}
 use Rattle.vrp_canonical.proofs.canonical.narrowed_routes.Goals as goal
 
-pub returns : goal.returns
-returns g c =
+pub returns-clause-ordered : goal.returns-clause-ordered
+returns-clause-ordered g c =
     let pool = c.args.pool.now in
     let whole = c.args.whole in
     let marks = c.in_ok-marks.marks in
     let listed = c.in_ok-listed.listed in
     let most : c.in-Ok.limit ≡ whole.most = omega (arith, c.in-Ok.ensures) in
-    let are : AreMarked pool marks.items (length pool) listed.items = subst (λ (ms : List Bool). AreMarked pool ms (length pool) listed.items) c.as_slice.ensures.value c.in_ok-listed.ensures in
+    let are : AreMarked pool marks.items (length pool) listed.items = subst (λ (ms : List Bool). AreMarked pool ms (length pool) listed.items) c.as_slice-2.ensures.value c.in_ok-listed.ensures in
     let marked : MarksWithin (map chosen_of pool) whole.unserved whole.trucks whole.most marks.items =
     subst (λ n. MarksWithin (map chosen_of pool) whole.unserved whole.trucks n marks.items) most
-    (subst (λ (rs : List Route). MarksWithin rs whole.unserved whole.trucks c.in-Ok.limit marks.items) c.requires c.in_ok-marks.ensures) in
+    (subst (λ (rs : List Route). MarksWithin rs whole.unserved whole.trucks c.in-Ok.limit marks.items) c.requires c.in_ok-marks.ensures.marks) in
     both_told c.in_ok-ordered.ordered (λ (o : Vec ListedRoute Global). IsPermutation listed.items o.items) (λ (o : Vec ListedRoute Global). AllPairs IsEarlier (map stops_of o.items))
     (λ (o : Vec ListedRoute Global). (p : Problem) (limit : ℕ) → IsPool p limit pool → IsFleet p whole.trucks → whole.unserved ≡ set_of (customers p) → whole.most ≤ limit → AreOrdered p whole.most o.items)
     (λ o moved rising. λ p limit is_pool fleet unserved within. record {
