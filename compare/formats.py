@@ -63,17 +63,37 @@ def parts_of(report):
     return routes, cost, verdict.split()
 
 
+def gap_of(cost, bound):
+    """By how many hundredths of a percent the bound has to be raised to reach the cost, or None."""
+    if cost is None or bound is None or bound == 0 < cost:
+        return None
+    return 0 if cost <= bound else -((bound - cost) * 10_000 // bound)
+
+
+def customers_of(problem, route):
+    """The customers of a route by their places: from 1 by rising node."""
+    return [sorted(problem.customers).index(node) + 1 for node in route]
+
+
+def route_of(problem, route):
+    """A route as the JSON has it."""
+    numbers = {"nodes": route, "customers": customers_of(problem, route)}
+    return {**numbers, "load": load(problem, route), "cost": plan_cost(problem, [route])}
+
+
 def json_fault(problem, parts, status, found):
     """What is wrong with what is printed as JSON, or None."""
     routes, cost, verdict = parts
+    bound = int(verdict[1]) if verdict[0] == "Open" else cost if verdict[0] == "Proven" else None
     wanted = {
         "verdict": verdict[0],
         "cost": cost,
-        "lower_bound": int(verdict[1]) if verdict[0] == "Open" else cost if verdict[0] == "Proven" else None,
+        "lower_bound": bound,
+        "gap": gap_of(cost, bound),
         "customers": len(problem.customers),
         "capacity": problem.capacity,
         "depot": problem.depot,
-        "routes": [{"nodes": r, "load": load(problem, r), "cost": plan_cost(problem, [r])} for r in routes],
+        "routes": [route_of(problem, route) for route in routes],
     }
     told = json.loads(found[1])
     options = told.pop("options", None)
@@ -87,8 +107,7 @@ def solution_fault(problem, data, options, parts, status, found):
     routes, cost, verdict = parts
     if cost is None:
         return None if found == (status, "", f"cvrp: no plan to print: {verdict[0]}\n") else "there is no plan"
-    place = {node: k for k, node in enumerate(sorted(problem.customers), 1)}
-    lines = [f"Route #{k}: {' '.join(str(place[n]) for n in r)}\n" for k, r in enumerate(routes, 1)]
+    lines = [f"Route #{k}: {' '.join(map(str, customers_of(problem, r)))}\n" for k, r in enumerate(routes, 1)]
     if found != (status, "".join(lines) + f"Cost {cost}\n", ""):
         return "the solution is another"
     with tempfile.NamedTemporaryFile(suffix=".sol") as file:
@@ -108,29 +127,48 @@ def picture_fault(problem, data, parts, status, found):
     if found[0] != status or found[2] != "":
         return "the exit status is another"
     top = xml.fromstring(found[1])
-    drawn = [path for path in top.iter(SVG + "path") if path.find(SVG + "title") is not None]
-    if [path.get("d").count("L") for path in drawn] != [len(route) for route in routes]:
-        return "the routes are others"
     if len(list(top.iter(SVG + "circle"))) != len(problem.customers):
         return "the customers are others"
     labels = len(problem.customers) + 1 if len(problem.customers) <= MOST_LABELS else 0
     listed = len(routes) if len(routes) <= MOST_LISTED else 0
     if len(list(top.iter(SVG + "text"))) != labels + listed + 1:
         return "the labels are others"
-    return corners_fault(problem, points, routes, [path.get("d") for path in drawn])
+    return room_fault(top) or ways_fault(problem, points, routes, list(top.iter(SVG + "path")))
 
 
-def corners_fault(problem, points, routes, ways):
+def room_fault(top):
+    """A line of the list or the caption for which the page is too narrow, or None. Letters are three fifths as wide as high."""
+    width = int(top.get("viewBox").split()[2])
+    listed = [(text, 200) for group in top.iter(SVG + "g") if group.get("font-size") == "200" for text in group.iter(SVG + "text")]
+    for text, size in listed + [(text, 280) for text in top.findall(SVG + "text")]:
+        if int(text.get("x")) + len(text.text) * size * 3 // 5 > width:
+            return f"there is no room for {text.text}"
+    return None
+
+
+def ways_fault(problem, points, routes, paths):
+    """What is wrong with the ways that are drawn, or None: where there are many routes, their legs at the depot come first."""
+    few = len(routes) <= MOST_LISTED
+    legs = [path.get("d") for path in paths if path.get("stroke-dasharray") is None]
+    drawn = [path.get("d") for path in paths if path.find(SVG + "title") is not None]
+    wanted = [[problem.depot] + route if few else route for route in routes]
+    return corners_fault(problem, points, wanted, drawn) or corners_fault(
+        problem, points, [] if few else [[route[0], problem.depot, route[-1]] for route in routes], legs
+    )
+
+
+def corners_fault(problem, points, wanted, ways):
     """What is wrong with where the corners lie, or None: the map is as wide or as high as the page, and lies the right way up."""
     nodes = [problem.depot] + problem.customers
     left, top = min(points[n][0] for n in nodes), max(points[n][1] for n in nodes)
     extent = max(max(points[n][0] for n in nodes) - left, top - min(points[n][1] for n in nodes), 1)
-    for route, way in zip(routes, ways):
-        corners = [tuple(map(int, corner.split())) for corner in way[1:-1].split("L")]
-        for node, corner in zip([problem.depot] + route, corners):
-            x, y = points[node]
-            if corner != (400 + (x - left) * 9200 // extent, 400 + (top - y) * 9200 // extent):
-                return f"node {node} lies elsewhere"
+    if len(ways) != len(wanted):
+        return "the routes are others"
+    for nodes, way in zip(wanted, ways):
+        corners = [tuple(map(int, corner.split())) for corner in way.strip("MZ").split("L")]
+        places = [(400 + (x - left) * 9200 // extent, 400 + (top - y) * 9200 // extent) for x, y in map(points.get, nodes)]
+        if corners != places:
+            return f"the way through {nodes} lies elsewhere"
     return None
 
 
