@@ -49,7 +49,8 @@ class Solution:
 
     `routes` has each route's customers in the order in which they are served, numbered from 1 without the depot, as a .sol file of
     CVRPLIB has them; `nodes` has the same routes by the node numbers of the problem's file. Both are empty, and `cost` is None, where
-    no plan is known. No lawful plan costs less than `lower_bound`. `proven` says that the plan is a cheapest one.
+    no plan is known. No lawful plan costs less than `lower_bound`, and `gap` is how far the plan may be above that, in hundredths of a
+    percent, rounded up: 0 where it is proven, None where cost or bound is not known. `proven` says that the plan is a cheapest one.
 
     `verdict` is `Proven`; `Open`, where the search ended before it knew; or `NoPlan`, where so few trucks can't serve all customers.
     """
@@ -58,6 +59,7 @@ class Solution:
     nodes: Routes
     cost: Optional[int]
     lower_bound: Optional[int]
+    gap: Optional[int]
     proven: bool
     verdict: str
 
@@ -117,14 +119,12 @@ def solve(
 
 def _solution(answer: Dict[str, Any]) -> Solution:
     """What the program's JSON says."""
-    nodes = [list(route["nodes"]) for route in answer["routes"]]
-    # A plan serves every customer, so the places of the customers can be read off its nodes, whichever nodes are depots.
-    place = {node: k for k, node in enumerate(sorted(node for route in nodes for node in route), 1)}
     return Solution(
-        routes=[[place[node] for node in route] for route in nodes],
-        nodes=nodes,
+        routes=[list(route["customers"]) for route in answer["routes"]],
+        nodes=[list(route["nodes"]) for route in answer["routes"]],
         cost=answer["cost"],
         lower_bound=answer["lower_bound"],
+        gap=answer["gap"],
         proven=answer["verdict"] == "Proven",
         verdict=answer["verdict"],
     )

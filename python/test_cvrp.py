@@ -26,24 +26,26 @@ SMALL = TOP / "examples/E-n7-k2.vrp"
 
 # What the program printed of E-n7-k2: without options, with a budget of 1 for one piece, and with one truck.
 PROVEN = (
-    '{"capacity":3,"cost":114,"customers":6,"depot":1,"lower_bound":114,"options":{"budget":10000000,"depot":null,"pieces":64,'
-    '"seconds":null,"trucks":null,"workers":1},"routes":[{"cost":57,"load":3,"nodes":[2,3,4]},{"cost":57,"load":3,"nodes":[5,6,7]}],'
+    '{"capacity":3,"cost":114,"customers":6,"depot":1,"gap":0,"lower_bound":114,"options":{"budget":10000000,"depot":null,"pieces":64,'
+    '"seconds":null,"trucks":null,"workers":1},"routes":[{"cost":57,"customers":[1,2,3],"load":3,"nodes":[2,3,4]},{"cost":57,'
+    '"customers":[4,5,6],"load":3,"nodes":[5,6,7]}],'
     '"verdict":"Proven"}\n'
 )
 OPEN = (
-    '{"capacity":3,"cost":220,"customers":6,"depot":1,"lower_bound":88,"options":{"budget":1,"depot":null,"pieces":1,"seconds":null,'
-    '"trucks":null,"workers":1},"routes":[{"cost":20,"load":1,"nodes":[2]},{"cost":40,"load":1,"nodes":[3]},{"cost":50,"load":1,'
-    '"nodes":[4]},{"cost":50,"load":1,"nodes":[5]},{"cost":40,"load":1,"nodes":[6]},{"cost":20,"load":1,"nodes":[7]}],'
-    '"verdict":"Open"}\n'
+    '{"capacity":3,"cost":220,"customers":6,"depot":1,"gap":15000,"lower_bound":88,"options":{"budget":1,"depot":null,"pieces":1,"seconds":null,'
+    '"trucks":null,"workers":1},"routes":[{"cost":20,"customers":[1],"load":1,"nodes":[2]},{"cost":40,"customers":[2],"load":1,"nodes":[3]},'
+    '{"cost":50,"customers":[3],"load":1,"nodes":[4]},{"cost":50,"customers":[4],"load":1,"nodes":[5]},{"cost":40,"customers":[5],"load":1,'
+    '"nodes":[6]},{"cost":20,"customers":[6],"load":1,"nodes":[7]}],"verdict":"Open"}\n'
 )
 NO_PLAN = (
-    '{"capacity":3,"cost":null,"customers":6,"depot":1,"lower_bound":null,"options":{"budget":10000000,"depot":null,"pieces":64,'
+    '{"capacity":3,"cost":null,"customers":6,"depot":1,"gap":null,"lower_bound":null,"options":{"budget":10000000,"depot":null,"pieces":64,'
     '"seconds":null,"trucks":1,"workers":1},"routes":[],"verdict":"NoPlan"}\n'
 )
 # The same form by hand, as of a file whose nodes 1 and 4 are depots.
 TWO_DEPOTS = (
-    '{"capacity":3,"cost":50,"customers":3,"depot":4,"lower_bound":50,"options":{"budget":10000000,"depot":4,"pieces":64,'
-    '"seconds":null,"trucks":null,"workers":1},"routes":[{"cost":30,"load":2,"nodes":[3,2]},{"cost":20,"load":1,"nodes":[5]}],'
+    '{"capacity":3,"cost":50,"customers":3,"depot":4,"gap":0,"lower_bound":50,"options":{"budget":10000000,"depot":4,"pieces":64,'
+    '"seconds":null,"trucks":null,"workers":1},"routes":[{"cost":30,"customers":[2,1],"load":2,"nodes":[3,2]},{"cost":20,'
+    '"customers":[3],"load":1,"nodes":[5]}],'
     '"verdict":"Proven"}\n'
 )
 
@@ -80,20 +82,20 @@ class WithFakeProgram(unittest.TestCase):
     def test_proven(self):
         self.will_answer(PROVEN)
         found = cvrp.solve(SMALL, program=self.program)
-        wanted = cvrp.Solution([[1, 2, 3], [4, 5, 6]], [[2, 3, 4], [5, 6, 7]], 114, 114, True, "Proven")
+        wanted = cvrp.Solution([[1, 2, 3], [4, 5, 6]], [[2, 3, 4], [5, 6, 7]], 114, 114, 0, True, "Proven")
         self.assertEqual(found, wanted)
         self.assertEqual(self.seen(), {"words": ["--format", "json"], "input": SMALL.read_text(), "start": None})
 
     def test_open(self):
         self.will_answer(OPEN, status=1)
         found = cvrp.solve(SMALL, program=self.program)
-        self.assertEqual((found.cost, found.lower_bound, found.proven, found.verdict), (220, 88, False, "Open"))
+        self.assertEqual((found.cost, found.lower_bound, found.gap, found.proven, found.verdict), (220, 88, 15000, False, "Open"))
         self.assertEqual(found.routes, [[k] for k in range(1, 7)])
 
     def test_no_plan(self):
         self.will_answer(NO_PLAN)
         found = cvrp.solve(SMALL, trucks=1, program=self.program)
-        self.assertEqual(found, cvrp.Solution([], [], None, None, False, "NoPlan"))
+        self.assertEqual(found, cvrp.Solution([], [], None, None, None, False, "NoPlan"))
 
     def test_two_depots(self):
         self.will_answer(TWO_DEPOTS)
@@ -169,10 +171,10 @@ class WithFakeProgram(unittest.TestCase):
 class WithTheProgram(unittest.TestCase):
     def test_proven(self):
         found = cvrp.solve(SMALL, seconds=60, workers=2, start=[[1], [2], [3], [4], [5], [6]], program=PROGRAM)
-        self.assertEqual(found, cvrp.Solution([[1, 2, 3], [4, 5, 6]], [[2, 3, 4], [5, 6, 7]], 114, 114, True, "Proven"))
+        self.assertEqual(found, cvrp.Solution([[1, 2, 3], [4, 5, 6]], [[2, 3, 4], [5, 6, 7]], 114, 114, 0, True, "Proven"))
 
     def test_no_plan(self):
-        self.assertEqual(cvrp.solve(SMALL, trucks=1, program=PROGRAM), cvrp.Solution([], [], None, None, False, "NoPlan"))
+        self.assertEqual(cvrp.solve(SMALL, trucks=1, program=PROGRAM), cvrp.Solution([], [], None, None, None, False, "NoPlan"))
 
     def test_refused(self):
         with self.assertRaisesRegex(cvrp.Refused, "^cvrp: start plan: route 1: customer 1 is served twice$"):
