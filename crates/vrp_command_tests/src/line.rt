@@ -50,7 +50,7 @@ const LINES: &[(Line, &str)] = &[
             routes: 2_212,
             ..NOTHING
         },
-        "5 s, choice, cost 521, lower bound 518, gap 0.57%, 2212 useful routes",
+        "5 s, choice, cost 521, lower bound 518, gap 0.58%, 2212 useful routes",
     ),
     (
         Line {
@@ -59,7 +59,7 @@ const LINES: &[(Line, &str)] = &[
             bound: Some(518),
             ..NOTHING
         },
-        "0 s, routes, cost 521, lower bound 518, gap 0.57%",
+        "0 s, routes, cost 521, lower bound 518, gap 0.58%",
     ),
     (
         Line {
@@ -70,11 +70,11 @@ const LINES: &[(Line, &str)] = &[
             labels: 1_234_567,
             ..NOTHING
         },
-        "4 s, routes, cost 521, lower bound 518, gap 0.57%, 1234567 labels",
+        "4 s, routes, cost 521, lower bound 518, gap 0.58%, 1234567 labels",
     ),
     (
         CHOSEN,
-        "5 s, choice, cost 521, lower bound 520, gap 0.19%, 2212 useful routes, 17 nodes done, 4 open",
+        "5 s, choice, cost 521, lower bound 520, gap 0.20%, 2212 useful routes, 17 nodes done, 4 open",
     ),
     // The root alone, before and behind it.
     (
@@ -83,7 +83,7 @@ const LINES: &[(Line, &str)] = &[
             nodes_open: 1,
             ..CHOSEN
         },
-        "5 s, choice, cost 521, lower bound 520, gap 0.19%, 2212 useful routes, 0 nodes done, 1 open",
+        "5 s, choice, cost 521, lower bound 520, gap 0.20%, 2212 useful routes, 0 nodes done, 1 open",
     ),
     (
         Line {
@@ -91,7 +91,7 @@ const LINES: &[(Line, &str)] = &[
             nodes_open: 0,
             ..CHOSEN
         },
-        "5 s, choice, cost 521, lower bound 520, gap 0.19%, 2212 useful routes, 1 nodes done, 0 open",
+        "5 s, choice, cost 521, lower bound 520, gap 0.20%, 2212 useful routes, 1 nodes done, 0 open",
     ),
     // Behind the choice nothing is told of its nodes.
     (
@@ -100,7 +100,7 @@ const LINES: &[(Line, &str)] = &[
             pieces: 64,
             ..CHOSEN
         },
-        "5 s, search, cost 521, lower bound 520, gap 0.19%, 2212 useful routes, 0 of 64 pieces, 0 partial plans",
+        "5 s, search, cost 521, lower bound 520, gap 0.20%, 2212 useful routes, 0 of 64 pieces, 0 partial plans",
     ),
     (
         Line {
@@ -121,7 +121,7 @@ const LINES: &[(Line, &str)] = &[
             looked: 1_234_567,
             ..NOTHING
         },
-        "12 s, search, cost 521, lower bound 518, gap 0.57%, 3 of 64 pieces, 1234567 partial plans",
+        "12 s, search, cost 521, lower bound 518, gap 0.58%, 3 of 64 pieces, 1234567 partial plans",
     ),
     (
         Line {

@@ -67,6 +67,9 @@ pub fn solve<'a, R: Threads + Wait + Sync, G: Gate + Sync>(
 /// plan is looked for: by savings, and with no less than 100,000 partial plans for all pieces also by ruin and recreate. And prices
 /// are made, if there is a plan and prices are found: then the search of a piece prunes by them.
 ///
+/// Where there are prices and at most 127 customers, the routes that can stand in the first plan are listed next, and that plan is
+/// chosen among them: if this ends, no piece is searched. If it doesn't, the pieces begin with a better plan that it found.
+///
 /// Before the pieces are searched the plan to begin with is offered, if one is given, or the first plan where that is before it. The
 /// answer's plan costs no more than the plan to begin with.
 pub fn solve_from<'a, R: Threads + Wait + Sync, G: Gate + Sync>(
