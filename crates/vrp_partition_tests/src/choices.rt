@@ -393,7 +393,9 @@ fn routes_within_limits(rt: HostRuntime) {
         let trucks = TRUCKS[round as usize % TRUCKS.len()];
         for &habit in HABITS {
             for limit in [0, 5, 60, u32::MAX] {
-                let marks = marks(rt, alloc, habit, trucks, &pool, limit);
+                let mut budget = MUCH;
+                let marks = marks(rt, alloc, habit, trucks, &pool, limit, &mut budget);
+                assert!(rt; budget < MUCH, "nothing is spent, round {round}");
                 assert_same(rt, marks.len(), pool.len(), round);
                 for (at, route) in pool.iter().enumerate() {
                     let least = least_with(rt, alloc, &pool, at, trucks);
@@ -409,6 +411,17 @@ fn routes_within_limits(rt: HostRuntime) {
     }
 }
 
+// Without a budget no round is asked for, and each route is marked.
+#[test]
+fn no_budget_marks_all(rt: HostRuntime) {
+    let (rt, alloc) = (&rt, rt.alloc());
+    let pool = fitting(rt, alloc, &mut Random(7), 5, 60, 3);
+    let mut budget = 0;
+    let marks = marks(rt, alloc, Habit::Zeros, 128, &pool, 0, &mut budget);
+    assert_same(rt, marks.len(), pool.len(), 0u32);
+    assert!(rt; marks.iter().all(|mark| *mark), "a route is not marked");
+}
+
 fn marks(
     rt: &impl Abort,
     alloc: Global,
@@ -416,6 +429,7 @@ fn marks(
     trucks: u8,
     pool: &[Route],
     limit: u32,
+    budget: &mut u64,
 ) -> Vec<bool> {
     let demands = [1u32; MOST_CUSTOMERS];
     assert!(rt; all_fit(pool, &demands, 3));
@@ -429,16 +443,16 @@ fn marks(
         capacity: 3,
         trucks,
     };
-    let mut budget = u64::MAX;
+    let ask = Asks { goes_on: true };
     let marks = routes_within(
         alloc,
         &mut guide,
-        &Always,
+        &ask,
         &fleet,
         pool,
         all_customers(),
         limit,
-        &mut budget,
+        budget,
     );
     marks.expect(rt, "memory")
 }
