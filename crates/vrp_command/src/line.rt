@@ -143,5 +143,6 @@ impl Line {
 // By how many hundredths of a percent of a bound a cost is above it, rounded up: so it is 0 only where nothing is left.
 fn hundredths(cost: u64, bound: u64) -> u64 {
     let above = u128::from(cost.saturating_sub(bound)) * 10_000;
-    above.div_ceil(u128::from(bound.max(1))) as u64
+    let hundredths = above.div_ceil(u128::from(bound.max(1)));
+    u64::try_from(hundredths).unwrap_or(u64::MAX)
 }
