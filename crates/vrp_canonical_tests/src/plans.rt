@@ -151,13 +151,16 @@ fn by_guides<R: Abort + Threads + Sync>(
 // A guide, a budget, whether the first plan is found, and whether a cheapest one is told of else.
 const LIMITS: &[(Habit, u64, bool, bool)] = &[
     (Habit::Zeros, 1_000, true, false),
-    (Habit::Zeros, 2, true, false),
-    (Habit::Zeros, 1, false, true),
+    (Habit::Zeros, 4, true, false),
+    (Habit::Zeros, 3, false, true),
+    (Habit::Zeros, 2, false, true),
+    (Habit::Zeros, 1, false, false),
     (Habit::Zeros, 0, false, false),
     (Habit::Stopping, 1_000, false, false),
 ];
 
-// One truck carries all, and one round is the cheapest: one search finds it, and one more that no earlier route will do.
+// One truck carries all, and one round is the cheapest: the pool is narrowed, one search finds it, the pool is narrowed again, and one
+// more search finds that no earlier route will do. Each takes one of the budget.
 #[test]
 fn budgets_and_guides_that_stop(rt: HostRuntime) {
     let (rt, alloc) = (&rt, rt.alloc());
