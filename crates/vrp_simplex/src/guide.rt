@@ -61,7 +61,9 @@ impl<'a, A: Ask> ProgramGuide<'a, A> {
             }
         };
         let (best, best_bound) = match self.last.take() {
-            Some(last) if last.customers == customers => (Some(last.prices), last.bound),
+            Some(last) if last.holds_for(customers, pool.len()) => {
+                (Some(last.prices), last.bound)
+            }
             _ => (None, i64::MIN),
         };
         Ok(Node {
@@ -133,7 +135,7 @@ impl<A: Ask> Guide for ProgramGuide<'_, A> {
         let mut node = self.node(pool, customers, limit)?;
         let before = node.program.looked_at();
         node.run()?;
-        self.keep(node, before)
+        self.keep(node, before, pool.len())
     }
 
     fn group(&mut self, pool: &[Route]) -> Result<u128, AllocError> {
@@ -167,9 +169,14 @@ impl<A: Ask> Guide for ProgramGuide<'_, A> {
 }
 
 impl<'a, A: Ask> ProgramGuide<'a, A> {
-    // Keeps a node's program and its prices for the next node, and offers the prices. A bound can't fall from node to node: where that
-    // of the program did, it is stuck, and the next node begins with a new one.
-    fn keep(&mut self, node: Node<'a, A>, before: u64) -> Result<PriceOffer, AllocError> {
+    // Keeps a node's program and its prices for the next node, and offers the prices. A bound can't fall from a pool to a part of it:
+    // where that of the program did, it is stuck, and the next node begins with a new one.
+    fn keep(
+        &mut self,
+        node: Node<'a, A>,
+        before: u64,
+        count: usize,
+    ) -> Result<PriceOffer, AllocError> {
         let Node {
             program,
             progress,
@@ -189,6 +196,7 @@ impl<'a, A: Ask> ProgramGuide<'a, A> {
         let offer = prices.offer(self.alloc, work)?;
         self.last = Some(Inherited {
             customers,
+            count,
             bound: best_bound,
             prices,
         });

@@ -4,15 +4,21 @@ use crate::row_prices::RowPrices;
 use std::alloc::{AllocError, Global};
 use vrp_partition::Fleet;
 
-/// Prices that were offered for a pool of routes that serve these customers, and what they bound.
+/// Prices that were offered for a pool of so many routes that serve these customers, and what they bound.
 #[derive(Clone, Debug, Drop)]
 pub(crate) struct Inherited {
     pub(crate) customers: u128,
+    pub(crate) count: usize,
     pub(crate) bound: i64,
     pub(crate) prices: RowPrices,
 }
 
 impl Inherited {
+    /// Whether the bound holds for a pool of so many routes that serve these customers: a longer one is no part of the pool before.
+    pub(crate) fn holds_for(&self, customers: u128, count: usize) -> bool {
+        self.customers == customers && count <= self.count
+    }
+
     /// The cuts of these prices, for the customers of a new program: subset rows of those, and sets of those that more than one truck
     /// comes to.
     pub(crate) fn cuts(
