@@ -8,7 +8,7 @@ use std::alloc::Global;
 use std::rt::{Clock, Files};
 use std::time::Instant;
 use std::{env, fs};
-use vrp_first::{ENOUGH_MOVES, first_plan};
+use vrp_first::{ENOUGH_MOVES, Unhurried, first_plan};
 use vrp_model::{Instance, Plan};
 use vrp_savings::savings_plan;
 
@@ -52,7 +52,7 @@ fn print_costs<R: Clock + Print + Eprint + AllocGlobal>(
     let start = Instant::now(rt)?;
     let first = cost(
         rt.alloc(),
-        first_plan(rt.alloc(), instance, ENOUGH_MOVES, &|| true)?,
+        first_plan(rt.alloc(), instance, ENOUGH_MOVES, &Unhurried)?,
     )?;
     let by_moves = start.elapsed(rt)?;
     println!(rt; "{word}: {first}")?;

@@ -18,7 +18,7 @@ use std::time::{Duration, Instant};
 use std::{env, fs};
 use vrp_ascent::{FoundPrices, find_prices};
 use vrp_bound::{MemoryTables, Tables};
-use vrp_first::{ENOUGH_MOVES, first_plan};
+use vrp_first::{ENOUGH_MOVES, Unhurried, first_plan};
 use vrp_memory::{MOST_NEAR, Memory};
 use vrp_model::{Instance, NO_COST, Plan};
 use vrp_search::{Cutting, Ended, Local, Prices, search_by_prices};
@@ -101,7 +101,7 @@ fn timed_plan<R: Clock + Eprint + AllocGlobal>(rt: &R, instance: &Instance) -> R
     ensures { IfOk result (IsPlanOf instance.now) }
 {
     let start = Instant::now(rt)?;
-    let found = first_plan(rt.alloc(), instance, ENOUGH_MOVES, &|| true)?;
+    let found = first_plan(rt.alloc(), instance, ENOUGH_MOVES, &Unhurried)?;
     print_time(rt, "first plan", start.elapsed(rt)?)?;
     found.context("no first plan")
 }

@@ -13,7 +13,7 @@ use std::time::{Duration, Instant};
 use std::{env, fs};
 use vrp_ascent::{FoundPrices, find_prices};
 use vrp_bound::MemoryTables;
-use vrp_first::{ENOUGH_MOVES, first_plan};
+use vrp_first::{ENOUGH_MOVES, Unhurried, first_plan};
 use vrp_model::{Instance, NO_COST};
 use vrp_routes::{Listed, MOST_CUSTOMERS, can_list, list_routes};
 
@@ -48,7 +48,7 @@ fn read<R: Files + AllocGlobal>(rt: &R, name: &str) -> Result<Instance> {
 
 // What a first plan costs.
 fn cost_of_first(rt: &impl AllocGlobal, instance: &Instance) -> Result<u64> {
-    let plan = first_plan(rt.alloc(), instance, ENOUGH_MOVES, &|| true)?;
+    let plan = first_plan(rt.alloc(), instance, ENOUGH_MOVES, &Unhurried)?;
     Ok(plan.context("no plan")?.cost())
 }
 

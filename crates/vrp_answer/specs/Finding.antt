@@ -1,6 +1,6 @@
 -- What is told of a problem, in whatever form.
 use Rattle.std.specs.Option.{option_map}
-use Rattle.std.specs.Prelude.{ℕ, Option, None, Some, List, codes}
+use Rattle.std.specs.Prelude.{ℕ, Option, None, Some, List, codes, max}
 use Rattle.vrp_model.specs.Route.{PricedPlan}
 use Rattle.vrp_answer.specs.declared.answers.Answer.{Answer}
 use Rattle.vrp_answer.specs.declared.answers.Answer.TheVariants as answer
@@ -19,6 +19,12 @@ abbrev pub finding_of : Answer → FindingOf
 finding_of (answer.Proven plan) = record { plan = Some plan; status = status.Proven; lower_bound = Some plan.cost }
 finding_of (answer.Open plan low first) = record { plan = plan; status = status.Open; lower_bound = Some low }
 finding_of answer.NoPlan = record { plan = None; status = status.NoPlan; lower_bound = None }
+
+-- what is told of an answer where no lawful plan costs less than a bound: the higher of both bounds, where it is left open
+abbrev pub bounded_finding : Answer → ℕ → FindingOf
+bounded_finding (answer.Proven plan) bound = finding_of (answer.Proven plan)
+bounded_finding (answer.Open plan low first) bound = record { plan = plan; status = status.Open; lower_bound = Some (max low bound) }
+bounded_finding answer.NoPlan bound = finding_of answer.NoPlan
 
 -- what is told of a lawful plan that was not searched for
 abbrev pub lawful_finding : PricedPlan → FindingOf

@@ -33,6 +33,14 @@ impl Answer {
     }
 }
 
+/// What a search came to: its answer, and a bound on all lawful plans, which may be higher than what the answer says of them.
+#[derive(Debug, Drop)]
+pub struct Solved {
+    pub answer: Answer,
+    /// No lawful plan costs less; 0 where nothing else is known.
+    pub lower_bound: u64,
+}
+
 /// Why there is no answer.
 #[derive(Clone, Copy, Debug, PartialEq, Eq, Drop, thiserror::Error)]
 pub enum SolveError {

@@ -1,8 +1,8 @@
 //! What is told of an instance, in whatever form.
 ghost use Rattle.std.specs.Prelude.{◌≡◌};
-ghost use Rattle.vrp_answer.specs.Finding.{finding_of, lawful_finding, told_by};
+ghost use Rattle.vrp_answer.specs.Finding.{bounded_finding, finding_of, lawful_finding, told_by};
 
-use crate::answers::Answer;
+use crate::answers::{Answer, Solved};
 use crate::status::Status;
 use vrp_model::Plan;
 
@@ -38,6 +38,26 @@ impl<'a> Finding<'a> {
                 status: Status::NoPlan,
                 lower_bound: None,
             },
+        }
+    }
+
+    /// What a search came to: its answer, with the higher of both bounds where it is left open.
+    pub fn of_solved(solved: &'a Solved) -> Finding<'a>
+        ensures { told_by result ≡ bounded_finding solved.entry.now.answer solved.entry.now.lower_bound }
+    {
+        let Finding {
+            plan,
+            status,
+            lower_bound,
+        } = Finding::of_answer(&solved.answer);
+        let lower_bound = match status {
+            Status::Open => lower_bound.map(|low| low.max(solved.lower_bound)),
+            _ => lower_bound,
+        };
+        Finding {
+            plan,
+            status,
+            lower_bound,
         }
     }
 

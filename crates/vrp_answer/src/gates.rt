@@ -18,12 +18,16 @@ pub enum News {
     Choice(u64),
     /// Of the choice among them so many nodes are done, and so many are open.
     Nodes { done: u64, open: u64 },
+    /// Better plans are looked for, as long as there is time.
+    BetterPlans,
     /// This many pieces are searched.
     Pieces(u32),
     /// This many more partial plans were looked at.
     Looked(u64),
     /// A plan that costs so much is known.
     Plan(u64),
+    /// A run that looks for better plans came by routes that cost so much: a plan of them follows when it ends.
+    Cheaper(u64),
     /// One more piece is done with.
     Done,
 }

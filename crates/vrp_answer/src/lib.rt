@@ -11,7 +11,7 @@ mod outcome;
 mod shared;
 mod status;
 
-pub use answers::{Answer, SolveError};
+pub use answers::{Answer, SolveError, Solved};
 pub use conclusion::conclude;
 pub use finding::Finding;
 pub use gates::{Gate, News, NoGate};

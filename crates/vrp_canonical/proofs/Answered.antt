@@ -1,10 +1,11 @@
 -- The least cost of a choice answers what is asked of a pool.
-use Rattle.std.proofs.Common.{◌≡◌, ℕ, ◌+◌, ◌<◌, ◌≤◌, List, [], refl, arith}
+use Rattle.std.proofs.Common.{◌≡◌, ℕ, ◌+◌, ◌<◌, ◌≤◌, List, [], refl, subst, arith}
 use Rattle.std.proofs.lemmas.List.Elements.{All-nil}
-use Rattle.vrp_partition.specs.Choice.{IsCheapest}
+use Rattle.vrp_partition.specs.Choice.{IsCheapest, NoneBelow}
 use Rattle.vrp_canonical.specs.Reaching.{IsFleet, IsPoolOf, IsRoute, Reaches}
 use Rattle.vrp_canonical.proofs.Begun.{all_unserved, first_cheapest, in_pool, least_first}
 use Rattle.vrp_canonical.proofs.PlanChoices.{goes_on_reached}
+use Rattle.vrp_model.specs.Cheapest.{NoneCheaper}
 use Rattle.vrp_model.specs.Order.{IsFirst}
 use Rattle.vrp_model.specs.Problem.{IsProblem, Problem, customers}
 use Rattle.vrp_model.specs.Route.{IsLawful, PricedPlan, plan_cost}
@@ -35,14 +36,31 @@ cheapest_first p limit stops pool routes trucks incumbent found problem pool_of 
     (record { parts = routes; choice = choice; cheap = omega (arith, cost) })
     (λ other reached. omega (arith, answer.least reached.parts reached.choice, reached.cheap))
 
-pub none_cheap : (p : Problem) (limit : ℕ) (stops : List (List ℕ)) (pool routes : List Route) (trucks incumbent : ℕ) (others : List (List ℕ))
-    → IsProblem p → IsPoolOf p limit stops pool → IsFleet p trucks
-    → IsCheapest pool (stops_set (customers p)) trucks incumbent incumbent routes
-    → IsLawful p others → plan_cost p others ≤ limit → incumbent ≤ plan_cost p others
-none_cheap p limit stops pool routes trucks incumbent others problem pool_of fleet answer lawful cheap =
+-- where no choice costs less than a bound, no lawful plan within the limit does
+none_below : (p : Problem) (limit : ℕ) (stops : List (List ℕ)) (pool : List Route) (trucks bound : ℕ) (others : List (List ℕ))
+    → IsProblem p → IsPoolOf p limit stops pool → IsFleet p trucks → NoneBelow pool (stops_set (customers p)) trucks bound
+    → IsLawful p others → plan_cost p others ≤ limit → bound ≤ plan_cost p others
+none_below p limit stops pool trucks bound others problem pool_of fleet below lawful cheap =
     let free : plan_cost p [] ≡ 0 = refl in
     let (plan, first) = first_plan p others problem lawful in
     let most = first_cheapest p plan others first lawful in
     let known = in_pool p limit stops pool plan pool_of first (omega (arith, most, cheap)) in
     let reached = goes_on_reached p limit stops pool trucks [] plan.routes (stops_set (customers p)) trucks plan.cost plan.cost pool_of fleet (All-nil (IsRoute p)) (all_unserved p) (omega arith) (omega (arith, free)) first.plan_of.lawful known (omega (arith, first.plan_of.priced)) in
-    omega (arith, answer.least reached.parts reached.choice, reached.cheap, most)
+    omega (arith, below reached.parts reached.choice, reached.cheap, most)
+
+pub none_cheap : (p : Problem) (limit : ℕ) (stops : List (List ℕ)) (pool routes : List Route) (trucks incumbent : ℕ) (others : List (List ℕ))
+    → IsProblem p → IsPoolOf p limit stops pool → IsFleet p trucks
+    → IsCheapest pool (stops_set (customers p)) trucks incumbent incumbent routes
+    → IsLawful p others → plan_cost p others ≤ limit → incumbent ≤ plan_cost p others
+none_cheap p limit stops pool routes trucks incumbent others problem pool_of fleet answer lawful cheap =
+    none_below p limit stops pool trucks incumbent others problem pool_of fleet answer.least lawful cheap
+
+-- and no other does, where the bound is within the limit
+pub bounded : (p : Problem) (limit : ℕ) (stops : List (List ℕ)) (pool : List Route) (unserved trucks bound : ℕ)
+    → IsProblem p → IsPoolOf p limit stops pool → IsFleet p trucks → unserved ≡ stops_set (customers p)
+    → NoneBelow pool unserved trucks bound → bound ≤ limit → NoneCheaper p bound
+bounded p limit stops pool unserved trucks bound problem pool_of fleet all below within routes lawful =
+    let none = subst (λ n. NoneBelow pool n trucks bound) all below in
+    let never : plan_cost p routes < bound → ⊥ =
+    λ less. omega (arith, less, none_below p limit stops pool trucks bound routes problem pool_of fleet none lawful (omega (arith, less, within))) in
+    omega (arith, never)

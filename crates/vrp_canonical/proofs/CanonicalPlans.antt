@@ -4,13 +4,14 @@ use Rattle.vrp_canonical.specs.Ordering.{AreOrdered, route_of, stops_of}
 use Rattle.vrp_canonical.specs.Reaching.{IsFleet, IsTask, plan_at}
 use Rattle.vrp_canonical.specs.declared.ordered.ListedRoute.{ListedRoute}
 use Rattle.vrp_canonical.specs.declared.residual.Residual.{Residual}
-use Rattle.vrp_canonical.proofs.Answered.{cheapest_first}
+use Rattle.vrp_canonical.proofs.Answered.{bounded, cheapest_first}
+use Rattle.vrp_model.specs.Cheapest.{NoneCheaper}
 use Rattle.vrp_model.specs.Order.{IsFirst}
 use Rattle.vrp_model.specs.Problem.{IsProblem, Problem, customers}
 use Rattle.vrp_model.specs.Route.{IsPlanOf, PricedPlan, plan_cost}
 use Rattle.vrp_model.specs.Word.{word_of}
 use Rattle.vrp_model.proofs.FirstPlans.{same_routes}
-use Rattle.vrp_partition.specs.Choice.{IsCheapest}
+use Rattle.vrp_partition.specs.Choice.{IsCheapest, NoneBelow}
 use Rattle.vrp_partition.specs.declared.route.Route.{Route}
 use Rattle.vrp_routes.specs.Label.{set_of}
 
@@ -44,6 +45,13 @@ canonical_task p limit narrowed ordered chosen unserved trucks found problem are
       cost_is = cost;
       within = omega arith;
     }
+
+-- where no choice of the narrowed pool costs less than a bound within the limit, no lawful plan does
+pub narrowed_bound : (p : Problem) (limit : ℕ) (narrowed : List ListedRoute) (unserved trucks bound : ℕ)
+    → IsProblem p → AreOrdered p limit narrowed → IsFleet p trucks → unserved ≡ set_of (customers p)
+    → NoneBelow (map route_of narrowed) unserved trucks bound → bound ≤ limit → NoneCheaper p bound
+narrowed_bound p limit narrowed unserved trucks bound problem are_narrowed fleet all below within =
+    bounded p limit (map stops_of narrowed) (map route_of narrowed) unserved trucks bound problem are_narrowed.pool_of fleet all below within
 
 -- a lawful plan with the word of the first one is the first one
 pub first_by_word : (p : Problem) (plan other : PricedPlan) → IsFirst p plan → IsPlanOf p other → word_of other.routes ≡ word_of plan.routes → IsFirst p other

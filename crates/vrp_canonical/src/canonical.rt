@@ -1,8 +1,9 @@
 //! The first plan from a complete pool of routes.
 ghost use Rattle.std.specs.Prelude.{◌≡◌, ◌≤◌, ℕ, IfOk, IfSome, map};
-ghost use Rattle.vrp_canonical.specs.Ending.{IfFirst};
+ghost use Rattle.vrp_canonical.specs.Ending.{IfBound, IfFirst};
 ghost use Rattle.vrp_canonical.specs.Ordering.{AreOrdered, chosen_of, route_of, stops_of};
 ghost use Rattle.vrp_canonical.specs.Reaching.{IsFleet, IsTask};
+ghost use Rattle.vrp_model.specs.Cheapest.{NoneCheaper};
 ghost use Rattle.vrp_model.specs.Order.{IsFirst};
 ghost use Rattle.vrp_model.specs.Problem.{IsProblem, Problem, customers, place_count};
 ghost use Rattle.vrp_routes.specs.Label.{set_of};
@@ -28,17 +29,21 @@ use vrp_routes::RoutePool;
 pub enum PlanSearch {
     /// The first plan.
     First(Plan),
-    /// The search ended unfinished. The word of the cheapest plan that it found, which need not be trusted, and is empty where it
-    /// found none below the known one.
-    Unfinished(Vec<u16>),
+    /// The search ended unfinished.
+    Unfinished {
+        /// That of the cheapest plan that it found, which need not be trusted, and is empty where it found none below the known one.
+        word: Vec<u16>,
+        /// No lawful plan costs less; 0 where nothing is known.
+        lower_bound: u64,
+    },
 }
 
 /// The first plan of an instance, by cost and then symbol by symbol, from a pool that was listed with the cost of a known plan as its
 /// limit. The pool is narrowed to the routes that may stand in a choice within the limit; the cheapest choice of these is searched for,
 /// of which the team's asked one is told how far it is, and then the next route of the first plan again and again, each time by forks of
-/// the guide, which need not be trusted. Unfinished where the budget was spent
-/// or a search would not go on, where an amount doesn't fit 32 bits, or where no choice costs as little as the known plan: when, is left
-/// open, and so is how much of the budget is spent.
+/// the guide, which need not be trusted. Unfinished where the budget was spent or a search would not go on, where an amount doesn't fit
+/// 32 bits, or where no choice costs as little as the known plan: when, is left open, and so are how high the lower bound is then, and
+/// how much of the budget is spent.
 pub fn canonical_plan<R: Threads + Sync, P: Guide + Send, A: Ask + Sync>(
     team: &Team<'_, R, A>,
     instance: &Instance,
@@ -51,6 +56,7 @@ pub fn canonical_plan<R: Threads + Sync, P: Guide + Send, A: Ask + Sync>(
     requires few { place_count instance.now ≤ 128 }
     requires pool { IsPool instance.now known.now.cost pool.now }
     ensures first { IfOk result (IfFirst (IsFirst instance.now)) }
+    ensures bound { IfOk result (IfBound (NoneCheaper instance.now)) }
     ensures budget { budget.new ≤ budget.old }
 {
     let alloc = team.alloc;
@@ -74,9 +80,10 @@ pub fn canonical_plan<R: Threads + Sync, P: Guide + Send, A: Ask + Sync>(
     let found = search_within(team, &guide, &loads, narrowed.as_slice(), within, budget)?;
     let chosen = match found {
         Some(Found::Cheapest(chosen)) => chosen,
-        Some(Found::Unfinished { best, .. }) => {
+        Some(Found::Unfinished { best, lower_bound }) => {
             let word = word_of_choice(alloc, pool, all, best.routes.as_slice())?;
-            return Ok(PlanSearch::Unfinished(word));
+            let lower_bound = lower_bound.min(within.most);
+            return Ok(PlanSearch::Unfinished { word, lower_bound });
         }
         None => return unfinished(alloc),
     };
@@ -91,7 +98,8 @@ pub fn canonical_plan<R: Threads + Sync, P: Guide + Send, A: Ask + Sync>(
         alloc, &mut guide, ask, &loads, pool, all, ordered, within, whole, budget,
     )?;
     let Some(ordered) = left else {
-        return Ok(PlanSearch::Unfinished(word));
+        let lower_bound = most;
+        return Ok(PlanSearch::Unfinished { word, lower_bound });
     };
     let ordered = ordered.as_slice();
     match plan_by_pass(
@@ -105,15 +113,22 @@ pub fn canonical_plan<R: Threads + Sync, P: Guide + Send, A: Ask + Sync>(
         budget,
     )? {
         Some(plan) => Ok(PlanSearch::First(plan)),
-        None => Ok(PlanSearch::Unfinished(word)),
+        None => Ok(PlanSearch::Unfinished {
+            word,
+            lower_bound: most,
+        }),
     }
 }
 
 // A search that found no plan.
 fn unfinished(alloc: Global) -> Result<PlanSearch, NoMemory>
-    ensures { IfOk result (IfFirst (λ _. ⊥)) }
+    ensures first { IfOk result (IfFirst (λ _. ⊥)) }
+    ensures bound { IfOk result (IfBound (λ bound. bound ≡ 0)) }
 {
-    Ok(PlanSearch::Unfinished(Vec::new(alloc)))
+    Ok(PlanSearch::Unfinished {
+        word: Vec::new(alloc),
+        lower_bound: 0,
+    })
 }
 
 // All customers, the whole fleet, and what the routes may cost.

@@ -5,6 +5,7 @@ use Rattle.vrp_model.specs.Problem.{Problem}
 use Rattle.vrp_model.specs.Route.{IsPlanOf, PricedPlan}
 use Rattle.vrp_answer.specs.Finding.{FindingOf, finding_of}
 use Rattle.vrp_command.specs.Answer.{IsAnswerTo}
+use Rattle.vrp_command.specs.Found.{told_of}
 use Rattle.vrp_pool.specs.Answer.{known_plan}
 use Rattle.vrp_answer.specs.declared.answers.Answer.{Answer}
 use Rattle.vrp_answer.specs.declared.answers.Answer.TheVariants.{NoPlan, Open, Proven}
@@ -25,6 +26,14 @@ pub told_lawful : (p : Problem) (pieces budget : ℕ) (may_stop : Bool) (found :
 told_lawful p pieces budget may_stop found told is answer =
     subst (λ (plan : Option PricedPlan). ForSome plan (IsPlanOf p)) (sym (ap (λ (f : FindingOf). f.plan) is ∙ told_plan found)) (answer_lawful p pieces budget may_stop found answer)
 
--- the same where the answer's plan is known to be lawful
-pub told_of_lawful : (p : Problem) (found : Answer) (told : FindingOf) → told ≡ finding_of found → ForSome (known_plan found) (IsPlanOf p) → ForSome told.plan (IsPlanOf p)
-told_of_lawful p found told is lawful = subst (λ (plan : Option PricedPlan). ForSome plan (IsPlanOf p)) (sym (ap (λ (f : FindingOf). f.plan) is ∙ told_plan found)) lawful
+-- and so it is where a bound is told too
+told_of_plan : (seconds : Option ℕ) (found : Answer) (bound : ℕ) → (told_of seconds found bound).plan ≡ known_plan found
+told_of_plan None found bound = told_plan found
+told_of_plan (Some seconds) (Proven plan) bound = refl
+told_of_plan (Some seconds) (Open plan low lowest) bound = refl
+told_of_plan (Some seconds) NoPlan bound = refl
+
+pub told_of_lawful : (p : Problem) (pieces budget : ℕ) (may_stop : Bool) (seconds : Option ℕ) (found : Answer) (bound : ℕ) (told : FindingOf)
+    → told ≡ told_of seconds found bound → IsAnswerTo p pieces budget may_stop found → ForSome told.plan (IsPlanOf p)
+told_of_lawful p pieces budget may_stop seconds found bound told is answer =
+    subst (λ (plan : Option PricedPlan). ForSome plan (IsPlanOf p)) (sym (ap (λ (f : FindingOf). f.plan) is ∙ told_of_plan seconds found bound)) (answer_lawful p pieces budget may_stop found answer)

@@ -1,5 +1,5 @@
 -- Two runs that answer Proven tell the same.
-use Rattle.std.proofs.Common.{◌≡◌, ◌∙◌, inl, inr, ℕ, Bool, Option, List, refl, sym, ap, subst}
+use Rattle.std.proofs.Common.{◌≡◌, ◌∙◌, inl, inr, ℕ, Bool, Option, None, Some, List, refl, sym, ap, subst}
 use Rattle.vrp_answer.specs.Finding.{FindingOf, finding_of}
 use Rattle.vrp_answer.specs.declared.answers.Answer.{Answer}
 use Rattle.vrp_answer.specs.declared.answers.Answer.TheVariants as answer
@@ -10,7 +10,7 @@ use Rattle.vrp_model.specs.Problem.{Problem}
 use Rattle.vrp_model.specs.Route.{PricedPlan}
 use Rattle.vrp_text.specs.Meaning.{MeansProblem}
 use Rattle.vrp_command.specs.Answer.{IsAnswerTo}
-use Rattle.vrp_command.specs.Found.{IsFoundBy}
+use Rattle.vrp_command.specs.Found.{IsFoundBy, told_of}
 use Rattle.vrp_command.specs.Program.{AnswersRequest}
 use Rattle.vrp_command.specs.Run.{AnswersBytes, limited}
 use Rattle.vrp_command.specs.Same.{TellsSame, IsOfFindingAlone}
@@ -38,6 +38,14 @@ of_answer : (p : Problem) (pieces budget : ℕ) (may_stop : Bool) (found : Answe
 of_answer p pieces budget may_stop (answer.Proven plan) first ends = record { plan = plan; first = first; told = refl }
 of_answer p pieces budget may_stop (answer.Open plan low lowest) left ends = absurd (let never : 1 ≡ 0 = ap code ends in cc)
 of_answer p pieces budget may_stop answer.NoPlan none ends = absurd (let never : 2 ≡ 0 = ap code ends in cc)
+
+-- the same of what is told of an answer, with a bound or without
+of_told : (p : Problem) (pieces budget : ℕ) (may_stop : Bool) (seconds : Option ℕ) (found : Answer) (bound : ℕ) → IsAnswerTo p pieces budget may_stop found → (told_of seconds found bound).status ≡ status.Proven
+    → IsOfFirst p (told_of seconds found bound)
+of_told p pieces budget may_stop None found bound is ends = of_answer p pieces budget may_stop found is ends
+of_told p pieces budget may_stop (Some seconds) (answer.Proven plan) bound first ends = record { plan = plan; first = first; told = refl }
+of_told p pieces budget may_stop (Some seconds) (answer.Open plan low lowest) bound left ends = absurd (let never : 1 ≡ 0 = ap code ends in cc)
+of_told p pieces budget may_stop (Some seconds) answer.NoPlan bound none ends = absurd (let never : 2 ≡ 0 = ap code ends in cc)
 
 abbrev pub OneMeaning : Type 0
 OneMeaning = (bytes : List ℕ) (chosen : Option ℕ) (p q : Problem) → MeansProblem bytes chosen p → MeansProblem bytes chosen q → p ≡ q
@@ -74,7 +82,7 @@ reports_agree meaning one options others may_stop others_may bytes report other 
 of_found : (request : Request) (may_stop : Bool) (p : Problem) (start : Option PricedPlan) (finding : FindingOf) → IsFoundBy request may_stop p start finding → finding.status ≡ status.Proven → IsOfFirst p finding
 of_found request may_stop p start finding (inl checked) ends = absurd (let never : 3 ≡ 0 = ap code (ap (λ (f : FindingOf). f.status) (sym checked.told) ∙ ends) in cc)
 of_found request may_stop p start finding (inr searched) ends =
-    subst (IsOfFirst p) (sym searched.told) (of_answer p request.options.pieces request.options.budget may_stop searched.answer searched.answer_is (ap (λ (f : FindingOf). f.status) (sym searched.told) ∙ ends))
+    subst (IsOfFirst p) (sym searched.told) (of_told p request.options.pieces request.options.budget may_stop request.seconds searched.answer searched.bound searched.answer_is (ap (λ (f : FindingOf). f.status) (sym searched.told) ∙ ends))
 
 same_text : (asked : Format) (settings others : Settings) (p : Problem) (finding : FindingOf) (text other : List ℕ) → IsOfFindingAlone asked → IsTextIn asked settings p finding text → IsTextIn asked others p finding other → text ≡ other
 same_text format.Report settings others p finding text other alone told also = told ∙ sym also

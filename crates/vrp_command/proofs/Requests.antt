@@ -2,12 +2,12 @@
 use Rattle.std.proofs.Common.{◌≡◌, ◌∙◌, ◌≤◌, inl, inr, ℕ, Bool, None, Option, Some, List, Result, Ok, Err, IsTrue, OnOk, IfOk, IfErr, subst, sym}
 use Rattle.std.specs.Option.{ForSome}
 use Rattle.vrp_answer.specs.Answer.{known_plan}
-use Rattle.vrp_answer.specs.Finding.{FindingOf, finding_of, lawful_finding}
+use Rattle.vrp_answer.specs.Finding.{FindingOf, lawful_finding}
 use Rattle.vrp_answer.specs.declared.answers.Answer.{Answer}
 use Rattle.vrp_answer.specs.declared.status.Status.{Status}
 use Rattle.vrp_command.specs.Answer.{IsAnswerTo}
 use Rattle.vrp_command.specs.Form.{IsFormOf, IsTextAs, WritesPart, WritesText}
-use Rattle.vrp_command.specs.Found.{IsFoundBy, WritesFound, WritesFoundPart}
+use Rattle.vrp_command.specs.Found.{IsFoundBy, WritesFound, WritesFoundPart, told_of}
 use Rattle.vrp_command.specs.Inner.Written.{OnFault, WritesOn, WritesPartOn}
 use Rattle.vrp_command.specs.Program.{AnswersRequest, BeginsWith, GivesStart, OnRefusal, PrintsPartOfRequest, PrintsRequest}
 use Rattle.vrp_command.specs.Run.{OnRefusedFile, ReadsProblem}
@@ -21,7 +21,7 @@ use Rattle.vrp_command.specs.declared.start.StartError.TheVariants as start_faul
 use Rattle.vrp_command.specs.declared.start.StartFile.{StartFile}
 use Rattle.vrp_export.specs.Json.{IsJsonOf}
 use Rattle.vrp_export.specs.declared.json.Settings.{Settings}
-use Rattle.vrp_model.specs.Cheapest.{cost_of}
+use Rattle.vrp_model.specs.Cheapest.{NoneCheaper, cost_of}
 use Rattle.vrp_model.specs.Problem.{Problem}
 use Rattle.vrp_model.specs.Route.{IsPlanOf, PricedPlan}
 use Rattle.vrp_request.specs.declared.options.Format.{Format}
@@ -58,9 +58,11 @@ pub is_checked : (request : Request) (may_stop : Bool) (p : Problem) (start : Op
 is_checked request may_stop p start plan told asked given is = inl (record { asked = asked; plan = plan; given = given; told = is })
 
 -- an answer was searched for
-pub is_searched : (request : Request) (may_stop : Bool) (p : Problem) (start : Option PricedPlan) (found : Answer) (told : FindingOf) → (IsTrue request.check → start ≡ None) → IsAnswerTo p request.options.pieces request.options.budget may_stop found
-    → cost_of (known_plan found) ≤ cost_of start → told ≡ finding_of found → IsFoundBy request may_stop p start told
-is_searched request may_stop p start found told unchecked answer no_dearer is = inr (record { unchecked = unchecked; answer = found; answer_is = answer; no_dearer = no_dearer; told = is })
+pub is_searched : (request : Request) (may_stop : Bool) (p : Problem) (start : Option PricedPlan) (found : Answer) (bound : ℕ) (told : FindingOf) → (IsTrue request.check → start ≡ None)
+    → IsAnswerTo p request.options.pieces request.options.budget may_stop found → cost_of (known_plan found) ≤ cost_of start → NoneCheaper p bound → told ≡ told_of request.seconds found bound
+    → IsFoundBy request may_stop p start told
+is_searched request may_stop p start found bound told unchecked answer no_dearer none_below is =
+    inr (record { unchecked = unchecked; answer = found; answer_is = answer; no_dearer = no_dearer; bound = bound; none_below = none_below; told = is })
 
 -- ---- of the bytes that were read
 

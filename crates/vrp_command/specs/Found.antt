@@ -2,12 +2,12 @@
 use Rattle.std.specs.Io.KnownBytes.{Appends}
 use Rattle.std.specs.Prelude.{◌≡◌, ◌⊎◌, ℕ, ◌≤◌, Bool, IsTrue, Option, Some, None, List}
 use Rattle.vrp_answer.specs.Answer.{known_plan}
-use Rattle.vrp_answer.specs.Finding.{FindingOf, finding_of, lawful_finding}
+use Rattle.vrp_answer.specs.Finding.{FindingOf, bounded_finding, finding_of, lawful_finding}
 use Rattle.vrp_answer.specs.declared.answers.Answer.{Answer}
 use Rattle.vrp_answer.specs.declared.status.Status.{Status}
 use Rattle.vrp_command.specs.Answer.{IsAnswerTo}
 use Rattle.vrp_command.specs.Text.{IsTextOf}
-use Rattle.vrp_model.specs.Cheapest.{cost_of}
+use Rattle.vrp_model.specs.Cheapest.{NoneCheaper, cost_of}
 use Rattle.vrp_model.specs.Problem.{Problem}
 use Rattle.vrp_model.specs.Route.{PricedPlan}
 use Rattle.vrp_request.specs.declared.options.Request.{Request}
@@ -20,13 +20,20 @@ pub record IsChecked (request : Request) (start : Option PricedPlan) (finding : 
   pub given : start ≡ Some plan
   pub told : finding ≡ lawful_finding plan
 
+-- what is told of an answer: where a time was set, with a bound below which no lawful plan costs, if that is higher
+abbrev pub told_of : Option ℕ → Answer → ℕ → FindingOf
+told_of None answer bound = finding_of answer
+told_of (Some seconds) answer bound = bounded_finding answer bound
+
 -- an answer was searched for, as the options ask for it, and its plan costs no more than the one to begin with
 pub record IsSearchedFor (request : Request) (may_stop : Bool) (problem : Problem) (start : Option PricedPlan) (finding : FindingOf) : Type 0 where
   pub unchecked : IsTrue request.check → start ≡ None
   pub answer : Answer
   pub answer_is : IsAnswerTo problem request.options.pieces request.options.budget may_stop answer
   pub no_dearer : cost_of (known_plan answer) ≤ cost_of start
-  pub told : finding ≡ finding_of answer
+  pub bound : ℕ
+  pub none_below : NoneCheaper problem bound
+  pub told : finding ≡ told_of request.seconds answer bound
 
 -- what a request finds of a problem, with a plan to begin with or without
 abbrev pub IsFoundBy : Request → Bool → Problem → Option PricedPlan → FindingOf → Type 0

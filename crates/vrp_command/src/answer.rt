@@ -2,7 +2,7 @@
 ghost use Rattle.std.specs.Prelude.{◌≤◌, IfOk};
 ghost use Rattle.std.specs.Option.{ForSome, option_map};
 ghost use Rattle.vrp_model.specs.Route.{IsPlanOf};
-ghost use Rattle.vrp_model.specs.Cheapest.{cost_of};
+ghost use Rattle.vrp_model.specs.Cheapest.{NoneCheaper, cost_of};
 ghost use Rattle.vrp_answer.specs.Answer.{known_plan};
 ghost use Rattle.vrp_command.specs.Answer.{IsAnswerTo};
 ghost use Rattle.vrp_request.specs.Options.{AreInRange};
@@ -11,7 +11,7 @@ use std::alloc::Global;
 use std::sync::Wait;
 use std::thread::Threads;
 use vrp_model::{Instance, Plan};
-use vrp_pool::{Answer, Gate, SolveError, solve_from};
+use vrp_pool::{Gate, SolveError, Solved, solve_from};
 use vrp_request::Options;
 use vrp_tree::Cutting;
 
@@ -24,12 +24,14 @@ pub(crate) fn cut_and_solve<T: Threads + Wait + Sync, G: Gate + Sync>(
     start: Option<&Plan>,
     options: Options,
     gate: &G,
-) -> Result<Answer, SolveError>
+) -> Result<Solved, SolveError>
     requires start { ForSome (option_map (λ plan. plan.now) start) (IsPlanOf instance.now) }
     requires options { AreInRange options }
-    ensures answer { IfOk result (IsAnswerTo instance.now options.pieces options.budget (G.may_stop gate.now)) }
-    ensures no_dearer { IfOk result (λ answer. cost_of (known_plan answer)
+    ensures answer { IfOk result (λ solved.
+        IsAnswerTo instance.now options.pieces options.budget (G.may_stop gate.now) solved.answer) }
+    ensures no_dearer { IfOk result (λ solved. cost_of (known_plan solved.answer)
         ≤ cost_of (option_map (λ plan. plan.now) start.entry)) }
+    ensures bound { IfOk result (λ solved. NoneCheaper instance.now solved.lower_bound) }
 {
     let mut cutting = Cutting::whole(alloc, instance)?;
     cutting.at_least(alloc, instance, options.pieces)?;

@@ -2,11 +2,10 @@
 ghost use Rattle.std.specs.Io.KnownBytes.{Keeps};
 ghost use Rattle.std.specs.Option.{ForSome, option_map};
 ghost use Rattle.std.specs.Prelude.{◌≡◌, ◌≢◌, ◌⊎◌, None, Some, IfOk, IfErr, IsTrue, MatchOption, OnOk};
-ghost use Rattle.vrp_answer.specs.Answer.{known_plan};
-ghost use Rattle.vrp_answer.specs.Finding.{finding_of};
+ghost use Rattle.vrp_answer.specs.Finding.{told_by};
 ghost use Rattle.vrp_model.specs.Route.{IsPlanOf};
 ghost use Rattle.vrp_request.specs.Options.{AreInRange};
-ghost use Rattle.vrp_command.specs.Found.{WritesFound, WritesFoundPart};
+ghost use Rattle.vrp_command.specs.Found.{WritesFound, WritesFoundPart, told_of};
 ghost use Rattle.vrp_command.specs.Form.{IsFormOf, WritesPart, WritesText};
 
 use crate::answer::cut_and_solve;
@@ -15,9 +14,9 @@ use std::alloc::Global;
 use std::io::Write;
 use std::sync::Wait;
 use std::thread::Threads;
-use vrp_answer::{Answer, Finding};
+use vrp_answer::Finding;
 use vrp_model::{Instance, Plan};
-use vrp_pool::Gate;
+use vrp_pool::{Gate, Solved};
 use vrp_request::Request;
 use vrp_streams::{RunError, Status};
 
@@ -85,36 +84,46 @@ fn print_searched<T: Threads + Wait + Sync, W: Write, E: Write, G: Gate + Sync>(
         (W.contents output.old) (W.contents output.new)) }
     ensures faults { IfErr result (λ fault. (fault ≡ RunError.OutOfMemory) ⊎ (fault ≡ RunError.Write)) }
 {
-    let answer = cut_and_solve(rt, alloc, instance, start, request.options, gate)?;
-    let printed = print_answer(alloc, instance, &answer, form, output, errors);
+    let solved = cut_and_solve(rt, alloc, instance, start, request.options, gate)?;
+    let finding = told(&solved, request.seconds);
+    let printed = print_told(alloc, instance, &finding, form, output, errors);
     // By a call: what is let go by itself is let go field by field, and each step is proved.
-    drop(answer);
+    drop(solved);
     printed
 }
 
-// Prints an answer. Where it has no plan for a solution `errors` is told so.
-fn print_answer<W: Write, E: Write>(
+// What is told of what a search came to: where a time was set, with the search's own bound, if that is higher.
+fn told<'a>(solved: &'a Solved, seconds: Option<u32>) -> Finding<'a>
+    ensures { told_by result ≡ told_of seconds solved.entry.now.answer solved.entry.now.lower_bound }
+{
+    match seconds {
+        Some(_) => Finding::of_solved(solved),
+        None => Finding::of_answer(&solved.answer),
+    }
+}
+
+// Prints what is told of an answer. Where it has no plan for a solution `errors` is told so.
+fn print_told<W: Write, E: Write>(
     alloc: Global,
     instance: &Instance,
-    answer: &Answer,
+    finding: &Finding<'_>,
     form: Form<'_>,
     output: &mut W,
     errors: &mut E,
 ) -> Result<Status, RunError>
-    requires { ForSome (known_plan answer.now) (IsPlanOf instance.now) }
-    ensures status { IfOk result (λ status. status ≡ (finding_of answer.now).status) }
-    ensures printed { OnOk result (WritesText form.entry instance.now (finding_of answer.now)
+    requires { ForSome (option_map (λ plan. plan.now) finding.now.plan) (IsPlanOf instance.now) }
+    ensures status { IfOk result (λ status. status ≡ finding.now.status) }
+    ensures printed { OnOk result (WritesText form.entry instance.now (told_by finding.now)
         (W.contents output.old) (W.contents output.new)) }
     ensures begun { IfErr result (λ fault. fault ≡ RunError.Write → WritesPart form.entry instance.now
-        (finding_of answer.now) (W.contents output.old) (W.contents output.new)) }
+        (told_by finding.now) (W.contents output.old) (W.contents output.new)) }
     ensures silent { IfErr result (λ fault. fault ≢ RunError.Write → Keeps
         (W.contents output.old) (W.contents output.new)) }
     ensures faults { IfErr result (λ fault. (fault ≡ RunError.OutOfMemory) ⊎ (fault ≡ RunError.Write)) }
 {
-    let finding = Finding::of_answer(answer);
-    let printed = print_finding(alloc, instance, &finding, form, output);
+    let printed = print_finding(alloc, instance, finding, form, output);
     if printed.is_ok() {
-        tell_missing_plan(&finding, form, errors);
+        tell_missing_plan(finding, form, errors);
     }
     printed
 }

@@ -17,6 +17,8 @@ pub enum Stage {
     Routes,
     /// A cheapest choice of the useful routes is looked for.
     Choice,
+    /// Better plans are looked for, as long as there is time.
+    BetterPlans,
     /// Pieces are searched.
     Search,
     /// It has come to this verdict.
@@ -34,6 +36,7 @@ impl fmt::Display for Stage {
             Stage::Prices => "prices",
             Stage::Routes => "routes",
             Stage::Choice => "choice",
+            Stage::BetterPlans => "better plans",
             Stage::Search => "search",
             Stage::Ended(status) => status.as_str(),
         })

@@ -23,7 +23,9 @@ const ROUTES: u64 = 3;
 
 const CHOICE: u64 = 4;
 
-const SEARCH: u64 = 5;
+const BETTER_PLANS: u64 = 5;
+
+const SEARCH: u64 = 6;
 
 /// A gate that tells of a run on standard error, if that is asked for, and passes on to another gate all that it is told: a line when
 /// something is new, and one about every second. Where a line can't be written the run goes on. What the lines say no clause says.
@@ -36,6 +38,8 @@ pub(crate) struct Progress<'a, T, G: Gate> {
     gate: &'a G,
     stage: AtomicU64,
     cost: AtomicU64,
+    // What the last plan cost of which a line told.
+    told: AtomicU64,
     bound: AtomicU64,
     labels: AtomicU64,
     routes: AtomicU64,
@@ -60,6 +64,7 @@ impl<'a, T: Clock + Eprint, G: Gate> Progress<'a, T, G> {
             gate,
             stage: AtomicU64::new(FIRST_LOOK),
             cost: AtomicU64::new(NO_PLAN),
+            told: AtomicU64::new(NO_PLAN),
             bound: AtomicU64::new(0),
             labels: AtomicU64::new(0),
             routes: AtomicU64::new(0),
@@ -156,6 +161,7 @@ impl<'a, T: Clock + Eprint, G: Gate> Progress<'a, T, G> {
             PRICES => Stage::Prices,
             ROUTES => Stage::Routes,
             CHOICE => Stage::Choice,
+            BETTER_PLANS => Stage::BetterPlans,
             _ => Stage::Search,
         }
     }
@@ -180,6 +186,7 @@ impl<'a, T: Clock + Eprint, G: Gate> Gate for Progress<'a, T, G> {
             News::FirstPlan => self.comes_to(FIRST_PLAN),
             News::Prices => self.comes_to(PRICES),
             News::Routes => self.comes_to(ROUTES),
+            News::BetterPlans => self.comes_to(BETTER_PLANS),
             News::Choice(routes) => {
                 self.routes.store(routes, Ordering::Relaxed);
                 self.comes_to(CHOICE);
@@ -201,9 +208,14 @@ impl<'a, T: Clock + Eprint, G: Gate> Gate for Progress<'a, T, G> {
                 self.bound.fetch_max(bound, Ordering::Relaxed);
             }
             News::Plan(cost) => {
-                if cost < self.cost.fetch_min(cost, Ordering::Relaxed) {
+                self.cost.fetch_min(cost, Ordering::Relaxed);
+                if cost < self.told.fetch_min(cost, Ordering::Relaxed) {
                     self.tell(self.stage());
                 }
+            }
+            News::Cheaper(cost) => {
+                self.cost.fetch_min(cost, Ordering::Relaxed);
+                self.tell_when_due();
             }
             News::Looked(more) => {
                 self.looked.fetch_add(more, Ordering::Relaxed);

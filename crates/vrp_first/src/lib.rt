@@ -1,6 +1,10 @@
-//! A first plan near the best: ruin and recreate, from a plan by savings.
+//! Plans near the best: ruin and recreate, from a plan by savings or from any other.
 #![tactic(auto)]
 
 mod first;
+mod improved;
+mod pace;
 
 pub use first::{ENOUGH_MOVES, first_plan};
+pub use improved::{Crew, improved_plan};
+pub use vrp_recreate::{Unhurried, Watch};

@@ -3,7 +3,7 @@ use crate::assertion::assert_same;
 use crate::fixture::{Told, by_matrix, scattered};
 use std::alloc::Global;
 use std::process::Abort;
-use vrp_first::first_plan;
+use vrp_first::{Unhurried, Watch, first_plan};
 use vrp_model::Plan;
 use vrp_savings::savings_plan;
 
@@ -50,7 +50,7 @@ fn assert_small(rt: &impl Abort, alloc: Global, small: Small<'_>) {
         trucks,
     };
     let instance = by_matrix(rt, alloc, ways, told);
-    let plan = first_plan(alloc, &instance, 100, &|| true).expect(rt, "memory");
+    let plan = first_plan(alloc, &instance, 100, &Unhurried).expect(rt, "memory");
     assert_same(rt, plan.as_ref().map(Plan::cost), cost, (ways, demands));
 }
 
@@ -58,7 +58,7 @@ fn assert_small(rt: &impl Abort, alloc: Global, small: Small<'_>) {
 #[test]
 fn many_customers(rt: HostRuntime) {
     let instance = scattered(&rt, rt.alloc(), 1_200, 1, 0);
-    let plan = first_plan(rt.alloc(), &instance, 200, &|| true).expect(&rt, "memory");
+    let plan = first_plan(rt.alloc(), &instance, 200, &Unhurried).expect(&rt, "memory");
     let plan = plan.expect(&rt, "a plan");
     assert!(rt; plan.cost() < 124_175);
 }
@@ -67,8 +67,8 @@ fn many_customers(rt: HostRuntime) {
 #[test]
 fn the_same_twice(rt: HostRuntime) {
     let instance = scattered(&rt, rt.alloc(), 60, 1, 0);
-    let once = first_plan(rt.alloc(), &instance, 1_000, &|| true).expect(&rt, "memory");
-    let again = first_plan(rt.alloc(), &instance, 1_000, &|| true).expect(&rt, "memory");
+    let once = first_plan(rt.alloc(), &instance, 1_000, &Unhurried).expect(&rt, "memory");
+    let again = first_plan(rt.alloc(), &instance, 1_000, &Unhurried).expect(&rt, "memory");
     assert_one_plan(&rt, once, again);
 }
 
@@ -77,7 +77,7 @@ fn the_same_twice(rt: HostRuntime) {
 fn stopped_at_once(rt: HostRuntime) {
     let instance = scattered(&rt, rt.alloc(), 60, 1, 0);
     let by_savings = savings_plan(rt.alloc(), &instance).expect(&rt, "memory");
-    let stopped = first_plan(rt.alloc(), &instance, 1_000, &|| false).expect(&rt, "memory");
+    let stopped = first_plan(rt.alloc(), &instance, 1_000, &Stopped).expect(&rt, "memory");
     assert_one_plan(&rt, stopped, by_savings);
 }
 
@@ -85,4 +85,13 @@ fn stopped_at_once(rt: HostRuntime) {
 fn assert_one_plan(rt: &impl Abort, one: Option<Plan>, other: Option<Plan>) {
     let (one, other) = (one.expect(rt, "a plan"), other.expect(rt, "a plan"));
     assert_same(rt, one.word(), other.word(), "the word");
+}
+
+// Who waits for nothing.
+struct Stopped;
+
+impl Watch for Stopped {
+    fn should_continue(&self) -> bool {
+        false
+    }
 }

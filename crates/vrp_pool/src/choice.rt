@@ -1,7 +1,7 @@
 //! The first plan as a choice among useful routes, where an instance has few customers: the routes that can stand in it are listed, and
 //! the first of the cheapest choices among them is that plan.
 ghost use Rattle.std.specs.Prelude.{◌≡◌, ◌≤◌, IfOk, IfSome};
-ghost use Rattle.vrp_model.specs.Cheapest.{cost_of};
+ghost use Rattle.vrp_model.specs.Cheapest.{NoneCheaper, cost_of};
 ghost use Rattle.vrp_model.specs.Order.{IsFirst};
 ghost use Rattle.vrp_model.specs.Problem.{place_count};
 ghost use Rattle.vrp_routes.specs.Listing.{IfPool};
@@ -26,18 +26,22 @@ use vrp_tree::lawful_plan;
 // How many labels may be made, whatever the budget: so many take less than three gigabytes.
 const MOST_LABELS: u64 = 40_000_000;
 
-/// What useful routes came to: the answer, if the first plan was found; else a plan that was found meanwhile, if any.
+/// What useful routes came to: the answer, if the first plan was found; else a plan that was found meanwhile, if any, and a bound on all
+/// lawful plans.
 #[derive(Drop)]
 pub(crate) struct RoutesAnswer {
     pub(crate) answer: Option<Answer>,
     pub(crate) better: Option<Plan>,
+    /// No lawful plan costs less; 0 where nothing is known.
+    pub(crate) lower_bound: u64,
 }
 
-// The first plan, if it was found; else a plan that was found meanwhile, if any.
+// The first plan, if it was found; else a plan that was found meanwhile, if any, and a bound on all lawful plans.
 #[derive(Drop)]
 pub(crate) struct RoutesPlan {
     first: Option<Plan>,
     better: Option<Plan>,
+    lower_bound: u64,
 }
 
 /// The proven plan by useful routes. There is no answer without a memory, and where a limit is met before it is found: there are too
@@ -56,29 +60,38 @@ pub(crate) fn answer_by_routes<R: Threads + Sync, G: Gate + Sync>(
     ensures answer { IfOk result (λ found. IfSome found.answer (AnswersAll shared.now.problem)) }
     ensures no_dearer { IfOk result (λ found. IfSome found.answer (λ answer. cost_of (known_plan answer) ≤ cost_of shared.now.first)) }
     ensures better { IfOk result (λ found. IfSome found.better (IsPlanOf shared.now.problem)) }
+    ensures bound { IfOk result (λ found. NoneCheaper shared.now.problem found.lower_bound) }
 {
     let Some(known) = shared.first else {
         return Ok(RoutesAnswer {
             answer: None,
             better: None,
+            lower_bound: 0,
         });
     };
     let Some(memory) = memory else {
         return Ok(RoutesAnswer {
             answer: None,
             better: None,
+            lower_bound: 0,
         });
     };
     first_is_cheapest();
-    let RoutesPlan { first, better } = plan_by_routes(shared, relaxation, memory, workers, known)?;
+    let RoutesPlan {
+        first,
+        better,
+        lower_bound,
+    } = plan_by_routes(shared, relaxation, memory, workers, known)?;
     match first {
         Some(plan) => Ok(RoutesAnswer {
             answer: Some(Answer::Proven(plan)),
             better,
+            lower_bound,
         }),
         None => Ok(RoutesAnswer {
             answer: None,
             better,
+            lower_bound,
         }),
     }
 }
@@ -98,10 +111,12 @@ fn plan_by_routes<R: Threads + Sync, G: Gate + Sync>(
     requires known { IsPlanOf shared.now.problem known.now }
     ensures first { IfOk result (λ found. IfSome found.first (IsFirst shared.now.problem)) }
     ensures better { IfOk result (λ found. IfSome found.better (IsPlanOf shared.now.problem)) }
+    ensures bound { IfOk result (λ found. NoneCheaper shared.now.problem found.lower_bound) }
 {
     let none = RoutesPlan {
         first: None,
         better: None,
+        lower_bound: 0,
     };
     if !can_list(shared.instance) {
         return Ok(none);
@@ -184,6 +199,7 @@ fn chosen_plan<R: Threads + Sync, G: Gate + Sync>(
     requires known { IsPlanOf shared.now.problem known.now }
     ensures first { IfOk result (λ found. IfSome found.first (IsFirst shared.now.problem)) }
     ensures better { IfOk result (λ found. IfSome found.better (IsPlanOf shared.now.problem)) }
+    ensures bound { IfOk result (λ found. NoneCheaper shared.now.problem found.lower_bound) }
 {
     shared.gate.hears(News::Choice(pool.len() as u64));
     let demands = demands_of(shared.alloc, shared.instance)?;
@@ -208,10 +224,12 @@ fn chosen_plan<R: Threads + Sync, G: Gate + Sync>(
         PlanSearch::First(plan) => Ok(RoutesPlan {
             first: Some(plan),
             better: None,
+            lower_bound: 0,
         }),
-        PlanSearch::Unfinished(word) => Ok(RoutesPlan {
+        PlanSearch::Unfinished { word, lower_bound } => Ok(RoutesPlan {
             first: None,
             better: lawful_plan(shared.alloc, shared.instance, word.as_slice())?,
+            lower_bound,
         }),
     }
 }

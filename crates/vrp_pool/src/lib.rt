@@ -1,6 +1,7 @@
 //! Several workers search the pieces of an instance's cutting, and what they leave makes a plan and a verdict on it.
 #![tactic(auto)]
 
+mod better_plan;
 mod choice;
 mod draws;
 mod preparation;
@@ -11,5 +12,7 @@ mod worker;
 
 pub use seat_board::SeatBoard;
 pub use solver::{MAX_WORKERS, solve, solve_from};
-pub use vrp_answer::{Answer, Finished, Gate, GatherError, Gatherer, News, NoGate, SolveError};
+pub use vrp_answer::{
+    Answer, Finished, Gate, GatherError, Gatherer, News, NoGate, SolveError, Solved,
+};
 pub use vrp_pile::{Drawn, Owner, Pile, Thief, settle};

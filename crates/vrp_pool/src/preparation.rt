@@ -4,6 +4,7 @@ ghost use Rattle.vrp_model.specs.Problem.{place_count};
 ghost use Rattle.vrp_model.specs.Route.{IsPlanOf};
 ghost use Rattle.vrp_pool.specs.declared.preparation.TheConstants.{LEAST_PREPARED_BUDGET};
 
+use crate::better_plan::TimedGate;
 use vrp_answer::{Gate, News, Shared};
 use vrp_ascent::{FoundPrices, find_prices};
 use vrp_first::ENOUGH_MOVES;
@@ -19,6 +20,9 @@ const LEAST_FOR_MOVES: u64 = 100_000;
 const MANY_CUSTOMERS: u16 = 50;
 
 const MORE_MOVES: u32 = 3 * ENOUGH_MOVES;
+
+// The most customers with which useful routes are listed.
+const MOST_FOR_ROUTES: u16 = 127;
 
 // The most customers near each place that walks remember: with more, a round takes longer than it gains.
 const MOST_REMEMBERED: usize = 3;
@@ -40,18 +44,24 @@ pub(crate) fn first_plan<R, G: Gate>(shared: &Shared<'_, R, G>) -> Result<Option
     if shared.budget < LEAST_PREPARED_BUDGET {
         return Ok(None);
     }
+    let customers = shared.instance.customers();
+    // Where no routes are listed, and a time is set, all workers look for better plans later.
+    let goes_on_later = customers > MOST_FOR_ROUTES && shared.gate.milliseconds_left().is_some();
     let moves = if shared.budget_in_all() < LEAST_FOR_MOVES {
         0
-    } else if shared.instance.customers() < MANY_CUSTOMERS {
+    } else if customers < MANY_CUSTOMERS || goes_on_later {
         ENOUGH_MOVES
     } else {
         MORE_MOVES
     };
-    let gate = shared.gate;
-    gate.hears(News::FirstPlan);
-    let plan = vrp_first::first_plan(shared.alloc, shared.instance, moves, &|| gate.goes_on())?;
+    shared.gate.hears(News::FirstPlan);
+    let watch = TimedGate {
+        gate: shared.gate,
+        kept: 0,
+    };
+    let plan = vrp_first::first_plan(shared.alloc, shared.instance, moves, &watch)?;
     if let Some(plan) = &plan {
-        gate.hears(News::Plan(plan.cost()));
+        shared.gate.hears(News::Plan(plan.cost()));
     }
     Ok(plan)
 }

@@ -1,7 +1,7 @@
 //! The search of an instance by several workers.
 ghost use Rattle.std.specs.Prelude.{◌≡◌, ◌+◌, ◌*◌, ◌≤◌, IfOk, IfSome, length, vec_len};
 ghost use Rattle.std.specs.Option.{ForSome, option_map};
-ghost use Rattle.vrp_model.specs.Cheapest.{cost_of};
+ghost use Rattle.vrp_model.specs.Cheapest.{NoneCheaper, cost_of};
 ghost use Rattle.vrp_model.specs.Problem.{place_count};
 ghost use Rattle.vrp_model.specs.Route.{IsPlanOf};
 ghost use Rattle.vrp_pile.specs.Pile.{IsNewPile};
@@ -11,6 +11,7 @@ ghost use Rattle.vrp_pool.specs.declared.solver.TheConstants.{MAX_WORKERS};
 ghost use Rattle.vrp_answer.specs.Answer.{AnswersAll, IsAnswer, known_plan};
 ghost use Rattle.vrp_answer.specs.Outcomes.{words_of};
 
+use crate::better_plan::better_plan;
 use crate::choice::{RoutesAnswer, answer_by_routes, copied_memory};
 use crate::preparation::{LEAST_PREPARED_BUDGET, first_plan, prices_found};
 use crate::team::searched_by_all;
@@ -19,11 +20,11 @@ use std::marker::Brand;
 use std::sync::Wait;
 use std::sync::ledger::{Blank, Ledger};
 use std::thread::Threads;
-use vrp_answer::{Answer, Gate, News, NoGate, Shared, SolveError, conclude};
+use vrp_answer::{Answer, Gate, News, NoGate, Shared, SolveError, Solved, conclude};
 use vrp_ascent::FoundPrices;
 use vrp_bound::Tables;
 use vrp_memory::Memory;
-use vrp_model::{Instance, NoMemory, Plan};
+use vrp_model::{Instance, NoMemory, Plan, plans_have_words};
 use vrp_pile::{Owner, Pile, Thief};
 use vrp_prices::Relaxation;
 use vrp_register::{Closed, Register};
@@ -52,7 +53,8 @@ pub fn solve<'a, R: Threads + Wait + Sync, G: Gate + Sync>(
     requires budget { 1 ≤ budget }
     ensures { IfOk result (IsAnswer instance.now cutting budget (G.may_stop gate.now)) }
 {
-    solve_from(rt, alloc, instance, None, cutting, workers, budget, gate)
+    let solved = solve_from(rt, alloc, instance, None, cutting, workers, budget, gate)?;
+    Ok(solved.answer)
 }
 
 /// Searches all pieces of a cutting, each with this budget, by this many workers, each in a thread of its own where one can be made.
@@ -68,10 +70,12 @@ pub fn solve<'a, R: Threads + Wait + Sync, G: Gate + Sync>(
 /// are made, if there is a plan and prices are found: then the search of a piece prunes by them.
 ///
 /// Where there are prices and at most 127 customers, the routes that can stand in the first plan are listed next, and that plan is
-/// chosen among them: if this ends, no piece is searched. If it doesn't, the pieces begin with a better plan that it found.
+/// chosen among them: if this ends, no piece is searched. If it doesn't, the pieces begin with a better plan that it found. Where the gate
+/// has a time, better plans are looked for before, for most of what is left of it.
 ///
 /// Before the pieces are searched the plan to begin with is offered, if one is given, or the first plan where that is before it. The
-/// answer's plan costs no more than the plan to begin with.
+/// answer's plan costs no more than the plan to begin with. No lawful plan costs less than the lower bound, the higher of those by prices
+/// and by the choice among routes.
 pub fn solve_from<'a, R: Threads + Wait + Sync, G: Gate + Sync>(
     rt: &'a R,
     alloc: Global,
@@ -81,24 +85,25 @@ pub fn solve_from<'a, R: Threads + Wait + Sync, G: Gate + Sync>(
     workers: u32,
     budget: u64,
     gate: &'a G,
-) -> Result<Answer, SolveError>
+) -> Result<Solved, SolveError>
     requires start { ForSome (option_map (λ plan. plan.now) start) (IsPlanOf instance.now) }
     requires cutting { IsCutting instance.now cutting }
     requires few { length cutting ≤ 2 * MAX_REFINED }
     requires some_worker { 1 ≤ workers }
     requires few_workers { workers ≤ MAX_WORKERS }
     requires budget { 1 ≤ budget }
-    ensures answer { IfOk result (IsAnswer instance.now cutting budget (G.may_stop gate.now)) }
-    ensures no_dearer { IfOk result (λ answer. cost_of (known_plan answer)
+    ensures answer { IfOk result (λ solved. IsAnswer instance.now cutting budget (G.may_stop gate.now) solved.answer) }
+    ensures no_dearer { IfOk result (λ solved. cost_of (known_plan solved.answer)
         ≤ cost_of (option_map (λ plan. plan.now) start.entry)) }
+    ensures bound { IfOk result (λ solved. NoneCheaper instance.now solved.lower_bound) }
 {
     let tables = Tables::over_all(alloc, instance)?;
     let pieces = cutting.pieces().len() as u32;
     let shared = Shared::new(rt, alloc, instance, &tables, start, pieces, budget, gate);
-    let answer = solve_shared(&shared, cutting, workers);
+    let solved = solve_shared(&shared, cutting, workers);
     // By a call, here and below: what is let go by itself is let go on each way out, and each of these is proved.
     drop(tables);
-    Ok(answer?)
+    Ok(solved?)
 }
 
 // Answers by a look at the whole tree where that is enough, else by the pieces, with a first plan and prices.
@@ -106,24 +111,29 @@ fn solve_shared<R: Threads + Wait + Sync, G: Gate + Sync>(
     shared: &Shared<'_, R, G>,
     cutting: Cutting,
     workers: u32,
-) -> Result<Answer, NoMemory>
+) -> Result<Solved, NoMemory>
     requires cutting { IsCutting shared.now.problem cutting }
     requires few { length cutting ≤ 2 * MAX_REFINED }
     requires pieces { shared.now.pieces ≡ length cutting }
     requires some_worker { 1 ≤ workers }
     requires few_workers { workers ≤ MAX_WORKERS }
-    ensures answer { IfOk result (IsAnswer shared.now.problem cutting shared.now.budget shared.now.may_stop) }
-    ensures no_dearer { IfOk result (λ answer. cost_of (known_plan answer) ≤ cost_of shared.now.first) }
+    ensures answer { IfOk result (λ solved.
+        IsAnswer shared.now.problem cutting shared.now.budget shared.now.may_stop solved.answer) }
+    ensures no_dearer { IfOk result (λ solved. cost_of (known_plan solved.answer) ≤ cost_of shared.now.first) }
+    ensures bound { IfOk result (λ solved. NoneCheaper shared.now.problem solved.lower_bound) }
 {
     hear_plan(shared.gate, shared.first);
     if let Some(answer) = looked_at(shared)? {
         hear_plan(shared.gate, answer.plan());
-        return Ok(answer);
+        return Ok(Solved {
+            answer,
+            lower_bound: 0,
+        });
     }
     let made = first_plan(shared)?;
-    let answer = solve_prepared(&shared.with_plan(made.as_ref()), cutting, workers);
+    let solved = solve_prepared(&shared.with_plan(made.as_ref()), cutting, workers);
     drop(made);
-    answer
+    solved
 }
 
 // Answers by the pieces, with prices where they are found.
@@ -131,22 +141,27 @@ fn solve_prepared<R: Threads + Wait + Sync, G: Gate + Sync>(
     shared: &Shared<'_, R, G>,
     cutting: Cutting,
     workers: u32,
-) -> Result<Answer, NoMemory>
+) -> Result<Solved, NoMemory>
     requires cutting { IsCutting shared.now.problem cutting }
     requires few { length cutting ≤ 2 * MAX_REFINED }
     requires pieces { shared.now.pieces ≡ length cutting }
     requires some_worker { 1 ≤ workers }
     requires few_workers { workers ≤ MAX_WORKERS }
-    ensures answer { IfOk result (IsAnswer shared.now.problem cutting shared.now.budget shared.now.may_stop) }
-    ensures no_dearer { IfOk result (λ answer. cost_of (known_plan answer) ≤ cost_of shared.now.first) }
+    ensures answer { IfOk result (λ solved.
+        IsAnswer shared.now.problem cutting shared.now.budget shared.now.may_stop solved.answer) }
+    ensures no_dearer { IfOk result (λ solved. cost_of (known_plan solved.answer) ≤ cost_of shared.now.first) }
+    ensures bound { IfOk result (λ solved. NoneCheaper shared.now.problem solved.lower_bound) }
 {
     match prices_found(shared)? {
         Some(FoundPrices { relaxation, memory }) => {
-            let answer = solve_by_prices(shared, &relaxation, memory, cutting, workers);
+            let solved = solve_by_prices(shared, &relaxation, memory, cutting, workers);
             drop(relaxation);
-            answer
+            solved
         }
-        None => solve_pieces(shared, cutting, workers),
+        None => Ok(Solved {
+            answer: solve_improved(shared, cutting, workers)?,
+            lower_bound: 0,
+        }),
     }
 }
 
@@ -185,7 +200,7 @@ fn solve_by_prices<R: Threads + Wait + Sync, G: Gate + Sync>(
     memory: Memory,
     cutting: Cutting,
     workers: u32,
-) -> Result<Answer, NoMemory>
+) -> Result<Solved, NoMemory>
     requires problem { relaxation.now.problem ≡ shared.now.problem }
     requires places { memory.places ≡ place_count shared.now.problem }
     requires cutting { IsCutting shared.now.problem cutting }
@@ -193,15 +208,27 @@ fn solve_by_prices<R: Threads + Wait + Sync, G: Gate + Sync>(
     requires pieces { shared.now.pieces ≡ length cutting }
     requires some_worker { 1 ≤ workers }
     requires few_workers { workers ≤ MAX_WORKERS }
-    ensures answer { IfOk result (IsAnswer shared.now.problem cutting shared.now.budget shared.now.may_stop) }
-    ensures no_dearer { IfOk result (λ answer. cost_of (known_plan answer) ≤ cost_of shared.now.first) }
+    ensures answer { IfOk result (λ solved.
+        IsAnswer shared.now.problem cutting shared.now.budget shared.now.may_stop solved.answer) }
+    ensures no_dearer { IfOk result (λ solved. cost_of (known_plan solved.answer) ≤ cost_of shared.now.first) }
+    ensures bound { IfOk result (λ solved. NoneCheaper shared.now.problem solved.lower_bound) }
 {
     let copy = copied_memory(shared.alloc, shared.instance, &memory)?;
     let prices = Prices::new(shared.alloc, relaxation, memory)?;
-    shared.gate.hears(News::Bound(prices.lower_bound()));
-    let answer = solve_by_routes(shared, relaxation, &prices, copy, cutting, workers);
+    // What holds of all words holds of all plans.
+    plans_have_words();
+    let by_prices = prices.lower_bound();
+    shared.gate.hears(News::Bound(by_prices));
+    let solved = solve_by_routes(shared, relaxation, &prices, copy, cutting, workers);
     drop(prices);
-    answer
+    let Solved {
+        answer,
+        lower_bound,
+    } = solved?;
+    Ok(Solved {
+        answer,
+        lower_bound: lower_bound.max(by_prices),
+    })
 }
 
 // Answers by useful routes where these are few, else by the pieces.
@@ -212,7 +239,7 @@ fn solve_by_routes<R: Threads + Wait + Sync, G: Gate + Sync>(
     memory: Option<Memory>,
     cutting: Cutting,
     workers: u32,
-) -> Result<Answer, NoMemory>
+) -> Result<Solved, NoMemory>
     requires problem { relaxation.now.problem ≡ shared.now.problem }
     requires prices { prices.now.problem ≡ shared.now.problem }
     requires places { IfSome memory (λ memory. memory.places ≡ place_count shared.now.problem) }
@@ -221,16 +248,48 @@ fn solve_by_routes<R: Threads + Wait + Sync, G: Gate + Sync>(
     requires pieces { shared.now.pieces ≡ length cutting }
     requires some_worker { 1 ≤ workers }
     requires few_workers { workers ≤ MAX_WORKERS }
+    ensures answer { IfOk result (λ solved.
+        IsAnswer shared.now.problem cutting shared.now.budget shared.now.may_stop solved.answer) }
+    ensures no_dearer { IfOk result (λ solved. cost_of (known_plan solved.answer) ≤ cost_of shared.now.first) }
+    ensures bound { IfOk result (λ solved. NoneCheaper shared.now.problem solved.lower_bound) }
+{
+    let RoutesAnswer {
+        answer,
+        better,
+        lower_bound,
+    } = answer_by_routes(shared, relaxation, memory, workers)?;
+    if let Some(answer) = answer {
+        hear_plan(shared.gate, answer.plan());
+        return Ok(Solved {
+            answer,
+            lower_bound,
+        });
+    }
+    let priced = shared.by_prices(prices);
+    let answer = solve_improved(&priced.with_plan(better.as_ref()), cutting, workers);
+    drop(better);
+    Ok(Solved {
+        answer: answer?,
+        lower_bound,
+    })
+}
+
+// Looks for better plans, if a time is set, and answers by the pieces then.
+fn solve_improved<R: Threads + Wait + Sync, G: Gate + Sync>(
+    shared: &Shared<'_, R, G>,
+    cutting: Cutting,
+    workers: u32,
+) -> Result<Answer, NoMemory>
+    requires cutting { IsCutting shared.now.problem cutting }
+    requires few { length cutting ≤ 2 * MAX_REFINED }
+    requires pieces { shared.now.pieces ≡ length cutting }
+    requires some_worker { 1 ≤ workers }
+    requires few_workers { workers ≤ MAX_WORKERS }
     ensures answer { IfOk result (IsAnswer shared.now.problem cutting shared.now.budget shared.now.may_stop) }
     ensures no_dearer { IfOk result (λ answer. cost_of (known_plan answer) ≤ cost_of shared.now.first) }
 {
-    let RoutesAnswer { answer, better } = answer_by_routes(shared, relaxation, memory, workers)?;
-    if let Some(answer) = answer {
-        hear_plan(shared.gate, answer.plan());
-        return Ok(answer);
-    }
-    let priced = shared.by_prices(prices);
-    let answer = solve_pieces(&priced.with_plan(better.as_ref()), cutting, workers);
+    let better = better_plan(shared, workers)?;
+    let answer = solve_pieces(&shared.with_plan(better.as_ref()), cutting, workers);
     drop(better);
     answer
 }

@@ -11,6 +11,7 @@ mod ruin;
 mod setting;
 mod taken;
 mod threshold;
+mod watch;
 mod ways;
 
 pub use moves::{States, run};
@@ -19,3 +20,4 @@ pub use routes::Routes;
 pub use setting::Setting;
 pub use taken::Taken;
 pub use threshold::Threshold;
+pub use watch::{Unhurried, Watch};

@@ -9,6 +9,7 @@ use crate::ruin::ruin;
 use crate::setting::Setting;
 use crate::taken::Taken;
 use crate::threshold::Threshold;
+use crate::watch::Watch;
 use std::alloc::Global;
 use std::marker::Model;
 use vrp_model::NoMemory;
@@ -35,32 +36,35 @@ impl Model for States {
 }
 
 /// What a run of this many moves, whose chances go by a number, makes of a word: the word of the cheapest routes that it had, the same
-/// at each call, unless it is told to stop: before each move it is asked whether to go on. A word is the stops of its routes, each
-/// followed by 0; any may be given, and symbols that are no customers of the instance are passed over. Where memory was refused,
-/// `NoMemory`.
+/// at each call, unless it is told to stop: before each move the watch is asked whether to go on, and it hears of each cheaper cost. A
+/// word is the stops of its routes, each followed by 0; any may be given, and symbols that are no customers of the instance are passed
+/// over. Where memory was refused, `NoMemory`.
 ///
 /// Which word is answered is left open, and it need not be that of a lawful plan.
-pub fn run<F: Fn() -> bool>(
+pub fn run<W: Watch>(
     alloc: Global,
     setting: &Setting<'_>,
     word: &[u16],
     threshold: Threshold,
     number: u64,
-    goes_on: &F,
-) -> Result<Vec<u16>, NoMemory>
-    requires { F.IsAlwaysCallable goes_on.now }
-{
+    watch: &W,
+) -> Result<Vec<u16>, NoMemory> {
     let mut random = Random::new(number);
     let mut taken = Taken::new(alloc, setting.instance())?;
     let mut states = States::new(alloc, setting, word)?;
     let mut looked: u64 = 0;
+    let mut cost = states.best.cost();
     for index in 0..threshold.moves {
-        if looked >= threshold.positions || !goes_on() {
+        if looked >= threshold.positions || !watch.should_continue() {
             break;
         }
         let more = states.change(setting, &mut taken, &mut random, index);
         looked = looked.saturating_add(more);
         states.settle(threshold.after(index, looked));
+        if states.best.cost() < cost {
+            cost = states.best.cost();
+            watch.on_cost(cost);
+        }
     }
     states.best.word(alloc, setting.instance())
 }

@@ -4,7 +4,7 @@ ghost use Rattle.vrp_recreate.specs.Inner.Stops.{IsGap};
 ghost use Rattle.vrp_model.specs.Problem.{place_count};
 
 use crate::random::Random;
-use crate::routes::{Gap, Route, Routes};
+use crate::routes::{Gap, Route, Routes, Stop};
 use crate::setting::Setting;
 use crate::taken::Taken;
 
@@ -19,6 +19,13 @@ struct Offer {
 
 /// More than a way weighs, so that what is paid is no negative number.
 const RAISE: u64 = 1 << 32;
+
+/// From so many customers on a customer is put back beside one of those nearby, where a truck there has room: to look along all routes
+/// would take longer than it gains.
+const MANY_CUSTOMERS: u16 = 128;
+
+/// So many places are nearby.
+const NEARBY: u16 = 40;
 
 /// Puts the customers back that were taken out, in their order, where they find a place. Answers how many positions were looked
 /// at.
@@ -40,8 +47,31 @@ pub(crate) fn recreate(
     looked
 }
 
-// Puts a customer where that costs least, if there is a place. Answers how many positions were looked at.
+// Puts a customer where that costs least, if there is a place: of many customers beside one of those near it alone, if a truck there
+// has room. Answers how many positions were looked at.
 fn put_back(setting: &Setting<'_>, routes: &mut Routes, customer: u16, random: &mut Random) -> u64
+    requires routes { routes.old ≡ place_count setting.now }
+    requires customer { customer < routes.old }
+    ensures { routes.new ≡ routes.old }
+{
+    if setting.instance().customers() < MANY_CUSTOMERS {
+        return put_anywhere(setting, routes, customer, random);
+    }
+    let Offer { gap, .. } = best_nearby(setting, routes, customer, random);
+    if gap.route == 0 {
+        return put_anywhere(setting, routes, customer, random).saturating_add(u64::from(NEARBY));
+    }
+    routes.put(setting, customer, gap);
+    u64::from(NEARBY)
+}
+
+// Puts a customer where that costs least along all routes, if there is a place. Answers how many positions were looked at.
+fn put_anywhere(
+    setting: &Setting<'_>,
+    routes: &mut Routes,
+    customer: u16,
+    random: &mut Random,
+) -> u64
     requires routes { routes.old ≡ place_count setting.now }
     requires customer { customer < routes.old }
     ensures { routes.new ≡ routes.old }
@@ -147,4 +177,64 @@ fn best_along(
         at = stop.after;
     }
     best
+}
+
+// The best of a route of the customer's own and of the gaps beside those nearby. One position in a hundred is passed over.
+fn best_nearby(setting: &Setting<'_>, routes: &Routes, customer: u16, random: &mut Random) -> Offer
+    requires routes { routes.now ≡ place_count setting.now }
+    requires customer { customer < routes.now }
+    ensures { IsGap routes.now result.gap }
+{
+    let demand = setting.instance().demand(customer);
+    let mut best = own_route(setting, routes, customer);
+    for rank in 1..NEARBY.min(setting.instance().customers()) + 1 {
+        let near = setting.near().nearest(customer, rank);
+        let Stop { before, route, .. } = routes.stop(near);
+        if near != 0 && route != 0 && demand <= routes.route(route).room {
+            let behind = Gap {
+                route,
+                before: near,
+            };
+            best = better_of(
+                setting,
+                routes,
+                customer,
+                Gap { route, before },
+                random,
+                best,
+            );
+            best = better_of(setting, routes, customer, behind, random, best);
+        }
+    }
+    best
+}
+
+// The better of an offer and of a gap, unless that is passed over.
+fn better_of(
+    setting: &Setting<'_>,
+    routes: &Routes,
+    customer: u16,
+    gap: Gap,
+    random: &mut Random,
+    offer: Offer,
+) -> Offer
+    requires routes { routes.now ≡ place_count setting.now }
+    requires customer { customer < routes.now }
+    requires gap { IsGap routes.now gap }
+    requires offer { IsGap routes.now offer.gap }
+    ensures { IsGap routes.now result.gap }
+{
+    if random.blinks() {
+        return offer;
+    }
+    let ways = setting.ways();
+    let after = routes.behind(gap);
+    let added = u64::from(ways.weight(gap.before, customer))
+        + u64::from(ways.weight(customer, after));
+    let paid = RAISE + added - u64::from(ways.weight(gap.before, after));
+    if paid < offer.paid {
+        Offer { paid, gap }
+    } else {
+        offer
+    }
 }

@@ -220,8 +220,9 @@ impl Routes {
         self.count_out(route, before, after, setting.instance().demand(customer));
     }
 
-    // The stop behind a gap, 0 where the depot is.
-    fn behind(&self, gap: Gap) -> u16
+    /// The stop behind a gap, 0 where the depot is.
+    #[inline(always)]
+    pub(crate) fn behind(&self, gap: Gap) -> u16
         requires { IsGap self.now gap }
         ensures { result < self.now }
     {

@@ -6,12 +6,26 @@ use crate::fixture::{four_trucks, grid, ten_nodes};
 use std::sync::atomic::{AtomicU64, Ordering};
 use vrp_pool::News;
 
-// Goes on where it was asked this often before, and, if it is to, no more once routes are chosen among.
+// Until when a gate goes on.
+#[derive(Clone, Copy, Debug, PartialEq)]
+enum Until {
+    TheEnd,
+    // Until routes are chosen among.
+    Choice,
+    // Until the choice among them came by a cheaper plan than any before.
+    CheaperChoice,
+}
+
+// Goes on from where it was asked this often before.
 #[derive(Drop)]
 struct GoesOnLater {
     from: u64,
-    stops_choice: bool,
+    until: Until,
     asked: AtomicU64,
+    // The least cost of a plan so far.
+    least: AtomicU64,
+    // What the cheaper plan costs by which the choice came, 0 before.
+    cheaper: AtomicU64,
     // Of useful routes, among which is chosen.
     routes: AtomicU64,
     // Of pieces.
@@ -19,11 +33,13 @@ struct GoesOnLater {
 }
 
 impl GoesOnLater {
-    fn from(from: u64, stops_choice: bool) -> GoesOnLater {
+    fn from(from: u64, until: Until) -> GoesOnLater {
         GoesOnLater {
             from,
-            stops_choice,
+            until,
             asked: AtomicU64::new(0),
+            least: AtomicU64::new(u64::MAX),
+            cheaper: AtomicU64::new(0),
             routes: AtomicU64::new(0),
             done: AtomicU64::new(0),
         }
@@ -43,14 +59,25 @@ impl Gate for GoesOnLater {
             News::Done => {
                 self.done.fetch_add(1, Ordering::SeqCst);
             }
+            News::Plan(cost) => {
+                let is_cheaper = cost < self.least.fetch_min(cost, Ordering::SeqCst);
+                let is_choice = 0 < self.routes.load(Ordering::SeqCst);
+                if is_cheaper && is_choice && self.cheaper.load(Ordering::SeqCst) == 0 {
+                    self.cheaper.store(cost, Ordering::SeqCst);
+                }
+            }
             _ => {}
         }
     }
 
     fn goes_on(&self) -> bool {
         let asked = self.asked.fetch_add(1, Ordering::SeqCst);
-        let is_choice = 0 < self.routes.load(Ordering::SeqCst);
-        self.from <= asked && !(self.stops_choice && is_choice)
+        let has_come = match self.until {
+            Until::TheEnd => false,
+            Until::Choice => 0 < self.routes.load(Ordering::SeqCst),
+            Until::CheaperChoice => 0 < self.cheaper.load(Ordering::SeqCst),
+        };
+        self.from <= asked && !has_come
     }
 }
 
@@ -119,7 +146,7 @@ fn scattered_by_any_number_of_workers(rt: HostRuntime) {
 fn stopped_choice(rt: HostRuntime) {
     let instance = grid(&rt, rt.alloc(), (5, 3), 4);
     for workers in [1, 2, 8] {
-        let gate = GoesOnLater::from(5, true);
+        let gate = GoesOnLater::from(5, Until::Choice);
         let asked = (workers, 64, 10_000_000);
         let answer = answer_behind(&rt, rt.alloc(), &instance, asked, &gate);
         let is_left =
@@ -127,6 +154,22 @@ fn stopped_choice(rt: HostRuntime) {
         assert!(rt; is_left, "{workers}");
         let done = gate.done.load(Ordering::SeqCst);
         assert!(rt; 64 <= done, "{done}, by {workers}");
+    }
+}
+
+// Where the choice came by a cheaper plan than that by savings, and is stopped then, the pieces begin with that plan. They are stopped
+// too, so none of them has a better one; and the cheapest costs 375.
+#[test]
+fn cheaper_choice(rt: HostRuntime) {
+    let instance = four_trucks(&rt, rt.alloc());
+    for workers in [1, 2, 8] {
+        let gate = GoesOnLater::from(4, Until::CheaperChoice);
+        let asked = (workers, 64, 10_000_000);
+        let answer = answer_behind(&rt, rt.alloc(), &instance, asked, &gate);
+        let cheaper = gate.cheaper.load(Ordering::SeqCst);
+        let is_told =
+            matches!(&answer, Answer::Open { plan: Some(plan), .. } if plan.cost() == cheaper);
+        assert!(rt; is_told && 375 <= cheaper, "{cheaper}, by {workers}");
     }
 }
 
@@ -141,7 +184,7 @@ fn assert_first_by_all<R: Abort + Threads + Wait + Sync>(
     word: &[u16],
 ) {
     for workers in [1, 2, 8] {
-        let gate = GoesOnLater::from(from, false);
+        let gate = GoesOnLater::from(from, Until::TheEnd);
         let asked = (workers, pieces, budget);
         let answer = answer_behind(rt, alloc, instance, asked, &gate);
         assert_chosen(rt, &gate, &answer, (asked, from));

@@ -61,8 +61,8 @@ impl Gate for GoesOn {
             News::Choice(routes) => {
                 self.routes.fetch_max(routes, Ordering::SeqCst);
             }
-            News::FirstPlan | News::Prices | News::Routes | News::Pieces(_) => {}
-            News::Labels(_) | News::Nodes { .. } => {}
+            News::FirstPlan | News::Prices | News::Routes | News::BetterPlans => {}
+            News::Pieces(_) | News::Labels(_) | News::Nodes { .. } | News::Cheaper(_) => {}
         }
     }
 

@@ -1,5 +1,5 @@
 use Rattle.std.proofs.Common.{◌≤◌, subst, sym}
-use Rattle.vrp_model.specs.Cheapest.{cost_of}
+use Rattle.vrp_model.specs.Cheapest.{NoneCheaper, cost_of}
 use Rattle.vrp_tree.specs.Cutting.{IsCutting}
 use Rattle.vrp_answer.specs.Answer.{IsAnswer, known_plan}
 use Rattle.vrp_answer.specs.Outcomes.{Search}
@@ -14,20 +14,23 @@ new-shared-requires-clause-first g c = c.requires.start
 pub new-shared-requires-clause-budget : goal.new-shared-requires-clause-budget
 new-shared-requires-clause-budget g c = c.requires.budget
 
-pub solve_shared-answer-requires-clause-cutting : goal.solve_shared-answer-requires-clause-cutting
-solve_shared-answer-requires-clause-cutting g c κs within = subst (λ (s : Search). IsCutting s.problem c.args.cutting) (sym c.new-shared.ensures) c.requires.cutting
+pub solve_shared-solved-requires-clause-cutting : goal.solve_shared-solved-requires-clause-cutting
+solve_shared-solved-requires-clause-cutting g c κs within = subst (λ (s : Search). IsCutting s.problem c.args.cutting) (sym c.new-shared.ensures) c.requires.cutting
 
-pub solve_shared-answer-requires-clause-few : goal.solve_shared-answer-requires-clause-few
-solve_shared-answer-requires-clause-few g c κs within = c.requires.few
+pub solve_shared-solved-requires-clause-few : goal.solve_shared-solved-requires-clause-few
+solve_shared-solved-requires-clause-few g c κs within = c.requires.few
 
-pub solve_shared-answer-requires-clause-some_worker : goal.solve_shared-answer-requires-clause-some_worker
-solve_shared-answer-requires-clause-some_worker g c κs within = c.requires.some_worker
+pub solve_shared-solved-requires-clause-some_worker : goal.solve_shared-solved-requires-clause-some_worker
+solve_shared-solved-requires-clause-some_worker g c κs within = c.requires.some_worker
 
-pub solve_shared-answer-requires-clause-few_workers : goal.solve_shared-answer-requires-clause-few_workers
-solve_shared-answer-requires-clause-few_workers g c κs within = c.requires.few_workers
+pub solve_shared-solved-requires-clause-few_workers : goal.solve_shared-solved-requires-clause-few_workers
+solve_shared-solved-requires-clause-few_workers g c κs within = c.requires.few_workers
 
 pub returns-clause-answer : goal.returns-clause-answer
-returns-clause-answer g c = subst (λ (s : Search). IsAnswer s.problem c.args.cutting s.budget s.may_stop c.in_ok-answer.field-0) c.new-shared.ensures c.in_ok-answer.ensures.answer
+returns-clause-answer g c = subst (λ (s : Search). IsAnswer s.problem c.args.cutting s.budget s.may_stop c.in_ok-solved.field-0.answer) c.new-shared.ensures c.in_ok-solved.ensures.answer
 
 pub returns-clause-no_dearer : goal.returns-clause-no_dearer
-returns-clause-no_dearer g c = subst (λ (s : Search). cost_of (known_plan c.in_ok-answer.field-0) ≤ cost_of s.first) c.new-shared.ensures c.in_ok-answer.ensures.no_dearer
+returns-clause-no_dearer g c = subst (λ (s : Search). cost_of (known_plan c.in_ok-solved.field-0.answer) ≤ cost_of s.first) c.new-shared.ensures c.in_ok-solved.ensures.no_dearer
+
+pub returns-clause-bound : goal.returns-clause-bound
+returns-clause-bound g c = subst (λ (s : Search). NoneCheaper s.problem c.in_ok-solved.field-0.lower_bound) c.new-shared.ensures c.in_ok-solved.ensures.bound

@@ -15,11 +15,11 @@ returns-in-Some-clause-no_dearer g c =
     let s = c.args.shared.now in
     subst (λ (found : Option Answer). IfSome found (λ answer. cost_of (known_plan answer) ≤ cost_of s.first)) c.in-Some.is c.in_ok-answer.ensures.no_dearer
 
-pub solve_prepared-answer-requires-clause-few : goal.solve_prepared-answer-requires-clause-few
-solve_prepared-answer-requires-clause-few g c κs within = c.requires.few
+pub solve_prepared-solved-requires-clause-few : goal.solve_prepared-solved-requires-clause-few
+solve_prepared-solved-requires-clause-few g c κs within = c.requires.few
 
-pub solve_prepared-answer-requires-clause-some_worker : goal.solve_prepared-answer-requires-clause-some_worker
-solve_prepared-answer-requires-clause-some_worker g c κs within = c.requires.some_worker
+pub solve_prepared-solved-requires-clause-some_worker : goal.solve_prepared-solved-requires-clause-some_worker
+solve_prepared-solved-requires-clause-some_worker g c κs within = c.requires.some_worker
 
-pub solve_prepared-answer-requires-clause-few_workers : goal.solve_prepared-answer-requires-clause-few_workers
-solve_prepared-answer-requires-clause-few_workers g c κs within = c.requires.few_workers
+pub solve_prepared-solved-requires-clause-few_workers : goal.solve_prepared-solved-requires-clause-few_workers
+solve_prepared-solved-requires-clause-few_workers g c κs within = c.requires.few_workers

@@ -1,7 +1,7 @@
 use Rattle.std.proofs.Common.{◌≡◌}
 use Rattle.vrp_recreate.specs.Inner.Stops.{IsGap}
 use Rattle.vrp_model.specs.Problem.{place_count}
-use Rattle.vrp_recreate.proofs.recreate.put_back.Given as goal
+use Rattle.vrp_recreate.proofs.recreate.put_anywhere.Given as goal
 
 abbrev pub invariant-loop-number : goal.invariant-loop-number
 invariant-loop-number l = record {

@@ -1,0 +1,77 @@
+//! Better plans, for most of the time that is left, where the routes give no answer.
+ghost use Rattle.std.specs.Prelude.{◌≤◌, IfOk, IfSome};
+ghost use Rattle.vrp_model.specs.Route.{IsPlanOf};
+
+use crate::preparation::LEAST_PREPARED_BUDGET;
+use std::thread::Threads;
+use vrp_answer::{Gate, News, Shared};
+use vrp_first::{Crew, Watch, improved_plan};
+use vrp_model::{NO_COST, NoMemory, Plan};
+
+// The part of the time that is left for the pieces.
+const PART_FOR_PIECES: u64 = 4;
+
+/// A better plan than the one that is known, by all workers, or that one again. `None` where no plan is known, or the gate has no time,
+/// or the budget is below 1,000.
+pub(crate) fn better_plan<R: Threads + Sync, G: Gate + Sync>(
+    shared: &Shared<'_, R, G>,
+    workers: u32,
+) -> Result<Option<Plan>, NoMemory>
+    requires some_worker { 1 ≤ workers }
+    requires few_workers { workers ≤ 64 }
+    ensures { IfOk result (λ plan. IfSome plan (IsPlanOf shared.now.problem)) }
+{
+    let Some(known) = shared.first else {
+        return Ok(None);
+    };
+    let Some(left) = shared.gate.milliseconds_left() else {
+        return Ok(None);
+    };
+    if shared.budget < LEAST_PREPARED_BUDGET {
+        return Ok(None);
+    }
+    shared.gate.hears(News::BetterPlans);
+    let watch = TimedGate {
+        gate: shared.gate,
+        kept: left / PART_FOR_PIECES,
+    };
+    let crew = Crew {
+        rt: shared.rt,
+        alloc: shared.alloc,
+        instance: shared.instance,
+        workers: workers as u16,
+        watch: &watch,
+    };
+    let better = improved_plan(&crew, known)?;
+    shared.gate.hears(News::Plan(better.cost()));
+    Ok(Some(better))
+}
+
+/// A gate as runs of ruin and recreate ask it: how long they have, and what they tell. So many milliseconds are kept for what comes
+/// after.
+#[derive(Drop)]
+pub(crate) struct TimedGate<'a, G: Gate> {
+    pub(crate) gate: &'a G,
+    pub(crate) kept: u64,
+}
+
+impl<G: Gate> Watch for TimedGate<'_, G> {
+    fn should_continue(&self) -> bool {
+        self.gate.goes_on()
+            && match self.gate.milliseconds_left() {
+                Some(left) => left > self.kept,
+                None => true,
+            }
+    }
+
+    fn on_cost(&self, cost: u64) {
+        if cost < NO_COST {
+            self.gate.hears(News::Cheaper(cost));
+        }
+    }
+
+    fn milliseconds_left(&self) -> Option<u64> {
+        let left = self.gate.milliseconds_left()?;
+        Some(left.saturating_sub(self.kept))
+    }
+}
