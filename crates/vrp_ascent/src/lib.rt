@@ -3,9 +3,11 @@
 #![tactic(auto)]
 
 mod flow;
+mod purpose;
 mod remembered;
 mod rounds;
 mod separation;
+mod shares;
 mod step;
 mod stepped_cuts;
 mod unit;

@@ -1,10 +1,11 @@
 //! One step of prices and tolls towards a higher bound: a deflected subgradient (Camerini, Fratta and Maffioli 1975).
 ghost use Rattle.std.specs.Prelude.{pos, ◌<ℤ◌};
 
+use crate::shares::Shares;
 use crate::stepped_cuts::SteppedCuts;
 use std::alloc::Global;
 use vrp_model::{Instance, NoMemory};
-use vrp_walks::{UsedWay, Walks};
+use vrp_walks::{UsedWay, WHOLE_TOUR, Walks};
 
 // A visit or a crossing too many or too few counts so much in a direction.
 const UNIT: i64 = 256;
@@ -28,6 +29,8 @@ pub(crate) struct Ascent {
     scale: i64,
     prices: Vec<i64>,
     cuts: SteppedCuts,
+    // Where steps go by the least route through each customer, and not by the least tours.
+    shares: Option<Shares>,
     // The direction of the last step.
     direction: Vec<i64>,
     used: Vec<UsedWay>,
@@ -40,18 +43,20 @@ pub(crate) struct Ascent {
 }
 
 impl Ascent {
-    /// From no prices at all.
+    /// From no prices at all. Steps go by the least routes through customers, if these are given.
     pub(crate) fn new(
         alloc: Global,
         places: usize,
         scale: i64,
         cost: i64,
+        shares: Option<Shares>,
     ) -> Result<Ascent, NoMemory> {
         Ok(Ascent {
             aim: scale.saturating_mul(cost),
             scale,
             prices: vec![in alloc; 0; places]?,
             cuts: SteppedCuts::new(alloc, places)?,
+            shares,
             direction: vec![in alloc; 0; places]?,
             used: Vec::new(alloc),
             visits: vec![in alloc; 0; places]?,
@@ -86,20 +91,38 @@ impl Ascent {
         walks: &Walks,
         tours: i64,
     ) -> Result<bool, NoMemory> {
-        let charges = sum(&self.prices).wrapping_mul(2);
-        let bound = tours
-            .wrapping_sub(charges)
-            .wrapping_add(self.cuts.rewards());
+        let bound = self.bound(walks, tours)?;
         self.keep(bound);
         let reached = self.aim.saturating_sub(self.scale);
         if self.low.is_some_and(|low| low > reached) || self.pace < LAST_PACE {
             return Ok(false);
         }
-        walks.list_used(&mut self.used)?;
+        match &self.shares {
+            Some(shares) => shares.list_used(walks, &mut self.used)?,
+            None => walks.list_used(&mut self.used)?,
+        }
         if self.cuts.look_for_more(alloc, instance, &self.used)? {
             self.pace = self.pace.max(PACE_OF_NEW_CUTS);
         }
         Ok(self.go_on(bound))
+    }
+
+    // What each plan costs at least, by the tables and their least tours. Where each customer pays its share the prices change first, and
+    // tours cost nothing.
+    fn bound(&mut self, walks: &Walks, tours: i64) -> Result<i64, NoMemory> {
+        let paid_by_tours = match &mut self.shares {
+            Some(shares) => {
+                shares.settle(walks, self.prices.as_mut_slice())?;
+                0
+            }
+            None => tours,
+        };
+        let charges = sum(&self.prices).wrapping_mul(2);
+        Ok(
+            paid_by_tours
+                .wrapping_sub(charges)
+                .wrapping_add(self.cuts.rewards()),
+        )
     }
 
     // Takes the step by the ways that were used; false where all visits and crossings are as they should be.
@@ -149,30 +172,29 @@ impl Ascent {
     }
 }
 
-/// A direction: three tenths of the last one, and seven of what is too many, or wanting, now.
+/// A direction: three tenths of the last one, and seven of what is too many, or wanting, now, where a whole tour counts `WHOLE_TOUR`.
 pub(crate) fn deflected(last: i64, now: i64) -> i64 {
-    last.wrapping_mul(3)
-        .wrapping_add(now.wrapping_mul(7 * UNIT))
-        / 10
+    let now = now / (WHOLE_TOUR / UNIT);
+    last.wrapping_mul(3).wrapping_add(now.wrapping_mul(7)) / 10
 }
 
-// Counts the visits of each customer. The depot counts as visited once, so that it keeps no price.
+// Counts the visits of each customer, `WHOLE_TOUR` by a whole tour. The depot counts as visited once, so that it keeps no price.
 fn count_visits(visits: &mut [i64], used: &[UsedWay]) {
     visits.fill(0);
     for way in used {
         if let Some(count) = visits.get_mut(way.to) {
-            *count = count.wrapping_add(1);
+            *count = count.wrapping_add(way.part);
         }
     }
     if let Some(depot) = visits.first_mut() {
-        *depot = 1;
+        *depot = WHOLE_TOUR;
     }
 }
 
 // Each customer's part of the direction, by the visits beyond one.
 fn turn(direction: &mut [i64], visits: &[i64]) {
     for (way, &count) in direction.iter_mut().zip(visits) {
-        *way = deflected(*way, count.wrapping_sub(1));
+        *way = deflected(*way, count.wrapping_sub(WHOLE_TOUR));
     }
 }
 
