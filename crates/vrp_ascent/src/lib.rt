@@ -12,5 +12,6 @@ mod step;
 mod stepped_cuts;
 mod unit;
 
+pub use purpose::MOST_SEARCHED;
 pub use remembered::{Remembered, is_affordable};
 pub use rounds::{FoundPrices, find_prices};

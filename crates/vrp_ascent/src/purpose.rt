@@ -4,8 +4,9 @@ ghost use Rattle.std.specs.Prelude.{◌≤◌};
 use vrp_model::Instance;
 use vrp_walks::Size;
 
-// With more customers a search by prices ends nothing: what they bound is worth more than how fast they are looked up.
-const MOST_SEARCHED: u16 = 127;
+/// Of so many customers prices are sought for a search, of more for what they bound alone: there a search ends nothing, and what they
+/// bound is worth more than how fast it is looked up.
+pub const MOST_SEARCHED: u16 = 127;
 
 /// The most steps that one round of filling tables takes for a search.
 pub(crate) const MAX_ROUND: u64 = 20_000_000;
