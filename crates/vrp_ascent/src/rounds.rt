@@ -144,8 +144,7 @@ fn ascend<F: Fn() -> bool>(
             break;
         }
         left -= round;
-        ascent.enter(walks);
-        let Some(tours) = walks.fill() else {
+        let Some(tours) = ascent.fill(walks) else {
             break;
         };
         if !ascent.step(alloc, instance, walks, tours)? {

@@ -21,6 +21,14 @@ const PACE_OF_NEW_CUTS: i64 = 300;
 // After this many rounds without a better bound the pace slackens.
 const PATIENCE: u32 = 15;
 
+// By the routes of all customers a step is surer: so the first is shorter, and the pace slackens sooner.
+const FIRST_PACE_BY_SHARES: i64 = 400;
+
+const PATIENCE_BY_SHARES: u32 = 3;
+
+// Where the pace has come to its end they begin again from the best prices, with twice the patience, up to this.
+const MOST_PATIENCE: u32 = 24;
+
 /// Prices and tolls on their way, and the best so far.
 #[derive(Debug, Drop)]
 pub(crate) struct Ascent {
@@ -39,7 +47,9 @@ pub(crate) struct Ascent {
     // The bound by the best prices.
     low: Option<i64>,
     pace: i64,
+    // How many rounds there were without a better bound, and how many there may be.
     stale: u32,
+    patience: u32,
 }
 
 impl Ascent {
@@ -51,6 +61,10 @@ impl Ascent {
         cost: i64,
         shares: Option<Shares>,
     ) -> Result<Ascent, NoMemory> {
+        let (pace, patience) = match &shares {
+            Some(_) => (FIRST_PACE_BY_SHARES, PATIENCE_BY_SHARES),
+            None => (FIRST_PACE, PATIENCE),
+        };
         Ok(Ascent {
             aim: scale.saturating_mul(cost),
             scale,
@@ -62,14 +76,23 @@ impl Ascent {
             visits: vec![in alloc; 0; places]?,
             best: vec![in alloc; 0; places]?,
             low: None,
-            pace: FIRST_PACE,
+            pace,
             stale: 0,
+            patience,
         })
     }
 
-    /// Enters the prices and tolls that are to be tried next.
-    pub(crate) fn enter(&self, walks: &mut Walks) {
+    /// Fills the tables with the prices and tolls that are to be tried next. What the least tours cost together, if there are any: where
+    /// they are not needed, nothing.
+    pub(crate) fn fill(&self, walks: &mut Walks) -> Option<i64> {
         self.cuts.enter(walks, &self.prices);
+        match &self.shares {
+            Some(_) => {
+                walks.fill_walks();
+                Some(0)
+            }
+            None => walks.fill(),
+        }
     }
 
     /// How many cuts have a toll.
@@ -83,7 +106,7 @@ impl Ascent {
         (self.best, self.cuts)
     }
 
-    /// Steps on from the tables that were filled, whose least tours cost so much; false where no more steps are worth it.
+    /// Steps on from the tables that were filled last, where `fill` answered so much; false where no more steps are worth it.
     pub(crate) fn step(
         &mut self,
         alloc: Global,
@@ -94,7 +117,7 @@ impl Ascent {
         let bound = self.bound(walks, tours)?;
         self.keep(bound);
         let reached = self.aim.saturating_sub(self.scale);
-        if self.low.is_some_and(|low| low > reached) || self.pace < LAST_PACE {
+        if self.low.is_some_and(|low| low > reached) || self.is_over() {
             return Ok(false);
         }
         match &self.shares {
@@ -107,19 +130,31 @@ impl Ascent {
         Ok(self.go_on(bound))
     }
 
-    // What each plan costs at least, by the tables and their least tours. Where each customer pays its share the prices change first, and
-    // tours cost nothing.
+    // Whether the pace has come to its end, and it doesn't pay to begin again from the best prices. If it does, that is done.
+    fn is_over(&mut self) -> bool {
+        if self.pace >= LAST_PACE {
+            return false;
+        }
+        if self.shares.is_none() || self.patience >= MOST_PATIENCE {
+            return true;
+        }
+        self.patience = self.patience.saturating_mul(2);
+        self.pace = PACE_OF_NEW_CUTS;
+        self.stale = 0;
+        copy(self.prices.as_mut_slice(), &self.best);
+        self.cuts.go_back();
+        false
+    }
+
+    // What each plan costs at least, where the least tours cost so much. Where each customer pays its share the prices change first, and
+    // then tours cost nothing.
     fn bound(&mut self, walks: &Walks, tours: i64) -> Result<i64, NoMemory> {
-        let paid_by_tours = match &mut self.shares {
-            Some(shares) => {
-                shares.settle(walks, self.prices.as_mut_slice())?;
-                0
-            }
-            None => tours,
-        };
+        if let Some(shares) = &mut self.shares {
+            shares.settle(walks, self.prices.as_mut_slice())?;
+        }
         let charges = sum(&self.prices).wrapping_mul(2);
         Ok(
-            paid_by_tours
+            tours
                 .wrapping_sub(charges)
                 .wrapping_add(self.cuts.rewards()),
         )
@@ -165,7 +200,7 @@ impl Ascent {
         } else {
             self.stale.saturating_add(1)
         };
-        if self.stale >= PATIENCE {
+        if self.stale >= self.patience {
             self.pace = self.pace.saturating_mul(3) / 4;
             self.stale = 0;
         }

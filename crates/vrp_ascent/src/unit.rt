@@ -9,8 +9,11 @@ use vrp_walks::Size;
 // More halvings than any capacity has.
 const HALVINGS: u32 = 40;
 
-/// The greatest common divisor of the demands, where that makes tables that are small enough for so many steps; else the least unit
-/// that does. `None` where none does.
+// So many rises lead from 1 to above any capacity.
+const RISES: u32 = 400;
+
+/// The greatest common divisor of the demands, where that makes tables that are small enough for so many steps; else a unit that does,
+/// about the least. `None` where none is found.
 pub(crate) fn unit_for(instance: &Instance, purpose: Purpose, steps: u64) -> Option<u64>
     ensures { IfSome result (λ unit. 1 ≤ unit) }
 {
@@ -18,6 +21,17 @@ pub(crate) fn unit_for(instance: &Instance, purpose: Purpose, steps: u64) -> Opt
     if purpose.allows(Size::in_units(instance, divisor), steps) {
         return Some(divisor);
     }
+    match purpose {
+        Purpose::Search => least_by_halving(instance, divisor, steps),
+        Purpose::Bound => first_of_rising(instance, divisor, steps),
+    }
+}
+
+// The least unit above this one, as if tables only got smaller with a greater one.
+fn least_by_halving(instance: &Instance, divisor: u64, steps: u64) -> Option<u64>
+    ensures { IfSome result (λ unit. 1 ≤ unit) }
+{
+    let purpose = Purpose::Search;
     let mut high = instance.capacity().max(1);
     if !purpose.allows(Size::in_units(instance, high), steps) {
         return None;
@@ -32,6 +46,21 @@ pub(crate) fn unit_for(instance: &Instance, purpose: Purpose, steps: u64) -> Opt
         }
     }
     Some(high.max(1))
+}
+
+// The first of the units above this one that rise by a sixteenth, or by one. Of many customers a large unit is no better: each of those
+// who demand less gives a truck room for one more.
+fn first_of_rising(instance: &Instance, divisor: u64, steps: u64) -> Option<u64>
+    ensures { IfSome result (λ unit. 1 ≤ unit) }
+{
+    let mut unit = divisor.max(1);
+    for _ in 0..RISES {
+        unit = unit.saturating_add(unit / 16).saturating_add(1);
+        if Purpose::Bound.allows(Size::in_units(instance, unit), steps) {
+            return Some(unit);
+        }
+    }
+    None
 }
 
 // The greatest common divisor of the demands; 0 where nobody demands anything.

@@ -211,9 +211,9 @@ fn price_half(walks: &Walks, search: Search, half: Half) -> Option<PricedHalf> {
     if cost >= NO_WALK {
         return None;
     }
-    let load = i64::try_from(half.load).unwrap_or(i64::MAX);
-    let by_load = search.per_unit.saturating_mul(load);
-    let excess = cost.saturating_mul(PARTS).saturating_sub(by_load);
+    let load = i64::try_from(half.load).unwrap_or(0);
+    let by_load = search.per_unit.wrapping_mul(load);
+    let excess = cost.wrapping_mul(PARTS).wrapping_sub(by_load);
     Some(PricedHalf { half, excess })
 }
 
