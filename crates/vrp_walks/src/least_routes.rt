@@ -34,7 +34,7 @@ impl LeastRoute {
         self.cost.saturating_mul(PARTS) / units(self.load)
     }
 
-    /// The part of it that falls to a customer who demands so much, of an amount that falls to its whole load.
+    /// The part that falls to a customer who demands so much, of an amount that falls to the whole load. Its value is left open.
     pub fn share(&self, amount: i64, demand: usize) -> i64 {
         amount.saturating_mul(units(demand)) / units(self.load)
     }
@@ -89,7 +89,7 @@ pub struct LeastRoutes {
 }
 
 impl LeastRoutes {
-    /// For tables of so many loads.
+    /// For tables of so many loads. What is looked for is left open.
     pub fn new(alloc: Global, loads: usize) -> Result<LeastRoutes, NoMemory> {
         Ok(LeastRoutes {
             lighter: vec![in alloc; NO_HALF; loads]?,
@@ -176,8 +176,8 @@ impl LeastRoutes {
 }
 
 impl Walks {
-    /// Adds the ways of a route, from the depot and back to it, of which so much is used as falls to its customer. The tables are those
-    /// in which it was found. Where memory is refused, the first of them are added.
+    /// Adds the ways of a route, in some order, of which so much is used as falls to its customer. The tables are those in which it was
+    /// found; in others they are any ways. Where memory is refused, the first of them are added. Which ways they are is left open.
     pub fn list_route(&self, route: &LeastRoute, used: &mut Vec<UsedWay>) -> Result<(), NoMemory> {
         let part = route.share(WHOLE_TOUR, self.demand(route.customer));
         let start = used.len();

@@ -60,7 +60,7 @@ impl Walks {
         if whole < NO_WALK { Some(whole) } else { None }
     }
 
-    /// Fills the table of the walks by the ways as they were entered last, and leaves the tours as they are.
+    /// Fills the table of the walks by the ways as they were entered last, and leaves the tours as they are. What is in it is left open.
     pub fn fill_walks(&mut self) {
         self.growth.mark_near();
         self.cells.begin(self.growth.ways_home());
