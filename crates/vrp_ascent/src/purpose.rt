@@ -17,7 +17,7 @@ const MAX_HOMES: u64 = 40_000_000;
 // The greatest tables that bound: vrp_bound makes none by more steps.
 const MAX_BOUND_TABLE: u64 = 200_000_000;
 
-// The most steps by which those are filled whose walks remember: some half of a second, in which nothing can be stopped.
+// The most steps by which those are filled whose walks remember. They take up to a second, in which nothing can be stopped.
 const MAX_REMEMBERING_TABLE: u64 = 400_000_000;
 
 // For a search, fewer rounds would prune less than what prices stand in for.
