@@ -15,7 +15,7 @@ impl Shares {
     /// None yet.
     pub(crate) fn new(alloc: Global, walks: &Walks) -> Result<Shares, NoMemory> {
         Ok(Shares {
-            finder: LeastRoutes::new(alloc, walks.loads())?,
+            finder: LeastRoutes::new(alloc, walks)?,
             routes: Vec::new(alloc),
         })
     }

@@ -3,7 +3,7 @@ ghost use Rattle.std.specs.Prelude.{pos, ◌<ℤ◌};
 
 use crate::cells::NO_WALK;
 use crate::tours_used::{Standing, UsedWay, WHOLE_TOUR};
-use crate::walks::Walks;
+use crate::walks::{Walks, at};
 use std::alloc::Global;
 use std::mem;
 use vrp_model::NoMemory;
@@ -74,24 +74,35 @@ const NO_PAIR: Pair = Pair {
     excess: i64::MAX,
 };
 
-// What a unit costs while a route is looked for, in parts.
+// Through whom a route is looked for.
 #[derive(Clone, Copy, Debug)]
 struct Search {
     customer: usize,
+    demand: usize,
+    // The memory of all that can be remembered.
+    most: usize,
+    // What a unit costs, in parts.
     per_unit: i64,
 }
 
 /// Looks for least routes in tables that were filled.
 #[derive(Debug, Drop)]
 pub struct LeastRoutes {
+    loads: usize,
+    // What the walks home from the customer cost, by memory and of each by load: copied out of the tables, where they lie far apart.
+    costs: Vec<i64>,
     // By load: the best half of this load at most.
     lighter: Vec<PricedHalf>,
 }
 
 impl LeastRoutes {
-    /// For tables of so many loads. What is looked for is left open.
-    pub fn new(alloc: Global, loads: usize) -> Result<LeastRoutes, NoMemory> {
+    /// For tables of this size. What is looked for is left open.
+    pub fn new(alloc: Global, walks: &Walks) -> Result<LeastRoutes, NoMemory> {
+        let loads = walks.loads();
+        let rows = walks.most().saturating_add(1);
         Ok(LeastRoutes {
+            loads,
+            costs: vec![in alloc; NO_WALK; rows.saturating_mul(loads)]?,
             lighter: vec![in alloc; NO_HALF; loads]?,
         })
     }
@@ -99,14 +110,17 @@ impl LeastRoutes {
     /// The route through a customer that costs least for each unit that it carries, where ways cost the same there and back; `None`
     /// where there is none. Which it is is left open.
     pub fn through(&mut self, walks: &Walks, customer: usize) -> Option<LeastRoute> {
+        self.copy_costs(walks, customer);
         let mut search = Search {
             customer,
+            demand: walks.demand(customer),
+            most: walks.most(),
             per_unit: 0,
         };
-        let mut best = self.cheapest(walks, search)?;
+        let mut best = self.cheapest(search)?;
         for _ in 0..MOST_TURNS {
             search.per_unit = best.per_unit();
-            let next = self.cheapest(walks, search)?;
+            let next = self.cheapest(search)?;
             if next.per_unit() >= search.per_unit {
                 break;
             }
@@ -115,30 +129,40 @@ impl LeastRoutes {
         Some(best)
     }
 
+    fn copy_costs(&mut self, walks: &Walks, customer: usize) {
+        for memory in 0..walks.most().saturating_add(1) {
+            let start = memory.saturating_mul(self.loads);
+            let end = start.saturating_add(self.loads);
+            if let Some(row) = self.costs.as_mut_slice().get_mut(start..end) {
+                copy_row(row, walks, customer, memory);
+            }
+        }
+    }
+
     // The one whose cost is least above what its load costs. Of two memories that have nobody in common the one is tried with the
     // other, there or back.
-    fn cheapest(&mut self, walks: &Walks, search: Search) -> Option<LeastRoute> {
+    fn cheapest(&mut self, search: Search) -> Option<LeastRoute> {
         let mut best = NO_PAIR;
-        for memory in 0..(walks.most() / 2).saturating_add(1) {
-            self.lighten(walks, search, walks.most().saturating_sub(memory));
-            let pair = self.best_pair(walks, search, memory);
+        for memory in 0..(search.most / 2).saturating_add(1) {
+            self.keep_best(search, search.most.saturating_sub(memory));
+            let pair = self.best_pair(search, memory);
             if pair.excess < best.excess {
                 best = pair;
             }
         }
         if best.excess < i64::MAX {
-            Some(joined(walks, search, best))
+            Some(self.joined(search, best))
         } else {
             None
         }
     }
 
     // The best pair of a half with this memory and one of those that are kept.
-    fn best_pair(&self, walks: &Walks, search: Search, memory: usize) -> Pair {
+    fn best_pair(&self, search: Search, memory: usize) -> Pair {
         let mut best = NO_PAIR;
-        for load in 0..self.lighter.len() {
-            if let Some(there) = price_half(walks, search, Half { memory, load }) {
-                let back = self.beside(walks, search, load);
+        for (load, &cost) in self.row(memory).iter().enumerate() {
+            if let Some(there) = price_half(cost, search, Half { memory, load }) {
+                let back = self.beside(search, load);
                 let excess = there.excess.saturating_add(back.excess);
                 if excess < best.excess && back.excess < i64::MAX {
                     best = Pair {
@@ -153,25 +177,67 @@ impl LeastRoutes {
     }
 
     // Keeps the best half with this memory, by the load that it has at most.
-    fn lighten(&mut self, walks: &Walks, search: Search, memory: usize) {
-        let mut best = NO_HALF;
-        for (load, lighter) in self.lighter.iter_mut().enumerate() {
-            if let Some(half) = price_half(walks, search, Half { memory, load }) {
-                if half.excess < best.excess {
-                    best = half;
-                }
-            }
-            *lighter = best;
-        }
+    fn keep_best(&mut self, search: Search, memory: usize) {
+        let costs = row_of(&self.costs, self.loads, memory);
+        lighten(self.lighter.as_mut_slice(), costs, search, memory);
     }
 
     // The best half for which there is room beside the customer and this load.
-    fn beside(&self, walks: &Walks, search: Search, load: usize) -> PricedHalf {
-        let taken = load.saturating_add(walks.demand(search.customer));
-        match walks.loads().checked_sub(taken.saturating_add(1)) {
+    fn beside(&self, search: Search, load: usize) -> PricedHalf {
+        let taken = load.saturating_add(search.demand);
+        match self.loads.checked_sub(taken.saturating_add(1)) {
             Some(room) => self.lighter.get(room).copied().unwrap_or(NO_HALF),
             None => NO_HALF,
         }
+    }
+
+    // The route of two halves.
+    fn joined(&self, search: Search, pair: Pair) -> LeastRoute {
+        let (there, back) = (pair.there, pair.back);
+        let load = there.load.saturating_add(back.load);
+        LeastRoute {
+            customer: search.customer,
+            cost: self.cost(there).saturating_add(self.cost(back)),
+            load: load.saturating_add(search.demand),
+            there,
+            back,
+        }
+    }
+
+    fn cost(&self, half: Half) -> i64 {
+        at(self.row(half.memory), half.load)
+    }
+
+    fn row(&self, memory: usize) -> &[i64] {
+        row_of(&self.costs, self.loads, memory)
+    }
+}
+
+// What walks with this memory cost, by load.
+fn row_of(costs: &[i64], loads: usize, memory: usize) -> &[i64] {
+    let start = memory.saturating_mul(loads);
+    let end = start.saturating_add(loads);
+    costs.get(start..end).unwrap_or(&[])
+}
+
+// The best half of walks that cost so much by load, for each load at most.
+fn lighten(lighter: &mut [PricedHalf], costs: &[i64], search: Search, memory: usize) {
+    let mut best = NO_HALF;
+    for (load, lighter) in lighter.iter_mut().enumerate() {
+        let cost = at(costs, load);
+        if let Some(half) = price_half(cost, search, Half { memory, load }) {
+            if half.excess < best.excess {
+                best = half;
+            }
+        }
+        *lighter = best;
+    }
+}
+
+// What the walks home from a customer cost with this memory, by load.
+fn copy_row(row: &mut [i64], walks: &Walks, customer: usize, memory: usize) {
+    for (load, cost) in row.iter_mut().enumerate() {
+        *cost = walks.cell(load, customer, memory);
     }
 }
 
@@ -205,9 +271,8 @@ fn standing(route: &LeastRoute, half: Half) -> Standing {
     }
 }
 
-// A half with what it costs; `None` where there is none.
-fn price_half(walks: &Walks, search: Search, half: Half) -> Option<PricedHalf> {
-    let cost = walks.cell(half.load, search.customer, half.memory);
+// A half that costs so much, priced; `None` where there is none.
+fn price_half(cost: i64, search: Search, half: Half) -> Option<PricedHalf> {
     if cost >= NO_WALK {
         return None;
     }
@@ -215,21 +280,6 @@ fn price_half(walks: &Walks, search: Search, half: Half) -> Option<PricedHalf> {
     let by_load = search.per_unit.wrapping_mul(load);
     let excess = cost.wrapping_mul(PARTS).wrapping_sub(by_load);
     Some(PricedHalf { half, excess })
-}
-
-// The route of two halves.
-fn joined(walks: &Walks, search: Search, pair: Pair) -> LeastRoute {
-    let (there, back) = (pair.there, pair.back);
-    let cost_there = walks.cell(there.load, search.customer, there.memory);
-    let cost_back = walks.cell(back.load, search.customer, back.memory);
-    let load = there.load.saturating_add(back.load);
-    LeastRoute {
-        customer: search.customer,
-        cost: cost_there.saturating_add(cost_back),
-        load: load.saturating_add(walks.demand(search.customer)),
-        there,
-        back,
-    }
 }
 
 // An amount of units, at least one.

@@ -42,7 +42,7 @@ fn assert_least(
     near: usize,
 ) {
     let walks = filled(rt, alloc, instance, &prices, near);
-    let mut routes = LeastRoutes::new(alloc, walks.loads()).expect(rt, "memory");
+    let mut routes = LeastRoutes::new(alloc, &walks).expect(rt, "memory");
     let route = routes.through(&walks, customer).expect(rt, "a route");
     assert_same(rt, (route.cost, route.load), (cost, load), (customer, near));
     let mut used = Vec::new(alloc);
