@@ -135,8 +135,7 @@ fn print_bound<R: Eprint + AllocGlobal>(
     requires cost { cost ≤ NO_COST }
 {
     let relaxation = &found.relaxation;
-    let size = found.memory.size().min(MOST_NEAR);
-    let tours = least_tours(rt.alloc(), relaxation.relaxed(), size)?;
+    let tours = least_tours(rt.alloc(), instance, found)?;
     let limit = relaxation.limit(cost).context("no limit")?;
     // Each plan costs at least as much less than this one as the least tours cost less than its limit.
     let scale = relaxation.scale().max(1);
@@ -147,13 +146,15 @@ fn print_bound<R: Eprint + AllocGlobal>(
     Ok(())
 }
 
-// What the least tours cost that carry all demands, of walks that remember so many customers near each place.
-fn least_tours(alloc: Global, instance: &Instance, size: usize) -> Result<u64>
-    requires { size ≤ MOST_NEAR }
+// What the least tours cost that carry all demands, of walks that remember the same customers as those by which the prices were found.
+fn least_tours(alloc: Global, instance: &Instance, found: &FoundPrices<'_>) -> Result<u64>
+    requires { found.now.relaxation.problem ≡ instance.now }
 {
+    let size = found.memory.size().min(MOST_NEAR);
     let memory = Memory::nearest(alloc, instance, size)?;
-    let tables = MemoryTables::new(alloc, instance, memory)?;
-    let tours = tables.bound(0, 0, instance.whole_demand());
+    let relaxed = found.relaxation.relaxed();
+    let tables = MemoryTables::new(alloc, relaxed, memory)?;
+    let tours = tables.bound(0, 0, relaxed.whole_demand());
     tours.context("no tours")
 }
 

@@ -1,9 +1,9 @@
 //! How often each way is used by the tours of the rounds so far: a mean that leans to the newest.
 use std::alloc::Global;
 use vrp_model::NoMemory;
-use vrp_walks::UsedWay;
+use vrp_walks::{UsedWay, WHOLE_TOUR};
 
-/// One use of a way counts so much.
+/// The use of a way by a whole tour counts so much.
 pub(crate) const USE: i64 = 1_024;
 
 // The newest round has one part in this many.
@@ -15,7 +15,7 @@ pub(crate) struct Flow {
     places: usize,
     // By place, and of each by place.
     mean: Vec<i64>,
-    // Those of the newest round.
+    // Those of the newest round, where a whole tour counts `WHOLE_TOUR`.
     uses: Vec<i64>,
 }
 
@@ -34,19 +34,20 @@ impl Flow {
     pub(crate) fn add(&mut self, used: &[UsedWay]) {
         self.uses.as_mut_slice().fill(0);
         for way in used {
-            self.count(way.from, way.to);
-            self.count(way.to, way.from);
+            self.count(way.from, way.to, way.part);
+            self.count(way.to, way.from, way.part);
         }
         for (mean, &uses) in self.mean.iter_mut().zip(&self.uses) {
+            let uses = uses / (WHOLE_TOUR / USE);
             let change = uses.wrapping_sub(*mean) / NEWEST;
             *mean = mean.wrapping_add(change);
         }
     }
 
-    fn count(&mut self, from: usize, to: usize) {
+    fn count(&mut self, from: usize, to: usize, part: i64) {
         let way = from.saturating_mul(self.places).saturating_add(to);
         if let Some(uses) = self.uses.get_mut(way) {
-            *uses = uses.wrapping_add(USE);
+            *uses = uses.wrapping_add(part);
         }
     }
 

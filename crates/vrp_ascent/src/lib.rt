@@ -3,12 +3,15 @@
 #![tactic(auto)]
 
 mod flow;
+mod purpose;
 mod remembered;
 mod rounds;
 mod separation;
+mod shares;
 mod step;
 mod stepped_cuts;
 mod unit;
 
+pub use purpose::MOST_SEARCHED;
 pub use remembered::{Remembered, is_affordable};
 pub use rounds::{FoundPrices, find_prices};

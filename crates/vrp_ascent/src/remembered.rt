@@ -3,7 +3,7 @@ ghost use Rattle.std.specs.Prelude.{◌≡◌, ◌≤◌, ◌/◌, ◌↔◌, If
 ghost use Rattle.vrp_memory.specs.declared.memory.TheConstants.{MOST_NEAR};
 ghost use Rattle.vrp_model.specs.Problem.{place_count};
 
-use crate::unit::MAX_ROUND;
+use crate::purpose::{MAX_ROUND, Purpose, remembered_for_bound};
 use std::alloc::Global;
 use vrp_memory::{MOST_NEAR, Memory};
 use vrp_model::{Instance, NoMemory};
@@ -43,6 +43,27 @@ impl Remembered {
             }
         }
         Remembered::new(alloc, instance, size, 0)
+    }
+
+    /// The memory for prices that are sought for this purpose.
+    pub(crate) fn for_purpose(
+        alloc: Global,
+        instance: &Instance,
+        purpose: Purpose,
+        size: Size,
+        most: usize,
+        steps: u64,
+    ) -> Result<Remembered, NoMemory>
+        requires few { most ≤ MOST_NEAR }
+        ensures { IfOk result (λ made. made.memory.places ≡ place_count instance.now) }
+    {
+        match purpose {
+            Purpose::Search => Remembered::largest(alloc, instance, size, most, steps),
+            Purpose::Bound => {
+                let near = remembered_for_bound(size, most, steps);
+                Remembered::new(alloc, instance, size, near)
+            }
+        }
     }
 
     // Where this many customers are near each place.

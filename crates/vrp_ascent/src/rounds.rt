@@ -5,7 +5,9 @@ ghost use Rattle.vrp_model.specs.Problem.{place_count};
 ghost use Rattle.vrp_prices.specs.Cut.{IsCut};
 ghost use Rattle.vrp_prices.specs.declared.limits.TheConstants.{MAX_CUTS, MAX_SCALE};
 
+use crate::purpose::Purpose;
 use crate::remembered::Remembered;
+use crate::shares::Shares;
 use crate::step::Ascent;
 use crate::stepped_cuts::SteppedCuts;
 use crate::unit::unit_for;
@@ -14,12 +16,6 @@ use vrp_memory::{MOST_NEAR, Memory};
 use vrp_model::{Instance, NoMemory};
 use vrp_prices::{Cut, MAX_SCALE, Relaxation};
 use vrp_walks::{Size, Walks};
-
-// The most rounds; few instances take as many.
-const MAX_ROUNDS: u64 = 600;
-
-// With fewer rounds prices would prune less than what they stand in for.
-const LEAST_ROUNDS: u64 = 100;
 
 // What a plan should cost at most by the scale.
 const SCALED_COST: u64 = 1_000_000_000;
@@ -36,9 +32,11 @@ pub struct FoundPrices<'a> {
 /// Prices and tolls that bound the instance's plans well, where a plan of it costs so much, and the memory of the walks in their
 /// rounds: the ng-routes of Baldacci, Mingozzi and Roberti (2011). At most this many steps are taken to find them: looks from one
 /// cell of a table at another, and looks at a way for a cut with a toll. Walks remember up to this many customers near each place, and
-/// fewer where rounds would be long or few. Before each round it is asked whether to go on. `None` where the steps are too few for a
-/// hundred rounds of walks that remember nothing, or no unit makes the tables small, or the prices are out of range. Which prices
-/// they are, and which memory, is left open: any bound the instance's plans.
+/// fewer where rounds would be long or few. Before each round it is asked whether to go on. Of up to 127 customers they are prices to
+/// search by, with demands in units so coarse that there can be a table of the ways home; of more, prices that bound alone, and so in
+/// finer units. `None` where the steps are too few for a hundred rounds of walks that remember nothing, or for twenty where prices
+/// bound alone, or no unit makes the tables small, or the prices are out of range. Which prices they are, and which memory, is left
+/// open: any bound the instance's plans.
 pub fn find_prices<'a, F: Fn() -> bool>(
     alloc: Global,
     instance: &'a Instance,
@@ -54,15 +52,16 @@ pub fn find_prices<'a, F: Fn() -> bool>(
     ensures memory { IfOk result (λ found.
         IfSome found (λ prices. prices.memory.places ≡ place_count instance.now)) }
 {
-    let Some(unit) = unit_for(instance) else {
+    let purpose = Purpose::of(instance);
+    let Some(unit) = unit_for(instance, purpose, steps) else {
         return Ok(None);
     };
     let scale = (SCALED_COST / cost.max(1)).clamp(1, MAX_SCALE);
     let size = Size::in_units(instance, unit);
-    if steps / size.steps().max(1) < LEAST_ROUNDS {
+    if steps / size.steps().max(1) < purpose.least_rounds() {
         return Ok(None);
     }
-    let remembered = Remembered::largest(alloc, instance, size, near, steps)?;
+    let remembered = Remembered::for_purpose(alloc, instance, purpose, size, near, steps)?;
     let (memory, size) = (remembered.memory, remembered.size);
     let mut walks = Walks::new(alloc, instance, scale, unit, size, remembered.looks)?;
     let best = best_prices(
@@ -97,7 +96,7 @@ fn best_prices<F: Fn() -> bool>(
     ensures cuts { IfOk result (λ best. All (IsCut instance.now) best.cuts.items) }
     ensures few { IfOk result (λ best. vec_len best.cuts ≤ MAX_CUTS) }
 {
-    let mut ascent = new_ascent(alloc, instance, scale, cost)?;
+    let mut ascent = new_ascent(alloc, instance, walks, scale, cost)?;
     ascend(alloc, instance, walks, &mut ascent, size, steps, goes_on)?;
     let (prices, cuts) = ascent.into_best();
     let prices = lifted(alloc, instance, walks, &prices, &cuts)?;
@@ -105,17 +104,23 @@ fn best_prices<F: Fn() -> bool>(
     Ok(BestPrices { prices, cuts })
 }
 
-// Begins with no prices.
+// Begins with no prices. Where prices bound alone, and ways cost the same there and back, steps go by the least route through each
+// customer.
 fn new_ascent(
     alloc: Global,
     instance: &Instance,
+    walks: &Walks,
     scale: u64,
     cost: u64,
 ) -> Result<Ascent, NoMemory> {
     let places = usize::from(instance.customers()) + 1;
     let scale = i64::try_from(scale).unwrap_or(1);
     let aim = i64::try_from(cost).unwrap_or(i64::MAX);
-    Ascent::new(alloc, places, scale, aim)
+    let shares = match Purpose::of(instance) {
+        Purpose::Bound if instance.symmetric() => Some(Shares::new(alloc, walks)?),
+        _ => None,
+    };
+    Ascent::new(alloc, places, scale, aim, shares)
 }
 
 // Fills the tables and steps, till the steps are taken, or no more are worth it, or it is told to stop.
@@ -131,7 +136,7 @@ fn ascend<F: Fn() -> bool>(
     requires { F.IsAlwaysCallable goes_on.now }
 {
     let mut left = steps;
-    for _ in 0..MAX_ROUNDS {
+    for _ in 0..Purpose::of(instance).most_rounds() {
         let round = size
             .steps()
             .saturating_add(size.tolls(ascent.tolled_cuts()));
@@ -139,8 +144,7 @@ fn ascend<F: Fn() -> bool>(
             break;
         }
         left -= round;
-        ascent.enter(walks);
-        let Some(tours) = walks.fill() else {
+        let Some(tours) = ascent.fill(walks) else {
             break;
         };
         if !ascent.step(alloc, instance, walks, tours)? {

@@ -6,6 +6,9 @@ use std::alloc::Global;
 use vrp_bound::trucks_needed;
 use vrp_model::{Instance, NoMemory};
 
+// A set grows to no more customers.
+const MOST_GROWN: u16 = 127;
+
 // A set counts where this many crossings are wanting: a fifth of one.
 const LEAST_WANTING: i64 = USE / 5;
 
@@ -68,11 +71,11 @@ impl<'a> GrowingSet<'a> {
         })
     }
 
-    // The set on the way to nearly all customers that has most crossings wanting, where they are enough.
+    // The set on the way to nearly all customers, or to many, that has most crossings wanting, where they are enough.
     fn most_wanting(mut self, alloc: Global) -> Result<Option<ViolatedCut>, NoMemory> {
         let mut most = LEAST_WANTING;
         let mut found = None;
-        for _ in 3..self.instance.customers() + 1 {
+        for _ in 3..self.instance.customers().min(MOST_GROWN) + 1 {
             let Some(customer) = self.most_joined() else {
                 break;
             };

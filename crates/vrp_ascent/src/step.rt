@@ -1,10 +1,11 @@
 //! One step of prices and tolls towards a higher bound: a deflected subgradient (Camerini, Fratta and Maffioli 1975).
 ghost use Rattle.std.specs.Prelude.{pos, ◌<ℤ◌};
 
+use crate::shares::Shares;
 use crate::stepped_cuts::SteppedCuts;
 use std::alloc::Global;
 use vrp_model::{Instance, NoMemory};
-use vrp_walks::{UsedWay, Walks};
+use vrp_walks::{UsedWay, WHOLE_TOUR, Walks};
 
 // A visit or a crossing too many or too few counts so much in a direction.
 const UNIT: i64 = 256;
@@ -20,6 +21,14 @@ const PACE_OF_NEW_CUTS: i64 = 300;
 // After this many rounds without a better bound the pace slackens.
 const PATIENCE: u32 = 15;
 
+// By the routes of all customers a step is surer: so the first is shorter, and the pace slackens sooner.
+const FIRST_PACE_BY_SHARES: i64 = 400;
+
+const PATIENCE_BY_SHARES: u32 = 3;
+
+// Where the pace has come to its end they begin again from the best prices, with twice the patience, up to this.
+const MOST_PATIENCE: u32 = 24;
+
 /// Prices and tolls on their way, and the best so far.
 #[derive(Debug, Drop)]
 pub(crate) struct Ascent {
@@ -28,6 +37,8 @@ pub(crate) struct Ascent {
     scale: i64,
     prices: Vec<i64>,
     cuts: SteppedCuts,
+    // Where steps go by the least route through each customer, and not by the least tours.
+    shares: Option<Shares>,
     // The direction of the last step.
     direction: Vec<i64>,
     used: Vec<UsedWay>,
@@ -36,35 +47,52 @@ pub(crate) struct Ascent {
     // The bound by the best prices.
     low: Option<i64>,
     pace: i64,
+    // How many rounds there were without a better bound, and how many there may be.
     stale: u32,
+    patience: u32,
 }
 
 impl Ascent {
-    /// From no prices at all.
+    /// From no prices at all. Steps go by the least routes through customers, if these are given.
     pub(crate) fn new(
         alloc: Global,
         places: usize,
         scale: i64,
         cost: i64,
+        shares: Option<Shares>,
     ) -> Result<Ascent, NoMemory> {
+        let (pace, patience) = match &shares {
+            Some(_) => (FIRST_PACE_BY_SHARES, PATIENCE_BY_SHARES),
+            None => (FIRST_PACE, PATIENCE),
+        };
         Ok(Ascent {
             aim: scale.saturating_mul(cost),
             scale,
             prices: vec![in alloc; 0; places]?,
             cuts: SteppedCuts::new(alloc, places)?,
+            shares,
             direction: vec![in alloc; 0; places]?,
             used: Vec::new(alloc),
             visits: vec![in alloc; 0; places]?,
             best: vec![in alloc; 0; places]?,
             low: None,
-            pace: FIRST_PACE,
+            pace,
             stale: 0,
+            patience,
         })
     }
 
-    /// Enters the prices and tolls that are to be tried next.
-    pub(crate) fn enter(&self, walks: &mut Walks) {
+    /// Fills the tables with the prices and tolls that are to be tried next. What the least tours cost together, if there are any: where
+    /// they are not needed, nothing.
+    pub(crate) fn fill(&self, walks: &mut Walks) -> Option<i64> {
         self.cuts.enter(walks, &self.prices);
+        match &self.shares {
+            Some(_) => {
+                walks.fill_walks();
+                Some(0)
+            }
+            None => walks.fill(),
+        }
     }
 
     /// How many cuts have a toll.
@@ -78,7 +106,7 @@ impl Ascent {
         (self.best, self.cuts)
     }
 
-    /// Steps on from the tables that were filled, whose least tours cost so much; false where no more steps are worth it.
+    /// Steps on from the tables that were filled last, where `fill` answered so much; false where no more steps are worth it.
     pub(crate) fn step(
         &mut self,
         alloc: Global,
@@ -86,20 +114,50 @@ impl Ascent {
         walks: &Walks,
         tours: i64,
     ) -> Result<bool, NoMemory> {
-        let charges = sum(&self.prices).wrapping_mul(2);
-        let bound = tours
-            .wrapping_sub(charges)
-            .wrapping_add(self.cuts.rewards());
+        let bound = self.bound(walks, tours)?;
         self.keep(bound);
         let reached = self.aim.saturating_sub(self.scale);
-        if self.low.is_some_and(|low| low > reached) || self.pace < LAST_PACE {
+        if self.low.is_some_and(|low| low > reached) || self.is_over() {
             return Ok(false);
         }
-        walks.list_used(&mut self.used)?;
+        match &self.shares {
+            Some(shares) => shares.list_used(walks, &mut self.used)?,
+            None => walks.list_used(&mut self.used)?,
+        }
         if self.cuts.look_for_more(alloc, instance, &self.used)? {
             self.pace = self.pace.max(PACE_OF_NEW_CUTS);
         }
         Ok(self.go_on(bound))
+    }
+
+    // Whether the pace has come to its end, and it doesn't pay to begin again from the best prices. If it does, that is done.
+    fn is_over(&mut self) -> bool {
+        if self.pace >= LAST_PACE {
+            return false;
+        }
+        if self.shares.is_none() || self.patience >= MOST_PATIENCE {
+            return true;
+        }
+        self.patience = self.patience.saturating_mul(2);
+        self.pace = PACE_OF_NEW_CUTS;
+        self.stale = 0;
+        copy(self.prices.as_mut_slice(), &self.best);
+        self.cuts.go_back();
+        false
+    }
+
+    // What each plan costs at least, where the least tours cost so much. Where each customer pays its share the prices change first, and
+    // then tours cost nothing.
+    fn bound(&mut self, walks: &Walks, tours: i64) -> Result<i64, NoMemory> {
+        if let Some(shares) = &mut self.shares {
+            shares.settle(walks, self.prices.as_mut_slice())?;
+        }
+        let charges = sum(&self.prices).wrapping_mul(2);
+        Ok(
+            tours
+                .wrapping_sub(charges)
+                .wrapping_add(self.cuts.rewards()),
+        )
     }
 
     // Takes the step by the ways that were used; false where all visits and crossings are as they should be.
@@ -142,37 +200,36 @@ impl Ascent {
         } else {
             self.stale.saturating_add(1)
         };
-        if self.stale >= PATIENCE {
+        if self.stale >= self.patience {
             self.pace = self.pace.saturating_mul(3) / 4;
             self.stale = 0;
         }
     }
 }
 
-/// A direction: three tenths of the last one, and seven of what is too many, or wanting, now.
+/// A direction: three tenths of the last one, and seven of what is too many, or wanting, now, where a whole tour counts `WHOLE_TOUR`.
 pub(crate) fn deflected(last: i64, now: i64) -> i64 {
-    last.wrapping_mul(3)
-        .wrapping_add(now.wrapping_mul(7 * UNIT))
-        / 10
+    let now = now / (WHOLE_TOUR / UNIT);
+    last.wrapping_mul(3).wrapping_add(now.wrapping_mul(7)) / 10
 }
 
-// Counts the visits of each customer. The depot counts as visited once, so that it keeps no price.
+// Counts the visits of each customer, `WHOLE_TOUR` by a whole tour. The depot counts as visited once, so that it keeps no price.
 fn count_visits(visits: &mut [i64], used: &[UsedWay]) {
     visits.fill(0);
     for way in used {
         if let Some(count) = visits.get_mut(way.to) {
-            *count = count.wrapping_add(1);
+            *count = count.wrapping_add(way.part);
         }
     }
     if let Some(depot) = visits.first_mut() {
-        *depot = 1;
+        *depot = WHOLE_TOUR;
     }
 }
 
 // Each customer's part of the direction, by the visits beyond one.
 fn turn(direction: &mut [i64], visits: &[i64]) {
     for (way, &count) in direction.iter_mut().zip(visits) {
-        *way = deflected(*way, count.wrapping_sub(1));
+        *way = deflected(*way, count.wrapping_sub(WHOLE_TOUR));
     }
 }
 

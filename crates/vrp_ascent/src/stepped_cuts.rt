@@ -9,7 +9,7 @@ use crate::step::deflected;
 use std::alloc::Global;
 use vrp_model::{Instance, NoMemory};
 use vrp_prices::{Cut, MAX_CUTS, MAX_TOLL};
-use vrp_walks::{UsedWay, Walks};
+use vrp_walks::{UsedWay, WHOLE_TOUR, Walks};
 
 // Cuts are looked for after this many rounds, and then whenever `ROUNDS_BETWEEN` more are made.
 const FIRST_ROUNDS: u32 = 30;
@@ -37,12 +37,12 @@ impl SteppedCut {
         self.direction > 0 || self.toll > 0
     }
 
-    // How often the ways cross its border.
+    // How often the ways cross its border, where a whole tour counts `WHOLE_TOUR`.
     fn crossings(&self, used: &[UsedWay]) -> i64 {
         let mut crossings = 0i64;
         for way in used {
             if self.has(way.from) != self.has(way.to) {
-                crossings = crossings.wrapping_add(1);
+                crossings = crossings.wrapping_add(way.part);
             }
         }
         crossings
@@ -140,7 +140,11 @@ impl SteppedCuts {
     pub(crate) fn turn(&mut self, used: &[UsedWay]) -> i64 {
         let mut length = 0i64;
         for cut in self.cuts.iter_mut() {
-            let wanting = cut.trucks.wrapping_mul(2).wrapping_sub(cut.crossings(used));
+            let crossings = cut.crossings(used);
+            let wanting = cut
+                .trucks
+                .wrapping_mul(2 * WHOLE_TOUR)
+                .wrapping_sub(crossings);
             cut.direction = deflected(cut.direction, wanting);
             if cut.is_live() {
                 length = length.wrapping_add(cut.direction.wrapping_mul(cut.direction) / 4);

@@ -1,36 +1,45 @@
 //! The unit that demands are counted in while prices are looked for: one by which the tables are small.
 ghost use Rattle.std.specs.Prelude.{◌≤◌, IfSome};
 
+use crate::purpose::Purpose;
 use vrp_bound::gcd;
 use vrp_model::Instance;
 use vrp_walks::Size;
 
-/// The most steps that one round of filling tables takes.
-pub(crate) const MAX_ROUND: u64 = 20_000_000;
-
-// The most cells of a table by place, room and rest.
-const MAX_HOMES: u64 = 40_000_000;
-
 // More halvings than any capacity has.
 const HALVINGS: u32 = 40;
 
-/// The greatest common divisor of the demands, where that makes small tables; else the least unit that does. `None` where none
-/// does.
-pub(crate) fn unit_for(instance: &Instance) -> Option<u64>
+// So many rises lead from 1 to above any capacity.
+const RISES: u32 = 400;
+
+/// The greatest common divisor of the demands, where that makes tables that are small enough for so many steps; else a unit that does,
+/// about the least. `None` where none is found.
+pub(crate) fn unit_for(instance: &Instance, purpose: Purpose, steps: u64) -> Option<u64>
     ensures { IfSome result (λ unit. 1 ≤ unit) }
 {
     let divisor = common_divisor(instance).max(1);
-    if is_small(Size::in_units(instance, divisor)) {
+    if purpose.allows(Size::in_units(instance, divisor), steps) {
         return Some(divisor);
     }
+    match purpose {
+        Purpose::Search => least_by_halving(instance, divisor, steps),
+        Purpose::Bound => first_of_rising(instance, divisor, steps),
+    }
+}
+
+// The least unit above this one, as if tables only got smaller with a greater one.
+fn least_by_halving(instance: &Instance, divisor: u64, steps: u64) -> Option<u64>
+    ensures { IfSome result (λ unit. 1 ≤ unit) }
+{
+    let purpose = Purpose::Search;
     let mut high = instance.capacity().max(1);
-    if !is_small(Size::in_units(instance, high)) {
+    if !purpose.allows(Size::in_units(instance, high), steps) {
         return None;
     }
     let mut low = divisor;
     for _ in 0..HALVINGS {
         let middle = low.saturating_add(high.saturating_sub(low) / 2).max(1);
-        if is_small(Size::in_units(instance, middle)) {
+        if purpose.allows(Size::in_units(instance, middle), steps) {
             high = middle;
         } else {
             low = middle;
@@ -39,13 +48,19 @@ pub(crate) fn unit_for(instance: &Instance) -> Option<u64>
     Some(high.max(1))
 }
 
-// Whether a round is short, and a table by place, room and rest is of a moderate size.
-fn is_small(size: Size) -> bool {
-    let homes = size
-        .places
-        .saturating_mul(size.room.saturating_add(1))
-        .saturating_mul(size.whole.saturating_add(1));
-    size.steps() <= MAX_ROUND && homes <= MAX_HOMES
+// The first of the units above this one that rise by a sixteenth, or by one. Of many customers a large unit is no better: each of those
+// who demand less gives a truck room for one more.
+fn first_of_rising(instance: &Instance, divisor: u64, steps: u64) -> Option<u64>
+    ensures { IfSome result (λ unit. 1 ≤ unit) }
+{
+    let mut unit = divisor.max(1);
+    for _ in 0..RISES {
+        unit = unit.saturating_add(unit / 16).saturating_add(1);
+        if Purpose::Bound.allows(Size::in_units(instance, unit), steps) {
+            return Some(unit);
+        }
+    }
+    None
 }
 
 // The greatest common divisor of the demands; 0 where nobody demands anything.

@@ -4,7 +4,7 @@ ghost use Rattle.vrp_model.specs.Grid.{IsCoordinate};
 
 use std::alloc::Global;
 use std::process::Abort;
-use vrp_model::{Instance, MAX_CAPACITY, MAX_NODES, Metric, Weights};
+use vrp_model::{Instance, Layout, MAX_CAPACITY, MAX_NODES, Metric, Weights};
 
 /// Four points in a plane.
 pub(crate) const FOUR: &[(i64, i64)] = &[(0, 0), (3, 4), (6, 8), (5, -12)];
@@ -20,6 +20,22 @@ pub(crate) fn at_points(
     assert!(rt; 1 <= points.len() && points.len() <= usize::from(MAX_NODES));
     assert!(rt; are_coordinates(points));
     let weights = Weights::points(alloc, Metric::Euc2d, points).expect(rt, "memory");
+    instance_of(rt, alloc, weights, demands, capacity)
+}
+
+/// Places with the weights of a full matrix between them.
+pub(crate) fn with_ways(
+    rt: &impl Abort,
+    alloc: Global,
+    ways: &[u64],
+    demands: &[u64],
+    capacity: u64,
+) -> Instance {
+    assert!(rt; 1 <= demands.len() && demands.len() <= usize::from(MAX_NODES));
+    let nodes = demands.len() as u16;
+    assert!(rt; ways.len() == Layout::FullMatrix.entries(nodes));
+    assert!(rt; ways.iter().all(|&way| way <= 1_000_000_000));
+    let weights = Weights::matrix(alloc, Layout::FullMatrix, ways, nodes).expect(rt, "memory");
     instance_of(rt, alloc, weights, demands, capacity)
 }
 

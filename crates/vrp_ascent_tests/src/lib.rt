@@ -8,4 +8,6 @@ mod found;
 #[cfg(test)]
 mod instances;
 #[cfg(test)]
+mod many;
+#[cfg(test)]
 mod remembered;

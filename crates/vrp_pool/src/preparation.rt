@@ -6,7 +6,7 @@ ghost use Rattle.vrp_pool.specs.declared.preparation.TheConstants.{LEAST_PREPARE
 
 use crate::better_plan::TimedGate;
 use vrp_answer::{Gate, News, Shared};
-use vrp_ascent::{FoundPrices, find_prices};
+use vrp_ascent::{FoundPrices, MOST_SEARCHED, find_prices};
 use vrp_first::ENOUGH_MOVES;
 use vrp_model::{NoMemory, Plan};
 
@@ -34,6 +34,12 @@ const MANY_FOR_ROUTES: u16 = 60;
 const MORE_STEPS: u64 = 5;
 
 const MORE_REMEMBERED: usize = 4;
+
+// Prices that bound alone may take one part in so many of the time that is left.
+const PARTS_OF_TIME: u64 = 3;
+
+// More steps than a millisecond has: by them it is chosen how long a round may be, and the gate tells when the time is over.
+const STEPS_A_MILLISECOND: u64 = 1_000_000;
 
 /// A plan near the best, if one is found: by savings, and where many partial plans may be looked at in all, by ruin and recreate
 /// too.
@@ -66,8 +72,8 @@ pub(crate) fn first_plan<R, G: Gate>(shared: &Shared<'_, R, G>) -> Result<Option
     Ok(plan)
 }
 
-/// Prices, with the first plan's cost to aim at, if there is such a plan and prices are found.
-// A step towards prices takes a tenth of the time that a partial plan does: so there are as many, or some times as many.
+/// Prices, with the first plan's cost to aim at, if there is such a plan and prices are found. Of many customers, where a time is set,
+/// they may take a part of what is left of it; else as many steps as the budget allows.
 pub(crate) fn prices_found<'a, R, G: Gate>(
     shared: &Shared<'a, R, G>,
 ) -> Result<Option<FoundPrices<'a>>, NoMemory>
@@ -79,6 +85,54 @@ pub(crate) fn prices_found<'a, R, G: Gate>(
     };
     let gate = shared.gate;
     gate.hears(News::Prices);
+    match gate.milliseconds_left() {
+        Some(left) if shared.instance.customers() > MOST_SEARCHED => {
+            prices_in_time(shared, plan.cost(), left)
+        }
+        _ => prices_by_budget(shared, plan.cost()),
+    }
+}
+
+// Those that are found in a part of the milliseconds that are left.
+fn prices_in_time<'a, R, G: Gate>(
+    shared: &Shared<'a, R, G>,
+    cost: u64,
+    left: u64,
+) -> Result<Option<FoundPrices<'a>>, NoMemory>
+    ensures relaxation { IfOk result (λ found. IfSome found (λ prices. prices.relaxation.problem ≡ shared.now.problem)) }
+    ensures memory { IfOk result (λ found. IfSome found (λ prices. prices.memory.places ≡ place_count shared.now.problem)) }
+{
+    let part = left / PARTS_OF_TIME;
+    let then_left = left.saturating_sub(part);
+    let gate = shared.gate;
+    find_prices(
+        shared.alloc,
+        shared.instance,
+        cost,
+        MORE_REMEMBERED,
+        part.saturating_mul(STEPS_A_MILLISECOND),
+        &|| gate.goes_on() && has_more_left(gate, then_left),
+    )
+}
+
+// Whether a gate has more milliseconds left than this.
+fn has_more_left<G: Gate>(gate: &G, milliseconds: u64) -> bool {
+    match gate.milliseconds_left() {
+        Some(left) => left > milliseconds,
+        None => true,
+    }
+}
+
+// Those that are found in as many steps as the budget allows: a step takes a tenth of the time that a partial plan does, so there are as
+// many, or some times as many.
+fn prices_by_budget<'a, R, G: Gate>(
+    shared: &Shared<'a, R, G>,
+    cost: u64,
+) -> Result<Option<FoundPrices<'a>>, NoMemory>
+    ensures relaxation { IfOk result (λ found. IfSome found (λ prices. prices.relaxation.problem ≡ shared.now.problem)) }
+    ensures memory { IfOk result (λ found. IfSome found (λ prices. prices.memory.places ≡ place_count shared.now.problem)) }
+{
+    let gate = shared.gate;
     let budget = shared.budget_in_all();
     let (near, steps) = if shared.instance.customers() < MANY_FOR_ROUTES {
         (MOST_REMEMBERED, budget)
@@ -88,7 +142,7 @@ pub(crate) fn prices_found<'a, R, G: Gate>(
     find_prices(
         shared.alloc,
         shared.instance,
-        plan.cost(),
+        cost,
         near,
         steps,
         &|| gate.goes_on(),

@@ -2,7 +2,8 @@
 ghost use Rattle.std.specs.Prelude.{◌≡◌, ℕ, ◌≤◌, ◌<◌, List, [], IfOk, IsTrue};
 ghost use Rattle.std.specs.Bool.{OnFalse};
 ghost use Rattle.vrp_model.specs.declared.limits.TheConstants.{NO_COST};
-ghost use Rattle.vrp_model.specs.Problem.{place_count};
+ghost use Rattle.vrp_bound.specs.Tables.{AreMade};
+ghost use Rattle.vrp_model.specs.Problem.{customers, place_count};
 ghost use Rattle.vrp_model.specs.Word.{NoneCheaperUnder};
 ghost use Rattle.vrp_prices.specs.Relaxation.{Bounds};
 ghost use Rattle.vrp_tree.specs.Paid.{IsPaidAt};
@@ -67,6 +68,17 @@ impl<'a> Prices<'a> {
             }
         }
         low
+    }
+
+    /// Whether each bound is one look into a table of the ways home. Without it a bound takes a look for each unit that a truck can
+    /// still take up, so a search of many partial plans is slow. Where tables are made, whether that one fits is left open.
+    pub fn has_completion_table(&self) -> bool
+        ensures { IsTrue result → AreMade self.now.relaxed (customers self.now.relaxed) }
+    {
+        match self.tables.shape() {
+            Some(shape) => shape.has_homes,
+            None => false,
+        }
     }
 
     /// The instance with prices.

@@ -5,6 +5,7 @@
 mod cells;
 mod entered;
 mod growth;
+mod least_routes;
 mod lift;
 mod near_looks;
 mod size;
@@ -12,7 +13,8 @@ mod tours_used;
 mod walks;
 
 pub use cells::NO_WALK;
+pub use least_routes::{LeastRoute, LeastRoutes};
 pub use near_looks::NearLooks;
 pub use size::Size;
-pub use tours_used::UsedWay;
+pub use tours_used::{UsedWay, WHOLE_TOUR};
 pub use walks::Walks;

@@ -3,6 +3,9 @@ use crate::near_looks::NearLook;
 use crate::walks::Walks;
 use vrp_model::NoMemory;
 
+/// What the use of a way by a whole tour counts.
+pub const WHOLE_TOUR: i64 = 65_536;
+
 /// A use of the way from one place to another.
 #[derive(Clone, Copy, Debug)]
 pub struct UsedWay {
@@ -10,16 +13,18 @@ pub struct UsedWay {
     pub from: usize,
     /// The place that it goes to.
     pub to: usize,
+    /// What the use counts: `WHOLE_TOUR` by a whole tour, less by a part of one.
+    pub part: i64,
 }
 
-// Where a walk home has come to.
+/// Where a walk home has come to.
 #[derive(Clone, Copy, Debug)]
-struct Standing {
-    place: usize,
-    // What may be remembered there, at most, of what is still to come.
-    memory: usize,
-    // What is still to be carried.
-    left: usize,
+pub(crate) struct Standing {
+    pub(crate) place: usize,
+    /// What may be remembered there, at most, of what is still to come.
+    pub(crate) memory: usize,
+    /// What is still to be carried.
+    pub(crate) left: usize,
 }
 
 impl Walks {
@@ -34,7 +39,12 @@ impl Walks {
             let Some(load) = self.last_load(rest) else {
                 break;
             };
-            self.list_tour(load, used)?;
+            let tour = Standing {
+                place: 0,
+                memory: 0,
+                left: load,
+            };
+            self.list_walk(tour, WHOLE_TOUR, used)?;
             rest = rest.saturating_sub(load);
         }
         Ok(())
@@ -52,26 +62,29 @@ impl Walks {
         self.cell(load, 0, 0).wrapping_add(others) == cost
     }
 
-    // Lists the ways of the least tour of a load.
-    fn list_tour(&self, load: usize, used: &mut Vec<UsedWay>) -> Result<(), NoMemory> {
-        let mut here = Standing {
-            place: 0,
-            memory: 0,
-            left: load,
-        };
-        for _ in 0..load {
+    /// Adds the ways of the least walk home from there, of which so large a part is used.
+    pub(crate) fn list_walk(
+        &self,
+        from: Standing,
+        part: i64,
+        used: &mut Vec<UsedWay>,
+    ) -> Result<(), NoMemory> {
+        let mut here = from;
+        for _ in 0..from.left {
             let Some(next) = self.next_stop(here) else {
                 break;
             };
             used.push(UsedWay {
                 from: here.place,
                 to: next.place,
+                part,
             })?;
             here = next;
         }
         used.push(UsedWay {
             from: here.place,
             to: 0,
+            part,
         })?;
         Ok(())
     }

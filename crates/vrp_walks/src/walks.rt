@@ -53,15 +53,20 @@ impl Walks {
     /// Fills the tables by the ways as they were entered last. What the least tours cost together that carry the whole demand; `None`
     /// where no tours do. The cost is left open.
     pub fn fill(&mut self) -> Option<i64> {
+        self.fill_walks();
+        self.keep_tours();
+        self.join_tours();
+        let whole = self.tours.last().copied()?;
+        if whole < NO_WALK { Some(whole) } else { None }
+    }
+
+    /// Fills the table of the walks by the ways as they were entered last, and leaves the tours as they are. What is in it is left open.
+    pub fn fill_walks(&mut self) {
         self.growth.mark_near();
         self.cells.begin(self.growth.ways_home());
         for load in 0..self.tour.len() {
             self.extend_load(load);
         }
-        self.keep_tours();
-        self.join_tours();
-        let whole = self.tours.last().copied()?;
-        if whole < NO_WALK { Some(whole) } else { None }
     }
 
     // Puts another place before each walk that carries a load.

@@ -6,6 +6,8 @@ mod assertion;
 #[cfg(test)]
 mod instances;
 #[cfg(test)]
+mod least_routes;
+#[cfg(test)]
 mod remembering;
 #[cfg(test)]
 mod slow;

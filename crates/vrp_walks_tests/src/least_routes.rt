@@ -1,0 +1,103 @@
+//! The least route through each customer, and its ways.
+use crate::assertion::assert_same;
+use crate::instances::with_ways;
+use std::alloc::Global;
+use std::process::Abort;
+use vrp_memory::Memory;
+use vrp_model::Instance;
+use vrp_walks::{LeastRoutes, NearLooks, Size, UsedWay, WHOLE_TOUR, Walks};
+
+// Three customers who demand 1 each; a truck serves two.
+const WAYS: [u64; 16] = [0, 3, 4, 9, 3, 0, 2, 8, 4, 2, 0, 7, 9, 8, 7, 0];
+
+const DEMANDS: &[u64] = &[0, 1, 1, 1];
+
+// The customer, the prices of all places, and what the route costs and carries. Alone customers cost 6, 8 and 18; two of them 9, 20
+// and 20 together, so two cost less for each unit. By the prices of the third row customer 2 costs 2 alone, and 1 and 2 cost 5.
+type Least = (usize, [i64; 4], i64, usize);
+
+const LEAST: &[Least] = &[
+    (1, [0, 0, 0, 0], 9, 2),
+    (2, [0, 0, 0, 0], 9, 2),
+    (3, [0, 0, 0, 0], 20, 2),
+    (2, [0, 1, -3, 0], 2, 1),
+    (1, [0, 1, -3, 0], 5, 2),
+];
+
+#[test]
+fn least_routes(rt: HostRuntime) {
+    let instance = with_ways(&rt, rt.alloc(), &WAYS, DEMANDS, 2);
+    for &least in LEAST {
+        for near in 0..3 {
+            assert_least(&rt, rt.alloc(), &instance, least, near);
+        }
+    }
+}
+
+fn assert_least(
+    rt: &impl Abort,
+    alloc: Global,
+    instance: &Instance,
+    (customer, prices, cost, load): Least,
+    near: usize,
+) {
+    let walks = filled(rt, alloc, instance, &prices, near);
+    let mut routes = LeastRoutes::new(alloc, &walks).expect(rt, "memory");
+    let route = routes.through(&walks, customer).expect(rt, "a route");
+    assert_same(rt, (route.cost, route.load), (cost, load), (customer, near));
+    let mut used = Vec::new(alloc);
+    walks.list_route(&route, &mut used).expect(rt, "memory");
+    assert_used(rt, &used, load);
+    assert_same(rt, cost_of(&used, &prices), cost, (customer, near));
+}
+
+// A route of so many customers goes one way more, and comes to each place once; of each way as large a part is used as falls to a
+// customer.
+fn assert_used(rt: &impl Abort, used: &[UsedWay], load: usize) {
+    assert_same(rt, used.len(), load.wrapping_add(1), "ways");
+    let part = if load == 1 {
+        WHOLE_TOUR
+    } else {
+        WHOLE_TOUR / 2
+    };
+    for way in used {
+        assert_same(rt, way.part, part, way.to);
+        let entries = used.iter().filter(|other| other.to == way.to).count();
+        assert_same(rt, entries, 1, way.to);
+    }
+}
+
+// What the ways cost with these prices.
+fn cost_of(used: &[UsedWay], prices: &[i64]) -> i64 {
+    let mut cost = 0i64;
+    for way in used {
+        let cell = way.from.wrapping_mul(4).wrapping_add(way.to);
+        let weight = WAYS.get(cell).copied().unwrap_or(0);
+        let weight = i64::try_from(weight).unwrap_or(0);
+        let from = prices.get(way.from).copied().unwrap_or(0);
+        let to = prices.get(way.to).copied().unwrap_or(0);
+        cost = cost
+            .wrapping_add(weight)
+            .wrapping_add(from)
+            .wrapping_add(to);
+    }
+    cost
+}
+
+// The tables by these prices, where so many customers are near each place.
+fn filled(
+    rt: &impl Abort,
+    alloc: Global,
+    instance: &Instance,
+    prices: &[i64],
+    near: usize,
+) -> Walks {
+    assert!(rt; near <= 4);
+    let memory = Memory::nearest(alloc, instance, near).expect(rt, "memory");
+    let looks = NearLooks::new(alloc, instance, &memory).expect(rt, "memory");
+    let size = Size::in_units(instance, 1);
+    let mut walks = Walks::new(alloc, instance, 1, 1, size, looks).expect(rt, "memory");
+    walks.enter(prices);
+    walks.fill_walks();
+    walks
+}
