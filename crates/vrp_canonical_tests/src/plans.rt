@@ -114,11 +114,19 @@ fn cost_told(
     instance: &Instance,
     found: &Option<PlanSearch>,
 ) -> Option<u64> {
-    let Some(PlanSearch::Unfinished(word)) = found else {
+    let Some(PlanSearch::Unfinished { word, .. }) = found else {
         return None;
     };
     let plan = lawful_plan(alloc, instance, word.as_slice()).expect(rt, "memory");
     plan.map(|plan| plan.cost())
+}
+
+// The lower bound of a search that ended unfinished.
+fn bound_told(found: &Option<PlanSearch>) -> Option<u64> {
+    match found {
+        Some(PlanSearch::Unfinished { lower_bound, .. }) => Some(*lower_bound),
+        _ => None,
+    }
 }
 
 const GUIDES: &[(Habit, u64)] = &[(Habit::Zeros, 1), (Habit::Random, 2), (Habit::Random, 3)];
@@ -148,7 +156,7 @@ fn by_guides<R: Abort + Threads + Sync>(
     plans
 }
 
-// A guide, a budget, whether the first plan is found, and whether a cheapest one is told of else.
+// A guide, a budget, whether the first plan is found, and whether a cheapest one is told of else: then the lower bound is its cost.
 const LIMITS: &[(Habit, u64, bool, bool)] = &[
     (Habit::Zeros, 1_000, true, false),
     (Habit::Zeros, 4, true, false),
@@ -182,6 +190,9 @@ fn budgets_and_guides_that_stop(rt: HostRuntime) {
         let found = found.expect(rt, "memory");
         let cost = cost_told(rt, alloc, &instance, &found);
         assert_same(rt, cost, told.then_some(first.cost), (habit, budget));
+        let bound = bound_told(&found);
+        let least = if told { first.cost } else { 0 };
+        assert_same(rt, bound, (!wanted).then_some(least), (habit, budget));
         let plan = first_of(found);
         assert_same(rt, plan.is_some(), wanted, (habit, budget));
     }

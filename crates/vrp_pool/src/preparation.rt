@@ -21,9 +21,6 @@ const MANY_CUSTOMERS: u16 = 50;
 
 const MORE_MOVES: u32 = 3 * ENOUGH_MOVES;
 
-// The most customers with which useful routes are listed.
-const MOST_FOR_ROUTES: u16 = 127;
-
 // The most customers near each place that walks remember: with more, a round takes longer than it gains.
 const MOST_REMEMBERED: usize = 3;
 
@@ -52,7 +49,7 @@ pub(crate) fn first_plan<R, G: Gate>(shared: &Shared<'_, R, G>) -> Result<Option
     }
     let customers = shared.instance.customers();
     // Where no routes are listed, and a time is set, all workers look for better plans later.
-    let goes_on_later = customers > MOST_FOR_ROUTES && shared.gate.milliseconds_left().is_some();
+    let goes_on_later = customers > MOST_SEARCHED && shared.gate.milliseconds_left().is_some();
     let moves = if shared.budget_in_all() < LEAST_FOR_MOVES {
         0
     } else if customers < MANY_CUSTOMERS || goes_on_later {

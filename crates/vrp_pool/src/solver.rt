@@ -265,8 +265,13 @@ fn solve_by_routes<R: Threads + Wait + Sync, G: Gate + Sync>(
             lower_bound,
         });
     }
-    let priced = shared.by_prices(prices);
-    let answer = solve_improved(&priced.with_plan(better.as_ref()), cutting, workers);
+    let begun = shared.with_plan(better.as_ref());
+    // Without a table of the ways home each bound would take long.
+    let answer = if prices.has_completion_table() {
+        solve_improved(&begun.by_prices(prices), cutting, workers)
+    } else {
+        solve_improved(&begun, cutting, workers)
+    };
     drop(better);
     Ok(Solved {
         answer: answer?,
