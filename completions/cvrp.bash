@@ -22,7 +22,7 @@ _cvrp() {
             return
             ;;
     esac
-    local options='--workers --pieces --budget --seconds --progress --depot --trucks --start --check --format --help --version'
+    local options='--workers --pieces --budget --seconds --progress --depot --trucks --start --check --strict --format --explain --help --version'
     mapfile -t COMPREPLY < <(compgen -W "$options -h -V" -- "$word")
 }
 complete -F _cvrp cvrp

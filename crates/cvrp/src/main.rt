@@ -1,8 +1,11 @@
 //! The program: reads a CVRP file on standard input, and writes the report of a plan to standard output.
 #![tactic(auto)]
 
+mod awaited;
+
+use crate::awaited::Awaited;
 use std::env::{self, Env};
-use std::io::{self, Eprint, Write};
+use std::io::{self, Eprint, IsTerminal, Write};
 use std::process::ExitCode;
 use std::rt::Files;
 use std::sync::Wait;
@@ -11,29 +14,30 @@ use std::time::Clock;
 use vrp_command::{LineFault, NoGate, end_without_run, run_words, words_fault};
 
 fn main(rt: HostRuntime) -> ExitCode {
-    let status = match run_args(&rt, &mut rt.stderr()) {
+    let status = match run_args(&rt, rt.stdin().is_terminal(), &mut rt.stderr()) {
         Ok(status) => status,
         Err(fault) => end_without_run(&fault, &mut io::writer(&rt), &mut rt.stderr()),
     };
     ExitCode::from(status)
 }
 
-// The exit status of what the words behind the program's name ask for, if they can be had.
+// The exit status of what the words behind the program's name ask for, if they can be had. Hints tell that a terminal's file is awaited.
 fn run_args<
     R: Env + AllocGlobal + Files + Input + Print + Eprint + Clock + Threads + Wait + Sync,
     E: Write,
->(rt: &R, errors: &mut E) -> Result<u8, LineFault> {
+>(rt: &R, at_terminal: bool, errors: &mut E) -> Result<u8, LineFault> {
     let args = match env::args(rt) {
         Ok(args) => args,
         Err(error) => return Err(words_fault(rt.alloc(), &error)),
     };
     let args: Vec<String> = args.skip(1).collect(rt.alloc())?;
     let words: Vec<&str> = args.iter().map(String::as_str).collect(rt.alloc())?;
+    let tells = at_terminal && words.contains(&"--explain");
     Ok(run_words(
         rt,
         rt.alloc(),
         &words,
-        &mut rt.reader(),
+        &mut Awaited::new(rt.reader(), tells, rt),
         &mut io::writer(rt),
         errors,
         &NoGate,

@@ -6,4 +6,5 @@ pub mod Program
 pub mod Run
 pub mod Same
 pub mod Start
+pub mod Strict
 pub mod Text

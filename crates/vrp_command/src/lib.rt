@@ -8,12 +8,15 @@ mod deadline;
 mod fault;
 mod form;
 mod found;
+mod hints;
+mod kept;
 mod law;
 mod line;
 mod problem;
 mod program;
 mod progress;
 mod start;
+mod strict;
 
 pub use command::{run, run_request};
 pub use deadline::Deadline;

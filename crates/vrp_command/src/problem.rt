@@ -53,8 +53,8 @@ pub(crate) fn read_problem<R: Read>(
     })
 }
 
-// The instance with this many trucks, if a number was asked for.
-fn limited(instance: Instance, trucks: Option<u16>) -> Instance
+/// The instance with this many trucks, if a number was asked for.
+pub(crate) fn limited(instance: Instance, trucks: Option<u16>) -> Instance
     requires some { ForSome trucks (λ most. 1 ≤ most) }
     requires few { ForSome trucks (λ most. most ≤ MAX_NODES) }
     ensures { result ≡ limited trucks instance }

@@ -5,6 +5,8 @@ ghost use Rattle.vrp_request.specs.Words.{line_code};
 
 use crate::command::run_request;
 use crate::fault::end;
+use crate::hints::tell_hint;
+use crate::kept::run_kept;
 use crate::start::open_start;
 use std::alloc::Global;
 use std::io::{Eprint, Read, Write};
@@ -13,10 +15,10 @@ use std::sync::Wait;
 use std::thread::Threads;
 use std::time::Clock;
 use vrp_pool::Gate;
-use vrp_request::{LineFault, line_status, parse_request};
+use vrp_request::{LineFault, line_status, parse_request, word_hint};
 
 /// Does what the words behind the program's name ask for, and answers the exit status: `parse_request` and then `run_request`, or
-/// `end_without_run`. The report goes to `output`, and so do the help and the version; why there is no report goes to `errors`, and how
+/// `end_without_run`. Where hints are asked for they follow, and so they do where the words are refused. The report goes to `output`, and so do the help and the version; why there is no report goes to `errors`, and how
 /// the run goes, where that is asked for, to `rt`. Of itself it promises nothing.
 pub fn run_words<
     T: Threads + Wait + Clock + Eprint + Files + Sync,
@@ -35,11 +37,30 @@ pub fn run_words<
 ) -> u8 {
     let request = match parse_request(alloc, words) {
         Ok(request) => request,
-        Err(fault) => return end_without_run(&fault, output, errors),
+        Err(fault) => return refuse(words, &fault, output, errors),
     };
+    if request.explain || request.strict {
+        return run_kept(rt, alloc, request, input, output, errors, gate);
+    }
     let start = request.start.map(|path| open_start(rt, path));
     let outcome = run_request(rt, alloc, request, start, input, output, errors, gate);
     end(alloc, &outcome, errors)
+}
+
+// Ends where the words give no options, with a hint on them.
+fn refuse<W: Write, E: Write>(
+    words: &[&str],
+    fault: &LineFault,
+    output: &mut W,
+    errors: &mut E,
+) -> u8
+    ensures { result ≡ line_code fault.now }
+{
+    let status = end_without_run(fault, output, errors);
+    if let LineFault::Refused(_) = fault {
+        tell_hint(word_hint(words), errors);
+    }
+    status
 }
 
 /// The exit status where the words give no options, or where there are none. The help and the version go to `output`, and all else

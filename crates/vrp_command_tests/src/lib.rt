@@ -10,6 +10,8 @@ mod files;
 #[cfg(test)]
 mod fixture;
 #[cfg(test)]
+mod hints;
+#[cfg(test)]
 mod limits;
 #[cfg(test)]
 mod line;

@@ -170,6 +170,8 @@ fn seconds(rt: HostRuntime) {
             progress: *progress,
             start: None,
             check: false,
+            strict: false,
+            explain: false,
             format: Format::Report,
         };
         assert_request(&rt, rt.alloc(), words, wanted);
@@ -193,6 +195,8 @@ fn starts(rt: HostRuntime) {
             progress: false,
             start: Some("a.sol"),
             check: *check,
+            strict: false,
+            explain: false,
             format: Format::Report,
         };
         assert_request(&rt, rt.alloc(), words, wanted);
@@ -216,6 +220,8 @@ fn formats(rt: HostRuntime) {
             progress: false,
             start: None,
             check: false,
+            strict: false,
+            explain: false,
             format: *format,
         };
         assert_request(&rt, rt.alloc(), words, wanted);

@@ -197,6 +197,8 @@ fn assert_request<R: Abort + Threads + Wait + Clock + Eprint + Sync>(
         progress: false,
         start: None,
         check: asked.check,
+        strict: false,
+        explain: false,
         format: asked.format,
     };
     let mut input = text.as_bytes();
@@ -246,6 +248,8 @@ fn assert_last_line<R: Abort + Threads + Wait + Clock + Eprint + Sync>(
         progress: true,
         start: None,
         check: false,
+        strict: false,
+        explain: false,
         format: Format::Report,
     };
     let mut input = SMALL.as_bytes();

@@ -53,11 +53,11 @@ const FOURTEEN: &str = "Route #1: 2\nRoute #2: 3\nRoute #3: 4\nCost 14\nProven\n
 const SIX: &str =
     "TYPE : CVRP\nDIMENSION : 6\nEDGE_WEIGHT_TYPE : EUC_2D\nCAPACITY : 2\nNODE_COORD_SECTION\n1 0 0\n2 8 0\n3 4 3\n4 8 6\n5 12 3\n6 8 2\nDEMAND_SECTION\n1 0\n2 0\n3 1\n4 1\n5 1\n6 1\nDEPOT_SECTION\n1 2\n-1\nEOF\n";
 
-// The exit status, and all that is written to standard output and to standard error.
-type End<'a> = (u8, &'a str, &'a str);
+/// The exit status, and all that is written to standard output and to standard error.
+pub(crate) type End<'a> = (u8, &'a str, &'a str);
 
-// Asserts how the program ends that is asked for by these words over a text.
-fn assert_run_by<R: Abort + Files + Threads + Wait + Clock + Eprint + Sync>(
+/// Asserts how the program ends that is asked for by these words over a text.
+pub(crate) fn assert_run_by<R: Abort + Files + Threads + Wait + Clock + Eprint + Sync>(
     rt: &R,
     alloc: Global,
     words: &[&str],
@@ -143,7 +143,7 @@ fn without_words(rt: HostRuntime) {
     }
 }
 
-// Asserts how the program ends that is asked for by these words over a file with one text in place of another.
+/// Asserts how the program ends that is asked for by these words over a file with one text in place of another.
 fn assert_changed<R: Abort + Files + Threads + Wait + Clock + Eprint + Sync>(
     rt: &R,
     alloc: Global,
@@ -229,10 +229,10 @@ fn assert_crew<R: Abort + Files + Threads + Wait + Clock + Eprint + Sync>(
 
 // What who gives a file's name is told.
 const NO_FILE: &str =
-    "error: unexpected argument 'a.vrp' found\n\nUsage: cvrp [OPTIONS] < FILE\n\nThe file comes on standard input.\n\nFor more information, try '--help'.\n";
+    "error: unexpected argument 'a.vrp' found\n\nUsage: cvrp [OPTIONS] < FILE\n\nThe file comes on standard input.\n\nFor more information, try '--help'.\ncvrp: hint: a file comes on standard input, as in cvrp < a.vrp\n";
 
 const NO_WORKERS: &str =
-    "error: invalid value '0' for '--workers <THREADS>': 0 is not in 1..=64\n\nFor more information, try '--help'.\n";
+    "error: invalid value '0' for '--workers <THREADS>': 0 is not in 1..=64\n\nFor more information, try '--help'.\ncvrp: hint: --workers takes a whole number from 1 to 64\n";
 
 // Words between blanks, a file, and how the program ends.
 const BY_WORDS: &[(&str, &str, End<'static>)] = &[

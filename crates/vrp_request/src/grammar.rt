@@ -43,18 +43,25 @@ const CHECK: &str =
 const FORMAT: &str =
     "In which form the plan is printed: as a report; as CVRPLIB has it\n(sol), which is what --start reads; as JSON; or as a picture over\nthe coordinates of the file (svg).\nOne of report, sol, json, svg; default report.";
 
+const STRICT: &str =
+    "With --check: end with status 6 where the file of --start states\nanother cost than its plan's.";
+
+const EXPLAIN: &str =
+    "Add hints on standard error: what is known of a fault or of an\nanswer, and what to do about it.";
+
 // The names of the forms.
 const FORMATS: [&str; 4] = ["report", "sol", "json", "svg"];
 
 const VERDICTS_AND_STATUSES: &str =
-    "The last line of the report is the verdict:\n  Proven  no plan costs less than the printed one\n  Open L  a piece was left open: no plan costs less than L, but one may\n          cost less than the printed one\n  NoPlan  so few trucks can't serve all customers\n  Lawful  with --check: the plan is lawful, and a cheaper one may exist\n\nExit statuses:\n  0  Proven, NoPlan, Lawful, or this help\n  1  Open\n  2  the command line is refused\n  3  the file is refused, or the plan of --start\n  4  no memory\n  5  a read or a write failed\n\nWithout options one thread searches; it ends small files within seconds and\nleaves large ones open. What can't be solved: other types of problem (time\nwindows, pickups, fleets of different trucks), distances with decimals, and\nmore than 1200 nodes.\n\nExample, with four threads, for ten minutes at most:\n  cvrp --workers 4 --seconds 600 < examples/E-n51-k5.vrp";
+    "The last line of the report is the verdict:\n  Proven  no plan costs less than the printed one\n  Open L  a piece was left open: no plan costs less than L, but one may\n          cost less than the printed one\n  NoPlan  so few trucks can't serve all customers\n  Lawful  with --check: the plan is lawful, and a cheaper one may exist\n\nExit statuses:\n  0  Proven, NoPlan, Lawful, or this help\n  1  Open\n  2  the command line is refused\n  3  the file is refused, or the plan of --start\n  4  no memory\n  5  a read or a write failed\n  6  with --strict: another cost is stated than that of the plan\n\nWith --explain standard error says more of a refusal, and what to do.\n\nWithout options one thread searches; it ends small files within seconds and\nleaves large ones open. What can't be solved: other types of problem (time\nwindows, pickups, fleets of different trucks), distances with decimals, and\nmore than 1200 nodes.\n\nExample, with four threads, for ten minutes at most:\n  cvrp --workers 4 --seconds 600 < examples/E-n51-k5.vrp";
 
 /// The command line of the program.
 pub(crate) fn grammar<'a>(alloc: Global) -> Result<Command<'a>, Error> {
     let command = with_effort(described(alloc), alloc)?;
     let command = with_time(command, alloc)?;
     let command = with_problem(command, alloc)?;
-    Ok(with_plan(command, alloc)?)
+    let command = with_plan(command, alloc)?;
+    Ok(with_telling(command, alloc)?)
 }
 
 // What the command line says of itself, with no option yet.
@@ -71,35 +78,41 @@ fn described<'a>(alloc: Global) -> Command<'a> {
 // With the options that say how much is searched, and by how many.
 fn with_effort<'a>(command: Command<'a>, alloc: Global) -> Result<Command<'a>, AllocError> {
     command
-        .arg(workers(alloc))?
+        .arg(workers(alloc)?)?
         .arg(pieces(alloc))?
         .arg(budget(alloc))
 }
 
 // With those that look at the clock.
 fn with_time<'a>(command: Command<'a>, alloc: Global) -> Result<Command<'a>, AllocError> {
-    command.arg(seconds(alloc))?.arg(progress(alloc))
+    command.arg(seconds(alloc)?)?.arg(progress(alloc))
 }
 
 // With those that say what problem the file means.
 fn with_problem<'a>(command: Command<'a>, alloc: Global) -> Result<Command<'a>, AllocError> {
-    command.arg(depot(alloc))?.arg(trucks(alloc))
+    command.arg(depot(alloc))?.arg(trucks(alloc)?)
 }
 
-// With those that say which plan to begin with, and how a plan is printed.
+// With those that say which plan to begin with.
 fn with_plan<'a>(command: Command<'a>, alloc: Global) -> Result<Command<'a>, AllocError> {
     command
         .arg(start(alloc))?
         .arg(check(alloc)?)?
-        .arg(format(alloc))
+        .arg(strict(alloc)?)
 }
 
-fn workers<'a>(alloc: Global) -> Arg<'a> {
+// With those that say what is told, and how.
+fn with_telling<'a>(command: Command<'a>, alloc: Global) -> Result<Command<'a>, AllocError> {
+    command.arg(format(alloc))?.arg(explain(alloc))
+}
+
+fn workers<'a>(alloc: Global) -> Result<Arg<'a>, AllocError> {
     Arg::new(alloc, "workers")
         .long("workers")
         .value_name("THREADS")
         .help(WORKERS)
         .value_parser(value_parser!(u32).range(1..=i64::from(MAX_WORKERS)))
+        .alias("threads")
 }
 
 fn pieces<'a>(alloc: Global) -> Arg<'a> {
@@ -118,12 +131,13 @@ fn budget<'a>(alloc: Global) -> Arg<'a> {
         .value_parser(value_parser!(u64).range(1..=MAX_BUDGET as i64))
 }
 
-fn seconds<'a>(alloc: Global) -> Arg<'a> {
+fn seconds<'a>(alloc: Global) -> Result<Arg<'a>, AllocError> {
     Arg::new(alloc, "seconds")
         .long("seconds")
         .value_name("SECONDS")
         .help(SECONDS)
         .value_parser(value_parser!(u32).range(1..=i64::from(MAX_SECONDS)))
+        .alias("time-limit")
 }
 
 fn progress<'a>(alloc: Global) -> Arg<'a> {
@@ -137,8 +151,11 @@ fn depot<'a>(alloc: Global) -> Arg<'a> {
     node(alloc, "depot").value_name("NODE").help(DEPOT)
 }
 
-fn trucks<'a>(alloc: Global) -> Arg<'a> {
-    node(alloc, "trucks").value_name("TRUCKS").help(TRUCKS)
+fn trucks<'a>(alloc: Global) -> Result<Arg<'a>, AllocError> {
+    node(alloc, "trucks")
+        .value_name("TRUCKS")
+        .help(TRUCKS)
+        .alias("vehicles")
 }
 
 fn start<'a>(alloc: Global) -> Arg<'a> {
@@ -155,6 +172,22 @@ fn check<'a>(alloc: Global) -> Result<Arg<'a>, AllocError> {
         .help(CHECK)
         .action(ArgAction::SetTrue)
         .requires_arg("start")
+}
+
+// What is stated is told of a plan that is checked.
+fn strict<'a>(alloc: Global) -> Result<Arg<'a>, AllocError> {
+    Arg::new(alloc, "strict")
+        .long("strict")
+        .help(STRICT)
+        .action(ArgAction::SetTrue)
+        .requires_arg("check")
+}
+
+fn explain<'a>(alloc: Global) -> Arg<'a> {
+    Arg::new(alloc, "explain")
+        .long("explain")
+        .help(EXPLAIN)
+        .action(ArgAction::SetTrue)
 }
 
 fn format<'a>(alloc: Global) -> Arg<'a> {

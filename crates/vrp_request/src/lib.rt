@@ -2,8 +2,10 @@
 #![tactic(auto)]
 
 mod grammar;
+mod hint;
 mod options;
 mod words;
 
+pub use hint::{Takes, WordHint, word_hint};
 pub use options::{Format, MAX_BUDGET, MAX_SECONDS, Options, Request};
 pub use words::{LineFault, line_fault, line_status, parse_request, parse_words, words_fault};

@@ -64,6 +64,10 @@ pub struct Request<'a> {
     pub start: Option<&'a str>,
     /// Whether that plan is only to be checked.
     pub check: bool,
+    /// Whether the exit status is to tell that its file states another cost than the plan's.
+    pub strict: bool,
+    /// Whether standard error is told hints.
+    pub explain: bool,
     /// In which form the plan is printed.
     pub format: Format,
 }

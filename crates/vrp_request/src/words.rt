@@ -46,6 +46,8 @@ pub fn parse_request<'a>(alloc: Global, words: &'a [&'a str]) -> Result<Request<
     ensures some_depot { IfOk result (λ request. HasDepotFromOne request.options) }
     ensures few_depot { IfOk result (λ request. HasDepotWithin request.options) }
     ensures check { IfOk result (λ request. IsTrue request.check → HasWord words.now (codes "--check")) }
+    ensures strict { IfOk result (λ request. IsTrue request.strict → HasWord words.now (codes "--strict")) }
+    ensures explain { IfOk result (λ request. IsTrue request.explain → HasWord words.now (codes "--explain")) }
     ensures format { IfOk result (λ request. IsOtherFormat request.format → HasWordFrom words.now (codes "--format")) }
 {
     match asked_for(alloc, words) {
@@ -101,12 +103,18 @@ fn asked_for<'a>(alloc: Global, words: &'a [&'a str]) -> Result<Request<'a>, Err
     ensures some_depot { IfOk result (λ request. HasDepotFromOne request.options) }
     ensures few_depot { IfOk result (λ request. HasDepotWithin request.options) }
     ensures check { IfOk result (λ request. IsTrue request.check → HasWord words.now (codes "--check")) }
+    ensures strict { IfOk result (λ request. IsTrue request.strict → HasWord words.now (codes "--strict")) }
+    ensures explain { IfOk result (λ request. IsTrue request.explain → HasWord words.now (codes "--explain")) }
     ensures format { IfOk result (λ request. IsOtherFormat request.format → HasWordFrom words.now (codes "--format")) }
 {
     let matches = grammar(alloc)?.try_get_matches_from(words)?;
-    let check = has_word(words, "--check");
+    let flags = Flags {
+        check: has_word(words, "--check"),
+        strict: has_word(words, "--strict"),
+        explain: has_word(words, "--explain"),
+    };
     let format = format_of(&matches, words);
-    Ok(chosen(&matches, check, format))
+    Ok(chosen(&matches, flags, format))
 }
 
 // Whether one of the words is this one.
@@ -164,9 +172,19 @@ pub fn line_fault(alloc: Global, error: &Error) -> LineFault
     }
 }
 
+// What is asked for by a word alone, and has to stand there.
+#[derive(Clone, Copy)]
+struct Flags {
+    check: bool,
+    strict: bool,
+    explain: bool,
+}
+
 // The values that stand in the words, and else the defaults.
-fn chosen<'a>(matches: &ArgMatches<'a>, check: bool, format: Format) -> Request<'a>
-    ensures check { result.check ≡ check }
+fn chosen<'a>(matches: &ArgMatches<'a>, flags: Flags, format: Format) -> Request<'a>
+    ensures check { result.check ≡ flags.check }
+    ensures strict { result.strict ≡ flags.strict }
+    ensures explain { result.explain ≡ flags.explain }
     ensures format { result.format ≡ format }
     ensures in_range { AreInRange result.options }
     ensures some_depot { HasDepotFromOne result.options }
@@ -191,7 +209,9 @@ fn chosen<'a>(matches: &ArgMatches<'a>, check: bool, format: Format) -> Request<
         seconds,
         progress: matches.get_flag("progress"),
         start: matches.get_str("start"),
-        check,
+        check: flags.check,
+        strict: flags.strict,
+        explain: flags.explain,
         format,
     }
 }

@@ -1,0 +1,78 @@
+//! Tells hints on standard error: what is known of a fault or of an answer, behind all that is told without being asked.
+ghost use Rattle.std.specs.Prelude.{◌≡◌};
+ghost use Rattle.vrp_model.specs.Problem.{node_of};
+
+use crate::fault::RequestError;
+use crate::kept::{Kept, StartText};
+use crate::start::StartError;
+use std::fmt::Display;
+use std::io::Write;
+use vrp_hints::{depot_hint, file_hint, no_plan_hint, start_hint};
+use vrp_model::Instance;
+use vrp_request::Request;
+use vrp_streams::{RunError, Status};
+
+/// Tells a hint, if there is one, as a line of its own. Where it can't be written nothing more is done.
+pub(crate) fn tell_hint<H: Display + Drop, E: Write>(hint: Option<H>, errors: &mut E) {
+    if let Some(hint) = hint {
+        let _ = writeln!(errors, "cvrp: hint: {hint}");
+    }
+}
+
+/// Tells the hint on a refusal, if there is one.
+pub(crate) fn tell_refusal<E: Write>(
+    request: &Request<'_>,
+    kept: &Kept,
+    error: &RequestError,
+    errors: &mut E,
+) {
+    match error {
+        RequestError::Run(RunError::Text(refusal)) => {
+            tell_hint(file_hint(&kept.input, refusal), errors);
+        }
+        RequestError::Start(error) => tell_start(request, kept, error, errors),
+        _ => {}
+    }
+}
+
+// Tells the hint on a plan to begin with, if there is one.
+fn tell_start<E: Write>(request: &Request<'_>, kept: &Kept, error: &StartError, errors: &mut E) {
+    let path = request.start.unwrap_or("");
+    match (error, &kept.start) {
+        (StartError::Refused(_), Some(StartText::Read(text))) => {
+            tell_hint(start_hint(&kept.input, text), errors);
+        }
+        (StartError::Read, Some(StartText::Unopened(reason))) => {
+            let _ = writeln!(errors, "cvrp: hint: {path}: {reason}");
+        }
+        (StartError::Read, _) => {
+            let _ = writeln!(errors, "cvrp: hint: {path} is opened, and can't be read");
+        }
+        _ => {}
+    }
+}
+
+/// Tells the hints on the answer to an instance.
+pub(crate) fn tell_answer<E: Write>(
+    request: &Request<'_>,
+    kept: &Kept,
+    instance: &Instance,
+    status: Status,
+    errors: &mut E,
+) {
+    if status == Status::NoPlan {
+        tell_hint(no_plan_hint(instance), errors);
+    }
+    if request.options.depot.is_none() {
+        tell_hint(depot_hint(&kept.input, depot_of(instance)), errors);
+    }
+}
+
+// The node of the depot.
+fn depot_of(instance: &Instance) -> u16
+    ensures { result ≡ node_of instance.now 0 }
+{
+    // By this each instance has a place, which is its depot.
+    let _customers = instance.customers();
+    instance.node(0)
+}

@@ -1,0 +1,37 @@
+//! Whether the file of a plan states another cost than the plan's.
+ghost use Rattle.std.specs.Prelude.{◌≡◌};
+ghost use Rattle.vrp_command.specs.Strict.{IsCostStatus};
+
+use std::alloc::Global;
+use std::io::Write;
+use vrp_hints::{Quoted, stated_cost};
+use vrp_model::Instance;
+use vrp_solution::Solution;
+
+// The exit status where another cost is stated.
+const OTHER_COST: u8 = 6;
+
+/// The exit status of a plan's text: 6 where it states another cost than its plan's, which `errors` is told then, 0 where it doesn't, and
+/// 4 for want of memory or where it has no lawful plan. What is told is left open.
+pub(crate) fn cost_status<E: Write>(
+    alloc: Global,
+    instance: &Instance,
+    text: &[u8],
+    errors: &mut E,
+) -> u8
+    ensures { IsCostStatus instance.now text.now result }
+{
+    let Ok(solution) = Solution::read(alloc, text, instance) else {
+        return 4;
+    };
+    if !solution.states_other_cost {
+        return 0;
+    }
+    let stated = Quoted(stated_cost(text).unwrap_or(&[]));
+    let cost = solution.plan.cost();
+    let _ = writeln!(
+        errors,
+        "cvrp: start plan: the stated cost is {stated}, the true one {cost}"
+    );
+    OTHER_COST
+}
