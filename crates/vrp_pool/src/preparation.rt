@@ -35,8 +35,8 @@ const MORE_REMEMBERED: usize = 4;
 // Prices that bound alone may take one part in so many of the time that is left.
 const PARTS_OF_TIME: u64 = 3;
 
-// More steps than a millisecond has: by them it is chosen how long a round may be, and the gate tells when the time is over.
-const STEPS_A_MILLISECOND: u64 = 1_000_000;
+// No fewer steps than a millisecond mostly has: by them it is chosen how long a round may be, and the gate tells when the time is over.
+const STEPS_A_MILLISECOND: u64 = 2_000_000;
 
 /// A plan near the best, if one is found: by savings, and where many partial plans may be looked at in all, by ruin and recreate
 /// too.
