@@ -22,7 +22,7 @@ pub use command::{run, run_request};
 pub use deadline::Deadline;
 pub use fault::{RequestError, end};
 pub use law::{one_answer, one_report};
-pub use line::{Line, Stage};
+pub use line::{Line, LongRun, Stage};
 pub use program::{end_without_run, run_words};
 pub use start::{StartError, StartFile, open_start};
 pub use vrp_pool::{Gate, MAX_WORKERS, News, NoGate};

@@ -86,6 +86,22 @@ impl fmt::Display for Line {
     }
 }
 
+/// What is said once of a run that takes long: how far it is, and what ends it.
+#[derive(Clone, Copy, Debug, PartialEq, Eq)]
+pub struct LongRun(pub Line);
+
+impl fmt::Display for LongRun {
+    ghost output = { λ _. None };
+
+    fn fmt<W: fmt::Write>(&self, f: &mut fmt::Formatter<W>) -> fmt::Result {
+        write!(
+            f,
+            "cvrp: {}; --seconds N ends a run with the best that it has, --progress tells how it goes",
+            self.0
+        )
+    }
+}
+
 impl Line {
     // What the best plan costs, what none costs less than, and how far apart these are.
     fn write_costs<W: fmt::Write>(&self, f: &mut fmt::Formatter<W>) -> fmt::Result {

@@ -2,7 +2,7 @@
 ghost use Rattle.std.specs.Prelude.{◌≡◌};
 
 use crate::fault::RequestError;
-use crate::line::{Line, Stage};
+use crate::line::{Line, LongRun, Stage};
 use std::io::{Eprint, Write};
 use std::sync::atomic::{AtomicU64, Ordering};
 use std::time::{Clock, Instant};
@@ -11,6 +11,9 @@ use vrp_streams::Status;
 
 // What stands for no cost.
 const NO_PLAN: u64 = u64::MAX;
+
+// After so many seconds a run says once that it takes long, where it isn't asked to tell how it goes.
+const LONG_RUN: u64 = 10;
 
 // What stands for each stage of a run that has not ended.
 const FIRST_LOOK: u64 = 0;
@@ -28,7 +31,8 @@ const BETTER_PLANS: u64 = 5;
 const SEARCH: u64 = 6;
 
 /// A gate that tells of a run on standard error, if that is asked for, and passes on to another gate all that it is told: a line when
-/// something is new, and one about every second. Where a line can't be written the run goes on. What the lines say no clause says.
+/// something is new, and one about every second. Where it isn't asked for, there is one line after ten seconds. Where a line can't be
+/// written the run goes on. What the lines say no clause says.
 #[derive(Drop)]
 pub(crate) struct Progress<'a, T, G: Gate> {
     rt: &'a T,
@@ -50,6 +54,8 @@ pub(crate) struct Progress<'a, T, G: Gate> {
     looked: AtomicU64,
     // The second in which the next line is due.
     due: AtomicU64,
+    // 1 once it was said that the run takes long.
+    said: AtomicU64,
 }
 
 impl<'a, T: Clock + Eprint, G: Gate> Progress<'a, T, G> {
@@ -74,6 +80,7 @@ impl<'a, T: Clock + Eprint, G: Gate> Progress<'a, T, G> {
             done: AtomicU64::new(0),
             looked: AtomicU64::new(0),
             due: AtomicU64::new(1),
+            said: AtomicU64::new(0),
         }
     }
 
@@ -132,6 +139,7 @@ impl<'a, T: Clock + Eprint, G: Gate> Progress<'a, T, G> {
     // Writes a line where none was written in this second.
     fn tell_when_due(&self) {
         if !self.tells {
+            self.say_once();
             return;
         }
         let Some(seconds) = self.seconds() else {
@@ -151,6 +159,21 @@ impl<'a, T: Clock + Eprint, G: Gate> Progress<'a, T, G> {
         {
             self.tell(self.stage());
         }
+    }
+
+    // Says once that the run takes long, and what ends it.
+    fn say_once(&self) {
+        if self.said.load(Ordering::Relaxed) != 0 {
+            return;
+        }
+        let Some(seconds) = self.seconds() else {
+            return;
+        };
+        if seconds < LONG_RUN || self.said.swap(1, Ordering::Relaxed) != 0 {
+            return;
+        }
+        // Nobody is told where it can't be written.
+        let _ = self.rt.eprintln(LongRun(self.line(self.stage())));
     }
 
     // What the run is at.

@@ -1,7 +1,7 @@
 //! What the lines say.
 use std::alloc::Global;
 use std::process::Abort;
-use vrp_command::{Line, Stage, Status};
+use vrp_command::{Line, LongRun, Stage, Status};
 
 const NOTHING: Line = Line {
     stage: Stage::FirstPlan,
@@ -40,6 +40,16 @@ const LINES: &[(Line, &str)] = &[
             ..NOTHING
         },
         "prices, cost 530",
+    ),
+    (
+        Line {
+            stage: Stage::BetterPlans,
+            seconds: Some(30),
+            cost: Some(90_539),
+            bound: Some(88_900),
+            ..NOTHING
+        },
+        "30 s, better plans, cost 90539, lower bound 88900, gap 1.85%",
     ),
     (
         Line {
@@ -140,6 +150,15 @@ fn lines_of_a_run(rt: HostRuntime) {
     for (line, text) in LINES {
         assert_line(&rt, rt.alloc(), *line, text);
     }
+}
+
+// What is said once of a run that takes long.
+#[test]
+fn long_run(rt: HostRuntime) {
+    let told = format!(in rt.alloc(); "{}", LongRun(CHOSEN)).expect(&rt, "memory");
+    let text =
+        "cvrp: 5 s, choice, cost 521, lower bound 520, gap 0.20%, 2212 useful routes, 17 nodes done, 4 open; --seconds N ends a run with the best that it has, --progress tells how it goes";
+    assert!(rt; told.as_str() == text, "{told}");
 }
 
 fn assert_line(rt: &impl Abort, alloc: Global, line: Line, text: &str) {
