@@ -20,7 +20,7 @@ use std::sync::Wait;
 use std::thread::Threads;
 use std::time::Clock;
 use vrp_answer::Finding;
-use vrp_pool::{Gate, NoGate, Solved};
+use vrp_pool::{Gate, NoGate};
 use vrp_request::{Format, Options, Request};
 use vrp_streams::{RunError, Status};
 use vrp_text::MAX_BYTES;
@@ -51,11 +51,11 @@ pub fn run<T: Threads + Wait + Sync, R: Read, W: Write>(
 {
     let problem = read_problem(alloc, options, false, input)?;
     let instance = &problem.instance;
-    let Solved { answer, .. } = cut_and_solve(rt, alloc, instance, None, options, &NoGate)?;
+    let solved = cut_and_solve(rt, alloc, instance, None, options, &NoGate)?;
     print_finding(
         alloc,
         instance,
-        &Finding::of_answer(&answer),
+        &Finding::of_answer(&solved.answer),
         Form::Report,
         output,
     )

@@ -6,18 +6,18 @@ use Rattle.vrp_command.proofs.command.run.Goals as goal
 
 pub print_finding-requires : goal.print_finding-requires
 print_finding-requires g c =
-    told_lawful c.in_ok-problem.problem.instance c.args.options.pieces c.args.options.budget false c.in_ok-answer.answer (told_by c.of_answer.result) c.of_answer.ensures c.in_ok-answer.ensures.answer
+    told_lawful c.in_ok-problem.problem.instance c.args.options.pieces c.args.options.budget false c.in_ok-solved.solved.answer (told_by c.of_answer.result) c.of_answer.ensures c.in_ok-solved.ensures.answer
 
 pub returns-clause-printed : goal.returns-clause-printed
 returns-clause-printed g c =
     let left = g.R.Read.remaining in
     let held = g.W.Write.contents in
-    prints_answer c.args.options false (left c.args.input.now) (left c.read_problem.new.input) (held c.args.output.now) (held c.print_finding.new.output) c.in_ok-problem.problem.instance c.in_ok-answer.answer (told_by c.of_answer.result)
-    c.of_answer.ensures c.in_ok-answer.ensures.answer c.in_ok-problem.ensures.read c.print_finding.result c.print_finding.ensures.printed c.print_finding.ensures.status
+    prints_answer c.args.options false (left c.args.input.now) (left c.read_problem.new.input) (held c.args.output.now) (held c.print_finding.new.output) c.in_ok-problem.problem.instance c.in_ok-solved.solved.answer (told_by c.of_answer.result)
+    c.of_answer.ensures c.in_ok-solved.ensures.answer c.in_ok-problem.ensures.read c.print_finding.result c.print_finding.ensures.printed c.print_finding.ensures.status
 
 pub returns-clause-begun : goal.returns-clause-begun
 returns-clause-begun g c =
     let left = g.R.Read.remaining in
     let held = g.W.Write.contents in
-    prints_part c.args.options false (left c.args.input.now) (left c.read_problem.new.input) (held c.args.output.now) (held c.print_finding.new.output) c.in_ok-problem.problem.instance c.in_ok-answer.answer (told_by c.of_answer.result)
-    c.of_answer.ensures c.in_ok-answer.ensures.answer c.in_ok-problem.ensures.read c.print_finding.result c.print_finding.ensures.begun
+    prints_part c.args.options false (left c.args.input.now) (left c.read_problem.new.input) (held c.args.output.now) (held c.print_finding.new.output) c.in_ok-problem.problem.instance c.in_ok-solved.solved.answer (told_by c.of_answer.result)
+    c.of_answer.ensures c.in_ok-solved.ensures.answer c.in_ok-problem.ensures.read c.print_finding.result c.print_finding.ensures.begun
