@@ -31,8 +31,8 @@ const BETTER_PLANS: u64 = 5;
 const SEARCH: u64 = 6;
 
 /// A gate that tells of a run on standard error, if that is asked for, and passes on to another gate all that it is told: a line when
-/// something is new, and one about every second. Where it isn't asked for, there is one line after ten seconds. Where a line can't be
-/// written the run goes on. What the lines say no clause says.
+/// something is new, and one about every second. Where it isn't asked for, and no time is set, there is one line after ten seconds. Where
+/// a line can't be written the run goes on. What the lines say no clause says.
 #[derive(Drop)]
 pub(crate) struct Progress<'a, T, G: Gate> {
     rt: &'a T,
@@ -161,9 +161,9 @@ impl<'a, T: Clock + Eprint, G: Gate> Progress<'a, T, G> {
         }
     }
 
-    // Says once that the run takes long, and what ends it.
+    // Says once that the run takes long, and what ends it; who set a time knows.
     fn say_once(&self) {
-        if self.said.load(Ordering::Relaxed) != 0 {
+        if self.said.load(Ordering::Relaxed) != 0 || self.gate.milliseconds_left().is_some() {
             return;
         }
         let Some(seconds) = self.seconds() else {
