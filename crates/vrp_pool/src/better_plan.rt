@@ -3,10 +3,11 @@ ghost use Rattle.std.specs.Prelude.{◌≤◌, IfOk, IfSome};
 ghost use Rattle.vrp_model.specs.Route.{IsPlanOf};
 
 use crate::preparation::LEAST_PREPARED_BUDGET;
+use crate::timed_gate::TimedGate;
 use std::thread::Threads;
 use vrp_answer::{Gate, News, Shared};
-use vrp_first::{Crew, Watch, improved_plan};
-use vrp_model::{NO_COST, NoMemory, Plan};
+use vrp_first::{Crew, improved_plan};
+use vrp_model::{NoMemory, Plan};
 
 // The part of the time that is left for the pieces.
 const PART_FOR_PIECES: u64 = 4;
@@ -45,33 +46,4 @@ pub(crate) fn better_plan<R: Threads + Sync, G: Gate + Sync>(
     let better = improved_plan(&crew, known)?;
     shared.gate.hears(News::Plan(better.cost()));
     Ok(Some(better))
-}
-
-/// A gate as runs of ruin and recreate ask it: how long they have, and what they tell. So many milliseconds are kept for what comes
-/// after.
-#[derive(Drop)]
-pub(crate) struct TimedGate<'a, G: Gate> {
-    pub(crate) gate: &'a G,
-    pub(crate) kept: u64,
-}
-
-impl<G: Gate> Watch for TimedGate<'_, G> {
-    fn should_continue(&self) -> bool {
-        self.gate.goes_on()
-            && match self.gate.milliseconds_left() {
-                Some(left) => left > self.kept,
-                None => true,
-            }
-    }
-
-    fn on_cost(&self, cost: u64) {
-        if cost < NO_COST {
-            self.gate.hears(News::Cheaper(cost));
-        }
-    }
-
-    fn milliseconds_left(&self) -> Option<u64> {
-        let left = self.gate.milliseconds_left()?;
-        Some(left.saturating_sub(self.kept))
-    }
 }

@@ -10,11 +10,13 @@ ghost use Rattle.vrp_model.specs.Route.{IsPlanOf};
 ghost use Rattle.vrp_model.specs.declared.limits.TheConstants.{NO_COST};
 ghost use Rattle.vrp_answer.specs.Answer.{AnswersAll, known_plan};
 
+use crate::timed_gate::TimedGate;
 use std::alloc::Global;
 use std::thread::Threads;
 use vrp_answer::{Answer, Gate, News, Shared};
 use vrp_bound::MemoryTables;
 use vrp_canonical::{PlanSearch, canonical_plan, fleet};
+use vrp_first::Watch;
 use vrp_memory::{MOST_NEAR, Memory};
 use vrp_model::{Instance, NoMemory, Plan, first_is_cheapest, plans_cost_less};
 use vrp_partition::{Ask, Fleet, MOST_CUSTOMERS, Tally, Team};
@@ -161,7 +163,10 @@ fn listed<R: Threads + Sync, G: Gate + Sync>(
     let gate = shared.gate;
     gate.hears(News::Routes);
     let tables = MemoryTables::new(shared.alloc, relaxation.relaxed(), memory)?;
-    let half = gate.milliseconds_left().map(|left| left / 2);
+    let timed = TimedGate {
+        gate,
+        kept: gate.milliseconds_left().unwrap_or(0) / 2,
+    };
     list_routes(
         shared.rt,
         shared.alloc,
@@ -172,17 +177,9 @@ fn listed<R: Threads + Sync, G: Gate + Sync>(
         most_labels,
         &|labels| {
             gate.hears(News::Labels(labels));
-            gate.goes_on() && has_left(gate, half)
+            timed.should_continue()
         },
     )
-}
-
-// Whether a gate has more milliseconds left than these, if it has a time.
-fn has_left<G: Gate>(gate: &G, milliseconds: Option<u64>) -> bool {
-    match (gate.milliseconds_left(), milliseconds) {
-        (Some(left), Some(least)) => left > least,
-        _ => true,
-    }
 }
 
 // The first of the cheapest choices of a pool, which was listed with the cost of the plan that is known.

@@ -8,6 +8,7 @@ mod preparation;
 mod seat_board;
 mod solver;
 mod team;
+mod timed_gate;
 mod worker;
 
 pub use seat_board::SeatBoard;

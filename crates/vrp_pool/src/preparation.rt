@@ -4,10 +4,10 @@ ghost use Rattle.vrp_model.specs.Problem.{place_count};
 ghost use Rattle.vrp_model.specs.Route.{IsPlanOf};
 ghost use Rattle.vrp_pool.specs.declared.preparation.TheConstants.{LEAST_PREPARED_BUDGET};
 
-use crate::better_plan::TimedGate;
+use crate::timed_gate::TimedGate;
 use vrp_answer::{Gate, News, Shared};
 use vrp_ascent::{FoundPrices, MOST_SEARCHED, find_prices};
-use vrp_first::ENOUGH_MOVES;
+use vrp_first::{ENOUGH_MOVES, Watch};
 use vrp_model::{NoMemory, Plan};
 
 /// The least budget of a piece with which anything is made before. With a lesser one a run is a look at the tree.
@@ -100,24 +100,18 @@ fn prices_in_time<'a, R, G: Gate>(
     ensures memory { IfOk result (λ found. IfSome found (λ prices. prices.memory.places ≡ place_count shared.now.problem)) }
 {
     let part = left / PARTS_OF_TIME;
-    let then_left = left.saturating_sub(part);
-    let gate = shared.gate;
+    let timed = TimedGate {
+        gate: shared.gate,
+        kept: left.saturating_sub(part),
+    };
     find_prices(
         shared.alloc,
         shared.instance,
         cost,
         MORE_REMEMBERED,
         part.saturating_mul(STEPS_A_MILLISECOND),
-        &|| gate.goes_on() && has_more_left(gate, then_left),
+        &|| timed.should_continue(),
     )
-}
-
-// Whether a gate has more milliseconds left than this.
-fn has_more_left<G: Gate>(gate: &G, milliseconds: u64) -> bool {
-    match gate.milliseconds_left() {
-        Some(left) => left > milliseconds,
-        None => true,
-    }
 }
 
 // Those that are found in as many steps as the budget allows: a step takes a tenth of the time that a partial plan does, so there are as
