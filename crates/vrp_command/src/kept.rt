@@ -138,8 +138,11 @@ fn end_answered<E: Write>(
 {
     let Ok(instance) = problem_of(alloc, request, kept) else {
         // It was read before, so this is for want of memory.
-        let _ = errors.write_all(b"cvrp: out of memory\n");
-        return 4;
+        return end(
+            alloc,
+            &Err(RequestError::Run(RunError::OutOfMemory)),
+            errors,
+        );
     };
     if request.explain {
         tell_answer(request, kept, &instance, verdict, errors);

@@ -189,6 +189,21 @@ impl<'a, T: Clock + Eprint, G: Gate> Progress<'a, T, G> {
         }
     }
 
+    // A plan that costs so much is known: a line tells of it, if it is the cheapest of which one does.
+    fn note_plan(&self, cost: u64) {
+        self.cost.fetch_min(cost, Ordering::Relaxed);
+        if cost < self.told.fetch_min(cost, Ordering::Relaxed) {
+            self.tell(self.stage());
+        }
+    }
+
+    // So many nodes of the choice are done and open.
+    fn note_nodes(&self, done: u64, open: u64) {
+        self.nodes_done.store(done, Ordering::Relaxed);
+        self.nodes_open.store(open, Ordering::Relaxed);
+        self.tell_when_due();
+    }
+
     // The run has come to a stage.
     fn comes_to(&self, stage: u64) {
         self.stage.store(stage, Ordering::Relaxed);
@@ -218,11 +233,7 @@ impl<'a, T: Clock + Eprint, G: Gate> Gate for Progress<'a, T, G> {
                 self.labels.fetch_max(labels, Ordering::Relaxed);
                 self.tell_when_due();
             }
-            News::Nodes { done, open } => {
-                self.nodes_done.store(done, Ordering::Relaxed);
-                self.nodes_open.store(open, Ordering::Relaxed);
-                self.tell_when_due();
-            }
+            News::Nodes { done, open } => self.note_nodes(done, open),
             News::Pieces(pieces) => {
                 self.pieces.store(u64::from(pieces), Ordering::Relaxed);
                 self.comes_to(SEARCH);
@@ -230,12 +241,7 @@ impl<'a, T: Clock + Eprint, G: Gate> Gate for Progress<'a, T, G> {
             News::Bound(bound) => {
                 self.bound.fetch_max(bound, Ordering::Relaxed);
             }
-            News::Plan(cost) => {
-                self.cost.fetch_min(cost, Ordering::Relaxed);
-                if cost < self.told.fetch_min(cost, Ordering::Relaxed) {
-                    self.tell(self.stage());
-                }
-            }
+            News::Plan(cost) => self.note_plan(cost),
             News::Cheaper(cost) => {
                 self.cost.fetch_min(cost, Ordering::Relaxed);
                 self.tell_when_due();
