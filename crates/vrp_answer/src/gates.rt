@@ -28,8 +28,10 @@ pub enum News {
     Plan(u64),
     /// A run that looks for better plans came by routes that cost so much: a plan of them follows when it ends.
     Cheaper(u64),
-    /// One more piece is done with.
+    /// One more piece is searched to its end.
     Done,
+    /// One more piece is left open: its budget is spent, or the gate stopped it.
+    LeftOpen,
 }
 
 /// Is told by each worker before it searches a piece, hears what is new, and is asked now and then whether to go on. Of a gate is

@@ -62,8 +62,10 @@ pub struct Line {
     pub nodes_done: u64,
     /// How many nodes of the choice are open.
     pub nodes_open: u64,
-    /// How many pieces are done with.
+    /// How many pieces are searched to their end.
     pub done: u64,
+    /// How many pieces are left open: more of them would have to be searched.
+    pub left_open: u64,
     /// How many pieces there are; 0 where the tree has not been cut.
     pub pieces: u64,
     /// How many partial plans were looked at.
@@ -146,15 +148,15 @@ impl Line {
         )
     }
 
-    // How many pieces are done with, where there are any, and how much was looked at.
+    // How many pieces are done and left open, where there are any, and how much was looked at.
     fn write_pieces<W: fmt::Write>(&self, f: &mut fmt::Formatter<W>) -> fmt::Result {
         if self.pieces == 0 {
             return Ok(());
         }
         write!(
             f,
-            ", {} of {} pieces, {} partial plans",
-            self.done, self.pieces, self.looked
+            ", {} of {} pieces done, {} left open, {} partial plans",
+            self.done, self.pieces, self.left_open, self.looked
         )
     }
 }

@@ -51,6 +51,7 @@ pub(crate) struct Progress<'a, T, G: Gate> {
     nodes_open: AtomicU64,
     pieces: AtomicU64,
     done: AtomicU64,
+    left_open: AtomicU64,
     looked: AtomicU64,
     // The second in which the next line is due.
     due: AtomicU64,
@@ -78,6 +79,7 @@ impl<'a, T: Clock + Eprint, G: Gate> Progress<'a, T, G> {
             nodes_open: AtomicU64::new(0),
             pieces: AtomicU64::new(0),
             done: AtomicU64::new(0),
+            left_open: AtomicU64::new(0),
             looked: AtomicU64::new(0),
             due: AtomicU64::new(1),
             said: AtomicU64::new(0),
@@ -131,6 +133,7 @@ impl<'a, T: Clock + Eprint, G: Gate> Progress<'a, T, G> {
             nodes_done: self.nodes_done.load(Ordering::Relaxed),
             nodes_open: self.nodes_open.load(Ordering::Relaxed),
             done: self.done.load(Ordering::Relaxed),
+            left_open: self.left_open.load(Ordering::Relaxed),
             pieces: self.pieces.load(Ordering::Relaxed),
             looked: self.looked.load(Ordering::Relaxed),
         }
@@ -204,6 +207,12 @@ impl<'a, T: Clock + Eprint, G: Gate> Progress<'a, T, G> {
         self.tell_when_due();
     }
 
+    // One more piece has ended in this way.
+    fn note_piece(&self, ended: &AtomicU64) {
+        ended.fetch_add(1, Ordering::Relaxed);
+        self.tell_when_due();
+    }
+
     // The run has come to a stage.
     fn comes_to(&self, stage: u64) {
         self.stage.store(stage, Ordering::Relaxed);
@@ -250,10 +259,8 @@ impl<'a, T: Clock + Eprint, G: Gate> Gate for Progress<'a, T, G> {
                 self.looked.fetch_add(more, Ordering::Relaxed);
                 self.tell_when_due();
             }
-            News::Done => {
-                self.done.fetch_add(1, Ordering::Relaxed);
-                self.tell_when_due();
-            }
+            News::Done => self.note_piece(&self.done),
+            News::LeftOpen => self.note_piece(&self.left_open),
         }
     }
 

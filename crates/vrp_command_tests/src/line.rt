@@ -13,6 +13,7 @@ const NOTHING: Line = Line {
     nodes_done: 0,
     nodes_open: 0,
     done: 0,
+    left_open: 0,
     pieces: 0,
     looked: 0,
 };
@@ -110,7 +111,7 @@ const LINES: &[(Line, &str)] = &[
             pieces: 64,
             ..CHOSEN
         },
-        "5 s, search, cost 521, lower bound 520, gap 0.20%, 2212 useful routes, 0 of 64 pieces, 0 partial plans",
+        "5 s, search, cost 521, lower bound 520, gap 0.20%, 2212 useful routes, 0 of 64 pieces done, 0 left open, 0 partial plans",
     ),
     (
         Line {
@@ -127,11 +128,12 @@ const LINES: &[(Line, &str)] = &[
             cost: Some(521),
             bound: Some(518),
             done: 3,
+            left_open: 2,
             pieces: 64,
             looked: 1_234_567,
             ..NOTHING
         },
-        "12 s, search, cost 521, lower bound 518, gap 0.58%, 3 of 64 pieces, 1234567 partial plans",
+        "12 s, search, cost 521, lower bound 518, gap 0.58%, 3 of 64 pieces done, 2 left open, 1234567 partial plans",
     ),
     (
         Line {

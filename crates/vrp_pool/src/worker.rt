@@ -221,7 +221,7 @@ fn searched<R: Wait, L: Ledger, G: Gate>(
     ensures kept { IfOk result (IsOutcome shared.now (floor_of board.new) piece) }
 {
     let ended = end_of_search(shared, &piece, board)?;
-    tell_done(shared.gate, &ended);
+    tell_ended(shared.gate, &ended);
     match ended {
         Ended::Finished { first, .. } => Ok(Outcome::Finished(Finished {
             number: piece.number(),
@@ -254,15 +254,16 @@ fn end_of_search<R: Wait, L: Ledger, G: Gate>(
     }
 }
 
-// Tells the gate that a piece is done with, and of the partial plans of it that the board has not told.
-fn tell_done<G: Gate>(gate: &G, ended: &Ended) {
-    let spent = match ended {
-        Ended::Finished { spent, .. } | Ended::Unfinished { spent, .. } => *spent,
+// Tells the gate how the search of a piece ended, and of the partial plans of it that the board has not told.
+fn tell_ended<G: Gate>(gate: &G, ended: &Ended) {
+    let (spent, news) = match ended {
+        Ended::Finished { spent, .. } => (*spent, News::Done),
+        Ended::Unfinished { spent, .. } => (*spent, News::LeftOpen),
     };
     let untold = match spent % LOOKS_BEFORE_ASKING {
         0 => spent.min(LOOKS_BEFORE_ASKING),
         rest => rest,
     };
     gate.hears(News::Looked(untold));
-    gate.hears(News::Done);
+    gate.hears(news);
 }

@@ -56,7 +56,7 @@ impl Gate for GoesOnLater {
             News::Choice(routes) => {
                 self.routes.fetch_max(routes, Ordering::SeqCst);
             }
-            News::Done => {
+            News::Done | News::LeftOpen => {
                 self.done.fetch_add(1, Ordering::SeqCst);
             }
             News::Plan(cost) => {

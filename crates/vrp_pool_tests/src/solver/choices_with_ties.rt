@@ -38,7 +38,7 @@ impl Gate for Listener {
             News::Choice(routes) => {
                 self.routes.fetch_max(routes, Ordering::SeqCst);
             }
-            News::Done => {
+            News::Done | News::LeftOpen => {
                 self.done.fetch_add(1, Ordering::SeqCst);
             }
             _ => {}

@@ -49,7 +49,7 @@ impl Gate for GoesOn {
             News::Looked(more) => {
                 self.looked.fetch_add(more, Ordering::SeqCst);
             }
-            News::Done => {
+            News::Done | News::LeftOpen => {
                 self.done.fetch_add(1, Ordering::SeqCst);
             }
             News::Plan(cost) => {
