@@ -9,6 +9,7 @@ use std::fmt::Display;
 use std::io::Write;
 use vrp_hints::{depot_hint, file_hint, no_plan_hint, start_hint};
 use vrp_model::Instance;
+use vrp_pool::LEAST_PREPARED_BUDGET;
 use vrp_request::Request;
 use vrp_streams::{RunError, Status};
 
@@ -60,12 +61,27 @@ pub(crate) fn tell_answer<E: Write>(
     status: Status,
     errors: &mut E,
 ) {
-    if status == Status::NoPlan {
-        tell_hint(no_plan_hint(instance), errors);
+    match status {
+        Status::NoPlan => tell_hint(no_plan_hint(instance), errors),
+        Status::Open => tell_open(request, errors),
+        _ => {}
     }
     if request.options.depot.is_none() {
         tell_hint(depot_hint(&kept.input, depot_of(instance)), errors);
     }
+}
+
+// Tells what would go on with a search that was left open, unless it had a time.
+fn tell_open<E: Write>(request: &Request<'_>, errors: &mut E) {
+    if request.seconds.is_some() {
+        return;
+    }
+    let hint = if request.options.budget < LEAST_PREPARED_BUDGET {
+        "a budget below 1000 leaves out the first plan, prices and useful routes: without --budget they are there"
+    } else {
+        "the budget is spent: --seconds S goes on for as long, and --workers W shares the work"
+    };
+    let _ = writeln!(errors, "cvrp: hint: {hint}");
 }
 
 // The node of the depot.

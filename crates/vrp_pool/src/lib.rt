@@ -11,6 +11,7 @@ mod team;
 mod timed_gate;
 mod worker;
 
+pub use preparation::LEAST_PREPARED_BUDGET;
 pub use seat_board::SeatBoard;
 pub use solver::{MAX_WORKERS, solve, solve_from};
 pub use vrp_answer::{

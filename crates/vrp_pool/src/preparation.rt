@@ -11,7 +11,7 @@ use vrp_first::{ENOUGH_MOVES, Watch};
 use vrp_model::{NoMemory, Plan};
 
 /// The least budget of a piece with which anything is made before. With a lesser one a run is a look at the tree.
-pub(crate) const LEAST_PREPARED_BUDGET: u64 = 1_000;
+pub const LEAST_PREPARED_BUDGET: u64 = 1_000;
 
 // With fewer partial plans in all, ruin and recreate would take longer than the search: savings alone make the first plan.
 const LEAST_FOR_MOVES: u64 = 100_000;
