@@ -34,8 +34,8 @@ pub enum News {
     LeftOpen,
 }
 
-/// Is told by each worker before it searches a piece, hears what is new, and is asked now and then whether to go on. Of a gate is
-/// known whether it may stop a search.
+/// Is told by each worker before it searches a piece, hears what is new, and is asked now and then whether to go on. A gate's
+/// type says whether it may stop a search.
 pub trait Gate {
     ghost may_stop: { Self → Bool } = { λ _. false };
 
