@@ -1,8 +1,10 @@
 -- What is known of a search after each step: nodes are taken, looked at, and absorbed.
 use Rattle.std.proofs.Common.{◌≡◌, ◌==◌, true, ℕ, ◌<◌, ◌≤◌, inl, inr, List, [], ◌∷◌, ◌++◌, length, get_or, refl, sym, ◌∙◌, ap, subst, append-nil, arith}
 use Rattle.std.specs.List.{All, Contains}
+use Rattle.std.specs.List.Sorted.{IsPermutation}
 use Rattle.std.proofs.lemmas.Bool.Decides.{nat_tests}
 use Rattle.std.proofs.lemmas.List.Elements.{All-append, All-cons, All-contains, All-contains_itself, All-filter, All-head, All-nil, All-tail, All-weaker}
+use Rattle.std.proofs.lemmas.List.Sorted.{All-permutation, IsPermutation-sym}
 use Rattle.vrp_partition.specs.Branching.{AreBranches, AreLeftBranches, AreLookedAt, AreOpened, IsBest, IsSearched, IsUnlooked, NodeState, SearchState, TakesChoice}
 use Rattle.vrp_partition.specs.Choice.{IsCheapest, IsChoice, NoneBelow, cost_of, is_apart, is_together, set_of}
 use Rattle.vrp_partition.specs.Outcome.{IsLeft}
@@ -115,6 +117,21 @@ all_but_last P xs rest x are all =
 
 all_same : (P : NodeState → Type 0) (old new : List NodeState) → length new ≡ length old → ((i : ℕ) (d : NodeState) → i < length old → P (get_or old i d) → P (get_or new i d)) → All P old → All P new
 all_same P old new many each all = λ i d lt. each i d (omega (arith, lt, many)) (all i d (omega (arith, lt, many)))
+
+-- the nodes in another order
+pub moved_search : (pool : List Route) (customers trucks incumbent : ℕ) (search : SearchState) (rest old new : List NodeState) → IsPermutation old new → IsSearched pool customers trucks incumbent search (rest ++ old) → IsSearched pool customers trucks incumbent search (rest ++ new)
+moved_search pool customers trucks incumbent search rest old new moved is =
+    let Parts : NodeState → Type 0 = λ n. All (Contains pool) n.pool in
+    let Bound : NodeState → Type 0 = λ n. NoneBelow n.pool customers trucks n.lower_bound in
+    record {
+      most = is.most;
+      attained = is.attained;
+      least = λ limit most all.
+          let None : NodeState → Type 0 = λ n. NoneBelow n.pool customers trucks limit in
+          is.least limit most (All-append None rest old (all_left None rest new all) (All-permutation None new old (IsPermutation-sym old new moved) (all_right None rest new all)));
+      parts = All-append Parts rest new (all_left Parts rest old is.parts) (All-permutation Parts old new moved (all_right Parts rest old is.parts));
+      bounds = All-append Bound rest new (all_left Bound rest old is.bounds) (All-permutation Bound old new moved (all_right Bound rest old is.bounds));
+    }
 
 -- the nodes are looked at
 pub looked_search : (pool : List Route) (customers trucks incumbent : ℕ) (search : SearchState) (rest old new : List NodeState) (task : Task) → AreLookedAt task old new → IsSearched pool customers trucks incumbent search (rest ++ old) → IsSearched pool customers trucks incumbent search (rest ++ new)

@@ -1,6 +1,7 @@
 //! Branch and bound: the cheapest choice of a pool, by several workers.
 ghost use Rattle.std.specs.Prelude.{◌≡◌, ◌≤◌, ◌<◌, ◌^◌, ◌++◌, ◌∷◌, [], ℕ, List, IfOk, OnOk, length};
 ghost use Rattle.std.specs.List.{All};
+ghost use Rattle.std.specs.List.Sorted.{IsPermutation};
 ghost use Rattle.vrp_partition.specs.Branching.{AreLookedAt, CanLook, AreOpened, IsBest, IsEnd, IsFound, IsLookedAt, IsSearched, IfUnfinished, IsTaken, NodeState, TakesChoice};
 ghost use Rattle.vrp_partition.specs.Choice.{NoneBelow};
 ghost use Rattle.vrp_partition.specs.Prices.{AllFit};
@@ -140,7 +141,7 @@ impl<P: Guide + Send> Search<P> {
         Ok(work)
     }
 
-    // Takes the last open nodes.
+    // Takes the last open nodes, in an order in which equal shares of them have about as much work.
     fn take_nodes(&mut self, alloc: Global) -> Result<Vec<Node<P>>, AllocError>
         ensures cost { OnOk result (self.new.cost ≡ self.old.cost) }
         ensures nodes { IfOk result (λ nodes. (pool : List Route) (customers trucks incumbent : ℕ)
@@ -151,6 +152,7 @@ impl<P: Guide + Send> Search<P> {
         for _ in 0..NODES_AT_ONCE {
             self.take_node(&mut nodes)?;
         }
+        spread_out(alloc, &mut nodes)?;
         Ok(nodes)
     }
 
@@ -266,6 +268,25 @@ impl<P: Guide + Send> Search<P> {
             lower_bound: self.lower_bound(),
         }
     }
+}
+
+// Puts the nodes in an order in which equal shares of them have about as many routes.
+fn spread_out<P: Guide>(alloc: Global, nodes: &mut Vec<Node<P>>) -> Result<(), AllocError>
+    ensures { IsPermutation nodes.old.items nodes.new.items }
+{
+    let mut counts = Vec::with_capacity(alloc, nodes.len())?;
+    for index in 0..nodes.len() {
+        counts.push(nodes[index].pool.len())?;
+    }
+    nodes.sort_by_key(|node| turn_of(node.pool.len(), counts.as_slice()))?;
+    Ok(())
+}
+
+// The turn of a count among others: the greatest has rank 0, and turns go by ranks as Gray codes, whose last bit counts most. So each
+// half of the turns, and each quarter, has every other pair of ranks.
+fn turn_of(count: usize, counts: &[usize]) -> usize {
+    let rank = counts.iter().filter(|other| **other > count).count();
+    (rank ^ rank >> 1).reverse_bits()
 }
 
 // The nodes once they are looked at, side by side.

@@ -1,5 +1,6 @@
 use Rattle.std.proofs.Common.{◌++◌, List, refl, sym, ◌∙◌, subst, append-nil}
 use Rattle.vrp_partition.specs.Branching.{IsSearched, NodeState}
+use Rattle.vrp_partition.proofs.SearchStates.{moved_search}
 use Rattle.vrp_partition.proofs.search.Search.take_nodes.Goals as goal
 
 pub loop-init : goal.loop-init
@@ -14,3 +15,7 @@ loop-preserved g c = record {
   cost = c.in_ok-take_node.ensures.cost ∙ c.loop.invariant.cost;
   searched = λ pool customers trucks incumbent is. c.in_ok-take_node.ensures.searched pool customers trucks incumbent (c.loop.invariant.searched pool customers trucks incumbent is);
 }
+
+pub returns-clause-nodes : goal.returns-clause-nodes
+returns-clause-nodes g c = λ pool customers trucks incumbent is.
+    moved_search pool customers trucks incumbent c.loop.self c.loop.self.open_nodes c.loop.nodes.items c.spread_out.new.nodes.items c.spread_out.ensures (c.loop.invariant.searched pool customers trucks incumbent is)
