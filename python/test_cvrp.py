@@ -1,6 +1,6 @@
 #!/usr/bin/env python3
-"""Tests the module `cvrp` with a fake program and, where it is built, with the real one; and that the man page and the completions
-name the options that there are.
+"""Tests the module `cvrp` with a fake program and, where it is built, with the real one; and that the man page, the completions
+and docs/FORMAT.md name the options that there are.
 
     python3 python/test_cvrp.py
 """
@@ -192,7 +192,7 @@ class WithTheProgram(unittest.TestCase):
 
 
 class Options(unittest.TestCase):
-    """The man page and the completions beside the command line that the program defines."""
+    """The man page, the completions and docs/FORMAT.md beside the command line that the program defines."""
 
     @classmethod
     def setUpClass(cls):
@@ -203,6 +203,8 @@ class Options(unittest.TestCase):
         cls.man = (TOP / "man/cvrp.1").read_text().replace("\\-", "-")
         cls.bash = (TOP / "completions/cvrp.bash").read_text()
         cls.zsh = (TOP / "completions/_cvrp").read_text()
+        document = (TOP / "docs/FORMAT.md").read_text()
+        cls.format = document[document.index("## The command line") : document.index("How unusual words are taken")]
 
     def paragraph(self, name):
         """The man page's text on an option."""
@@ -225,6 +227,22 @@ class Options(unittest.TestCase):
         self.assertEqual({word[2:] for word in offered.split()}, self.all)
         heads = re.findall(r"^    '(?:\(- \*\)'\{-[a-zA-Z],)?--([a-z]+)", self.zsh, re.MULTILINE)
         self.assertEqual(set(heads), self.all)
+
+    def test_format_names(self):
+        usage, _, table = self.format.partition("| Option |")
+        rows = re.findall(r"^\| `--([a-z-]+)`", table, re.MULTILINE)
+        self.assertEqual(sorted(rows), sorted(self.all))
+        self.assertEqual(set(re.findall(r"--([a-z-]+)", usage)), self.all - {"version"})
+
+    def test_format_ranges(self):
+        ranges = dict(re.findall(r"^\| `--([a-z-]+)` \| 1 to ([\d,]+) ", self.format, re.MULTILINE))
+        helped = {}
+        for name in self.names:
+            help_text = re.search(rf'const {name.upper()}: &str =\s*"(.*?)";', self.source, re.DOTALL)[1].replace("\\n", " ")
+            found = re.search(r"From 1 to (\d+)", help_text)
+            if found:
+                helped[name] = found[1]
+        self.assertEqual({name: most.replace(",", "") for name, most in ranges.items()}, helped)
 
     def test_paragraphs(self):
         for name in self.all:
