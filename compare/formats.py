@@ -81,7 +81,19 @@ def route_of(problem, route):
     return {**numbers, "load": load(problem, route), "cost": plan_cost(problem, [route])}
 
 
-def json_fault(problem, parts, status, found):
+def name_of(data):
+    """What a file calls itself, or None."""
+    for line in before_the_end(data):
+        keyword, rest = keyword_line(line) or (None, None)
+        if keyword == b"NAME":
+            try:
+                return rest.rstrip(b" \t\r").decode() or None
+            except UnicodeDecodeError:
+                return None
+    return None
+
+
+def json_fault(problem, data, parts, status, found):
     """What is wrong with what is printed as JSON, or None."""
     routes, cost, verdict = parts
     bound = int(verdict[1]) if verdict[0] == "Open" else cost if verdict[0] == "Proven" else None
@@ -94,8 +106,12 @@ def json_fault(problem, parts, status, found):
         "capacity": problem.capacity,
         "depot": problem.depot,
         "routes": [route_of(problem, route) for route in routes],
+        "name": name_of(data),
+        "stated_cost": None,
     }
     told = json.loads(found[1])
+    if f"cvrp {told.pop('version', None)}\n" != subprocess.run([PROGRAM, "--version"], capture_output=True).stdout.decode():
+        return "the version is another"
     options = told.pop("options", None)
     if options is None or sorted(options) != ["budget", "depot", "pieces", "seconds", "trucks", "workers"]:
         return "the options are not as they should be"
@@ -183,7 +199,7 @@ def faults(data, problem, options):
     """What is wrong in each form, by its name."""
     status, report, _ = run(data, options, "report")
     parts = parts_of(report)
-    yield "json", json_fault(problem, parts, status, run(data, options, "json"))
+    yield "json", json_fault(problem, data, parts, status, run(data, options, "json"))
     yield "sol", solution_fault(problem, data, options, parts, status, run(data, options, "sol"))
     yield "svg", picture_fault(problem, data, parts, status, run(data, options, "svg"))
 

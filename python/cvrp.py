@@ -53,6 +53,9 @@ class Solution:
     percent, rounded up: 0 where it is proven, None where cost or bound is not known. `proven` says that the plan is a cheapest one.
 
     `verdict` is `Proven`; `Open`, where the search ended before it knew; or `NoPlan`, where so few trucks can't serve all customers.
+
+    `name` is what the problem's file calls itself, `stated_cost` the cost that the file of the plan to begin with states, true or not,
+    each None where it says none; and `version` is the program's.
     """
 
     routes: Routes
@@ -62,6 +65,9 @@ class Solution:
     gap: Optional[int]
     proven: bool
     verdict: str
+    name: Optional[str]
+    stated_cost: Optional[int]
+    version: str
 
 
 class Refused(Exception):
@@ -127,6 +133,9 @@ def _solution(answer: Dict[str, Any]) -> Solution:
         gap=answer["gap"],
         proven=answer["verdict"] == "Proven",
         verdict=answer["verdict"],
+        name=answer["name"],
+        stated_cost=answer["stated_cost"],
+        version=answer["version"],
     )
 
 

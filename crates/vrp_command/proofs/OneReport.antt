@@ -11,11 +11,12 @@ use Rattle.vrp_model.specs.Route.{PricedPlan}
 use Rattle.vrp_text.specs.Meaning.{MeansProblem}
 use Rattle.vrp_command.specs.Answer.{IsAnswerTo}
 use Rattle.vrp_command.specs.Found.{IsFoundBy, told_of}
-use Rattle.vrp_command.specs.Program.{AnswersRequest}
+use Rattle.vrp_command.specs.Program.{AnswersRequest, start_cost}
 use Rattle.vrp_command.specs.Run.{AnswersBytes, limited}
 use Rattle.vrp_command.specs.Same.{TellsSame, IsOfFindingAlone}
-use Rattle.vrp_command.specs.Text.{IsTextIn, IsTextOf, settings_of}
-use Rattle.vrp_export.specs.declared.json.Settings.{Settings}
+use Rattle.vrp_command.specs.Text.{IsTextIn, context_of}
+use Rattle.vrp_export.specs.Json.{ContextOf}
+use Rattle.vrp_export.specs.Name.{name_of}
 use Rattle.vrp_request.specs.declared.options.Format.{Format}
 use Rattle.vrp_request.specs.declared.options.Format.TheVariants as format
 use Rattle.vrp_request.specs.declared.options.Options.{Options}
@@ -84,11 +85,11 @@ of_found request may_stop p start finding (inl checked) ends = absurd (let never
 of_found request may_stop p start finding (inr searched) ends =
     subst (IsOfFirst p) (sym searched.told) (of_told p request.options.pieces request.options.budget may_stop request.seconds searched.answer searched.bound searched.answer_is (ap (λ (f : FindingOf). f.status) (sym searched.told) ∙ ends))
 
-same_text : (asked : Format) (settings others : Settings) (p : Problem) (finding : FindingOf) (text other : List ℕ) → IsOfFindingAlone asked → IsTextIn asked settings p finding text → IsTextIn asked others p finding other → text ≡ other
-same_text format.Report settings others p finding text other alone told also = told ∙ sym also
-same_text format.Solution settings others p finding text other alone told also = told ∙ sym also
-same_text format.Json settings others p finding text other alone told also = absurd alone
-same_text format.Picture settings others p finding text other alone told also = absurd alone
+same_text : (asked : Format) (context other_context : ContextOf) (p : Problem) (finding : FindingOf) (text other : List ℕ) → IsOfFindingAlone asked → IsTextIn asked context p finding text → IsTextIn asked other_context p finding other → text ≡ other
+same_text format.Report context other_context p finding text other alone told also = told ∙ sym also
+same_text format.Solution context other_context p finding text other alone told also = told ∙ sym also
+same_text format.Json context other_context p finding text other alone told also = absurd alone
+same_text format.Picture context other_context p finding text other alone told also = absurd alone
 
 pub requests_agree : OneMeaning → OneFirst → (request other : Request) (may_stop other_may : Bool) (bytes : List ℕ) (start other_start : Option (List ℕ)) (finding found : FindingOf) (text printed : List ℕ)
     → request.options.depot ≡ other.options.depot → request.options.trucks ≡ other.options.trucks
@@ -101,10 +102,12 @@ requests_agree meaning one request other may_stop other_may bytes start other_st
     let here = of_found request may_stop p answers.start finding answers.found ends in
     let there = subst (λ (r : Problem). IsOfFirst r found) same (of_found other other_may q answered.start found answered.found also) in
     let tells = one_finding one p finding found here there in
+    let context = context_of request (name_of bytes) (start_cost start) in
+    let others = context_of other (name_of bytes) (start_cost other_start) in
     record {
       same = tells;
       as_text = λ forms alone.
-          (let second = subst (λ (f : Format). IsTextIn f (settings_of other) p finding printed) (sym forms)
-          (subst (λ (g : FindingOf). IsTextOf other p g printed) (sym tells) (subst (λ (r : Problem). IsTextOf other r found printed) same answered.told)) in
-          same_text request.format (settings_of request) (settings_of other) p finding text printed alone answers.told second);
+          (let second = subst (λ (f : Format). IsTextIn f others p finding printed) (sym forms)
+          (subst (λ (g : FindingOf). IsTextIn other.format others p g printed) (sym tells) (subst (λ (r : Problem). IsTextIn other.format others r found printed) same answered.told)) in
+          same_text request.format context others p finding text printed alone answers.told second);
     }

@@ -1,17 +1,19 @@
 -- What is found of a problem and written, said of the request and of the bytes that were read.
-use Rattle.std.proofs.Common.{◌≡◌, ◌∙◌, ◌≤◌, inl, inr, ℕ, Bool, None, Option, Some, List, Result, Ok, Err, IsTrue, OnOk, IfOk, IfErr, subst, sym}
-use Rattle.std.specs.Option.{ForSome}
+use Rattle.std.proofs.Common.{◌≡◌, ◌∙◌, ◌≤◌, inl, inr, ℕ, Bool, None, Option, Some, List, Result, Ok, Err, IsTrue, OnOk, IfOk, IfErr, ap, refl, subst, sym}
+use Rattle.std.specs.Option.{ForSome, option_and_then, option_map}
 use Rattle.vrp_answer.specs.Answer.{known_plan}
 use Rattle.vrp_answer.specs.Finding.{FindingOf, lawful_finding}
 use Rattle.vrp_answer.specs.declared.answers.Answer.{Answer}
 use Rattle.vrp_answer.specs.declared.status.Status.{Status}
 use Rattle.vrp_command.specs.Answer.{IsAnswerTo}
-use Rattle.vrp_command.specs.Form.{IsFormOf, IsTextAs, WritesPart, WritesText}
+use Rattle.vrp_command.specs.Form.{IsFormIn, IsTextAs, WritesPart, WritesText}
 use Rattle.vrp_command.specs.Found.{IsFoundBy, WritesFound, WritesFoundPart, told_of}
+use Rattle.vrp_command.specs.Inner.Named.{ReadsNamed}
+use Rattle.vrp_command.specs.Inner.Starts.{BeginsStated}
 use Rattle.vrp_command.specs.Inner.Written.{OnFault, WritesOn, WritesPartOn}
-use Rattle.vrp_command.specs.Program.{AnswersRequest, BeginsWith, GivesStart, OnRefusal, PrintsPartOfRequest, PrintsRequest}
-use Rattle.vrp_command.specs.Run.{OnRefusedFile, ReadsProblem}
-use Rattle.vrp_command.specs.Text.{IsTextIn, IsTextOf, settings_of}
+use Rattle.vrp_command.specs.Program.{AnswersRequest, BeginsWith, GivesStart, OnRefusal, PrintsPartOfRequest, PrintsRequest, start_cost}
+use Rattle.vrp_command.specs.Run.{OnRefusedFile}
+use Rattle.vrp_command.specs.Text.{IsTextIn, context_of}
 use Rattle.vrp_command.specs.declared.fault.RequestError.{RequestError}
 use Rattle.vrp_command.specs.declared.fault.RequestError.TheVariants as reason
 use Rattle.vrp_command.specs.declared.form.Form.{Form}
@@ -19,39 +21,49 @@ use Rattle.vrp_command.specs.declared.form.Form.TheVariants as form
 use Rattle.vrp_command.specs.declared.start.StartError.{StartError}
 use Rattle.vrp_command.specs.declared.start.StartError.TheVariants as start_fault
 use Rattle.vrp_command.specs.declared.start.StartFile.{StartFile}
-use Rattle.vrp_export.specs.Json.{IsJsonOf}
-use Rattle.vrp_export.specs.declared.json.Settings.{Settings}
+use Rattle.vrp_export.specs.Json.{ContextOf, IsJsonOf}
+use Rattle.vrp_export.specs.Name.{name_of}
 use Rattle.vrp_model.specs.Cheapest.{NoneCheaper, cost_of}
 use Rattle.vrp_model.specs.Problem.{Problem}
 use Rattle.vrp_model.specs.Route.{IsPlanOf, PricedPlan}
 use Rattle.vrp_request.specs.declared.options.Format.{Format}
+use Rattle.vrp_request.specs.declared.options.Format.TheVariants as format
+use Rattle.vrp_request.specs.declared.options.Options.{Options}
 use Rattle.vrp_request.specs.declared.options.Request.{Request}
+use Rattle.vrp_solution.specs.declared.solution.Solution.{Solution}
 use Rattle.vrp_streams.specs.declared.fault.RunError.{RunError}
 use Rattle.vrp_streams.specs.declared.fault.RunError.TheVariants as fault
 use Rattle.vrp_text.specs.declared.error.TextError.{TextError}
 
--- a text in the form that a request asks for is the text that it asks for
-text_asked : (request : Request) (asked : Form) (p : Problem) (finding : FindingOf) (text : List ℕ) → IsFormOf request asked → IsTextAs asked p finding text → IsTextOf request p finding text
-text_asked request form.Report p finding text is told = subst (λ (f : Format). IsTextIn f (settings_of request) p finding text) (sym is) told
-text_asked request form.Solution p finding text is told = subst (λ (f : Format). IsTextIn f (settings_of request) p finding text) (sym is) told
-text_asked request (form.Json settings) p finding text is told =
-    subst (λ (f : Format). IsTextIn f (settings_of request) p finding text) (sym is.0) (subst (λ (s : Settings). IsJsonOf p finding s text) is.1 told)
-text_asked request (form.Picture points) p finding text is told = subst (λ (f : Format). IsTextIn f (settings_of request) p finding text) (sym is) tt
+-- a text in the form that is asked for is the text that is asked for
+text_asked : (asked : Format) (context : ContextOf) (form : Form) (p : Problem) (finding : FindingOf) (text : List ℕ) → IsFormIn asked context form → IsTextAs form p finding text → IsTextIn asked context p finding text
+text_asked asked context form.Report p finding text is told = subst (λ (f : Format). IsTextIn f context p finding text) (sym is) told
+text_asked asked context form.Solution p finding text is told = subst (λ (f : Format). IsTextIn f context p finding text) (sym is) told
+text_asked asked context (form.Json beside) p finding text is told =
+    subst (λ (f : Format). IsTextIn f context p finding text) (sym is.0) (subst (λ (c : ContextOf). IsJsonOf p finding c text) is.1 told)
+text_asked asked context (form.Picture points) p finding text is told = subst (λ (f : Format). IsTextIn f context p finding text) (sym is) tt
+
+-- only JSON tells of the context
+text_within : (asked : Format) (context other : ContextOf) (p : Problem) (finding : FindingOf) (text : List ℕ) → (asked ≡ format.Json → context ≡ other) → IsTextIn asked context p finding text → IsTextIn asked other p finding text
+text_within format.Report context other p finding text same told = told
+text_within format.Solution context other p finding text same told = told
+text_within format.Json context other p finding text same told = subst (λ (c : ContextOf). IsJsonOf p finding c text) (same refl) told
+text_within format.Picture context other p finding text same told = tt
 
 -- what was written in a form tells what was found
-pub writes_found : (request : Request) (may_stop : Bool) (p : Problem) (start : Option PricedPlan) (asked : Form) (told : FindingOf) (written_old written_new : Option (List ℕ)) → IsFormOf request asked → IsFoundBy request may_stop p start told
-    → (result : Result Status RunError) → OnOk result (WritesText asked p told written_old written_new) → IfOk result (λ ended. ended ≡ told.status)
-    → IfOk result (WritesFound request may_stop p start written_old written_new)
-writes_found request may_stop p start asked told written_old written_new is found (Ok ended) written status =
-    record { finding = told; found = found; status = status; text = written.text; told = text_asked request asked p told written.text is written.told; output = written.output }
-writes_found request may_stop p start asked told written_old written_new is found (Err error) written status = tt
+pub writes_found : (request : Request) (context : ContextOf) (may_stop : Bool) (p : Problem) (start : Option PricedPlan) (asked : Form) (told : FindingOf) (written_old written_new : Option (List ℕ)) → IsFormIn request.format context asked
+    → IsFoundBy request may_stop p start told → (result : Result Status RunError) → OnOk result (WritesText asked p told written_old written_new) → IfOk result (λ ended. ended ≡ told.status)
+    → IfOk result (WritesFound request context may_stop p start written_old written_new)
+writes_found request context may_stop p start asked told written_old written_new is found (Ok ended) written status =
+    record { finding = told; found = found; status = status; text = written.text; told = text_asked request.format context asked p told written.text is written.told; output = written.output }
+writes_found request context may_stop p start asked told written_old written_new is found (Err error) written status = tt
 
-pub writes_found_part : (request : Request) (may_stop : Bool) (p : Problem) (start : Option PricedPlan) (asked : Form) (told : FindingOf) (written_old written_new : Option (List ℕ)) → IsFormOf request asked → IsFoundBy request may_stop p start told
-    → (result : Result Status RunError) → IfErr result (λ error. error ≡ fault.Write → WritesPart asked p told written_old written_new)
-    → IfErr result (λ error. error ≡ fault.Write → WritesFoundPart request may_stop p start written_old written_new)
-writes_found_part request may_stop p start asked told written_old written_new is found (Ok ended) written = tt
-writes_found_part request may_stop p start asked told written_old written_new is found (Err error) written =
-    λ failed. (let part = written failed in record { finding = told; found = found; text = part.text; told = text_asked request asked p told part.text is part.told; output = part.output })
+pub writes_found_part : (request : Request) (context : ContextOf) (may_stop : Bool) (p : Problem) (start : Option PricedPlan) (asked : Form) (told : FindingOf) (written_old written_new : Option (List ℕ)) → IsFormIn request.format context asked
+    → IsFoundBy request may_stop p start told → (result : Result Status RunError) → IfErr result (λ error. error ≡ fault.Write → WritesPart asked p told written_old written_new)
+    → IfErr result (λ error. error ≡ fault.Write → WritesFoundPart request context may_stop p start written_old written_new)
+writes_found_part request context may_stop p start asked told written_old written_new is found (Ok ended) written = tt
+writes_found_part request context may_stop p start asked told written_old written_new is found (Err error) written =
+    λ failed. (let part = written failed in record { finding = told; found = found; text = part.text; told = text_asked request.format context asked p told part.text is part.told; output = part.output })
 
 -- the plan to begin with is lawful, and only checked
 pub is_checked : (request : Request) (may_stop : Bool) (p : Problem) (start : Option PricedPlan) (plan : PricedPlan) (told : FindingOf) → IsTrue request.check → start ≡ Some plan → told ≡ lawful_finding plan → IsFoundBy request may_stop p start told
@@ -66,41 +78,87 @@ is_searched request may_stop p start found bound told unchecked answer no_dearer
 
 -- ---- of the bytes that were read
 
-answers : {S : Type 0} (request : Request) (may_stop : Bool) (unread : S → Option (List ℕ)) (file : Option (StartFile S)) (unread_old unread_new : Option (List ℕ)) (p : Problem) (start : Option PricedPlan) (finding : FindingOf) (text : List ℕ)
-    → (read : ReadsProblem request.options unread_old unread_new p) → (begins : BeginsWith p unread file start) → IsFoundBy request may_stop p start finding → IsTextOf request p finding text
-    → AnswersRequest request may_stop read.bytes begins.text finding text
-answers request may_stop unread file unread_old unread_new p start finding text read begins found told =
-    record { meant = read.meant; means = read.means; problem = p; with_trucks = read.with_trucks; start = start; gives = begins.gives; found = found; told = told }
+-- what is told with the name that was kept is told with that of the bytes
+named : (request : Request) (options : Options) (unread_old unread_new : Option (List ℕ)) (p : Problem) (name : Option (List ℕ)) (cost : Option ℕ) (finding : FindingOf) (text : List ℕ) → (read : ReadsNamed options request.format unread_old unread_new p name)
+    → IsTextIn request.format (context_of request name cost) p finding text → IsTextIn request.format (context_of request (name_of read.read.bytes) cost) p finding text
+named request options unread_old unread_new p name cost finding text read told =
+    text_within request.format (context_of request name cost) (context_of request (name_of read.read.bytes) cost) p finding text (λ json. ap (λ (n : Option (List ℕ)). context_of request n cost) (read.named json)) told
 
-pub prints_request : {S : Type 0} (request : Request) (may_stop : Bool) (unread : S → Option (List ℕ)) (file : Option (StartFile S)) (unread_old unread_new written_old written_new : Option (List ℕ)) (p : Problem)
-    → ReadsProblem request.options unread_old unread_new p → (ended : Status) → WritesOn request may_stop p unread file written_old written_new ended
-    → PrintsRequest request may_stop unread file unread_old unread_new written_old written_new ended
-prints_request request may_stop unread file unread_old unread_new written_old written_new p read ended on =
+answers : {S : Type 0} (request : Request) (may_stop : Bool) (unread : S → Option (List ℕ)) (file : Option (StartFile S)) (unread_old unread_new : Option (List ℕ)) (p : Problem) (name : Option (List ℕ)) (start : Option PricedPlan) (finding : FindingOf)
+    (text : List ℕ) → (read : ReadsNamed request.options request.format unread_old unread_new p name) → (begins : BeginsWith p unread file start) → IsFoundBy request may_stop p start finding
+    → IsTextIn request.format (context_of request name (start_cost begins.text)) p finding text → AnswersRequest request may_stop read.read.bytes begins.text finding text
+answers request may_stop unread file unread_old unread_new p name start finding text read begins found told =
     record {
-      bytes = read.bytes;
-      input = read.input;
+      meant = read.read.meant;
+      means = read.read.means;
+      problem = p;
+      with_trucks = read.read.with_trucks;
+      start = start;
+      gives = begins.gives;
+      found = found;
+      told = named request request.options unread_old unread_new p name (start_cost begins.text) finding text read told;
+    }
+
+pub prints_request : {S : Type 0} (request : Request) (may_stop : Bool) (unread : S → Option (List ℕ)) (file : Option (StartFile S)) (unread_old unread_new written_old written_new : Option (List ℕ)) (p : Problem) (name : Option (List ℕ))
+    → ReadsNamed request.options request.format unread_old unread_new p name → (ended : Status) → WritesOn request name may_stop p unread file written_old written_new ended
+    → PrintsRequest request may_stop unread file unread_old unread_new written_old written_new ended
+prints_request request may_stop unread file unread_old unread_new written_old written_new p name read ended on =
+    record {
+      bytes = read.read.bytes;
+      input = read.read.input;
       start_text = on.begins.text;
       start_read = on.begins.read;
       finding = on.written.finding;
       text = on.written.text;
-      answers = answers request may_stop unread file unread_old unread_new p on.start on.written.finding on.written.text read on.begins on.written.found on.written.told;
+      answers = answers request may_stop unread file unread_old unread_new p name on.start on.written.finding on.written.text read on.begins on.written.found on.written.told;
       status = on.written.status;
       output = on.written.output;
     }
 
-pub prints_part_of_request : {S : Type 0} (request : Request) (may_stop : Bool) (unread : S → Option (List ℕ)) (file : Option (StartFile S)) (unread_old unread_new written_old written_new : Option (List ℕ)) (p : Problem)
-    → ReadsProblem request.options unread_old unread_new p → WritesPartOn request may_stop p unread file written_old written_new
+pub prints_part_of_request : {S : Type 0} (request : Request) (may_stop : Bool) (unread : S → Option (List ℕ)) (file : Option (StartFile S)) (unread_old unread_new written_old written_new : Option (List ℕ)) (p : Problem) (name : Option (List ℕ))
+    → ReadsNamed request.options request.format unread_old unread_new p name → WritesPartOn request name may_stop p unread file written_old written_new
     → PrintsPartOfRequest request may_stop unread file unread_old unread_new written_old written_new
-prints_part_of_request request may_stop unread file unread_old unread_new written_old written_new p read on =
+prints_part_of_request request may_stop unread file unread_old unread_new written_old written_new p name read on =
     record {
-      bytes = read.bytes;
-      input = read.input;
+      bytes = read.read.bytes;
+      input = read.read.input;
       start_text = on.begins.text;
       start_read = on.begins.read;
       finding = on.written.finding;
       text = on.written.text;
-      answers = answers request may_stop unread file unread_old unread_new p on.start on.written.finding on.written.text read on.begins on.written.found on.written.told;
+      answers = answers request may_stop unread file unread_old unread_new p name on.start on.written.finding on.written.text read on.begins on.written.found on.written.told;
       output = on.written.output;
+    }
+
+-- ---- of the plan to begin with
+
+-- it begins with the plan that is kept
+begins_so : {S : Type 0} (p : Problem) (unread : S → Option (List ℕ)) (file : Option (StartFile S)) (solution : Option Solution) (start : Option PricedPlan) → (stated : BeginsStated p unread file solution) → start ≡ option_map (λ solution. solution.plan) solution
+    → BeginsWith p unread file start
+begins_so p unread file solution start stated same =
+    record { text = stated.begins.text; read = stated.begins.read; gives = subst (GivesStart p stated.begins.text) (sym same) stated.begins.gives }
+
+-- what was written with the cost that is kept was written with the one that the file states
+pub writes_on : {S : Type 0} (request : Request) (name : Option (List ℕ)) (may_stop : Bool) (p : Problem) (unread : S → Option (List ℕ)) (file : Option (StartFile S)) (written_old written_new : Option (List ℕ)) (solution : Option Solution)
+    (start : Option PricedPlan) (cost : Option ℕ) → BeginsStated p unread file solution → start ≡ option_map (λ solution. solution.plan) solution → cost ≡ option_and_then (λ solution. solution.stated_cost) solution
+    → (ended : Status) → WritesFound request (context_of request name cost) may_stop p start written_old written_new ended → WritesOn request name may_stop p unread file written_old written_new ended
+unfolding begins_so
+writes_on request name may_stop p unread file written_old written_new solution start cost stated same kept ended written =
+    record {
+      start = start;
+      begins = begins_so p unread file solution start stated same;
+      written = subst (λ (c : Option ℕ). WritesFound request (context_of request name c) may_stop p start written_old written_new ended) (kept ∙ stated.stated) written;
+    }
+
+pub writes_part_on : {S : Type 0} (request : Request) (name : Option (List ℕ)) (may_stop : Bool) (p : Problem) (unread : S → Option (List ℕ)) (file : Option (StartFile S)) (written_old written_new : Option (List ℕ)) (solution : Option Solution)
+    (start : Option PricedPlan) (cost : Option ℕ) → BeginsStated p unread file solution → start ≡ option_map (λ solution. solution.plan) solution → cost ≡ option_and_then (λ solution. solution.stated_cost) solution
+    → WritesFoundPart request (context_of request name cost) may_stop p start written_old written_new → WritesPartOn request name may_stop p unread file written_old written_new
+unfolding begins_so
+writes_part_on request name may_stop p unread file written_old written_new solution start cost stated same kept written =
+    record {
+      start = start;
+      begins = begins_so p unread file solution start stated same;
+      written = subst (λ (c : Option ℕ). WritesFoundPart request (context_of request name c) may_stop p start written_old written_new) (kept ∙ stated.stated) written;
     }
 
 -- ---- faults

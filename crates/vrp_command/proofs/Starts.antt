@@ -1,21 +1,36 @@
 -- The plan to begin with, step by step.
-use Rattle.std.proofs.Common.{◌≡◌, ℕ, Option, Some, List, subst, sym}
-use Rattle.vrp_command.specs.Inner.Starts.{GivesFilePlan, IsTooLongOrUnread, refused_for}
-use Rattle.vrp_command.specs.Program.{BeginsWith, IsFile, OnRefusedStart, RefusesFile}
+use Rattle.std.proofs.Common.{◌≡◌, ℕ, Option, None, Some, List, Bor, ap, refl, subst, sym}
+use Rattle.std.specs.Option.{option_and_then, option_copied, option_map}
+use Rattle.vrp_command.specs.Inner.Starts.{BeginsStated, GivesFilePlan, IsTooLongOrUnread, refused_for}
+use Rattle.vrp_command.specs.Program.{IsFile, OnRefusedStart, RefusesFile}
 use Rattle.vrp_command.specs.declared.start.StartError.{StartError}
 use Rattle.vrp_command.specs.declared.start.StartError.TheVariants as start_fault
 use Rattle.vrp_command.specs.declared.start.StartFile.{StartFile}
 use Rattle.vrp_command.specs.declared.start.StartFile.TheVariants.{Opened}
 use Rattle.vrp_model.specs.Problem.{Problem}
-use Rattle.vrp_model.specs.Route.{PricedPlan}
 use Rattle.vrp_solution.specs.Solution.{IsRefusedFor}
+use Rattle.vrp_solution.specs.declared.solution.Solution.{Solution}
 use Rattle.vrp_solution.specs.declared.error.SolutionError.{SolutionError}
 use Rattle.vrp_solution.specs.declared.error.SolutionError.TheVariants as solution
 
--- a file that was opened and read gives the plan
-pub begins_with : {S : Type 0} (p : Problem) (unread : S → Option (List ℕ)) (start : Option (StartFile S)) (file : S) (plan : PricedPlan) → start ≡ Some (Opened file) → GivesFilePlan p (unread file) plan → BeginsWith p unread start (Some plan)
-begins_with {S} p unread start file plan is gives =
-    subst (λ (begin : Option (StartFile S)). BeginsWith p unread begin (Some plan)) (sym is) (record { text = Some gives.text; read = gives.file; gives = gives.gives })
+-- a file that was opened and read gives the plan, and states its cost
+pub begins_stated : {S : Type 0} (p : Problem) (unread : S → Option (List ℕ)) (start : Option (StartFile S)) (file : S) (solution : Solution) → start ≡ Some (Opened file) → GivesFilePlan p (unread file) solution → BeginsStated p unread start (Some solution)
+begins_stated {S} p unread start file solution is gives =
+    subst (λ (begin : Option (StartFile S)). BeginsStated p unread begin (Some solution)) (sym is) (record { begins = record { text = Some gives.text; read = gives.file; gives = gives.gives }; stated = gives.stated })
+
+-- without a file there is no plan, and no cost is stated
+pub begins_without : {S : Type 0} (p : Problem) (unread : S → Option (List ℕ)) (start : Option (StartFile S)) → start ≡ None → BeginsStated p unread start None
+begins_without {S} p unread start is =
+    subst (λ (begin : Option (StartFile S)). BeginsStated p unread begin None) (sym is) (record { begins = record { text = None; read = refl; gives = refl }; stated = refl })
+
+-- the plan of a solution that is lent, and the cost that it states
+pub plan_lent : (lent : Option (Bor Solution)) (solution : Option Solution) → option_copied lent ≡ solution → option_map (λ s. s.now.plan) lent ≡ option_map (λ s. s.plan) solution
+plan_lent None solution is = ap (option_map (λ (s : Solution). s.plan)) is
+plan_lent (Some lent) solution is = ap (option_map (λ (s : Solution). s.plan)) is
+
+pub cost_lent : (lent : Option (Bor Solution)) (solution : Option Solution) → option_copied lent ≡ solution → option_and_then (λ s. s.now.stated_cost) lent ≡ option_and_then (λ s. s.stated_cost) solution
+cost_lent None solution is = ap (option_and_then (λ (s : Solution). s.stated_cost)) is
+cost_lent (Some lent) solution is = ap (option_and_then (λ (s : Solution). s.stated_cost)) is
 
 -- a file that is too long is refused
 pub on_unread : (p : Problem) (unread : Option (List ℕ)) (error : StartError) → IsTooLongOrUnread unread error → OnRefusedStart error (RefusesFile p unread)

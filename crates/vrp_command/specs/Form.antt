@@ -2,28 +2,27 @@
 use Rattle.std.specs.Io.KnownBytes.{Appends}
 use Rattle.std.specs.Prelude.{◌≡◌, ℕ, Option, List, ⊤}
 use Rattle.vrp_answer.specs.Finding.{FindingOf}
-use Rattle.vrp_command.specs.Text.{settings_of}
 use Rattle.vrp_command.specs.declared.form.Form.{Form}
 use Rattle.vrp_command.specs.declared.form.Form.TheVariants as form
-use Rattle.vrp_export.specs.Json.{IsJsonOf}
+use Rattle.vrp_export.specs.Json.{ContextOf, IsJsonOf, context_by}
 use Rattle.vrp_model.specs.Problem.{Problem}
+use Rattle.vrp_request.specs.declared.options.Format.{Format}
 use Rattle.vrp_request.specs.declared.options.Format.TheVariants as format
-use Rattle.vrp_request.specs.declared.options.Request.{Request}
 use Rattle.vrp_streams.specs.Output.{AppendsPart}
 use Rattle.vrp_streams.specs.Report.{report_of, solution_of}
 
--- the request asks for this form
-abbrev pub IsFormOf : Request → Form → Type 0
-IsFormOf request form.Report = request.format ≡ format.Report
-IsFormOf request form.Solution = request.format ≡ format.Solution
-IsFormOf request (form.Json settings) = (request.format ≡ format.Json) × (settings ≡ settings_of request)
-IsFormOf request (form.Picture points) = request.format ≡ format.Picture
+-- this form is asked for, and with JSON this is told beside the finding
+abbrev pub IsFormIn : Format → ContextOf → Form → Type 0
+IsFormIn asked context form.Report = asked ≡ format.Report
+IsFormIn asked context form.Solution = asked ≡ format.Solution
+IsFormIn asked context (form.Json told) = (asked ≡ format.Json) × (context_by told ≡ context)
+IsFormIn asked context (form.Picture points) = asked ≡ format.Picture
 
 -- the text tells a finding in this form
 abbrev pub IsTextAs : Form → Problem → FindingOf → List ℕ → Type 0
 IsTextAs form.Report p finding text = text ≡ report_of p finding
 IsTextAs form.Solution p finding text = text ≡ solution_of finding
-IsTextAs (form.Json settings) p finding text = IsJsonOf p finding settings text
+IsTextAs (form.Json told) p finding text = IsJsonOf p finding (context_by told) text
 IsTextAs (form.Picture points) p finding text = ⊤
 
 -- such a text was written, and nothing else

@@ -6,7 +6,8 @@ use Rattle.vrp_answer.specs.Finding.{FindingOf, bounded_finding, finding_of, law
 use Rattle.vrp_answer.specs.declared.answers.Answer.{Answer}
 use Rattle.vrp_answer.specs.declared.status.Status.{Status}
 use Rattle.vrp_command.specs.Answer.{IsAnswerTo}
-use Rattle.vrp_command.specs.Text.{IsTextOf}
+use Rattle.vrp_command.specs.Text.{IsTextIn}
+use Rattle.vrp_export.specs.Json.{ContextOf}
 use Rattle.vrp_model.specs.Cheapest.{NoneCheaper, cost_of}
 use Rattle.vrp_model.specs.Problem.{Problem}
 use Rattle.vrp_model.specs.Route.{PricedPlan}
@@ -39,19 +40,19 @@ pub record IsSearchedFor (request : Request) (may_stop : Bool) (problem : Proble
 abbrev pub IsFoundBy : Request → Bool → Problem → Option PricedPlan → FindingOf → Type 0
 IsFoundBy request may_stop problem start finding = IsChecked request start finding ⊎ IsSearchedFor request may_stop problem start finding
 
--- a text that tells such a finding in the form that is asked for was written, and nothing else
-pub record WritesFound (request : Request) (may_stop : Bool) (problem : Problem) (start : Option PricedPlan) (written_old written_new : Option (List ℕ)) (ended : Status) : Type 0 where
+-- a text that tells such a finding in the form that is asked for, with this context, was written, and nothing else
+pub record WritesFound (request : Request) (context : ContextOf) (may_stop : Bool) (problem : Problem) (start : Option PricedPlan) (written_old written_new : Option (List ℕ)) (ended : Status) : Type 0 where
   pub finding : FindingOf
   pub found : IsFoundBy request may_stop problem start finding
   pub status : ended ≡ finding.status
   pub text : List ℕ
-  pub told : IsTextOf request problem finding text
+  pub told : IsTextIn request.format context problem finding text
   pub output : Appends written_old written_new text
 
 -- a part of such a text was written, from its first byte on
-pub record WritesFoundPart (request : Request) (may_stop : Bool) (problem : Problem) (start : Option PricedPlan) (written_old written_new : Option (List ℕ)) : Type 0 where
+pub record WritesFoundPart (request : Request) (context : ContextOf) (may_stop : Bool) (problem : Problem) (start : Option PricedPlan) (written_old written_new : Option (List ℕ)) : Type 0 where
   pub finding : FindingOf
   pub found : IsFoundBy request may_stop problem start finding
   pub text : List ℕ
-  pub told : IsTextOf request problem finding text
+  pub told : IsTextIn request.format context problem finding text
   pub output : AppendsPart written_old written_new text

@@ -1,23 +1,25 @@
 -- How a request is answered.
 use Rattle.std.specs.Io.KnownBytes.{Appends}
+use Rattle.std.specs.Option.{option_and_then}
 use Rattle.std.specs.Prelude.{◌≡◌, ◌≢◌, ℕ, ◌<◌, ◌≤◌, Bool, true, IsSomeAnd, Option, Some, None, Result, Ok, Err, List, length, ⊤}
 use Rattle.vrp_answer.specs.Finding.{FindingOf}
 use Rattle.vrp_answer.specs.declared.status.Status.{Status}
 use Rattle.vrp_command.specs.Found.{IsFoundBy}
 use Rattle.vrp_command.specs.Run.{OnRefusedFile, ReadsProblem, limited}
 use Rattle.vrp_command.specs.Start.{start_code}
-use Rattle.vrp_command.specs.Text.{IsTextOf}
+use Rattle.vrp_command.specs.Text.{IsTextIn, context_of}
 use Rattle.vrp_command.specs.declared.fault.RequestError.{RequestError}
 use Rattle.vrp_command.specs.declared.fault.RequestError.TheVariants as reason
 use Rattle.vrp_command.specs.declared.start.StartError.{StartError}
 use Rattle.vrp_command.specs.declared.start.StartError.TheVariants as start_fault
 use Rattle.vrp_command.specs.declared.start.StartFile.{StartFile}
 use Rattle.vrp_command.specs.declared.start.StartFile.TheVariants.{Opened, Unopened}
+use Rattle.vrp_export.specs.Name.{name_of}
 use Rattle.vrp_lexer.specs.declared.limits.TheConstants.{MAX_BYTES}
 use Rattle.vrp_model.specs.Problem.{Problem}
 use Rattle.vrp_model.specs.Route.{PricedPlan}
 use Rattle.vrp_request.specs.declared.options.Request.{Request}
-use Rattle.vrp_solution.specs.Solution.{GivesPlan, IsRefusedFor}
+use Rattle.vrp_solution.specs.Solution.{GivesPlan, IsRefusedFor, stated_cost}
 use Rattle.vrp_solution.specs.declared.error.SolutionError.TheVariants as solution
 use Rattle.vrp_streams.specs.Fault.{exit_code}
 use Rattle.vrp_streams.specs.Input.{IsInput}
@@ -35,8 +37,13 @@ abbrev pub GivesStart : Problem → Option (List ℕ) → Option PricedPlan → 
 GivesStart p None start = start ≡ None
 GivesStart p (Some text) start = IsSomeAnd start (GivesPlan p text)
 
+-- the cost that is stated of the plan to begin with, if one is
+abbrev pub start_cost : Option (List ℕ) → Option ℕ
+start_cost text = option_and_then stated_cost text
+
 -- The bytes mean a problem, and the start file's text, if there is one, gives a plan of it. This is what the request finds of the
--- problem, with the trucks that it asks for, and a text tells it in the form that it asks for
+-- problem, with the trucks that it asks for, and a text tells it in the form that it asks for, with what the bytes call the problem and
+-- the cost that the start file's text states
 pub record AnswersRequest (request : Request) (may_stop : Bool) (bytes : List ℕ) (start_text : Option (List ℕ)) (finding : FindingOf) (text : List ℕ) : Type 0 where
   pub meant : Problem
   pub means : MeansProblem bytes request.options.depot meant
@@ -45,7 +52,7 @@ pub record AnswersRequest (request : Request) (may_stop : Bool) (bytes : List �
   pub start : Option PricedPlan
   pub gives : GivesStart problem start_text start
   pub found : IsFoundBy request may_stop problem start finding
-  pub told : IsTextOf request problem finding text
+  pub told : IsTextIn request.format (context_of request (name_of bytes) (start_cost start_text)) problem finding text
 
 -- all that a file has, by what is known of its bytes
 pub record IsFile (unread : Option (List ℕ)) (text : List ℕ) : Type 0 where

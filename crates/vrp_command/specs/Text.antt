@@ -1,25 +1,30 @@
 -- What is printed of a finding, in the form that a request asks for.
-use Rattle.std.specs.Prelude.{◌≡◌, ℕ, List, ⊤}
+use Rattle.std.specs.Prelude.{◌≡◌, ℕ, if◌then◌else◌, Option, None, Some, List, ⊤}
 use Rattle.vrp_answer.specs.Finding.{FindingOf}
-use Rattle.vrp_export.specs.Json.{IsJsonOf}
+use Rattle.vrp_export.specs.Json.{ContextOf, IsJsonOf}
 use Rattle.vrp_export.specs.declared.json.Settings.{Settings}
 use Rattle.vrp_model.specs.Problem.{Problem}
+use Rattle.vrp_request.specs.declared.grammar.TheConstants.{VERSION}
 use Rattle.vrp_request.specs.declared.options.Format.{Format}
 use Rattle.vrp_request.specs.declared.options.Format.TheVariants as format
 use Rattle.vrp_request.specs.declared.options.Request.{Request}
 use Rattle.vrp_streams.specs.Report.{report_of, solution_of}
 
+-- the budget that a request states
+abbrev pub budget_of : Request → Option ℕ
+budget_of request = if request.states_budget then Some request.options.budget else None
+
 -- how the run was asked for, as it is printed
 abbrev pub settings_of : Request → Settings
-settings_of request = record { workers = request.options.workers; pieces = request.options.pieces; budget = request.options.budget; seconds = request.seconds; depot = request.options.depot; trucks = request.options.trucks }
+settings_of request = record { workers = request.options.workers; pieces = request.options.pieces; budget = budget_of request; seconds = request.seconds; depot = request.options.depot; trucks = request.options.trucks }
+
+-- what is told beside a finding, where this is what the file calls itself, and the cost that the plan to begin with is stated to have
+abbrev pub context_of : Request → Option (List ℕ) → Option ℕ → ContextOf
+context_of request name stated_cost = record { name = name; version = VERSION.now; stated_cost = stated_cost; asked = settings_of request }
 
 -- the text tells a finding in this form. Of a picture nothing is said
-abbrev pub IsTextIn : Format → Settings → Problem → FindingOf → List ℕ → Type 0
-IsTextIn format.Report settings p finding text = text ≡ report_of p finding
-IsTextIn format.Solution settings p finding text = text ≡ solution_of finding
-IsTextIn format.Json settings p finding text = IsJsonOf p finding settings text
-IsTextIn format.Picture settings p finding text = ⊤
-
--- and so it is asked for
-abbrev pub IsTextOf : Request → Problem → FindingOf → List ℕ → Type 0
-IsTextOf request p finding text = IsTextIn request.format (settings_of request) p finding text
+abbrev pub IsTextIn : Format → ContextOf → Problem → FindingOf → List ℕ → Type 0
+IsTextIn format.Report context p finding text = text ≡ report_of p finding
+IsTextIn format.Solution context p finding text = text ≡ solution_of finding
+IsTextIn format.Json context p finding text = IsJsonOf p finding context text
+IsTextIn format.Picture context p finding text = ⊤

@@ -1,23 +1,24 @@
 //! A request is answered: from the bytes that are read to the text that is written.
 ghost use Rattle.std.specs.Io.KnownBytes.{Keeps};
-ghost use Rattle.std.specs.Prelude.{◌≡◌, ◌≢◌, ◌+◌, IfOk, IfErr};
+ghost use Rattle.std.specs.Option.{option_map};
+ghost use Rattle.std.specs.Prelude.{◌≡◌, ◌≢◌, ◌+◌, None, IfOk, IfErr, string_bytes};
 ghost use Rattle.vrp_request.specs.Options.{AreInRange};
-ghost use Rattle.vrp_command.specs.Form.{IsFormOf};
+ghost use Rattle.vrp_command.specs.Form.{IsFormIn};
 ghost use Rattle.vrp_command.specs.Inner.Written.{OnFault, WritesOn, WritesPartOn};
 ghost use Rattle.vrp_command.specs.Program.{OnRefusal, PrintsRequest, PrintsPartOfRequest, RefusesStart, RefusesStartFile};
 ghost use Rattle.vrp_command.specs.Run.{RefusesInput};
+ghost use Rattle.vrp_command.specs.Text.{context_of};
 ghost use Rattle.vrp_streams.specs.Input.{TakesAtMost};
 
 use crate::fault::RequestError;
 use crate::form::{Form, NoPoints, form_of};
 use crate::found::print_found;
 use crate::problem::{Problem, read_problem};
-use crate::start::{StartFile, start_plan};
+use crate::start::{StartFile, plan_of, start_plan, stated_cost_of};
 use std::alloc::Global;
 use std::io::{Read, Write};
 use std::sync::Wait;
 use std::thread::Threads;
-use vrp_model::Instance;
 use vrp_pool::Gate;
 use vrp_request::{Format, Request};
 use vrp_streams::{RunError, Status};
@@ -57,8 +58,7 @@ pub(crate) fn answer_request<
     ensures silent { IfErr result (λ error. error ≢ RequestError.Run RunError.Write → Keeps
         (W.contents output.old) (W.contents output.new)) }
 {
-    let wants_points = request.format == Format::Picture;
-    match read_problem(alloc, request.options, wants_points, input) {
+    match read_problem(alloc, request.options, request.format, input) {
         Ok(problem) => {
             let outcome = answer_on(rt, alloc, &problem, request, start, output, errors, gate);
             // By a call, here and below: what is let go by itself is let go field by field, and each step is proved.
@@ -84,10 +84,12 @@ fn answer_on<T: Threads + Wait + Sync, S: Read + Drop, W: Write, E: Write, G: Ga
     gate: &G,
 ) -> Result<Status, RequestError>
     requires { AreInRange request.options }
-    ensures printed { IfOk result (WritesOn request.entry (G.may_stop gate.now) problem.now.instance
+    ensures printed { IfOk result (WritesOn request.entry (option_map string_bytes problem.now.beside.name)
+        (G.may_stop gate.now) problem.now.instance
         (λ file. S.remaining file) start (W.contents output.old) (W.contents output.new)) }
     ensures begun { IfErr result (λ error. error ≡ RequestError.Run RunError.Write →
-        WritesPartOn request.entry (G.may_stop gate.now) problem.now.instance
+        WritesPartOn request.entry (option_map string_bytes problem.now.beside.name)
+        (G.may_stop gate.now) problem.now.instance
         (λ file. S.remaining file) start (W.contents output.old) (W.contents output.new)) }
     ensures refused { IfErr result (OnFault
         (RefusesStartFile problem.now.instance (λ file. S.remaining file) start)
@@ -95,10 +97,9 @@ fn answer_on<T: Threads + Wait + Sync, S: Read + Drop, W: Write, E: Write, G: Ga
     ensures silent { IfErr result (λ error. error ≢ RequestError.Run RunError.Write → Keeps
         (W.contents output.old) (W.contents output.new)) }
 {
-    let instance = &problem.instance;
     match form_of(&request, problem) {
         Ok(form) => answer_in(
-            rt, alloc, instance, request, form, start, output, errors, gate,
+            rt, alloc, problem, request, form, start, output, errors, gate,
         ),
         Err(NoPoints) => {
             drop(start);
@@ -111,7 +112,7 @@ fn answer_on<T: Threads + Wait + Sync, S: Read + Drop, W: Write, E: Write, G: Ga
 fn answer_in<T: Threads + Wait + Sync, S: Read + Drop, W: Write, E: Write, G: Gate + Sync>(
     rt: &T,
     alloc: Global,
-    instance: &Instance,
+    problem: &Problem,
     request: Request<'_>,
     form: Form<'_>,
     start: Option<StartFile<S>>,
@@ -120,32 +121,36 @@ fn answer_in<T: Threads + Wait + Sync, S: Read + Drop, W: Write, E: Write, G: Ga
     gate: &G,
 ) -> Result<Status, RequestError>
     requires options { AreInRange request.options }
-    requires form { IsFormOf request form }
-    ensures printed { IfOk result (WritesOn request.entry (G.may_stop gate.now) instance.now
+    requires form { IsFormIn request.format
+        (context_of request (option_map string_bytes problem.now.beside.name) None) form }
+    ensures printed { IfOk result (WritesOn request.entry (option_map string_bytes problem.now.beside.name)
+        (G.may_stop gate.now) problem.now.instance
         (λ file. S.remaining file) start (W.contents output.old) (W.contents output.new)) }
     ensures begun { IfErr result (λ error. error ≡ RequestError.Run RunError.Write →
-        WritesPartOn request.entry (G.may_stop gate.now) instance.now
+        WritesPartOn request.entry (option_map string_bytes problem.now.beside.name)
+        (G.may_stop gate.now) problem.now.instance
         (λ file. S.remaining file) start (W.contents output.old) (W.contents output.new)) }
     ensures refused { IfErr result (OnFault
-        (RefusesStartFile instance.now (λ file. S.remaining file) start)
+        (RefusesStartFile problem.now.instance (λ file. S.remaining file) start)
         (request.entry.format ≡ Format.Picture)) }
     ensures silent { IfErr result (λ error. error ≢ RequestError.Run RunError.Write → Keeps
         (W.contents output.old) (W.contents output.new)) }
 {
+    let instance = &problem.instance;
     match start_plan(alloc, instance, start, errors) {
-        Ok(plan) => {
+        Ok(solution) => {
             let printed = print_found(
                 rt,
                 alloc,
                 instance,
-                plan.as_ref(),
+                plan_of(solution.as_ref()),
                 request,
-                form,
+                form.stating(stated_cost_of(solution.as_ref())),
                 output,
                 errors,
                 gate,
             );
-            drop(plan);
+            drop(solution);
             match printed {
                 Ok(status) => Ok(status),
                 Err(fault) => Err(RequestError::Run(fault)),

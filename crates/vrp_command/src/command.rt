@@ -49,12 +49,11 @@ pub fn run<T: Threads + Wait + Sync, R: Read, W: Write>(
     ensures silent { IfErr result (λ fault. fault ≢ RunError.Write → Keeps
         (W.contents output.old) (W.contents output.new)) }
 {
-    let problem = read_problem(alloc, options, false, input)?;
-    let instance = &problem.instance;
-    let solved = cut_and_solve(rt, alloc, instance, None, options, &NoGate)?;
+    let instance = read_problem(alloc, options, Format::Report, input)?.into_instance();
+    let solved = cut_and_solve(rt, alloc, &instance, None, options, &NoGate)?;
     print_finding(
         alloc,
-        instance,
+        &instance,
         &Finding::of_answer(&solved.answer),
         Form::Report,
         output,

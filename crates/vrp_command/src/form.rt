@@ -1,19 +1,21 @@
 //! The form in which a finding is printed.
 ghost use Rattle.std.specs.Io.KnownBytes.{Keeps};
 ghost use Rattle.std.specs.Option.{ForSome, option_map};
-ghost use Rattle.std.specs.Prelude.{◌≡◌, ◌≢◌, ◌⊎◌, IfOk, IfErr, OnErr, OnOk, string_bytes};
+ghost use Rattle.std.specs.Prelude.{◌≡◌, ◌≢◌, ◌⊎◌, ℕ, Option, None, IfOk, IfErr, List, OnErr, OnOk, string_bytes};
 ghost use Rattle.vrp_answer.specs.Finding.{told_by};
-ghost use Rattle.vrp_command.specs.Form.{IsFormOf, IsTextAs, WritesPart, WritesText};
-ghost use Rattle.vrp_command.specs.Text.{settings_of};
+ghost use Rattle.vrp_command.specs.Form.{IsFormIn, IsTextAs, WritesPart, WritesText};
+ghost use Rattle.vrp_command.specs.Text.{context_of, settings_of};
+ghost use Rattle.vrp_export.specs.Json.{context_by};
 ghost use Rattle.vrp_model.specs.Route.{IsPlanOf};
+ghost use Rattle.vrp_request.specs.declared.options.Request.{Request};
 
-use crate::problem::Problem;
+use crate::problem::{Beside, Problem};
 use std::alloc::Global;
 use std::io::Write;
 use vrp_answer::Finding;
-use vrp_export::{Points, Settings, json_text, picture_text};
+use vrp_export::{Context, Points, Settings, json_text, picture_text};
 use vrp_model::{Instance, NoMemory};
-use vrp_request::{Format, Request};
+use vrp_request::{Format, Request, VERSION};
 use vrp_streams::{RunError, Status, report_text, solution_text, write_report};
 
 /// A form, and what is needed for it.
@@ -21,7 +23,7 @@ use vrp_streams::{RunError, Status, report_text, solution_text, write_report};
 pub(crate) enum Form<'a> {
     Report,
     Solution,
-    Json(Settings),
+    Json(Context<'a>),
     Picture(&'a Points),
 }
 
@@ -29,17 +31,51 @@ pub(crate) enum Form<'a> {
 #[derive(Drop)]
 pub(crate) struct NoPoints;
 
-/// The form in which a problem's plan is asked for.
+impl<'a> Form<'a> {
+    /// The same form, where this cost is stated of the plan to begin with, or none is.
+    pub(crate) fn stating(self, cost: Option<u64>) -> Form<'a>
+        ensures { (request : Request) (name : Option (List ℕ))
+            → IsFormIn request.format (context_of request name None) self.entry
+            → IsFormIn request.format (context_of request name cost) result }
+    {
+        match self {
+            Form::Json(context) => Form::Json(Context {
+                stated_cost: cost,
+                ..context
+            }),
+            other => other,
+        }
+    }
+}
+
+/// The form in which a problem's plan is asked for. No cost is stated yet.
 pub(crate) fn form_of<'a>(request: &Request<'_>, problem: &'a Problem) -> Result<Form<'a>, NoPoints>
-    ensures form { IfOk result (IsFormOf request.now) }
+    ensures form { IfOk result (IsFormIn request.now.format
+        (context_of request.now (option_map string_bytes problem.now.beside.name) None)) }
     ensures picture { OnErr result (request.now.format ≡ Format.Picture) }
 {
-    match (request.format, &problem.points) {
+    match (request.format, &problem.beside.points) {
         (Format::Report, _) => Ok(Form::Report),
         (Format::Solution, _) => Ok(Form::Solution),
-        (Format::Json, _) => Ok(Form::Json(settings(request))),
+        (Format::Json, _) => Ok(Form::Json(context(request, &problem.beside))),
         (Format::Picture, Some(points)) => Ok(Form::Picture(points)),
         (Format::Picture, None) => Err(NoPoints),
+    }
+}
+
+// What is told beside a finding, where no cost is stated.
+fn context<'a>(request: &Request<'_>, beside: &'a Beside) -> Context<'a>
+    ensures { context_by result ≡ context_of request.now (option_map string_bytes beside.now.name) None }
+{
+    let name = match &beside.name {
+        Some(name) => Some(name.as_str()),
+        None => None,
+    };
+    Context {
+        name,
+        version: VERSION,
+        stated_cost: None,
+        asked: settings(request),
     }
 }
 
@@ -47,10 +83,15 @@ pub(crate) fn form_of<'a>(request: &Request<'_>, problem: &'a Problem) -> Result
 fn settings(request: &Request<'_>) -> Settings
     ensures { result ≡ settings_of request.now }
 {
+    let budget = if request.states_budget {
+        Some(request.options.budget)
+    } else {
+        None
+    };
     Settings {
         workers: request.options.workers,
         pieces: request.options.pieces,
-        budget: request.options.budget,
+        budget,
         seconds: request.seconds,
         depot: request.options.depot,
         trucks: request.options.trucks,
@@ -94,7 +135,7 @@ fn text_of(
     match form {
         Form::Report => Ok(report_text(alloc, instance, finding)?),
         Form::Solution => Ok(solution_text(alloc, finding)?),
-        Form::Json(settings) => json_text(alloc, instance, finding, settings),
+        Form::Json(context) => json_text(alloc, instance, finding, context),
         Form::Picture(points) => picture_text(alloc, instance, finding, points),
     }
 }

@@ -6,7 +6,8 @@ ghost use Rattle.vrp_answer.specs.Finding.{told_by};
 ghost use Rattle.vrp_model.specs.Route.{IsPlanOf};
 ghost use Rattle.vrp_request.specs.Options.{AreInRange};
 ghost use Rattle.vrp_command.specs.Found.{WritesFound, WritesFoundPart, told_of};
-ghost use Rattle.vrp_command.specs.Form.{IsFormOf, WritesPart, WritesText};
+ghost use Rattle.vrp_command.specs.Form.{IsFormIn, WritesPart, WritesText};
+ghost use Rattle.vrp_export.specs.Json.{ContextOf};
 
 use crate::answer::cut_and_solve;
 use crate::form::{Form, print_finding, tell_missing_plan};
@@ -34,11 +35,13 @@ pub(crate) fn print_found<T: Threads + Wait + Sync, W: Write, E: Write, G: Gate 
 ) -> Result<Status, RunError>
     requires options { AreInRange request.options }
     requires start { ForSome (option_map (λ plan. plan.now) start) (IsPlanOf instance.now) }
-    requires form { IsFormOf request form }
-    ensures printed { IfOk result (WritesFound request.entry (G.may_stop gate.now) instance.now
+    ensures printed { (context : ContextOf) → IsFormIn request.entry.format context form.entry
+        → IfOk result (WritesFound request.entry context (G.may_stop gate.now) instance.now
         (option_map (λ plan. plan.now) start.entry) (W.contents output.old) (W.contents output.new)) }
-    ensures begun { IfErr result (λ fault. fault ≡ RunError.Write → WritesFoundPart request.entry (G.may_stop gate.now)
-        instance.now (option_map (λ plan. plan.now) start.entry) (W.contents output.old) (W.contents output.new)) }
+    ensures begun { (context : ContextOf) → IsFormIn request.entry.format context form.entry
+        → IfErr result (λ fault. fault ≡ RunError.Write
+        → WritesFoundPart request.entry context (G.may_stop gate.now) instance.now
+        (option_map (λ plan. plan.now) start.entry) (W.contents output.old) (W.contents output.new)) }
     ensures silent { IfErr result (λ fault. fault ≢ RunError.Write → Keeps
         (W.contents output.old) (W.contents output.new)) }
     ensures faults { IfErr result (λ fault. (fault ≡ RunError.OutOfMemory) ⊎ (fault ≡ RunError.Write)) }
@@ -74,12 +77,14 @@ fn print_searched<T: Threads + Wait + Sync, W: Write, E: Write, G: Gate + Sync>(
 ) -> Result<Status, RunError>
     requires options { AreInRange request.options }
     requires start { ForSome (option_map (λ plan. plan.now) start) (IsPlanOf instance.now) }
-    requires form { IsFormOf request form }
     requires unchecked { IsTrue request.check → option_map (λ plan. plan.now) start ≡ None }
-    ensures printed { IfOk result (WritesFound request.entry (G.may_stop gate.now) instance.now
+    ensures printed { (context : ContextOf) → IsFormIn request.entry.format context form.entry
+        → IfOk result (WritesFound request.entry context (G.may_stop gate.now) instance.now
         (option_map (λ plan. plan.now) start.entry) (W.contents output.old) (W.contents output.new)) }
-    ensures begun { IfErr result (λ fault. fault ≡ RunError.Write → WritesFoundPart request.entry (G.may_stop gate.now)
-        instance.now (option_map (λ plan. plan.now) start.entry) (W.contents output.old) (W.contents output.new)) }
+    ensures begun { (context : ContextOf) → IsFormIn request.entry.format context form.entry
+        → IfErr result (λ fault. fault ≡ RunError.Write
+        → WritesFoundPart request.entry context (G.may_stop gate.now) instance.now
+        (option_map (λ plan. plan.now) start.entry) (W.contents output.old) (W.contents output.new)) }
     ensures silent { IfErr result (λ fault. fault ≢ RunError.Write → Keeps
         (W.contents output.old) (W.contents output.new)) }
     ensures faults { IfErr result (λ fault. (fault ≡ RunError.OutOfMemory) ⊎ (fault ≡ RunError.Write)) }

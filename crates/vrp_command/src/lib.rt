@@ -27,7 +27,7 @@ pub use program::{end_without_run, run_words};
 pub use start::{StartError, StartFile, open_start};
 pub use vrp_pool::{Gate, MAX_WORKERS, News, NoGate};
 pub use vrp_request::{
-    Format, LineFault, MAX_BUDGET, MAX_SECONDS, Options, Request, line_fault, line_status,
+    Format, LineFault, MAX_BUDGET, MAX_SECONDS, Options, Request, VERSION, line_fault, line_status,
     parse_request, parse_words, words_fault,
 };
 pub use vrp_streams::{RunError, Status, exit_status, fault_line};

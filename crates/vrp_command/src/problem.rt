@@ -1,16 +1,18 @@
-//! The problem of a run: what the bytes of its input mean.
-ghost use Rattle.std.specs.Prelude.{◌≡◌, ◌≢◌, ◌+◌, ◌≤◌, IfOk, IfErr};
-ghost use Rattle.std.specs.Option.{ForSome};
+//! The problem of a run: what the bytes of its input mean, and what is read of them beside that.
+ghost use Rattle.std.specs.Prelude.{◌≡◌, ◌≢◌, ◌+◌, ◌≤◌, IfOk, IfErr, string_bytes};
+ghost use Rattle.std.specs.Option.{ForSome, option_map};
 ghost use Rattle.vrp_streams.specs.Input.{TakesAtMost};
 ghost use Rattle.vrp_request.specs.Options.{AreInRange};
-ghost use Rattle.vrp_command.specs.Run.{OnRefusedFile, ReadsProblem, RefusesInput, limited};
+ghost use Rattle.vrp_command.specs.Inner.Named.{ReadsNamed};
+ghost use Rattle.vrp_command.specs.Run.{OnRefusedFile, RefusesInput, limited};
+ghost use Rattle.vrp_export.specs.Name.{name_of};
 ghost use Rattle.vrp_model.specs.declared.limits.TheConstants.{MAX_NODES};
 
-use std::alloc::Global;
+use std::alloc::{AllocError, Global};
 use std::io::Read;
-use vrp_export::Points;
-use vrp_model::Instance;
-use vrp_request::Options;
+use vrp_export::{Points, name_of};
+use vrp_model::{Instance, NoMemory};
+use vrp_request::{Format, Options};
 use vrp_streams::{RunError, read_input};
 use vrp_text::MAX_BYTES;
 
@@ -18,21 +20,76 @@ use vrp_text::MAX_BYTES;
 #[derive(Debug, Drop)]
 pub(crate) struct Problem {
     pub(crate) instance: Instance,
-    /// Where its places lie, if that was asked for and the file tells.
-    pub(crate) points: Option<Points>,
+    pub(crate) beside: Beside,
 }
 
-/// The problem that the input means, with the chosen node as its depot and the trucks that were asked for. Reading ends at the end of
-/// the input or after one byte more than a file may have.
+impl Problem {
+    /// The instance alone.
+    pub(crate) fn into_instance(self) -> Instance
+        ensures { result ≡ self.instance }
+    {
+        self.instance
+    }
+}
+
+/// What a form needs of a file beside the instance.
+#[derive(Debug, Drop)]
+pub(crate) struct Beside {
+    /// Where the places lie, if a picture is asked for and the file tells.
+    pub(crate) points: Option<Points>,
+    /// What the file calls itself, if JSON is asked for and the file tells.
+    pub(crate) name: Option<String>,
+}
+
+impl Beside {
+    // What a form needs of a file that means this instance.
+    fn read(
+        alloc: Global,
+        format: Format,
+        bytes: &[u8],
+        instance: &Instance,
+    ) -> Result<Beside, NoMemory>
+        ensures { IfOk result (λ beside. format ≡ Format.Json
+            → option_map string_bytes beside.name ≡ name_of bytes.now) }
+    {
+        match format {
+            Format::Picture => Ok(Beside {
+                points: Points::read(alloc, bytes, instance)?,
+                name: None,
+            }),
+            Format::Json => Ok(Beside {
+                points: None,
+                name: name_in(alloc, bytes)?,
+            }),
+            Format::Report | Format::Solution => Ok(Beside {
+                points: None,
+                name: None,
+            }),
+        }
+    }
+}
+
+// What a file calls itself, if it does.
+fn name_in(alloc: Global, bytes: &[u8]) -> Result<Option<String>, AllocError>
+    ensures { IfOk result (λ name. option_map string_bytes name ≡ name_of bytes.now) }
+{
+    match name_of(bytes) {
+        Some(name) => Ok(Some(String::from_str(alloc, name)?)),
+        None => Ok(None),
+    }
+}
+
+/// The problem that the input means, with the chosen node as its depot and the trucks that were asked for, and what the form needs beside
+/// it. Reading ends at the end of the input or after one byte more than a file may have.
 pub(crate) fn read_problem<R: Read>(
     alloc: Global,
     options: Options,
-    wants_points: bool,
+    format: Format,
     input: &mut R,
 ) -> Result<Problem, RunError>
     requires { AreInRange options }
-    ensures read { IfOk result (λ problem. ReadsProblem options
-        (R.remaining input.old) (R.remaining input.new) problem.instance) }
+    ensures read { IfOk result (λ problem. ReadsNamed options format
+        (R.remaining input.old) (R.remaining input.new) problem.instance (option_map string_bytes problem.beside.name)) }
     ensures refused { IfErr result (λ fault. OnRefusedFile fault (RefusesInput options.depot
         (R.remaining input.old) (R.remaining input.new))) }
     ensures failed { IfErr result (λ fault. fault ≡ RunError.Read → TakesAtMost MAX_BYTES
@@ -42,14 +99,10 @@ pub(crate) fn read_problem<R: Read>(
 {
     let bytes = read_input(alloc, input)?;
     let instance = vrp_text::read(alloc, &bytes, options.depot)?;
-    let points = if wants_points {
-        Points::read(alloc, &bytes, &instance)?
-    } else {
-        None
-    };
+    let beside = Beside::read(alloc, format, &bytes, &instance)?;
     Ok(Problem {
         instance: limited(instance, options.trucks),
-        points,
+        beside,
     })
 }
 

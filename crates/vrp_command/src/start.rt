@@ -1,7 +1,8 @@
 //! The plan to begin with, from a file.
+ghost use Rattle.std.specs.Option.{option_and_then, option_map};
 ghost use Rattle.std.specs.Prelude.{◌≡◌, IfErr, IfOk};
-ghost use Rattle.vrp_command.specs.Inner.Starts.{GivesFilePlan, IsTooLongOrUnread, refused_for};
-ghost use Rattle.vrp_command.specs.Program.{BeginsWith, IsFile, OnRefusedStart, RefusesFile, RefusesStartFile};
+ghost use Rattle.vrp_command.specs.Inner.Starts.{BeginsStated, GivesFilePlan, IsTooLongOrUnread, refused_for};
+ghost use Rattle.vrp_command.specs.Program.{IsFile, OnRefusedStart, RefusesFile, RefusesStartFile};
 
 use std::alloc::Global;
 use std::fs;
@@ -46,14 +47,14 @@ pub enum StartError {
     OutOfMemory,
 }
 
-/// The plan to begin with, if there is a file for it: the lawful one that its text gives.
+/// The plan to begin with, if there is a file for it: the lawful one that its text gives, and what it states of it.
 pub(crate) fn start_plan<S: Read + Drop, E: Write>(
     alloc: Global,
     instance: &Instance,
     start: Option<StartFile<S>>,
     errors: &mut E,
-) -> Result<Option<Plan>, StartError>
-    ensures begins { IfOk result (BeginsWith instance.now (λ file. S.remaining file) start) }
+) -> Result<Option<Solution>, StartError>
+    ensures begins { IfOk result (BeginsStated instance.now (λ file. S.remaining file) start) }
     ensures refused { IfErr result (λ error. OnRefusedStart error
         (RefusesStartFile instance.now (λ file. S.remaining file) start)) }
 {
@@ -64,13 +65,33 @@ pub(crate) fn start_plan<S: Read + Drop, E: Write>(
     }
 }
 
+/// The plan of a solution, if there is one.
+pub(crate) fn plan_of(solution: Option<&Solution>) -> Option<&Plan>
+    ensures { option_map (λ plan. plan.now) result ≡ option_map (λ solution. solution.now.plan) solution.entry }
+{
+    match solution {
+        Some(solution) => Some(&solution.plan),
+        None => None,
+    }
+}
+
+/// The cost that a solution states, if there is one and it does.
+pub(crate) fn stated_cost_of(solution: Option<&Solution>) -> Option<u64>
+    ensures { result ≡ option_and_then (λ solution. solution.now.stated_cost) solution.entry }
+{
+    match solution {
+        Some(solution) => solution.stated_cost,
+        None => None,
+    }
+}
+
 // The lawful plan that a file has, as CVRPLIB writes it. Where the file states another cost than its true one, that goes to `errors`.
 fn plan_in<S: Read + Drop, E: Write>(
     alloc: Global,
     instance: &Instance,
     file: S,
     errors: &mut E,
-) -> Result<Plan, StartError>
+) -> Result<Solution, StartError>
     ensures gives { IfOk result (GivesFilePlan instance.now (S.remaining file)) }
     ensures refused { IfErr result (λ error. OnRefusedStart error (RefusesFile instance.now (S.remaining file))) }
 {
@@ -85,7 +106,7 @@ fn plan_in<S: Read + Drop, E: Write>(
                     "cvrp: start plan: it states another cost than its true one, {cost}"
                 );
             }
-            Ok(solution.plan)
+            Ok(solution)
         }
         Err(refusal) => Err(refused(refusal)),
     }

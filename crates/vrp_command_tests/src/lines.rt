@@ -134,19 +134,33 @@ fn all_options(rt: HostRuntime) {
     }
 }
 
-// Words, and what they ask for beside the options: the seconds, the budget, and whether to tell of progress.
-const LIMITS: &[(&[&str], Option<u32>, u64, bool)] = &[
-    (&[], None, 10_000_000, false),
-    (&["--seconds", "1"], Some(1), MAX_BUDGET, false),
+// Words, and what they ask for beside the options: the seconds, the budget, whether that is given, and whether to tell of progress.
+const LIMITS: &[(&[&str], Option<u32>, u64, bool, bool)] = &[
+    (&[], None, 10_000_000, false, false),
+    (&["--seconds", "1"], Some(1), MAX_BUDGET, false, false),
     (
         &["--seconds", "1000000"],
         Some(MAX_SECONDS),
         MAX_BUDGET,
         false,
+        false,
     ),
-    (&["--seconds", "5", "--budget", "3"], Some(5), 3, false),
-    (&["--progress"], None, 10_000_000, true),
-    (&["--progress", "--seconds", "5"], Some(5), MAX_BUDGET, true),
+    (
+        &["--seconds", "5", "--budget", "3"],
+        Some(5),
+        3,
+        true,
+        false,
+    ),
+    (&["--budget=10000000"], None, 10_000_000, true, false),
+    (&["--progress"], None, 10_000_000, false, true),
+    (
+        &["--progress", "--seconds", "5"],
+        Some(5),
+        MAX_BUDGET,
+        false,
+        true,
+    ),
 ];
 
 // Asserts that these words make this request.
@@ -160,12 +174,13 @@ fn assert_request<'a>(rt: &impl Abort, alloc: Global, words: &'a [&'a str], want
 // A limit of seconds is the only one, unless a budget is named.
 #[test]
 fn seconds(rt: HostRuntime) {
-    for (words, seconds, budget, progress) in LIMITS {
+    for (words, seconds, budget, states_budget, progress) in LIMITS {
         let wanted = Request {
             options: Options {
                 budget: *budget,
                 ..DEFAULT
             },
+            states_budget: *states_budget,
             seconds: *seconds,
             progress: *progress,
             start: None,
@@ -191,6 +206,7 @@ fn starts(rt: HostRuntime) {
     for (words, check) in STARTS {
         let wanted = Request {
             options: DEFAULT,
+            states_budget: false,
             seconds: None,
             progress: false,
             start: Some("a.sol"),
@@ -216,6 +232,7 @@ fn formats(rt: HostRuntime) {
     for (words, format) in FORMATS {
         let wanted = Request {
             options: DEFAULT,
+            states_budget: false,
             seconds: None,
             progress: false,
             start: None,

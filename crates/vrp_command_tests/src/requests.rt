@@ -193,6 +193,7 @@ fn assert_request<R: Abort + Threads + Wait + Clock + Eprint + Sync>(
 ) {
     let request = Request {
         options: asked.search.options(),
+        states_budget: false,
         seconds: None,
         progress: false,
         start: None,
@@ -244,6 +245,7 @@ fn assert_last_line<R: Abort + Threads + Wait + Clock + Eprint + Sync>(
 ) {
     let request = Request {
         options: search.options(),
+        states_budget: false,
         seconds: None,
         progress: true,
         start: None,

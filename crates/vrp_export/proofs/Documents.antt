@@ -12,7 +12,7 @@ use Rattle.vrp_answer.specs.Finding.{FindingOf}
 use Rattle.vrp_export.specs.Inner.Document.{document_of, route_object}
 use Rattle.vrp_export.specs.Inner.Routes.{AreRoutes, IsRoute}
 use Rattle.vrp_export.specs.Gap.{IsGapOf}
-use Rattle.vrp_export.specs.Json.{IsDocument, cost_told, customers_of, nodes_of, number_or_null, numbers_of, options_told, routes_told}
+use Rattle.vrp_export.specs.Json.{ContextOf, IsDocument, cost_told, customers_of, nodes_of, number_or_null, numbers_of, options_told, routes_told, text_or_null}
 use Rattle.vrp_export.specs.declared.json.Settings.{Settings}
 use Rattle.vrp_model.specs.Problem.{Problem, node_of}
 
@@ -61,23 +61,31 @@ number_depth : (n : Option ℕ) → depth (number_or_null n) ≡ 0
 number_depth None = refl
 number_depth (Some n) = refl
 
+text_depth : (text : Option (List ℕ)) → depth (text_or_null text) ≡ 0
+text_depth None = refl
+text_depth (Some text) = refl
+
 options_depth : (asked : Settings) → depth (options_told asked) ≤ 2
 options_depth asked =
+    let budget = number_depth asked.budget in
     let depot = number_depth asked.depot in
     let seconds = number_depth asked.seconds in
     let trucks = number_depth asked.trucks in
-    rw (depot, seconds, trucks) (omega arith)
+    rw (budget, depot, seconds, trucks) (omega arith)
 
-pub document_shallow : (p : Problem) (finding : FindingOf) (gap : Option ℕ) (asked : Settings) (routes : List (List ℕ)) (values : List Data) → AreRoutes p routes values
-    → depth (document_of p finding gap values (options_told asked)) ≤ 4
-document_shallow p finding gap asked routes values are =
+pub document_shallow : (p : Problem) (finding : FindingOf) (context : ContextOf) (gap : Option ℕ) (routes : List (List ℕ)) (values : List Data) → AreRoutes p routes values
+    → depth (document_of p finding context gap values) ≤ 4
+document_shallow p finding context gap routes values are =
     let few : suc (items_depth (items_of values)) ≤ 3 = omega (arith, routes_shallow p routes values are) in
     let one : depth (number_or_null (cost_told finding)) ≤ 3 = omega (arith, number_depth (cost_told finding)) in
     let other : depth (number_or_null finding.lower_bound) ≤ 3 = omega (arith, number_depth finding.lower_bound) in
     let between : depth (number_or_null gap) ≤ 3 = omega (arith, number_depth gap) in
-    let options : depth (options_told asked) ≤ 3 = omega (arith, options_depth asked) in
+    let named : depth (text_or_null context.name) ≤ 3 = omega (arith, text_depth context.name) in
+    let stated : depth (number_or_null context.stated_cost) ≤ 3 = omega (arith, number_depth context.stated_cost) in
+    let options : depth (options_told context.asked) ≤ 3 = omega (arith, options_depth context.asked) in
     let none : 0 ≤ 3 = omega arith in
-    let most = max-le none (max-le one (max-le none (max-le none (max-le between (max-le other (max-le options (max-le few (max-le none none)))))))) in
+    let most =
+    max-le none (max-le one (max-le none (max-le none (max-le between (max-le other (max-le named (max-le options (max-le few (max-le stated (max-le none (max-le none none))))))))))) in
     omega (arith, most)
 
 -- ---- what stands in it
@@ -107,9 +115,9 @@ pub null_or_number : (n : Option ℕ) (value : Data) → MatchOption n (value �
 null_or_number None value is = is
 null_or_number (Some m) value is = is
 
-pub is_document : (p : Problem) (finding : FindingOf) (gap : Option ℕ) (asked : Settings) (values : List Data) (value : Data) → value ≡ document_of p finding gap values (options_told asked)
-    → IsGapOf (cost_told finding) finding.lower_bound gap → AreRoutes p (routes_told finding.plan) values → IsDocument p finding asked value
-is_document p finding gap asked values value is least are =
+pub is_document : (p : Problem) (finding : FindingOf) (context : ContextOf) (gap : Option ℕ) (values : List Data) (value : Data) → value ≡ document_of p finding context gap values
+    → IsGapOf (cost_told finding) finding.lower_bound gap → AreRoutes p (routes_told finding.plan) values → IsDocument p finding context value
+is_document p finding context gap values value is least are =
     record {
       verdict = ap (get (codes "verdict")) is;
       cost = ap (get (codes "cost")) is;
@@ -124,5 +132,8 @@ is_document p finding gap asked values value is least are =
       customers = ap (get (codes "customers")) is;
       capacity = ap (get (codes "capacity")) is;
       depot = ap (get (codes "depot")) is;
+      name = ap (get (codes "name")) is;
+      version = ap (get (codes "version")) is;
+      stated_cost = ap (get (codes "stated_cost")) is;
       options = ap (get (codes "options")) is;
     }

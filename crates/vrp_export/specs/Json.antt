@@ -7,6 +7,7 @@ use Rattle.serde_json.specs.Read.{read}
 use Rattle.serde_json.specs.View.{items_of}
 use Rattle.vrp_answer.specs.Finding.{FindingOf, status_text}
 use Rattle.vrp_export.specs.Gap.{IsGapOf}
+use Rattle.vrp_export.specs.declared.json.Context.{Context}
 use Rattle.vrp_export.specs.declared.json.Settings.{Settings}
 use Rattle.vrp_model.specs.Problem.{Problem, node_of, place_count}
 use Rattle.vrp_model.specs.Route.{PricedPlan}
@@ -33,18 +34,34 @@ abbrev pub routes_told : Option PricedPlan → List (List ℕ)
 routes_told None = []
 routes_told (Some plan) = plan.routes
 
+-- the text, or `null` where there is none
+abbrev pub text_or_null : Option (List ℕ) → Data
+text_or_null None = null
+text_or_null (Some text) = string text
+
+-- what a finding is told with: what the file calls itself, the program's version, the cost that the plan to begin with is stated to have,
+-- and how the run was asked for
+pub record ContextOf : Type 0 where
+  pub name : Option (List ℕ)
+  pub version : List ℕ
+  pub stated_cost : Option ℕ
+  pub asked : Settings
+
+abbrev pub context_by : Context → ContextOf
+context_by context = record { name = option_map (λ name. name.now) context.name; version = context.version.now; stated_cost = context.stated_cost; asked = context.asked }
+
 -- how the run was asked for
 abbrev pub options_told : Settings → Data
 options_told asked =
-    object (member (codes "budget") (number (unsigned asked.budget)) (member (codes "depot") (number_or_null asked.depot) (member (codes "pieces") (number (unsigned asked.pieces))
+    object (member (codes "budget") (number_or_null asked.budget) (member (codes "depot") (number_or_null asked.depot) (member (codes "pieces") (number (unsigned asked.pieces))
     (member (codes "seconds") (number_or_null asked.seconds) (member (codes "trucks") (number_or_null asked.trucks) (member (codes "workers") (number (unsigned asked.workers)) no_members))))))
 
 -- what the plan costs, if there is one
 abbrev pub cost_told : FindingOf → Option ℕ
 cost_told finding = option_map (λ plan. plan.cost) finding.plan
 
--- the object's verdict, cost, lower bound and gap, the nodes and the customers of each route, what is told of the problem, and how the run was asked for
-pub record IsDocument (p : Problem) (finding : FindingOf) (asked : Settings) (document : Data) : Type 0 where
+-- the object's verdict, cost, lower bound and gap, the nodes and the customers of each route, what is told of the problem, and with what
+pub record IsDocument (p : Problem) (finding : FindingOf) (context : ContextOf) (document : Data) : Type 0 where
   pub verdict : get (codes "verdict") document ≡ Some (string (status_text finding.status))
   pub cost : get (codes "cost") document ≡ Some (number_or_null (cost_told finding))
   pub lower_bound : get (codes "lower_bound") document ≡ Some (number_or_null finding.lower_bound)
@@ -58,7 +75,10 @@ pub record IsDocument (p : Problem) (finding : FindingOf) (asked : Settings) (do
   pub customers : get (codes "customers") document ≡ Some (number (unsigned (place_count p - 1)))
   pub capacity : get (codes "capacity") document ≡ Some (number (unsigned p.capacity))
   pub depot : get (codes "depot") document ≡ Some (number (unsigned (node_of p 0)))
-  pub options : get (codes "options") document ≡ Some (options_told asked)
+  pub name : get (codes "name") document ≡ Some (text_or_null context.name)
+  pub version : get (codes "version") document ≡ Some (string context.version)
+  pub stated_cost : get (codes "stated_cost") document ≡ Some (number_or_null context.stated_cost)
+  pub options : get (codes "options") document ≡ Some (options_told context.asked)
 
 -- a text that reads as the value, and a line feed
 pub record IsLineOf (value : Data) (text : List ℕ) : Type 0 where
@@ -67,7 +87,7 @@ pub record IsLineOf (value : Data) (text : List ℕ) : Type 0 where
   pub reads : read line ≡ Some value
 
 -- the line of such an object
-pub record IsJsonOf (p : Problem) (finding : FindingOf) (asked : Settings) (text : List ℕ) : Type 0 where
+pub record IsJsonOf (p : Problem) (finding : FindingOf) (context : ContextOf) (text : List ℕ) : Type 0 where
   pub value : Data
   pub line : IsLineOf value text
-  pub document : IsDocument p finding asked value
+  pub document : IsDocument p finding context value

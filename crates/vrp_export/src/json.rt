@@ -6,7 +6,7 @@ ghost use Rattle.serde_json.specs.View.{items_view, view};
 ghost use Rattle.vrp_answer.specs.Finding.{told_by};
 ghost use Rattle.vrp_export.specs.Inner.Document.{document_of, route_object};
 ghost use Rattle.vrp_export.specs.Inner.Routes.{AreRoutes};
-ghost use Rattle.vrp_export.specs.Json.{IsJsonOf, IsLineOf, customers_of, nodes_of, number_or_null, options_told, routes_told};
+ghost use Rattle.vrp_export.specs.Json.{IsJsonOf, IsLineOf, context_by, customers_of, nodes_of, number_or_null, options_told, routes_told, text_or_null};
 ghost use Rattle.vrp_export.specs.Stops.{ArePlaces, HaveStopsIn};
 ghost use Rattle.vrp_model.specs.Route.{IsPlanOf};
 
@@ -24,8 +24,8 @@ pub struct Settings {
     pub workers: u32,
     /// Parts into which the search was cut.
     pub pieces: u32,
-    /// Partial plans that might be looked at in each part.
-    pub budget: u64,
+    /// Partial plans that might be looked at in each part, if their number was given.
+    pub budget: Option<u64>,
     /// After how many seconds the search was to end, if there was a limit.
     pub seconds: Option<u32>,
     /// The node that was chosen as the depot, if one was.
@@ -34,25 +34,42 @@ pub struct Settings {
     pub trucks: Option<u16>,
 }
 
+/// What a finding is told with.
+#[derive(Clone, Copy, Debug, PartialEq, Eq, Drop)]
+pub struct Context<'a> {
+    /// What the file calls itself, if it does.
+    pub name: Option<&'a str>,
+    /// The program's version.
+    pub version: &'a str,
+    /// The cost that the plan to begin with is stated to have, if one is stated and is whole.
+    pub stated_cost: Option<u64>,
+    /// How the run was asked for.
+    pub asked: Settings,
+}
+
 /// What is told of an instance as one JSON object and a line feed. It has the members `capacity`, `cost`, `customers`, `depot`, `gap`,
-/// `lower_bound`, `options`, `routes`, each of them with its `cost`, `customers`, `load` and `nodes`, and `verdict`. Nodes have the
-/// file's numbers, and the customers of a route those of CVRPLIB: from 1 on by rising node, the depot left out. The gap is how far the
-/// plan may be from the best, in hundredths of a percent, rounded up. What isn't known is `null`, and without a plan there are no routes.
+/// `lower_bound`, `name`, `options`, `routes`, each of them with its `cost`, `customers`, `load` and `nodes`, `stated_cost`, `verdict` and
+/// `version`. Nodes have the file's numbers, and the customers of a route those of CVRPLIB: from 1 on by rising node, the depot left out.
+/// The gap is how far the plan may be from the best, in hundredths of a percent, rounded up. What isn't known is `null`, and without a
+/// plan there are no routes.
 ///
 /// What stands in `load` and `cost` of a route is left open.
 pub fn json_text(
     alloc: Global,
     instance: &Instance,
     finding: &Finding<'_>,
-    settings: Settings,
+    context: Context<'_>,
 ) -> Result<String, NoMemory>
     requires { ForSome (option_map (λ plan. plan.now) finding.now.plan) (IsPlanOf instance.now) }
-    ensures { IfOk result (λ text. IsJsonOf instance.now (told_by finding.now) settings (string_bytes text)) }
+    ensures { IfOk result (λ text. IsJsonOf instance.now (told_by finding.now) (context_by context.entry) (string_bytes text)) }
 {
     let routes = routes_of(alloc, instance, finding.plan)?;
-    let options = options_of(alloc, settings)?;
+    let options = options_of(alloc, context.asked)?;
+    let name = text_or_null(alloc, context.name)?;
     let gap = gap_of(instance, finding);
-    let document = document(alloc, instance, finding, gap, routes, options)?;
+    let document = document(
+        alloc, instance, finding, context, name, gap, routes, options,
+    )?;
     Ok(line_of(alloc, document)?)
 }
 
@@ -67,18 +84,23 @@ fn line_of(alloc: Global, object: Value) -> Result<String, AllocError>
     Ok(text)
 }
 
-// The object, with this gap, these routes and options.
+// The object, with this name, this gap, these routes and options.
 fn document(
     alloc: Global,
     instance: &Instance,
     finding: &Finding<'_>,
+    context: Context<'_>,
+    name: Value,
     gap: Option<u64>,
     routes: Vec<Value>,
     options: Value,
 ) -> Result<Value, AllocError>
+    requires name { view name ≡ text_or_null (context_by context).name }
+    requires options { view options ≡ options_told context.asked }
     ensures { IfOk result (λ value. view value
-        ≡ document_of instance.now (told_by finding.now) gap (map view routes.items) (view options)) }
+        ≡ document_of instance.now (told_by finding.now) (context_by context.entry) gap (map view routes.items)) }
 {
+    let version = context.version;
     let verdict = finding.status.as_str();
     let cost = or_null(cost_of(finding.plan));
     let lower_bound = or_null(finding.lower_bound);
@@ -86,9 +108,13 @@ fn document(
     let customers = instance.customers();
     let capacity = instance.capacity();
     let depot = instance.node(0);
+    let stated_cost = or_null(context.stated_cost);
     json!(in alloc; {
+        "name": name,
+        "version": version,
         "verdict": verdict,
         "cost": cost,
+        "stated_cost": stated_cost,
         "lower_bound": lower_bound,
         "gap": gap,
         "customers": customers,
@@ -119,17 +145,28 @@ fn or_null(number: Option<u64>) -> Value
     }
 }
 
+// A text, or `null` where there is none.
+fn text_or_null(alloc: Global, text: Option<&str>) -> Result<Value, AllocError>
+    ensures { IfOk result (λ value. view value ≡ text_or_null (option_map (λ text. text.now) text.entry)) }
+{
+    match text {
+        Some(text) => Value::try_from_str(alloc, text),
+        None => Ok(Value::Null),
+    }
+}
+
 // How the run was asked for, as an object.
 fn options_of(alloc: Global, settings: Settings) -> Result<Value, AllocError>
     ensures { IfOk result (λ value. view value ≡ options_told settings) }
 {
+    let budget = Value::from(settings.budget);
     let seconds = Value::from(settings.seconds);
     let depot = Value::from(settings.depot);
     let trucks = Value::from(settings.trucks);
     json!(in alloc; {
         "workers": settings.workers,
         "pieces": settings.pieces,
-        "budget": settings.budget,
+        "budget": budget,
         "seconds": seconds,
         "depot": depot,
         "trucks": trucks,

@@ -1,6 +1,7 @@
 //! A plan in each form, byte for byte.
 use crate::fixture::{
-    FOUR, SETTINGS, TWO_ROUTES, assert_text, count, drawn, file_of, instance, plan, points, told,
+    BARE, CONTEXT, FOUR, TWO_ROUTES, assert_text, count, drawn, file_of, instance, plan, points,
+    told,
 };
 use std::test::*;
 use vrp_answer::{Finding, Status};
@@ -20,10 +21,10 @@ fn solutions(rt: HostRuntime) {
 
 // The customers are the nodes but the depot, numbered from 1. 17 is 1 below 18, and 1 of 17 is 588.2 hundredths of a percent.
 const TWO_ROUTES_JSON: &str =
-    "{\"capacity\":10,\"cost\":18,\"customers\":3,\"depot\":2,\"gap\":589,\"lower_bound\":17,\"options\":{\"budget\":1000,\"depot\":2,\"pieces\":64,\"seconds\":null,\"trucks\":null,\"workers\":2},\"routes\":[{\"cost\":12,\"customers\":[1,2],\"load\":9,\"nodes\":[1,3]},{\"cost\":6,\"customers\":[3],\"load\":7,\"nodes\":[4]}],\"verdict\":\"Open\"}\n";
+    "{\"capacity\":10,\"cost\":18,\"customers\":3,\"depot\":2,\"gap\":589,\"lower_bound\":17,\"name\":\"four\",\"options\":{\"budget\":1000,\"depot\":2,\"pieces\":64,\"seconds\":null,\"trucks\":null,\"workers\":2},\"routes\":[{\"cost\":12,\"customers\":[1,2],\"load\":9,\"nodes\":[1,3]},{\"cost\":6,\"customers\":[3],\"load\":7,\"nodes\":[4]}],\"stated_cost\":18,\"verdict\":\"Open\",\"version\":\"1.2.3\"}\n";
 
 const NO_PLAN_JSON: &str =
-    "{\"capacity\":10,\"cost\":null,\"customers\":3,\"depot\":2,\"gap\":null,\"lower_bound\":null,\"options\":{\"budget\":1000,\"depot\":2,\"pieces\":64,\"seconds\":null,\"trucks\":null,\"workers\":2},\"routes\":[],\"verdict\":\"NoPlan\"}\n";
+    "{\"capacity\":10,\"cost\":null,\"customers\":3,\"depot\":2,\"gap\":null,\"lower_bound\":null,\"name\":null,\"options\":{\"budget\":null,\"depot\":null,\"pieces\":1,\"seconds\":60,\"trucks\":1,\"workers\":1},\"routes\":[],\"stated_cost\":null,\"verdict\":\"NoPlan\",\"version\":\"\"}\n";
 
 #[test]
 fn objects(rt: HostRuntime) {
@@ -31,10 +32,10 @@ fn objects(rt: HostRuntime) {
     let four = instance(&rt, alloc, FOUR);
     let plan = plan(&rt, alloc, &four, TWO_ROUTES);
     let open = told(Some(&plan), Status::Open, Some(17));
-    let text = json_text(alloc, &four, &open, SETTINGS).expect(&rt, "memory");
+    let text = json_text(alloc, &four, &open, CONTEXT).expect(&rt, "memory");
     assert_text(&rt, text.as_str(), TWO_ROUTES_JSON);
     let none = told(None, Status::NoPlan, None);
-    let text = json_text(alloc, &four, &none, SETTINGS).expect(&rt, "memory");
+    let text = json_text(alloc, &four, &none, BARE).expect(&rt, "memory");
     assert_text(&rt, text.as_str(), NO_PLAN_JSON);
 }
 
@@ -58,7 +59,7 @@ fn gaps(rt: HostRuntime) {
     let plan = plan(&rt, alloc, &four, TWO_ROUTES);
     for (status, lower_bound, gap) in GAPS {
         let finding = told(Some(&plan), *status, *lower_bound);
-        let text = json_text(alloc, &four, &finding, SETTINGS).expect(&rt, "memory");
+        let text = json_text(alloc, &four, &finding, CONTEXT).expect(&rt, "memory");
         let wanted = format!(in alloc; "\"gap\":{gap},").expect(&rt, "memory");
         assert!(&rt;
             text.as_str().contains(wanted.as_str()),
@@ -201,7 +202,7 @@ fn largest(rt: HostRuntime) {
     let text = solution_text(alloc, &finding).expect(&rt, "memory");
     assert!(&rt; text.as_str().ends_with("\nRoute #1199: 1199\nCost 0\n"));
     assert!(&rt; count(text.as_str(), "Route #") == 1_199);
-    let text = json_text(alloc, &instance, &finding, SETTINGS).expect(&rt, "memory");
+    let text = json_text(alloc, &instance, &finding, CONTEXT).expect(&rt, "memory");
     assert!(&rt; count(text.as_str(), "\"nodes\":[") == 1_199);
     assert!(&rt; count(text.as_str(), "\"customers\":[") == 1_199);
     assert!(&rt; count(text.as_str(), "\"gap\":0,") == 1);

@@ -7,7 +7,7 @@ use std::alloc::Global;
 use std::process::Abort;
 use std::test::*;
 use vrp_answer::{Finding, Status};
-use vrp_export::{Points, Settings, picture_text};
+use vrp_export::{Context, Points, Settings, picture_text};
 use vrp_model::{Instance, Plan};
 use vrp_solution::Solution;
 
@@ -18,13 +18,34 @@ pub(crate) const FOUR: &str =
 /// A plan of it.
 pub(crate) const TWO_ROUTES: &str = "Route #1: 1 2\nRoute #2: 3\nCost 18\n";
 
-pub(crate) const SETTINGS: Settings = Settings {
-    workers: 2,
-    pieces: 64,
-    budget: 1_000,
-    seconds: None,
-    depot: Some(2),
-    trucks: None,
+/// What is told of it beside a finding.
+pub(crate) const CONTEXT: Context<'static> = Context {
+    name: Some("four"),
+    version: "1.2.3",
+    stated_cost: Some(18),
+    asked: Settings {
+        workers: 2,
+        pieces: 64,
+        budget: Some(1_000),
+        seconds: None,
+        depot: Some(2),
+        trucks: None,
+    },
+};
+
+/// What is told where hardly anything is known.
+pub(crate) const BARE: Context<'static> = Context {
+    name: None,
+    version: "",
+    stated_cost: None,
+    asked: Settings {
+        workers: 1,
+        pieces: 1,
+        budget: None,
+        seconds: Some(60),
+        depot: None,
+        trucks: Some(1),
+    },
 };
 
 /// The instance of a file.

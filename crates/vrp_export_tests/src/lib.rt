@@ -6,4 +6,6 @@ mod export;
 #[cfg(test)]
 mod fixture;
 #[cfg(test)]
+mod names;
+#[cfg(test)]
 mod pages;

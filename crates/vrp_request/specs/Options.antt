@@ -1,5 +1,5 @@
 -- How a run is asked for where nothing is said, and what may be asked for.
-use Rattle.std.specs.Prelude.{◌≡◌, ◌≢◌, ◌≤◌, ℕ, None}
+use Rattle.std.specs.Prelude.{◌≡◌, ◌≢◌, ◌≤◌, None}
 use Rattle.std.specs.Option.{ForSome}
 use Rattle.vrp_model.specs.declared.limits.TheConstants.{MAX_NODES}
 use Rattle.vrp_tree.specs.declared.cutting.TheConstants.{MAX_PIECES}

@@ -6,8 +6,8 @@ use vrp_model::MAX_NODES;
 use vrp_pool::MAX_WORKERS;
 use vrp_tree::MAX_PIECES;
 
-// What `--version` prints behind the name.
-const VERSION: &str = "0.1.0";
+/// The program's version, which `--version` prints behind the name.
+pub const VERSION: &str = "0.1.0";
 
 const ABOUT: &str =
     "Plans the routes of delivery trucks. Reads a capacitated vehicle routing\nproblem (a file of TSPLIB 95, type CVRP) on standard input, and prints the\ncheapest plan that it finds and a verdict on it:\n\n    cvrp --workers 4 < FILE";

@@ -56,6 +56,8 @@ pub enum Format {
 pub struct Request<'a> {
     /// How the run is asked for.
     pub options: Options,
+    /// Whether the budget is given, and not left to the program.
+    pub states_budget: bool,
     /// After how many seconds the search ends, from 1 to `MAX_SECONDS`, or else no limit.
     pub seconds: Option<u32>,
     /// Whether standard error is told how the run goes.

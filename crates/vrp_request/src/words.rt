@@ -48,6 +48,7 @@ pub fn parse_request<'a>(alloc: Global, words: &'a [&'a str]) -> Result<Request<
     ensures check { IfOk result (λ request. IsTrue request.check → HasWord words.now (codes "--check")) }
     ensures strict { IfOk result (λ request. IsTrue request.strict → HasWord words.now (codes "--strict")) }
     ensures explain { IfOk result (λ request. IsTrue request.explain → HasWord words.now (codes "--explain")) }
+    ensures budget { IfOk result (λ request. IsTrue request.states_budget → HasWordFrom words.now (codes "--budget")) }
     ensures format { IfOk result (λ request. IsOtherFormat request.format → HasWordFrom words.now (codes "--format")) }
 {
     match asked_for(alloc, words) {
@@ -105,6 +106,7 @@ fn asked_for<'a>(alloc: Global, words: &'a [&'a str]) -> Result<Request<'a>, Err
     ensures check { IfOk result (λ request. IsTrue request.check → HasWord words.now (codes "--check")) }
     ensures strict { IfOk result (λ request. IsTrue request.strict → HasWord words.now (codes "--strict")) }
     ensures explain { IfOk result (λ request. IsTrue request.explain → HasWord words.now (codes "--explain")) }
+    ensures budget { IfOk result (λ request. IsTrue request.states_budget → HasWordFrom words.now (codes "--budget")) }
     ensures format { IfOk result (λ request. IsOtherFormat request.format → HasWordFrom words.now (codes "--format")) }
 {
     let matches = grammar(alloc)?.try_get_matches_from(words)?;
@@ -112,6 +114,7 @@ fn asked_for<'a>(alloc: Global, words: &'a [&'a str]) -> Result<Request<'a>, Err
         check: has_word(words, "--check"),
         strict: has_word(words, "--strict"),
         explain: has_word(words, "--explain"),
+        states_budget: has_word_from(words, "--budget"),
     };
     let format = format_of(&matches, words);
     Ok(chosen(&matches, flags, format))
@@ -172,12 +175,13 @@ pub fn line_fault(alloc: Global, error: &Error) -> LineFault
     }
 }
 
-// What is asked for by a word alone, and has to stand there.
+// What is asked for only where its word stands there.
 #[derive(Clone, Copy)]
 struct Flags {
     check: bool,
     strict: bool,
     explain: bool,
+    states_budget: bool,
 }
 
 // The values that stand in the words, and else the defaults.
@@ -185,6 +189,7 @@ fn chosen<'a>(matches: &ArgMatches<'a>, flags: Flags, format: Format) -> Request
     ensures check { result.check ≡ flags.check }
     ensures strict { result.strict ≡ flags.strict }
     ensures explain { result.explain ≡ flags.explain }
+    ensures budget { result.states_budget ≡ flags.states_budget }
     ensures format { result.format ≡ format }
     ensures in_range { AreInRange result.options }
     ensures some_depot { HasDepotFromOne result.options }
@@ -206,6 +211,7 @@ fn chosen<'a>(matches: &ArgMatches<'a>, flags: Flags, format: Format) -> Request
     };
     Request {
         options,
+        states_budget: flags.states_budget,
         seconds,
         progress: matches.get_flag("progress"),
         start: matches.get_str("start"),

@@ -1,7 +1,8 @@
 -- What is answered of a text, from what its lines list.
 use Rattle.std.proofs.Common.{◌≡◌, ◌≢◌, ◌∙◌, ◌↔◌, ℕ, pos, zero, suc, ◌<◌, ◌==◌, not, Bool, true, IsTrue, Option, Some, None, Ok, List, [], ◌∷◌, length, get_or, map, refl, sym, ap, subst, inl, inr, arith}
+use Rattle.std.specs.Option.{option_and_then}
 use Rattle.std.specs.Prelude.{filter}
-use Rattle.std.specs.List.{All, Contains}
+use Rattle.std.specs.List.{All, Contains, slice_get}
 use Rattle.std.specs.List.Sorted.{IsPermutation}
 use Rattle.std.proofs.lemmas.Bool.{cases_Bool}
 use Rattle.std.proofs.lemmas.Bool.Decides.{nat_tests}
@@ -12,11 +13,12 @@ use Rattle.vrp_model.specs.Problem.{Problem}
 use Rattle.vrp_model.specs.Route.{IsPlanOf, PricedPlan}
 use Rattle.vrp_model.proofs.DistinctLists.{behind_head}
 use Rattle.vrp_solution.specs.Line.{Cost, Line, Number, lines_of}
-use Rattle.vrp_solution.specs.Solution.{AreCustomers, GivenRoute, GivesPlan, StatesOtherCost, is_cost, stops_of}
-use Rattle.vrp_solution.specs.Inner.Listing.{Keeps, cost_lines, given_route, given_routes}
+use Rattle.vrp_solution.specs.Solution.{AreCustomers, GivenRoute, GivesPlan, StatesOtherCost, is_cost, stated_cost, stops_of, whole_cost}
+use Rattle.vrp_solution.specs.Inner.Listing.{Keeps, cost_lines, given_route, given_routes, kept_cost}
 use Rattle.vrp_solution.specs.Inner.Ordered.{AreRoutesOf}
 use Rattle.vrp_solution.specs.Inner.Read.{number_stated}
 use Rattle.vrp_solution.specs.declared.line.StatedCost.{StatedCost}
+use Rattle.vrp_solution.specs.declared.line.StatedCost.TheVariants.{Whole, Fraction}
 use Rattle.vrp_solution.specs.declared.listing.Listing.{Listing}
 use Rattle.vrp_solution.specs.declared.route.Route.{Route}
 use Rattle.vrp_solution.proofs.ListingLemmas.{kept_stands, lists_kept}
@@ -87,3 +89,12 @@ states_other p text listing cost true_cost tells keeps same answer = (
       let kept = stated_is listing.cost states.0 among in
       answer.1 (kept.0, kept.1, λ equal. states.2 (sym kept.2 ∙ equal ∙ ap (λ n. Ok (pos n)) same)),
 )
+
+-- the cost that is kept is the one that is stated
+kept_first : (cost : Option StatedCost) → kept_cost cost ≡ option_and_then whole_cost (slice_get (cost_lines cost) 0)
+kept_first None = refl
+kept_first (Some (Whole cost)) = refl
+kept_first (Some Fraction) = refl
+
+pub kept_is_stated : (p : Problem) (text : List ℕ) (listing : Listing) → Keeps p (lines_of text) listing → kept_cost listing.cost ≡ stated_cost text
+kept_is_stated p text listing keeps = kept_first listing.cost ∙ ap (λ (l : List Line). option_and_then whole_cost (slice_get l 0)) (sym keeps.costs)

@@ -1,6 +1,7 @@
 -- Which lawful plan a text gives, as CVRPLIB writes it, and when there is none.
-use Rattle.std.specs.Prelude.{◌≡◌, ◌≢◌, ◌⊎◌, ℕ, ℤ, pos, ◌+◌, ◌≤◌, ◌<◌, ◌==◌, Bool, true, false, not, Ok, Err, IsErr, List, ◌∷◌, ◌++◌, filter, length, map, ⊤}
-use Rattle.std.specs.List.{All, AllPairs, Contains, concat}
+use Rattle.std.specs.Prelude.{◌≡◌, ◌≢◌, ◌⊎◌, ℕ, ℤ, pos, unsigned_abs, ◌+◌, ◌≤◌, ◌<◌, ◌==◌, Bool, true, false, not, Option, None, Some, Ok, Err, IsErr, List, ◌∷◌, ◌++◌, filter, length, map, ⊤}
+use Rattle.std.specs.List.{All, AllPairs, Contains, concat, slice_get}
+use Rattle.std.specs.Option.{option_and_then}
 use Rattle.std.specs.List.Sorted.{IsPermutation}
 use Rattle.vrp_lexer.specs.declared.fault.FaultyLine.TheVariants.{BadNumber}
 use Rattle.vrp_model.specs.Problem.{HasTrucks, Problem, customers}
@@ -67,6 +68,18 @@ pub record GivesPlan (p : Problem) (text : List ℕ) (plan : PricedPlan) : Type 
   pub same : IsPermutation (stops_of routes) ordered
   pub turned : AreTurned ordered plan.routes
   pub plan_of : IsPlanOf p plan
+
+-- the cost that a line states, if that is whole
+abbrev pub whole_cost : Line → Option ℕ
+whole_cost Blank = None
+whole_cost (Route number stops) = None
+whole_cost (Cost (Ok cost)) = Some (unsigned_abs cost)
+whole_cost (Cost (Err fault)) = None
+whole_cost Unknown = None
+
+-- the cost that a text states: that of its first line that states one, if that is whole
+abbrev pub stated_cost : List ℕ → Option ℕ
+stated_cost text = option_and_then whole_cost (slice_get (filter is_cost (lines_of text)) 0)
 
 -- a line states a cost, and not this one
 abbrev pub StatesOtherCost : List ℕ → ℕ → Type 0

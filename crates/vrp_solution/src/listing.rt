@@ -2,7 +2,7 @@
 ghost use Rattle.std.specs.Prelude.{◌≡◌, ◌≢◌, ◌+◌, ◌<◌, ◌↔◌, ℕ, List, [], ◌∷◌, ◌++◌, IfErr, IfOk, IsTrue, OnOk, Ok, Some, length, map, pos};
 ghost use Rattle.vrp_solution.specs.Line.{Line, line_of, lines_of};
 ghost use Rattle.vrp_solution.specs.Solution.{AreCustomers, HaveFault, IsRefusedFor};
-ghost use Rattle.vrp_solution.specs.Inner.Listing.{IsCostAdded, IsRouteAdded, IsStopFault, Keeps, fault_at};
+ghost use Rattle.vrp_solution.specs.Inner.Listing.{IsCostAdded, IsRouteAdded, IsStopFault, Keeps, fault_at, kept_cost};
 ghost use Rattle.vrp_solution.specs.Inner.Read.{number_stated, stops_written};
 
 use crate::error::SolutionError;
@@ -110,6 +110,16 @@ impl Listing {
             Some(StatedCost::Whole(stated)) => stated != cost,
             Some(StatedCost::Fraction) => true,
             None => false,
+        }
+    }
+
+    /// The cost that the text states, if it states one and that is whole.
+    pub(crate) fn stated_cost(&self) -> Option<u64>
+        ensures { result ≡ kept_cost self.now.cost }
+    {
+        match self.cost {
+            Some(StatedCost::Whole(stated)) => Some(stated),
+            _ => None,
         }
     }
 }

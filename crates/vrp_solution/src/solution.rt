@@ -1,7 +1,7 @@
-//! A solution: the lawful plan that a text gives, and whether it states another cost.
-ghost use Rattle.std.specs.Prelude.{◌≢◌, ◌↔◌, IfErr, IfOk, IsTrue};
+//! A solution: the lawful plan that a text gives, and the cost that it states.
+ghost use Rattle.std.specs.Prelude.{◌≡◌, ◌≢◌, ◌↔◌, IfErr, IfOk, IsTrue};
 ghost use Rattle.vrp_model.specs.Route.{IsPlanOf};
-ghost use Rattle.vrp_solution.specs.Solution.{GivesPlan, IsRefusedFor, StatesOtherCost};
+ghost use Rattle.vrp_solution.specs.Solution.{GivesPlan, IsRefusedFor, StatesOtherCost, stated_cost};
 
 use crate::error::SolutionError;
 use crate::lawful::{plan_of, refusal_of};
@@ -16,6 +16,8 @@ pub struct Solution {
     pub plan: Plan,
     /// Whether the text states a cost, and not that one.
     pub states_other_cost: bool,
+    /// The cost that the text states, if it states one and that is whole.
+    pub stated_cost: Option<u64>,
 }
 
 impl Solution {
@@ -28,6 +30,7 @@ impl Solution {
         ensures lawful { IfOk result (λ solution. IsPlanOf instance.now solution.plan) }
         ensures other_cost { IfOk result (λ solution.
             IsTrue solution.states_other_cost ↔ StatesOtherCost text.now solution.plan.cost) }
+        ensures stated { IfOk result (λ solution. solution.stated_cost ≡ stated_cost text.now) }
         ensures refused { IfErr result (λ error.
             error ≢ SolutionError.OutOfMemory → IsRefusedFor instance.now text.now error) }
     {
@@ -35,9 +38,11 @@ impl Solution {
         match plan_of(alloc, instance, &listing.routes)? {
             Some(plan) => {
                 let states_other_cost = listing.states_other_cost(plan.cost());
+                let stated_cost = listing.stated_cost();
                 Ok(Solution {
                     plan,
                     states_other_cost,
+                    stated_cost,
                 })
             }
             None => Err(refusal_of(alloc, instance, &listing.routes)?),

@@ -52,6 +52,7 @@ fn assert_read(rt: &impl Abort, alloc: Global, instance: &Instance, text: &str, 
             Solution {
                 plan,
                 states_other_cost,
+                ..
             },
         ) => assert!(rt;
             Ok((plan.word(), plan.cost(), states_other_cost)) == wanted,
@@ -97,6 +98,26 @@ fn spellings(rt: HostRuntime) {
     let instance = instance(&rt, rt.alloc(), LINE, ONE_EACH, None);
     for (text, other) in SPELLINGS {
         assert_read(&rt, rt.alloc(), &instance, text, Ok((TWO, 12, *other)));
+    }
+}
+
+// Texts, and the costs that they state.
+const STATED: &[(&str, Option<u64>)] = &[
+    ("Route #1: 1 2\nRoute #2: 3 4\nCost 12\n", Some(12)),
+    ("cost: 1.3e1\nRoute #1: 1 2\nRoute #2: 3 4\n", Some(13)),
+    ("Route #1: 1 2\nRoute #2: 3 4\nCost 0\n", Some(0)),
+    ("Route #1: 1 2\nRoute #2: 3 4\nCost 11.9\n", None),
+    ("Route #1: 1 2\nRoute #2: 3 4\n", None),
+];
+
+#[test]
+fn stated_costs(rt: HostRuntime) {
+    let instance = instance(&rt, rt.alloc(), LINE, ONE_EACH, None);
+    for (text, cost) in STATED {
+        match Solution::read(rt.alloc(), text.as_bytes(), &instance) {
+            Ok(solution) => assert!(&rt; solution.stated_cost == *cost, "{text}"),
+            Err(error) => assert!(&rt; false, "{text}: {error}"),
+        }
     }
 }
 

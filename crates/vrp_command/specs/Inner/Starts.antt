@@ -1,21 +1,29 @@
 -- What is known of the file of a plan to begin with, step by step.
-use Rattle.std.specs.Prelude.{ℕ, ◌<◌, Option, List, length, ⊤}
-use Rattle.vrp_command.specs.Program.{IsFile}
-use Rattle.vrp_solution.specs.Solution.{GivesPlan}
+use Rattle.std.specs.Option.{option_and_then, option_map}
+use Rattle.std.specs.Prelude.{◌≡◌, ℕ, ◌<◌, Option, List, length, ⊤}
+use Rattle.vrp_command.specs.Program.{BeginsWith, IsFile, start_cost}
+use Rattle.vrp_solution.specs.Solution.{GivesPlan, stated_cost}
+use Rattle.vrp_solution.specs.declared.solution.Solution.{Solution}
 use Rattle.vrp_command.specs.declared.start.StartError.{StartError}
 use Rattle.vrp_command.specs.declared.start.StartError.TheVariants as start_fault
+use Rattle.vrp_command.specs.declared.start.StartFile.{StartFile}
 use Rattle.vrp_lexer.specs.declared.limits.TheConstants.{MAX_BYTES}
 use Rattle.vrp_model.specs.Problem.{Problem}
-use Rattle.vrp_model.specs.Route.{PricedPlan}
 use Rattle.vrp_solution.specs.declared.error.SolutionError.{SolutionError}
 use Rattle.vrp_solution.specs.declared.error.SolutionError.TheVariants as solution
 use Rattle.vrp_streams.specs.Input.{IsInput}
 
--- the whole of a file gives this plan
-pub record GivesFilePlan (p : Problem) (unread : Option (List ℕ)) (plan : PricedPlan) : Type 0 where
+-- the whole of a file gives the plan of this solution, and states its cost
+pub record GivesFilePlan (p : Problem) (unread : Option (List ℕ)) (solution : Solution) : Type 0 where
   pub text : List ℕ
   pub file : IsFile unread text
-  pub gives : GivesPlan p text plan
+  pub gives : GivesPlan p text solution.plan
+  pub stated : solution.stated_cost ≡ stated_cost text
+
+-- the plan to begin with, if one is given, is the one that its file's text gives, and so is the cost that is stated of it
+pub record BeginsStated {S : Type 0} (p : Problem) (unread : S → Option (List ℕ)) (file : Option (StartFile S)) (start : Option Solution) : Type 0 where
+  pub begins : BeginsWith p unread file (option_map (λ solution. solution.plan) start)
+  pub stated : option_and_then (λ solution. solution.stated_cost) start ≡ start_cost begins.text
 
 -- more was read of a file than it may have
 pub record IsTooLong (unread : Option (List ℕ)) : Type 0 where

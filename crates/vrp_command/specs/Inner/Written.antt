@@ -2,7 +2,8 @@
 use Rattle.std.specs.Prelude.{◌≡◌, ◌⊎◌, ℕ, Bool, Option, List}
 use Rattle.vrp_answer.specs.declared.status.Status.{Status}
 use Rattle.vrp_command.specs.Found.{WritesFound, WritesFoundPart}
-use Rattle.vrp_command.specs.Program.{BeginsWith, OnRefusedStart}
+use Rattle.vrp_command.specs.Program.{BeginsWith, OnRefusedStart, start_cost}
+use Rattle.vrp_command.specs.Text.{context_of}
 use Rattle.vrp_command.specs.declared.fault.RequestError.{RequestError}
 use Rattle.vrp_command.specs.declared.fault.RequestError.TheVariants as reason
 use Rattle.vrp_command.specs.declared.start.StartError.{StartError}
@@ -12,17 +13,17 @@ use Rattle.vrp_model.specs.Route.{PricedPlan}
 use Rattle.vrp_request.specs.declared.options.Request.{Request}
 use Rattle.vrp_streams.specs.declared.fault.RunError.TheVariants as fault
 
--- what a request finds of the problem, with the plan to begin with that its file gives, was written, and nothing else
-pub record WritesOn {S : Type 0} (request : Request) (may_stop : Bool) (p : Problem) (unread : S → Option (List ℕ)) (file : Option (StartFile S)) (written_old written_new : Option (List ℕ)) (ended : Status) : Type 0 where
+-- what a request finds of the problem of this name, with the plan to begin with that its file gives, was written, and nothing else
+pub record WritesOn {S : Type 0} (request : Request) (name : Option (List ℕ)) (may_stop : Bool) (p : Problem) (unread : S → Option (List ℕ)) (file : Option (StartFile S)) (written_old written_new : Option (List ℕ)) (ended : Status) : Type 0 where
   pub start : Option PricedPlan
   pub begins : BeginsWith p unread file start
-  pub written : WritesFound request may_stop p start written_old written_new ended
+  pub written : WritesFound request (context_of request name (start_cost begins.text)) may_stop p start written_old written_new ended
 
 -- a part of it was written, from its first byte on
-pub record WritesPartOn {S : Type 0} (request : Request) (may_stop : Bool) (p : Problem) (unread : S → Option (List ℕ)) (file : Option (StartFile S)) (written_old written_new : Option (List ℕ)) : Type 0 where
+pub record WritesPartOn {S : Type 0} (request : Request) (name : Option (List ℕ)) (may_stop : Bool) (p : Problem) (unread : S → Option (List ℕ)) (file : Option (StartFile S)) (written_old written_new : Option (List ℕ)) : Type 0 where
   pub start : Option PricedPlan
   pub begins : BeginsWith p unread file start
-  pub written : WritesFoundPart request may_stop p start written_old written_new
+  pub written : WritesFoundPart request (context_of request name (start_cost begins.text)) may_stop p start written_old written_new
 
 -- a fact on each fault that may come once the problem is read: none is the problem's
 abbrev pub OnFault : (StartError → Type 0) → Type 0 → RequestError → Type 0

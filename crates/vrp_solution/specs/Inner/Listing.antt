@@ -10,6 +10,7 @@ use Rattle.vrp_solution.specs.declared.error.SolutionError.TheVariants as error
 use Rattle.vrp_solution.specs.declared.line.LineError.{LineError}
 use Rattle.vrp_solution.specs.declared.line.LineError.TheVariants as bad
 use Rattle.vrp_solution.specs.declared.line.StatedCost.{StatedCost}
+use Rattle.vrp_solution.specs.declared.line.StatedCost.TheVariants.{Whole, Fraction}
 use Rattle.vrp_solution.specs.declared.listing.Listing.{Listing}
 use Rattle.vrp_solution.specs.declared.route.Route.{Route}
 
@@ -23,6 +24,12 @@ given_routes routes = map given_route routes
 abbrev pub cost_lines : Option StatedCost → List Line
 cost_lines None = []
 cost_lines (Some cost) = Cost (number_stated cost) ∷ []
+
+-- the same, if that is whole
+abbrev pub kept_cost : Option StatedCost → Option ℕ
+kept_cost None = None
+kept_cost (Some (Whole cost)) = Some cost
+kept_cost (Some Fraction) = None
 
 -- nothing is wrong with these lines, and this is what they list
 pub record Keeps (p : Problem) (lines : List Line) (listing : Listing) : Type 0 where

@@ -1,3 +1,5 @@
+use Rattle.std.specs.Option.{option_map}
+use Rattle.std.specs.Prelude.{string_bytes}
 use Rattle.vrp_command.specs.declared.start.StartError.{StartError}
 use Rattle.vrp_command.specs.Program.{RefusesStart, RefusesStartFile}
 use Rattle.vrp_command.specs.Run.{RefusesInput}
@@ -11,7 +13,7 @@ returns-in-Ok-clause-printed g c =
     let may_stop = g.G.Gate.may_stop c.args.gate.now in
     let prints =
     prints_request c.args.request may_stop (λ file. g.S.Read.remaining file) c.args.start (left c.args.input.now) (left c.read_problem.new.input) (held c.args.output.now) (held c.answer_on-outcome.new.output)
-    c.in-Ok.problem.instance c.in-Ok.ensures.read in
+    c.in-Ok.problem.instance (option_map string_bytes c.in-Ok.problem.beside.name) c.in-Ok.ensures.read in
     on_ok c.answer_on-outcome.result prints c.answer_on-outcome.ensures.printed
 
 pub returns-in-Ok-clause-begun : goal.returns-in-Ok-clause-begun
@@ -21,7 +23,7 @@ returns-in-Ok-clause-begun g c =
     let may_stop = g.G.Gate.may_stop c.args.gate.now in
     let part =
     prints_part_of_request c.args.request may_stop (λ file. g.S.Read.remaining file) c.args.start (left c.args.input.now) (left c.read_problem.new.input) (held c.args.output.now) (held c.answer_on-outcome.new.output)
-    c.in-Ok.problem.instance c.in-Ok.ensures.read in
+    c.in-Ok.problem.instance (option_map string_bytes c.in-Ok.problem.beside.name) c.in-Ok.ensures.read in
     on_err c.answer_on-outcome.result (λ error known is. part (known is)) c.answer_on-outcome.ensures.begun
 
 pub returns-in-Ok-clause-refused : goal.returns-in-Ok-clause-refused
@@ -30,7 +32,7 @@ returns-in-Ok-clause-refused g c =
     let p = c.in-Ok.problem.instance in
     let Start : StartError → Type 0 = RefusesStartFile p (λ file. g.S.Read.remaining file) c.args.start in
     let Starts : StartError → Type 0 = RefusesStart c.args.request (λ file. g.S.Read.remaining file) c.args.start (left c.args.input.now) (left c.read_problem.new.input) in
-    let step : (error : StartError) → Start error → Starts error = λ error refused. record { problem = p; read = c.in-Ok.ensures.read; refused = refused } in
+    let step : (error : StartError) → Start error → Starts error = λ error refused. record { problem = p; read = c.in-Ok.ensures.read.read; refused = refused } in
     on_err c.answer_on-outcome.result (on_refusal_of (RefusesInput c.args.request.options.depot (left c.args.input.now) (left c.read_problem.new.input)) Start Starts _ step) c.answer_on-outcome.ensures.refused
 
 pub returns-in-Ok-clause-failed : goal.returns-in-Ok-clause-failed

@@ -9,21 +9,21 @@ print_finding-requires g c =
     λ plan is. c.requires.start plan (c.in-Some.ensures.1 ∙ sym (ap (λ (f : FindingOf). f.plan) c.lawful.ensures) ∙ is)
 
 pub returns-in-Some-clause-printed : goal.returns-in-Some-clause-printed
-returns-in-Some-clause-printed g c =
+returns-in-Some-clause-printed g c context is =
     let p = c.args.instance.now in
     let may_stop = g.G.Gate.may_stop c.args.gate.now in
     let held = g.W.Write.contents in
     let start = option_map (λ plan. plan.now) c.args.start in
     let told = told_by c.lawful.result in
     let found = is_checked c.args.request may_stop p start c.in-Some.plan.now told c.in-Some.ensures.0 c.in-Some.ensures.1 c.lawful.ensures in
-    writes_found c.args.request may_stop p start c.args.form told (held c.args.output.now) (held c.print_finding.new.output) c.requires.form found c.print_finding.result c.print_finding.ensures.printed c.print_finding.ensures.status
+    writes_found c.args.request context may_stop p start c.args.form told (held c.args.output.now) (held c.print_finding.new.output) is found c.print_finding.result c.print_finding.ensures.printed c.print_finding.ensures.status
 
 pub returns-in-Some-clause-begun : goal.returns-in-Some-clause-begun
-returns-in-Some-clause-begun g c =
+returns-in-Some-clause-begun g c context is =
     let p = c.args.instance.now in
     let may_stop = g.G.Gate.may_stop c.args.gate.now in
     let held = g.W.Write.contents in
     let start = option_map (λ plan. plan.now) c.args.start in
     let told = told_by c.lawful.result in
     let found = is_checked c.args.request may_stop p start c.in-Some.plan.now told c.in-Some.ensures.0 c.in-Some.ensures.1 c.lawful.ensures in
-    writes_found_part c.args.request may_stop p start c.args.form told (held c.args.output.now) (held c.print_finding.new.output) c.requires.form found c.print_finding.result c.print_finding.ensures.begun
+    writes_found_part c.args.request context may_stop p start c.args.form told (held c.args.output.now) (held c.print_finding.new.output) is found c.print_finding.result c.print_finding.ensures.begun

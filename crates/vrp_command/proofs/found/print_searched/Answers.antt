@@ -11,7 +11,7 @@ print_told-printed-requires g c =
     c.told-finding.ensures c.in_ok-solved.ensures.answer
 
 pub returns-clause-printed : goal.returns-clause-printed
-returns-clause-printed g c =
+returns-clause-printed g c context is =
     let p = c.args.instance.now in
     let may_stop = g.G.Gate.may_stop c.args.gate.now in
     let held = g.W.Write.contents in
@@ -19,11 +19,11 @@ returns-clause-printed g c =
     let solved = c.in_ok-solved.solved in
     let told = told_by c.told-finding.result in
     let found = is_searched c.args.request may_stop p start solved.answer solved.lower_bound told c.requires.unchecked c.in_ok-solved.ensures.answer c.in_ok-solved.ensures.no_dearer c.in_ok-solved.ensures.bound c.told-finding.ensures in
-    writes_found c.args.request may_stop p start c.args.form told (held c.args.output.now) (held c.print_told-printed.new.output) c.requires.form found
+    writes_found c.args.request context may_stop p start c.args.form told (held c.args.output.now) (held c.print_told-printed.new.output) is found
     c.print_told-printed.result c.print_told-printed.ensures.printed c.print_told-printed.ensures.status
 
 pub returns-clause-begun : goal.returns-clause-begun
-returns-clause-begun g c =
+returns-clause-begun g c context is =
     let p = c.args.instance.now in
     let may_stop = g.G.Gate.may_stop c.args.gate.now in
     let held = g.W.Write.contents in
@@ -31,5 +31,5 @@ returns-clause-begun g c =
     let solved = c.in_ok-solved.solved in
     let told = told_by c.told-finding.result in
     let found = is_searched c.args.request may_stop p start solved.answer solved.lower_bound told c.requires.unchecked c.in_ok-solved.ensures.answer c.in_ok-solved.ensures.no_dearer c.in_ok-solved.ensures.bound c.told-finding.ensures in
-    writes_found_part c.args.request may_stop p start c.args.form told (held c.args.output.now) (held c.print_told-printed.new.output) c.requires.form found
+    writes_found_part c.args.request context may_stop p start c.args.form told (held c.args.output.now) (held c.print_told-printed.new.output) is found
     c.print_told-printed.result c.print_told-printed.ensures.begun

@@ -1,10 +1,10 @@
-use Rattle.std.proofs.Common.{List, subst}
+use Rattle.std.proofs.Common.{◌∙◌, List, subst}
 use Rattle.vrp_solution.specs.Line.{lines_of}
 use Rattle.vrp_solution.specs.Inner.Listing.{given_routes}
 use Rattle.vrp_solution.specs.Inner.Served.{AreFaulty}
 use Rattle.vrp_solution.specs.declared.route.Route.{Route}
 use Rattle.vrp_solution.proofs.FaultyRoutes.{lines_are_faulty}
-use Rattle.vrp_solution.proofs.ReadSolutions.{customers_kept, gives_plan, states_other, stops_kept}
+use Rattle.vrp_solution.proofs.ReadSolutions.{customers_kept, gives_plan, kept_is_stated, states_other, stops_kept}
 use Rattle.vrp_solution.proofs.solution.Solution.read.Goals as goal
 
 pub plan_of-requires-clause-customers : goal.plan_of-requires-clause-customers
@@ -20,6 +20,9 @@ returns-in-Some-clause-read c =
 pub returns-in-Some-clause-other_cost : goal.returns-in-Some-clause-other_cost
 returns-in-Some-clause-other_cost c =
     states_other c.args.instance.now c.args.text.now c.in_ok-listing.listing c.cost.result c.in-Some.plan.cost c.states_other_cost-states_other_cost.result c.in_ok-listing.ensures.listed c.cost.ensures c.states_other_cost-states_other_cost.ensures
+
+pub returns-in-Some-clause-stated : goal.returns-in-Some-clause-stated
+returns-in-Some-clause-stated c = c.stated_cost-stated_cost.ensures ∙ kept_is_stated c.args.instance.now c.args.text.now c.in_ok-listing.listing c.in_ok-listing.ensures.listed
 
 pub refusal_of-requires-clause-customers : goal.refusal_of-requires-clause-customers
 refusal_of-requires-clause-customers c = rw c.deref-in-None.ensures.value (customers_kept c.args.instance.now (lines_of c.args.text.now) c.in_ok-listing.listing c.in_ok-listing.ensures.listed)
