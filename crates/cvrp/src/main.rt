@@ -21,7 +21,8 @@ fn main(rt: HostRuntime) -> ExitCode {
     ExitCode::from(status)
 }
 
-// The exit status of what the words behind the program's name ask for, if they can be had. Hints tell that a terminal's file is awaited.
+// The exit status of what the words behind the program's name ask for, if they can be had. At a terminal the user is told that the file
+// is awaited there.
 fn run_args<
     R: Env + AllocGlobal + Files + Input + Print + Eprint + Clock + Threads + Wait + Sync,
     E: Write,
@@ -32,12 +33,11 @@ fn run_args<
     };
     let args: Vec<String> = args.skip(1).collect(rt.alloc())?;
     let words: Vec<&str> = args.iter().map(String::as_str).collect(rt.alloc())?;
-    let tells = at_terminal && words.contains(&"--explain");
     Ok(run_words(
         rt,
         rt.alloc(),
         &words,
-        &mut Awaited::new(rt.reader(), tells, rt),
+        &mut Awaited::new(rt.reader(), at_terminal, rt),
         &mut io::writer(rt),
         errors,
         &NoGate,
