@@ -14,11 +14,12 @@ ghost use Rattle.vrp_model.specs.Route.{IsPlanOf};
 use anyhow::{Context, Result, ensure};
 use std::alloc::Global;
 use std::rt::{Clock, Files};
+use std::thread::Threads;
 use std::time::{Duration, Instant};
 use std::{env, fs};
 use vrp_ascent::{FoundPrices, find_prices};
 use vrp_bound::{MemoryTables, Tables};
-use vrp_first::{ENOUGH_MOVES, Unhurried, first_plan};
+use vrp_first::{Crew, ENOUGH_MOVES, Unhurried, first_plan};
 use vrp_memory::{MOST_NEAR, Memory};
 use vrp_model::{Instance, NO_COST, Plan};
 use vrp_search::{Cutting, Ended, Local, Prices, search_by_prices};
@@ -53,7 +54,7 @@ fn read<R: Files + AllocGlobal>(rt: &R, name: &str) -> Result<Instance> {
 }
 
 // Finds prices and searches by them, and prints what came of it.
-fn measure<R: Clock + Print + Eprint + AllocGlobal>(
+fn measure<R: Clock + Print + Eprint + AllocGlobal + Threads + Sync>(
     rt: &R,
     name: &str,
     instance: &Instance,
@@ -97,11 +98,21 @@ fn search_by_found<R: Clock + Eprint + AllocGlobal>(
 }
 
 // The first plan, and prints how long it took.
-fn timed_plan<R: Clock + Eprint + AllocGlobal>(rt: &R, instance: &Instance) -> Result<Plan>
+fn timed_plan<R: Clock + Eprint + AllocGlobal + Threads + Sync>(
+    rt: &R,
+    instance: &Instance,
+) -> Result<Plan>
     ensures { IfOk result (IsPlanOf instance.now) }
 {
     let start = Instant::now(rt)?;
-    let found = first_plan(rt.alloc(), instance, ENOUGH_MOVES, &Unhurried)?;
+    let crew = Crew {
+        rt,
+        alloc: rt.alloc(),
+        instance,
+        workers: 1,
+        watch: &Unhurried,
+    };
+    let found = first_plan(&crew, ENOUGH_MOVES)?;
     print_time(rt, "first plan", start.elapsed(rt)?)?;
     found.context("no first plan")
 }

@@ -13,7 +13,7 @@ use std::time::{Duration, Instant};
 use std::{env, fs};
 use vrp_ascent::{FoundPrices, find_prices};
 use vrp_bound::MemoryTables;
-use vrp_first::{ENOUGH_MOVES, Unhurried, first_plan};
+use vrp_first::{Crew, ENOUGH_MOVES, Unhurried, first_plan};
 use vrp_model::{Instance, NO_COST};
 use vrp_routes::{Listed, MOST_CUSTOMERS, can_list, list_routes};
 
@@ -47,8 +47,15 @@ fn read<R: Files + AllocGlobal>(rt: &R, name: &str) -> Result<Instance> {
 }
 
 // What a first plan costs.
-fn cost_of_first(rt: &impl AllocGlobal, instance: &Instance) -> Result<u64> {
-    let plan = first_plan(rt.alloc(), instance, ENOUGH_MOVES, &Unhurried)?;
+fn cost_of_first<R: AllocGlobal + Threads + Sync>(rt: &R, instance: &Instance) -> Result<u64> {
+    let crew = Crew {
+        rt,
+        alloc: rt.alloc(),
+        instance,
+        workers: 1,
+        watch: &Unhurried,
+    };
+    let plan = first_plan(&crew, ENOUGH_MOVES)?;
     Ok(plan.context("no plan")?.cost())
 }
 

@@ -4,26 +4,16 @@ ghost use Rattle.vrp_model.specs.Route.{IsPlanOf};
 
 use crate::first::{cheaper, first_threshold};
 use crate::pace::Pace;
-use std::alloc::Global;
-use std::thread::{Threads, for_each_mut};
-use vrp_model::{Instance, NoMemory, Plan};
-use vrp_recreate::{Setting, Threshold, Watch, run};
+use crate::runs::{Crew, Round, run_all};
+use std::thread::Threads;
+use vrp_model::{NoMemory, Plan};
+use vrp_recreate::{Setting, Threshold, Watch};
 
 // The number of the first run: those of a first plan have lower ones.
 const FIRST_RUN: u64 = 100;
 
 // Each round takes at least as long as the one before, and the last ones a twentieth of a second.
 const MOST_ROUNDS: u32 = 100_000;
-
-/// Who looks for better plans: so many workers, each in a thread of its own where one can be made, and who waits for them.
-#[derive(Clone, Copy)]
-pub struct Crew<'a, R, W> {
-    pub rt: &'a R,
-    pub alloc: Global,
-    pub instance: &'a Instance,
-    pub workers: u16,
-    pub watch: &'a W,
-}
 
 /// The plan, or a better one: in each round each worker has a run of ruin and recreate of its own, from the best plan so far, whose
 /// chances go by a number of its own. A round takes twice as long as the one before, and the last one all the time that is left: so its
@@ -45,7 +35,7 @@ pub fn improved_plan<R: Threads + Sync, W: Watch + Sync>(
     let setting = Setting::new(crew.alloc, crew.instance)?;
     let start = first_threshold(crew.instance);
     let mut pace = Pace::new();
-    let mut number = FIRST_RUN;
+    let mut first = FIRST_RUN;
     for _ in 0..MOST_ROUNDS {
         let left = time_left(crew.watch);
         let Some(positions) = pace.positions(left) else {
@@ -56,8 +46,14 @@ pub fn improved_plan<R: Threads + Sync, W: Watch + Sync>(
             moves: u32::MAX,
             positions,
         };
-        best = round(crew, &setting, threshold, number, best)?;
-        number = number.saturating_add(u64::from(crew.workers));
+        let round = Round {
+            first,
+            runs: crew.workers,
+            threshold,
+            gathers: 0,
+        };
+        best = best_of_round(crew, &setting, round, best)?;
+        first = first.saturating_add(u64::from(crew.workers));
         pace.note(positions, left, crew.watch.milliseconds_left());
     }
     Ok(best)
@@ -72,20 +68,11 @@ fn time_left<W: Watch>(watch: &W) -> Option<u64> {
     }
 }
 
-// A worker's run of a round.
-#[derive(Drop)]
-struct Run {
-    number: u64,
-    // What it made of the plan, once it has run; nothing before.
-    word: Result<Vec<u16>, NoMemory>,
-}
-
-// The best of a plan and of what a round makes of it, whose runs have numbers from this one on.
-fn round<R: Threads + Sync, W: Watch + Sync>(
+// The best of a plan and of what a round makes of it.
+fn best_of_round<R: Threads + Sync, W: Watch + Sync>(
     crew: &Crew<'_, R, W>,
     setting: &Setting<'_>,
-    threshold: Threshold,
-    number: u64,
+    round: Round,
     plan: Plan,
 ) -> Result<Plan, NoMemory>
     requires workers { 1 ≤ crew.now.workers }
@@ -93,38 +80,10 @@ fn round<R: Threads + Sync, W: Watch + Sync>(
     ensures lawful { IfOk result (IsPlanOf crew.now.instance.now) }
     ensures no_dearer { IfOk result (λ found. found.cost ≤ plan.cost) }
 {
-    let mut runs = Vec::with_capacity(crew.alloc, usize::from(crew.workers))?;
-    for index in 0..crew.workers {
-        runs.push(Run {
-            number: number.saturating_add(u64::from(index)),
-            word: Ok(Vec::new(crew.alloc)),
-        })?;
-    }
-    run_all(crew, setting, threshold, plan.word(), &mut runs);
+    let runs = run_all(crew, setting, round, plan.word())?;
     let mut best = plan;
     for run in runs {
         best = cheaper(crew.alloc, crew.instance, &run.word?, best)?;
     }
     Ok(best)
-}
-
-// Lets all runs of a round run from a word, side by side.
-fn run_all<R: Threads + Sync, W: Watch + Sync>(
-    crew: &Crew<'_, R, W>,
-    setting: &Setting<'_>,
-    threshold: Threshold,
-    word: &[u16],
-    runs: &mut Vec<Run>,
-)
-    requires workers { 1 ≤ crew.now.workers }
-{
-    let (alloc, watch) = (crew.alloc, crew.watch);
-    for_each_mut(
-        crew.rt,
-        runs.as_mut_slice(),
-        usize::from(crew.workers),
-        &|_, one: &mut Run| {
-            one.word = run(alloc, setting, word, threshold, one.number, watch);
-        },
-    );
 }

@@ -4,7 +4,10 @@
 mod first;
 mod improved;
 mod pace;
+mod recombined;
+mod runs;
 
 pub use first::{ENOUGH_MOVES, first_plan};
-pub use improved::{Crew, improved_plan};
+pub use improved::improved_plan;
+pub use runs::Crew;
 pub use vrp_recreate::{Unhurried, Watch};

@@ -3,8 +3,9 @@ use crate::assertion::assert_same;
 use crate::fixture::{Told, by_matrix, scattered};
 use std::alloc::Global;
 use std::process::Abort;
-use vrp_first::{Unhurried, Watch, first_plan};
-use vrp_model::Plan;
+use std::thread::Threads;
+use vrp_first::{Crew, Unhurried, Watch, first_plan};
+use vrp_model::{Instance, Plan};
 use vrp_savings::savings_plan;
 
 const LINE: &[u64] = &[0, 1, 2, 1, 0, 1, 2, 1, 0];
@@ -38,11 +39,32 @@ const BY_HAND: &[Small<'_>] = &[
 #[test]
 fn worked_by_hand(rt: HostRuntime) {
     for &small in BY_HAND {
-        assert_small(&rt, rt.alloc(), small);
+        for workers in [1, 3] {
+            assert_small(&rt, rt.alloc(), small, workers);
+        }
     }
 }
 
-fn assert_small(rt: &impl Abort, alloc: Global, small: Small<'_>) {
+// The first plan of so many workers and moves, for which a watch waits.
+fn planned<R: Threads + Abort + Sync, W: Watch + Sync>(
+    rt: &R,
+    alloc: Global,
+    instance: &Instance,
+    (workers, moves): (u16, u32),
+    watch: &W,
+) -> Option<Plan> {
+    assert!(rt; 1 <= workers);
+    let crew = Crew {
+        rt,
+        alloc,
+        instance,
+        workers,
+        watch,
+    };
+    first_plan(&crew, moves).expect(rt, "memory")
+}
+
+fn assert_small<R: Threads + Abort + Sync>(rt: &R, alloc: Global, small: Small<'_>, workers: u16) {
     let (ways, demands, trucks, cost) = small;
     let told = Told {
         demands,
@@ -50,7 +72,7 @@ fn assert_small(rt: &impl Abort, alloc: Global, small: Small<'_>) {
         trucks,
     };
     let instance = by_matrix(rt, alloc, ways, told);
-    let plan = first_plan(alloc, &instance, 100, &Unhurried).expect(rt, "memory");
+    let plan = planned(rt, alloc, &instance, (workers, 100), &Unhurried);
     assert_same(rt, plan.as_ref().map(Plan::cost), cost, (ways, demands));
 }
 
@@ -58,18 +80,23 @@ fn assert_small(rt: &impl Abort, alloc: Global, small: Small<'_>) {
 #[test]
 fn many_customers(rt: HostRuntime) {
     let instance = scattered(&rt, rt.alloc(), 1_200, 1, 0);
-    let plan = first_plan(rt.alloc(), &instance, 200, &Unhurried).expect(&rt, "memory");
+    let plan = planned(&rt, rt.alloc(), &instance, (1, 200), &Unhurried);
     let plan = plan.expect(&rt, "a plan");
     assert!(rt; plan.cost() < 124_175);
 }
 
-// Two calls answer the same.
+// Any number of workers answers the same, of few customers and of so many that the runs go in two rounds.
 #[test]
-fn the_same_twice(rt: HostRuntime) {
-    let instance = scattered(&rt, rt.alloc(), 60, 1, 0);
-    let once = first_plan(rt.alloc(), &instance, 1_000, &Unhurried).expect(&rt, "memory");
-    let again = first_plan(rt.alloc(), &instance, 1_000, &Unhurried).expect(&rt, "memory");
-    assert_one_plan(&rt, once, again);
+fn the_same_by_any_number(rt: HostRuntime) {
+    for nodes in [60, 200] {
+        assert!(rt; nodes <= 200);
+        let instance = scattered(&rt, rt.alloc(), nodes, 1, 0);
+        for workers in [1, 2, 5] {
+            let once = planned(&rt, rt.alloc(), &instance, (1, 400), &Unhurried);
+            let again = planned(&rt, rt.alloc(), &instance, (workers, 400), &Unhurried);
+            assert_one_plan(&rt, once, again);
+        }
+    }
 }
 
 // Told to stop before the first move, the plan is that by savings.
@@ -77,7 +104,7 @@ fn the_same_twice(rt: HostRuntime) {
 fn stopped_at_once(rt: HostRuntime) {
     let instance = scattered(&rt, rt.alloc(), 60, 1, 0);
     let by_savings = savings_plan(rt.alloc(), &instance).expect(&rt, "memory");
-    let stopped = first_plan(rt.alloc(), &instance, 1_000, &Stopped).expect(&rt, "memory");
+    let stopped = planned(&rt, rt.alloc(), &instance, (2, 1_000), &Stopped);
     assert_one_plan(&rt, stopped, by_savings);
 }
 

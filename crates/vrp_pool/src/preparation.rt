@@ -1,13 +1,14 @@
 //! What is made before the pieces are searched: a plan to begin with, and prices to prune by.
-ghost use Rattle.std.specs.Prelude.{◌≡◌, ◌<◌, None, IfOk, IfSome};
+ghost use Rattle.std.specs.Prelude.{◌≡◌, ◌<◌, ◌≤◌, None, IfOk, IfSome};
 ghost use Rattle.vrp_model.specs.Problem.{place_count};
 ghost use Rattle.vrp_model.specs.Route.{IsPlanOf};
 ghost use Rattle.vrp_pool.specs.declared.preparation.TheConstants.{LEAST_PREPARED_BUDGET};
 
 use crate::timed_gate::TimedGate;
+use std::thread::Threads;
 use vrp_answer::{Gate, News, Shared};
 use vrp_ascent::{FoundPrices, MOST_SEARCHED, find_prices};
-use vrp_first::{ENOUGH_MOVES, Watch};
+use vrp_first::{Crew, ENOUGH_MOVES, Watch};
 use vrp_model::{NoMemory, Plan};
 
 /// The least budget of a piece with which anything is made before. With a lesser one a run is a look at the tree.
@@ -39,8 +40,13 @@ const PARTS_OF_TIME: u64 = 3;
 const STEPS_A_MILLISECOND: u64 = 2_000_000;
 
 /// A plan near the best, if one is found: by savings, and where many partial plans may be looked at in all, by ruin and recreate
-/// too.
-pub(crate) fn first_plan<R, G: Gate>(shared: &Shared<'_, R, G>) -> Result<Option<Plan>, NoMemory>
+/// too, by all workers.
+pub(crate) fn first_plan<R: Threads + Sync, G: Gate + Sync>(
+    shared: &Shared<'_, R, G>,
+    workers: u32,
+) -> Result<Option<Plan>, NoMemory>
+    requires some_worker { 1 ≤ workers }
+    requires few_workers { workers ≤ 64 }
     ensures lawful { IfOk result (λ plan. IfSome plan (IsPlanOf shared.now.problem)) }
     ensures look { shared.now.budget < LEAST_PREPARED_BUDGET → IfOk result (λ plan. plan ≡ None) }
 {
@@ -62,7 +68,14 @@ pub(crate) fn first_plan<R, G: Gate>(shared: &Shared<'_, R, G>) -> Result<Option
         gate: shared.gate,
         kept: 0,
     };
-    let plan = vrp_first::first_plan(shared.alloc, shared.instance, moves, &watch)?;
+    let crew = Crew {
+        rt: shared.rt,
+        alloc: shared.alloc,
+        instance: shared.instance,
+        workers: workers as u16,
+        watch: &watch,
+    };
+    let plan = vrp_first::first_plan(&crew, moves)?;
     if let Some(plan) = &plan {
         shared.gate.hears(News::Plan(plan.cost()));
     }

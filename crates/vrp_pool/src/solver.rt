@@ -130,7 +130,7 @@ fn solve_shared<R: Threads + Wait + Sync, G: Gate + Sync>(
             lower_bound: 0,
         });
     }
-    let made = first_plan(shared)?;
+    let made = first_plan(shared, workers)?;
     let solved = solve_prepared(&shared.with_plan(made.as_ref()), cutting, workers);
     drop(made);
     solved

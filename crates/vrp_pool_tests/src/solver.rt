@@ -8,7 +8,7 @@ use std::alloc::Global;
 use std::process::Abort;
 use std::sync::Wait;
 use std::thread::Threads;
-use vrp_first::{Unhurried, first_plan};
+use vrp_first::{Crew, Unhurried, first_plan};
 use vrp_model::{Instance, Plan};
 use vrp_pool::{Answer, Gate, MAX_WORKERS, NoGate, solve};
 use vrp_search::{Cutting, MAX_PIECES};
@@ -147,7 +147,14 @@ fn left_open(rt: HostRuntime) {
 #[test]
 fn first_plan_by_savings(rt: HostRuntime) {
     let free = line(&rt, rt.alloc());
-    let savings = first_plan(rt.alloc(), &free, 0, &Unhurried).expect(&rt, "memory");
+    let crew = Crew {
+        rt: &rt,
+        alloc: rt.alloc(),
+        instance: &free,
+        workers: 1,
+        watch: &Unhurried,
+    };
+    let savings = first_plan(&crew, 0).expect(&rt, "memory");
     assert!(rt; savings.is_some_and(|plan| plan.cost() == 400));
     let limited = line(&rt, rt.alloc()).with_trucks(2);
     for instance in [&free, &limited] {

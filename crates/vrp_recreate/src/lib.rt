@@ -2,6 +2,7 @@
 //! What comes of a run only guides: whoever makes a plan of it asks first whether that is lawful.
 #![tactic(auto)]
 
+mod gathered;
 mod moves;
 mod near;
 mod random;
@@ -14,6 +15,7 @@ mod threshold;
 mod watch;
 mod ways;
 
+pub use gathered::Gathered;
 pub use moves::{States, run};
 pub use random::Random;
 pub use routes::Routes;

@@ -2,6 +2,7 @@
 ghost use Rattle.std.specs.Prelude.{◌≡◌, ◌<◌, IfOk};
 ghost use Rattle.vrp_model.specs.Problem.{place_count};
 
+use crate::gathered::Gathered;
 use crate::random::Random;
 use crate::recreate::recreate;
 use crate::routes::Routes;
@@ -36,9 +37,10 @@ impl Model for States {
 }
 
 /// What a run of this many moves, whose chances go by a number, makes of a word: the word of the cheapest routes that it had, the same
-/// at each call, unless it is told to stop: before each move the watch is asked whether to go on, and it hears of each cheaper cost. A
-/// word is the stops of its routes, each followed by 0; any may be given, and symbols that are no customers of the instance are passed
-/// over. Where memory was refused, `NoMemory`.
+/// at each call, unless it is told to stop: before each move the watch is asked whether to go on, and it hears of each cheaper cost. The
+/// routes of each plan that is cheaper than the last one are gathered, where it is a good plan. A word is the stops of its routes, each
+/// followed by 0; any may be given, and symbols that are no customers of the instance are passed over. Where memory was refused,
+/// `NoMemory`.
 ///
 /// Which word is answered is left open, and it need not be that of a lawful plan.
 pub fn run<W: Watch>(
@@ -48,6 +50,7 @@ pub fn run<W: Watch>(
     threshold: Threshold,
     number: u64,
     watch: &W,
+    gathered: &mut Gathered,
 ) -> Result<Vec<u16>, NoMemory> {
     let mut random = Random::new(number);
     let mut taken = Taken::new(alloc, setting.instance())?;
@@ -58,9 +61,13 @@ pub fn run<W: Watch>(
         if looked >= threshold.positions || !watch.should_continue() {
             break;
         }
+        let before = states.last.cost();
         let more = states.change(setting, &mut taken, &mut random, index);
         looked = looked.saturating_add(more);
         states.settle(threshold.after(index, looked));
+        if states.last.cost() < before {
+            gathered.note(setting.instance(), &states.last, states.best.cost())?;
+        }
         if states.best.cost() < cost {
             cost = states.best.cost();
             watch.on_cost(cost);

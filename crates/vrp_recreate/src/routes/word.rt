@@ -32,14 +32,26 @@ impl Routes {
     pub fn word(&self, alloc: Global, instance: &Instance) -> Result<Vec<u16>, NoMemory>
         requires { self.now ≡ place_count instance.now }
     {
+        let mut word = Vec::with_capacity(alloc, 2 * usize::from(instance.customers()))?;
+        self.append_word(instance, &mut word)?;
+        Ok(word)
+    }
+
+    /// Adds the routes as a word to a list.
+    pub(crate) fn append_word(
+        &self,
+        instance: &Instance,
+        word: &mut Vec<u16>,
+    ) -> Result<(), NoMemory>
+        requires { self.now ≡ place_count instance.now }
+    {
         let customers = instance.customers();
-        let mut word = Vec::with_capacity(alloc, 2 * usize::from(customers))?;
         for first in 1..customers + 1 {
             if self.is_start(first, instance) {
-                self.push_route(first, customers, &mut word)?;
+                self.push_route(first, customers, word)?;
             }
         }
-        Ok(word)
+        Ok(())
     }
 
     // Whether a route starts at a customer.

@@ -2,5 +2,5 @@ use Rattle.std.specs.Prelude.{IfSome}
 use Rattle.vrp_model.specs.Route.{IsPlanOf}
 use Rattle.vrp_first.proofs.first.first_plan.Given as goal
 
-abbrev pub invariant-loop-number : goal.invariant-loop-number
-invariant-loop-number g l = IfSome l.best (IsPlanOf l.instance)
+abbrev pub invariant-loop-index : goal.invariant-loop-index
+invariant-loop-index g l = IfSome l.best (IsPlanOf l.crew.instance.now)

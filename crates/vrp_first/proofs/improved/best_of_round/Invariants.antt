@@ -1,6 +1,6 @@
 use Rattle.std.proofs.Common.{◌≤◌}
 use Rattle.vrp_model.specs.Route.{IsPlanOf}
-use Rattle.vrp_first.proofs.improved.round.Given as goal
+use Rattle.vrp_first.proofs.improved.best_of_round.Given as goal
 
 abbrev pub invariant-loop-run : goal.invariant-loop-run
 invariant-loop-run g l =
