@@ -1,10 +1,8 @@
 use Rattle.std.proofs.Common.{◌≡◌, ◌∙◌, ◌<◌, ℕ, List, length, map, sym, ap, subst}
 use Rattle.std.specs.List.{Contains}
-use Rattle.std.proofs.lemmas.Result.{IfOk-weaker}
-use Rattle.vrp_partition.specs.Narrowing.{IsNarrowed, route_at}
+use Rattle.vrp_partition.specs.Narrowing.{route_at}
 use Rattle.vrp_partition.specs.Prices.{AllFit}
 use Rattle.vrp_partition.specs.Pricing.{MarksWithin, StandsInNone}
-use Rattle.vrp_partition.specs.declared.route.Route.{Route}
 use Rattle.vrp_partition.proofs.NarrowedRoutes.{fit_kept}
 use Rattle.vrp_partition.proofs.narrowing.narrowed.Goals as goal
 
