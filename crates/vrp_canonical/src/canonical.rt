@@ -6,6 +6,7 @@ ghost use Rattle.vrp_canonical.specs.Reaching.{IsFleet, IsTask};
 ghost use Rattle.vrp_model.specs.Cheapest.{NoneCheaper};
 ghost use Rattle.vrp_model.specs.Order.{IsFirst};
 ghost use Rattle.vrp_model.specs.Problem.{IsProblem, Problem, customers, place_count};
+ghost use Rattle.vrp_partition.specs.Pricing.{MarksWithin};
 ghost use Rattle.vrp_routes.specs.Label.{set_of};
 ghost use Rattle.vrp_routes.specs.Pool.{IsPool};
 
@@ -13,7 +14,8 @@ use crate::everyone::all_customers;
 use crate::first::first_places;
 use crate::loads::Loads;
 use crate::ordered::{
-    ListedRoute, chosen_routes, in_order, marked_routes, routes_of, word_at, word_of_choice,
+    ListedRoute, chosen_routes, in_order, kept_routes, marked_routes, routes_of, word_at,
+    word_of_choice,
 };
 use crate::residual::Residual;
 use crate::searches::{Quiet, Searches, search_within};
@@ -21,7 +23,7 @@ use crate::trucks::fleet;
 use std::alloc::Global;
 use std::thread::Threads;
 use vrp_model::{Instance, NoMemory, Plan};
-use vrp_partition::{Ask, Fleet, Found, Guide, Route, Team, all_fit, routes_within};
+use vrp_partition::{Ask, Found, Guide, Route, Team, all_fit, routes_within};
 use vrp_routes::RoutePool;
 
 /// What a search for the first plan came to.
@@ -95,7 +97,7 @@ pub fn canonical_plan<R: Threads + Sync, P: Guide + Send, A: Ask + Sync>(
     let whole = Residual { most, ..within };
     let ask = team.ask;
     let left = narrowed_again(
-        alloc, &mut guide, ask, &loads, pool, all, ordered, within, whole, budget,
+        alloc, &mut guide, ask, &loads, ordered, within, whole, budget,
     )?;
     let Some(ordered) = left else {
         let lower_bound = most;
@@ -165,50 +167,67 @@ fn narrowed_routes<P: Guide, A: Ask>(
         → AreOrdered p whole.most ordered.items)) }
     ensures budget { budget.new ≤ budget.old }
 {
-    let fleet = Fleet {
-        demands: loads.demands.as_slice(),
-        capacity: loads.capacity,
-        trucks: whole.trucks,
+    let Some(marks) = marks_within(alloc, guide, ask, loads, routes, whole, budget)? else {
+        return Ok(None);
     };
+    let listed = marked_routes(alloc, pool, routes, marks.as_slice())?;
+    let ordered = in_order(listed)?;
+    Ok(ordered)
+}
+
+// Those of the routes that may stand in a choice that costs less than before, in the same order.
+fn narrowed_again<P: Guide, A: Ask>(
+    alloc: Global,
+    guide: &mut P,
+    ask: &A,
+    loads: &Loads,
+    ordered: Vec<ListedRoute>,
+    before: Residual,
+    whole: Residual,
+    budget: &mut u64,
+) -> Result<Option<Vec<ListedRoute>>, NoMemory>
+    ensures ordered { IfOk result (λ found. IfSome found (λ left. (p : Problem)
+        → AreOrdered p before.most ordered.items → IsFleet p whole.trucks → whole.unserved ≡ set_of (customers p)
+        → whole.most ≤ before.most → AreOrdered p whole.most left.items)) }
+    ensures budget { budget.new ≤ budget.old }
+{
+    if whole.most == before.most {
+        return Ok(Some(ordered));
+    }
+    let routes = routes_of(alloc, ordered.as_slice())?;
+    let routes = routes.as_slice();
+    let Some(marks) = marks_within(alloc, guide, ask, loads, routes, whole, budget)? else {
+        return Ok(None);
+    };
+    let kept = kept_routes(alloc, ordered.as_slice(), marks.as_slice())?;
+    let left = in_order(kept)?;
+    Ok(left)
+}
+
+// For each route whether it may stand in a choice that costs no more than it may. `None` where an amount doesn't fit.
+fn marks_within<P: Guide, A: Ask>(
+    alloc: Global,
+    guide: &mut P,
+    ask: &A,
+    loads: &Loads,
+    routes: &[Route],
+    whole: Residual,
+    budget: &mut u64,
+) -> Result<Option<Vec<bool>>, NoMemory>
+    ensures marks { IfOk result (λ found. IfSome found (λ marks.
+        MarksWithin routes.now whole.unserved whole.trucks whole.most marks.items)) }
+    ensures budget { budget.new ≤ budget.old }
+{
+    let fleet = loads.fleet(whole.trucks);
     let Ok(limit) = u32::try_from(whole.most) else {
         return Ok(None);
     };
     if !all_fit(routes, fleet.demands, fleet.capacity) {
         return Ok(None);
     }
-    let unserved = whole.unserved;
-    let marks = routes_within(alloc, guide, ask, &fleet, routes, unserved, limit, budget)?;
-    let listed = marked_routes(alloc, pool, routes, marks.as_slice())?;
-    let ordered = in_order(listed)?;
-    Ok(ordered)
-}
-
-// The same for a choice that costs less than before; `ordered` are the routes within what it cost then.
-fn narrowed_again<P: Guide, A: Ask>(
-    alloc: Global,
-    guide: &mut P,
-    ask: &A,
-    loads: &Loads,
-    pool: &RoutePool,
-    routes: &[Route],
-    ordered: Vec<ListedRoute>,
-    before: Residual,
-    whole: Residual,
-    budget: &mut u64,
-) -> Result<Option<Vec<ListedRoute>>, NoMemory>
-    requires routes { routes.now ≡ map chosen_of pool.now }
-    requires ordered { (p : Problem) (limit : ℕ)
-        → IsPool p limit pool.now → IsFleet p whole.trucks → whole.unserved ≡ set_of (customers p) → before.most ≤ limit
-        → AreOrdered p before.most ordered.items }
-    ensures ordered { IfOk result (λ found. IfSome found (λ ordered. (p : Problem) (limit : ℕ)
-        → IsPool p limit pool.now → IsFleet p whole.trucks → whole.unserved ≡ set_of (customers p) → whole.most ≤ limit
-        → AreOrdered p whole.most ordered.items)) }
-    ensures budget { budget.new ≤ budget.old }
-{
-    if whole.most == before.most {
-        return Ok(Some(ordered));
-    }
-    narrowed_routes(alloc, guide, ask, loads, pool, routes, whole, budget)
+    let customers = whole.unserved;
+    let marks = routes_within(alloc, guide, ask, &fleet, routes, customers, limit, budget)?;
+    Ok(Some(marks))
 }
 
 // The first plan, whose routes are among these, by a pass over them. A choice that is known answers some questions by itself.

@@ -4,6 +4,7 @@ ghost use Rattle.vrp_model.specs.Problem.{place_count};
 
 use std::alloc::Global;
 use vrp_model::{Instance, NoMemory};
+use vrp_partition::Fleet;
 
 /// The demands of customers 0 to 127, and what a truck can carry. Customer 0 stands for the depot, and who isn't there demands
 /// nothing. No clause says so: a search is right by any demands by which each route fits one truck.
@@ -36,5 +37,18 @@ impl Loads {
             demands.push(demand)?;
         }
         Ok(Some(Loads { demands, capacity }))
+    }
+
+    /// So many trucks, and what they carry.
+    pub fn fleet(&self, trucks: u8) -> Fleet<'_>
+        ensures demands { result.demands.now ≡ self.now.demands.items }
+        ensures capacity { result.capacity ≡ self.now.capacity }
+        ensures trucks { result.trucks ≡ trucks }
+    {
+        Fleet {
+            demands: self.demands.as_slice(),
+            capacity: self.capacity,
+            trucks,
+        }
     }
 }

@@ -2,7 +2,7 @@
 ghost use Rattle.std.specs.Prelude.{◌≡◌, ◌↔◌, ◌<◌, IfOk, IfSome, IsTrue, length, map};
 ghost use Rattle.std.specs.List.{All, AllPairs};
 ghost use Rattle.std.specs.List.Sorted.{IsPermutation};
-ghost use Rattle.vrp_canonical.specs.Ordering.{AreMarked, chosen_of, route_of, stops_of};
+ghost use Rattle.vrp_canonical.specs.Ordering.{AreMarked, chosen_of, route_of, stops_in, stops_of};
 ghost use Rattle.vrp_canonical.specs.Reaching.{routes_at};
 ghost use Rattle.vrp_model.specs.Order.{IsEarlier};
 ghost use Rattle.vrp_model.specs.Word.{word_of};
@@ -44,7 +44,7 @@ pub fn marked_routes(
 ) -> Result<Vec<ListedRoute>, NoMemory>
     requires routes { routes.now ≡ map chosen_of pool.now }
     requires marks { length marks.now ≡ length pool.now }
-    ensures { IfOk result (λ listed. AreMarked pool.now marks.now (length pool.now) listed.items) }
+    ensures { IfOk result (λ listed. AreMarked (map stops_in pool.now) routes.now marks.now (length pool.now) listed.items) }
 {
     let mut listed = Vec::new(alloc);
     for at in 0..pool.len() {
@@ -55,6 +55,28 @@ pub fn marked_routes(
         }
     }
     Ok(listed)
+}
+
+/// Those of the routes that are marked. That they keep their order is left open.
+pub fn kept_routes(
+    alloc: Global,
+    ordered: &[ListedRoute],
+    marks: &[bool],
+) -> Result<Vec<ListedRoute>, AllocError>
+    requires { length marks.now ≡ length ordered.now }
+    ensures { IfOk result (λ kept. AreMarked (map stops_of ordered.now) (map route_of ordered.now) marks.now (length ordered.now) kept.items) }
+{
+    let mut kept = Vec::new(alloc);
+    for at in 0..ordered.len() {
+        if marks[at] {
+            let route = &ordered[at];
+            let stops = Vec::from_slice(alloc, route.stops.as_slice())?;
+            let set = route.set;
+            let cost = route.cost;
+            kept.push(ListedRoute { stops, set, cost })?;
+        }
+    }
+    Ok(kept)
 }
 
 /// The routes in the order of their stops, symbol by symbol. `None` where two have the same stops: that it is so is left open.

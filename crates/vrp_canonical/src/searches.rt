@@ -8,7 +8,7 @@ use crate::loads::Loads;
 use crate::residual::Residual;
 use std::alloc::{AllocError, Global};
 use std::thread::Threads;
-use vrp_partition::{Ask, Fleet, Found, Guide, Route, Team, all_fit, cheapest_choice};
+use vrp_partition::{Ask, Found, Guide, Route, Team, all_fit, cheapest_choice};
 
 /// Who is asked whether searches go on, and is told nothing.
 #[derive(Clone, Copy, Debug)]
@@ -117,11 +117,7 @@ pub fn search_within<R: Threads + Sync, P: Guide + Send, A: Ask>(
     ensures found { IfOk result (λ answer. IfSome answer (IsFound routes.now rest.unserved rest.trucks (rest.most + 1))) }
     ensures budget { budget.new ≤ budget.old }
 {
-    let fleet = Fleet {
-        demands: loads.demands.as_slice(),
-        capacity: loads.capacity,
-        trucks: rest.trucks,
-    };
+    let fleet = loads.fleet(rest.trucks);
     if rest.most >= 1 << 32 || !all_fit(routes, fleet.demands, fleet.capacity) {
         return Ok(None);
     }

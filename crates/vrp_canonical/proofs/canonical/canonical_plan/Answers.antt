@@ -30,8 +30,8 @@ plan_by_pass-requires-clause-task g c κs within =
     told c.in_ok-ordered.field-0 c.in-Some-3.ordered (λ (o : Vec ListedRoute Global). (p : Problem) (n : ℕ) → IsPool p n pool → IsFleet p trucks → unserved ≡ set_of (customers p) → limit ≤ n → AreOrdered p limit o.items) c.in-Some-3.is c.in_ok-ordered.ensures.ordered
     p limit is_pool fleet all (omega arith) in
     let are : AreOrdered p chosen.cost ordered =
-    told c.in_ok-left.left c.in-Some-left.ordered (λ (o : Vec ListedRoute Global). (p : Problem) (n : ℕ) → IsPool p n pool → IsFleet p trucks → unserved ≡ set_of (customers p) → chosen.cost ≤ n → AreOrdered p chosen.cost o.items) c.in-Some-left.is c.in_ok-left.ensures.ordered
-    p limit is_pool fleet all cheap in
+    told c.in_ok-left.left c.in-Some-left.ordered (λ (o : Vec ListedRoute Global). (p : Problem) → AreOrdered p limit narrowed → IsFleet p trucks → unserved ≡ set_of (customers p) → chosen.cost ≤ limit → AreOrdered p chosen.cost o.items) c.in-Some-left.is c.in_ok-left.ensures.ordered
+    p are_narrowed fleet all cheap in
     let routes : c.as_slice-2.result.now ≡ map route_of narrowed = c.as_slice-2.ensures.value ∙ c.in_ok-narrowed.ensures ∙ ap (map route_of) c.as_slice.ensures.value in
     let found : IsCheapest c.as_slice-2.result.now unserved trucks (limit + 1) chosen.cost chosen.routes.items =
     told c.in_ok-found.found (Cheapest chosen) (IsFound c.as_slice-2.result.now unserved trucks (limit + 1)) (c.in-Some-Cheapest.is ∙ ap Some c.in-Some-Cheapest.field-0-is) c.in_ok-found.ensures.found in

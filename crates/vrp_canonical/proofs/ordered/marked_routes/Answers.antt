@@ -1,23 +1,25 @@
-use Rattle.std.proofs.Common.{◌+◌, ◌<◌, get_or, length, Vec, Global, sym, ap, subst, ◌∙◌, arith}
-use Rattle.vrp_canonical.specs.Ordering.{AreMarked}
+use Rattle.std.proofs.Common.{◌+◌, ◌<◌, get_or, length, map, Vec, Global, refl, sym, ap, subst, ◌∙◌, arith}
+use Rattle.vrp_canonical.specs.Ordering.{AreMarked, stops_in}
 use Rattle.vrp_canonical.specs.declared.ordered.ListedRoute.{ListedRoute}
 use Rattle.vrp_partition.specs.declared.route.Route.{Route}
-use Rattle.vrp_canonical.proofs.Marked.{chosen_at, with_marked, without_unmarked}
+use Rattle.vrp_canonical.proofs.Marked.{at_stops, stops_at, with_marked, without_unmarked}
 use Rattle.vrp_canonical.proofs.ordered.marked_routes.Goals as goal
 use Rattle.vrp_canonical.proofs.ordered.marked_routes.Goals.{then-marks-at+in_ok-stops+in_ok-push, else-marks-at}
 
 pub loop-at-preserved : goal.loop-at-preserved
 loop-at-preserved c =
     let pool = c.args.pool.now in
+    let stops = map stops_in pool in
+    let routes = c.args.routes.now in
     let marks = c.args.marks.now in
     let at = c.loop-at.at in
     let within : at < length pool = omega (arith, c.loop-at-test.true, c.len-at-end.ensures) in
-    let seen : Route = get_or c.args.routes.now at (record { set = 0; cost = 0 }) in
+    let seen : Route = get_or routes at (record { set = 0; cost = 0 }) in
     elim c.if-marks-at.branch [
       | then-marks-at+in_ok-stops+in_ok-push w ↦
-          subst (AreMarked pool marks (at + 1)) (sym (ap (λ (v : Vec ListedRoute Global). v.items) w.listed-is ∙ w.in_ok-push.ensures.items))
-          (with_marked pool marks at c.loop-at.listed.items (record { stops = w.in_ok-stops.stops; set = seen.set; cost = seen.cost }) within c.loop-at.invariant w.in_ok-stops.ensures (chosen_at pool c.args.routes.now at (record { set = 0; cost = 0 }) c.requires.routes within))
+          subst (AreMarked stops routes marks (at + 1)) (sym (ap (λ (v : Vec ListedRoute Global). v.items) w.listed-is ∙ w.in_ok-push.ensures.items))
+          (with_marked stops routes marks at c.loop-at.listed.items (record { stops = w.in_ok-stops.stops; set = seen.set; cost = seen.cost }) (at_stops pool at within) c.loop-at.invariant (w.in_ok-stops.ensures ∙ sym (stops_at pool at within)) refl)
       | else-marks-at w ↦
-          subst (AreMarked pool marks (at + 1)) (sym (ap (λ (v : Vec ListedRoute Global). v.items) w.listed-is))
-          (without_unmarked pool marks at c.loop-at.listed.items c.loop-at.invariant w.if-marks-at.false)
+          subst (AreMarked stops routes marks (at + 1)) (sym (ap (λ (v : Vec ListedRoute Global). v.items) w.listed-is))
+          (without_unmarked stops routes marks at c.loop-at.listed.items c.loop-at.invariant w.if-marks-at.false)
     ]
