@@ -48,6 +48,7 @@ impl Program {
         self.basis.clear();
         self.costs.clear();
         self.prices.clear();
+        self.artificial_cost = self.first_artificial_cost();
         self.exchanges = 0;
         for row in 0..height {
             let first = self.first_column(row);
@@ -61,6 +62,11 @@ impl Program {
         self.draw_raises()?;
         self.values = self.sides.clone()?;
         Ok(())
+    }
+
+    /// What an artificial column costs at first: more than routes do.
+    pub(crate) fn first_artificial_cost(&self) -> i64 {
+        self.dearest.saturating_mul(4)
     }
 
     // The column that stands in a row at first.

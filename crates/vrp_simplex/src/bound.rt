@@ -5,12 +5,16 @@ use crate::row_prices::RowPrices;
 use std::alloc::AllocError;
 use vrp_partition::Route;
 
-// Larger prices are no solution's: sums of them may have wrapped.
+/// Below each bound.
+pub(crate) const NO_BOUND: i64 = i64::MIN;
+
+// Larger prices can't be offered, and sums of them may have wrapped.
 const MOST_PRICE: u64 = 1 << 50;
 
 impl Program {
     /// A lower bound by the prices, as a price, with the signs that a bound wants: the sum of the prices, and the least reduced cost
-    /// of the program's routes and of the rest, where it is negative, once for each customer. It is left open, since nobody trusts it.
+    /// of the program's routes and of the rest, where it is negative, once for each customer; none where prices are too large to be
+    /// offered. It is left open, since nobody trusts it.
     pub fn lower_bound(&mut self, rest: &[Route]) -> Result<i64, AllocError> {
         self.fit_prices();
         self.reduce();
@@ -22,6 +26,13 @@ impl Program {
             }
         }
         self.count_looks(rest.len());
+        if self
+            .prices
+            .iter()
+            .any(|price| price.unsigned_abs() > MOST_PRICE)
+        {
+            return Ok(NO_BOUND);
+        }
         let customers = i64::try_from(self.customer_rows()).unwrap_or(0);
         let lowered = wide_product(least, customers);
         Ok(as_bound(self.price_sum().wrapping_add(lowered)))
@@ -49,5 +60,5 @@ impl Program {
 
 /// A sum of prices as a bound; nothing where it is too large for one.
 pub(crate) fn as_bound(sum: i128) -> i64 {
-    i64::try_from(sum).unwrap_or(i64::MIN)
+    i64::try_from(sum).unwrap_or(NO_BOUND)
 }

@@ -1,4 +1,5 @@
 //! The guide of a search: it is asked for prices and for customers to branch on, and answers by the linear program.
+use crate::bound::NO_BOUND;
 use crate::fixed_point::UNIT;
 use crate::inherited::Inherited;
 use crate::node::{MOST_IN_SIGHT, Node, Progress};
@@ -64,7 +65,7 @@ impl<'a, A: Ask> ProgramGuide<'a, A> {
             Some(last) if last.holds_for(customers, pool.len()) => {
                 (Some(last.prices), last.bound)
             }
-            _ => (None, i64::MIN),
+            _ => (None, NO_BOUND),
         };
         Ok(Node {
             alloc: self.alloc,
@@ -76,7 +77,7 @@ impl<'a, A: Ask> ProgramGuide<'a, A> {
             progress: self.progress,
             best,
             best_bound,
-            own_bound: i64::MIN,
+            own_bound: NO_BOUND,
         })
     }
 
@@ -179,6 +180,7 @@ impl<'a, A: Ask> ProgramGuide<'a, A> {
     ) -> Result<PriceOffer, AllocError> {
         let Node {
             program,
+            limit,
             progress,
             best,
             best_bound,
@@ -194,10 +196,16 @@ impl<'a, A: Ask> ProgramGuide<'a, A> {
             return no_prices(self.alloc);
         };
         let offer = prices.offer(self.alloc, work)?;
+        // By a bound above the limit the search leaves the node: where it asks again, that was none.
+        let bound = if best_bound > limit {
+            NO_BOUND
+        } else {
+            best_bound
+        };
         self.last = Some(Inherited {
             customers,
             count,
-            bound: best_bound,
+            bound,
             prices,
         });
         Ok(offer)

@@ -1,4 +1,5 @@
 //! A node of the search: its program is solved, and cuts are added, round by round.
+use crate::bound::NO_BOUND;
 use crate::dual_simplex::DualEnd;
 use crate::fixed_point::UNIT;
 use crate::program::Program;
@@ -55,7 +56,7 @@ impl Progress {
             is_root,
             round: 0,
             stale: 0,
-            bound: i64::MIN,
+            bound: NO_BOUND,
             is_paused: false,
         }
     }

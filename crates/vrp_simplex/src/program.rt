@@ -186,7 +186,7 @@ impl Program {
         rows: &mut Vec<u16>,
     ) -> Result<(), AllocError> {
         self.dearest = self.dearest.max(i64::from(route.cost));
-        self.artificial_cost = self.artificial_cost.max(self.dearest.wrapping_mul(4));
+        self.artificial_cost = self.artificial_cost.max(self.first_artificial_cost());
         self.routes.push(route)?;
         self.push_column(route, rows)
     }

@@ -9,6 +9,8 @@ const LESS_RAISED: u32 = 1;
 // How often artificial columns are made dearer, while some have a value.
 const DEARER: u32 = 4;
 
+const MOST_ARTIFICIAL_COST: i64 = 1 << 28;
+
 impl Program {
     /// Solves the program from artificial columns on, over its routes and with its cuts, its right-hand sides raised less: for where
     /// the dual simplex left a basis that is not feasible. What comes of it is left open.
@@ -32,9 +34,10 @@ impl Program {
         Ok(())
     }
 
-    // Artificial columns cost eight times as much.
+    // Artificial columns cost eight times as much, as long as prices by them can be offered.
     fn make_artificial_dearer(&mut self) {
-        self.artificial_cost = self.artificial_cost.saturating_mul(8).min(1 << 42);
+        let most = self.first_artificial_cost().max(MOST_ARTIFICIAL_COST);
+        self.artificial_cost = self.artificial_cost.saturating_mul(8).min(most);
         for (cost, basic) in self.costs.iter_mut().zip(&self.basis) {
             if matches!(*basic, Basic::Artificial(_)) {
                 *cost = self.artificial_cost;
