@@ -100,19 +100,17 @@ fn document(
     ensures { IfOk result (λ value. view value
         ≡ document_of instance.now (told_by finding.now) (context_by context.entry) gap (map view routes.items)) }
 {
-    let version = context.version;
     let verdict = finding.status.as_str();
     let cost = or_null(cost_of(finding.plan));
     let lower_bound = or_null(finding.lower_bound);
     let best_lower_bound = or_null(finding.best_lower_bound);
     let gap = or_null(gap);
     let customers = instance.customers();
-    let capacity = instance.capacity();
     let depot = instance.node(0);
     let stated_cost = or_null(context.stated_cost);
     json!(in alloc; {
         "name": name,
-        "version": version,
+        "version": context.version,
         "verdict": verdict,
         "cost": cost,
         "stated_cost": stated_cost,
@@ -120,7 +118,7 @@ fn document(
         "best_lower_bound": best_lower_bound,
         "gap": gap,
         "customers": customers,
-        "capacity": capacity,
+        "capacity": instance.capacity(),
         "depot": depot,
         "routes": routes,
         "options": options,
