@@ -93,15 +93,27 @@ def name_of(data):
     return None
 
 
+def bound_fault(verdict, cost, bound, best):
+    """What is wrong with the best lower bound, or None: only of an open answer it may be another than the report's."""
+    if verdict != "Open":
+        return None if best == bound else f"not {bound} as the best lower bound"
+    return None if type(best) is int and bound <= best and (cost is None or best <= cost) else f"{best} as the best lower bound"
+
+
 def json_fault(problem, data, parts, status, found):
     """What is wrong with what is printed as JSON, or None."""
     routes, cost, verdict = parts
     bound = int(verdict[1]) if verdict[0] == "Open" else cost if verdict[0] == "Proven" else None
+    told = json.loads(found[1])
+    best = told.pop("best_lower_bound", None)
+    fault = bound_fault(verdict[0], cost, bound, best)
+    if fault is not None:
+        return fault
     wanted = {
         "verdict": verdict[0],
         "cost": cost,
         "lower_bound": bound,
-        "gap": gap_of(cost, bound),
+        "gap": gap_of(cost, best),
         "customers": len(problem.customers),
         "capacity": problem.capacity,
         "depot": problem.depot,
@@ -109,7 +121,6 @@ def json_fault(problem, data, parts, status, found):
         "name": name_of(data),
         "stated_cost": None,
     }
-    told = json.loads(found[1])
     if f"cvrp {told.pop('version', None)}\n" != subprocess.run([PROGRAM, "--version"], capture_output=True).stdout.decode():
         return "the version is another"
     options = told.pop("options", None)

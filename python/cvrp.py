@@ -3,7 +3,7 @@
     import cvrp
 
     solution = cvrp.solve("E-n51-k5.vrp", seconds=60, workers=4)
-    print(solution.cost, solution.lower_bound, solution.proven)
+    print(solution.cost, solution.best_lower_bound, solution.proven)
 
 One file, for Python 3.8 and later, without dependencies. The program has to be on the PATH, or is named by `program`.
 """
@@ -49,8 +49,9 @@ class Solution:
 
     `routes` has each route's customers in the order in which they are served, numbered from 1 without the depot, as a .sol file of
     CVRPLIB has them; `nodes` has the same routes by the node numbers of the problem's file. Both are empty, and `cost` is None, where
-    no plan is known. No lawful plan costs less than `lower_bound`, and `gap` is how far the plan may be above that, in hundredths of a
-    percent, rounded up: 0 where it is proven, None where cost or bound is not known. `proven` says that the plan is a cheapest one.
+    no plan is known. No lawful plan costs less than `best_lower_bound`, and `gap` is how far the plan may be above that, in hundredths of
+    a percent, rounded up: 0 where it is proven, None where cost or bound is not known. `lower_bound` is the number that a report has
+    behind `Open`: never above the other, and the same where `seconds` are given. `proven` says that the plan is a cheapest one.
 
     `verdict` is `Proven`; `Open`, where the search ended before it knew; or `NoPlan`, where so few trucks can't serve all customers.
 
@@ -62,6 +63,7 @@ class Solution:
     nodes: Routes
     cost: Optional[int]
     lower_bound: Optional[int]
+    best_lower_bound: Optional[int]
     gap: Optional[int]
     proven: bool
     verdict: str
@@ -130,6 +132,7 @@ def _solution(answer: Dict[str, Any]) -> Solution:
         nodes=[list(route["nodes"]) for route in answer["routes"]],
         cost=answer["cost"],
         lower_bound=answer["lower_bound"],
+        best_lower_bound=answer["best_lower_bound"],
         gap=answer["gap"],
         proven=answer["verdict"] == "Proven",
         verdict=answer["verdict"],

@@ -30,6 +30,6 @@ print(f"PyVRP's plan costs {COST}, cvrp's {solution.cost}.")
 if solution.proven:
     print("That is proven: no lawful plan costs less.")
 else:
-    print(f"No lawful plan costs less than {solution.lower_bound}.")
+    print(f"No lawful plan costs less than {solution.best_lower_bound}.")
 for route in solution.routes:
     print(*route)

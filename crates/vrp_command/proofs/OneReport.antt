@@ -43,7 +43,9 @@ of_answer p pieces budget may_stop answer.NoPlan none ends = absurd (let never :
 -- the same of what is told of an answer, with a bound or without
 of_told : (p : Problem) (pieces budget : ℕ) (may_stop : Bool) (seconds : Option ℕ) (found : Answer) (bound : ℕ) → IsAnswerTo p pieces budget may_stop found → (told_of seconds found bound).status ≡ status.Proven
     → IsOfFirst p (told_of seconds found bound)
-of_told p pieces budget may_stop None found bound is ends = of_answer p pieces budget may_stop found is ends
+of_told p pieces budget may_stop None (answer.Proven plan) bound first ends = record { plan = plan; first = first; told = refl }
+of_told p pieces budget may_stop None (answer.Open plan low lowest) bound left ends = absurd (let never : 1 ≡ 0 = ap code ends in cc)
+of_told p pieces budget may_stop None answer.NoPlan bound none ends = absurd (let never : 2 ≡ 0 = ap code ends in cc)
 of_told p pieces budget may_stop (Some seconds) (answer.Proven plan) bound first ends = record { plan = plan; first = first; told = refl }
 of_told p pieces budget may_stop (Some seconds) (answer.Open plan low lowest) bound left ends = absurd (let never : 1 ≡ 0 = ap code ends in cc)
 of_told p pieces budget may_stop (Some seconds) answer.NoPlan bound none ends = absurd (let never : 2 ≡ 0 = ap code ends in cc)

@@ -5,6 +5,7 @@ use Rattle.vrp_answer.specs.Answer.{known_plan}
 use Rattle.vrp_answer.specs.Finding.{FindingOf, lawful_finding}
 use Rattle.vrp_answer.specs.declared.answers.Answer.{Answer}
 use Rattle.vrp_answer.specs.declared.status.Status.{Status}
+use Rattle.vrp_command.proofs.LawfulAnswers.{best_none_cheaper}
 use Rattle.vrp_command.specs.Answer.{IsAnswerTo}
 use Rattle.vrp_command.specs.Form.{IsFormIn, IsTextAs, WritesPart, WritesText}
 use Rattle.vrp_command.specs.Found.{IsFoundBy, WritesFound, WritesFoundPart, told_of}
@@ -74,7 +75,17 @@ pub is_searched : (request : Request) (may_stop : Bool) (p : Problem) (start : O
     → IsAnswerTo p request.options.pieces request.options.budget may_stop found → cost_of (known_plan found) ≤ cost_of start → NoneCheaper p bound → told ≡ told_of request.seconds found bound
     → IsFoundBy request may_stop p start told
 is_searched request may_stop p start found bound told unchecked answer no_dearer none_below is =
-    inr (record { unchecked = unchecked; answer = found; answer_is = answer; no_dearer = no_dearer; bound = bound; none_below = none_below; told = is })
+    inr
+    (record {
+      unchecked = unchecked;
+      answer = found;
+      answer_is = answer;
+      no_dearer = no_dearer;
+      bound = bound;
+      none_below = none_below;
+      told = is;
+      best = best_none_cheaper p request.options.pieces request.options.budget may_stop request.seconds found bound told is answer none_below;
+    })
 
 -- ---- of the bytes that were read
 

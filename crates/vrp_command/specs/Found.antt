@@ -1,8 +1,9 @@
 -- What a request finds of a problem, and what is written of it.
 use Rattle.std.specs.Io.KnownBytes.{Appends}
+use Rattle.std.specs.Option.{ForSome}
 use Rattle.std.specs.Prelude.{◌≡◌, ◌⊎◌, ℕ, ◌≤◌, Bool, IsTrue, Option, Some, None, List}
 use Rattle.vrp_answer.specs.Answer.{known_plan}
-use Rattle.vrp_answer.specs.Finding.{FindingOf, bounded_finding, finding_of, lawful_finding}
+use Rattle.vrp_answer.specs.Finding.{FindingOf, bounded_finding, by_best_bound, lawful_finding}
 use Rattle.vrp_answer.specs.declared.answers.Answer.{Answer}
 use Rattle.vrp_answer.specs.declared.status.Status.{Status}
 use Rattle.vrp_command.specs.Answer.{IsAnswerTo}
@@ -21,12 +22,13 @@ pub record IsChecked (request : Request) (start : Option PricedPlan) (finding : 
   pub given : start ≡ Some plan
   pub told : finding ≡ lawful_finding plan
 
--- what is told of an answer: where a time was set, with a bound below which no lawful plan costs, if that is higher
+-- what is told of an answer, and of a bound below which no lawful plan costs: where a time was set, the best of both bounds alone
 abbrev pub told_of : Option ℕ → Answer → ℕ → FindingOf
-told_of None answer bound = finding_of answer
-told_of (Some seconds) answer bound = bounded_finding answer bound
+told_of None answer bound = bounded_finding answer bound
+told_of (Some seconds) answer bound = by_best_bound (bounded_finding answer bound)
 
--- an answer was searched for, as the options ask for it, and its plan costs no more than the one to begin with
+-- an answer was searched for, as the options ask for it, its plan costs no more than the one to begin with, and no lawful plan costs less
+-- than the best bound that is told
 pub record IsSearchedFor (request : Request) (may_stop : Bool) (problem : Problem) (start : Option PricedPlan) (finding : FindingOf) : Type 0 where
   pub unchecked : IsTrue request.check → start ≡ None
   pub answer : Answer
@@ -35,6 +37,7 @@ pub record IsSearchedFor (request : Request) (may_stop : Bool) (problem : Proble
   pub bound : ℕ
   pub none_below : NoneCheaper problem bound
   pub told : finding ≡ told_of request.seconds answer bound
+  pub best : ForSome finding.best_lower_bound (NoneCheaper problem)
 
 -- what a request finds of a problem, with a plan to begin with or without
 abbrev pub IsFoundBy : Request → Bool → Problem → Option PricedPlan → FindingOf → Type 0

@@ -97,13 +97,14 @@ fn print_searched<T: Threads + Wait + Sync, W: Write, E: Write, G: Gate + Sync>(
     printed
 }
 
-// What is told of what a search came to: where a time was set, with the search's own bound, if that is higher.
+// What is told of what a search came to: where a time was set, the best bound alone.
 fn told<'a>(solved: &'a Solved, seconds: Option<u32>) -> Finding<'a>
     ensures { told_by result ≡ told_of seconds solved.entry.now.answer solved.entry.now.lower_bound }
 {
+    let finding = Finding::of_solved(solved);
     match seconds {
-        Some(_) => Finding::of_solved(solved),
-        None => Finding::of_answer(&solved.answer),
+        Some(_) => finding.by_best_bound(),
+        None => finding,
     }
 }
 

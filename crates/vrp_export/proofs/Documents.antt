@@ -79,13 +79,15 @@ document_shallow p finding context gap routes values are =
     let few : suc (items_depth (items_of values)) ≤ 3 = omega (arith, routes_shallow p routes values are) in
     let one : depth (number_or_null (cost_told finding)) ≤ 3 = omega (arith, number_depth (cost_told finding)) in
     let other : depth (number_or_null finding.lower_bound) ≤ 3 = omega (arith, number_depth finding.lower_bound) in
+    let best : depth (number_or_null finding.best_lower_bound) ≤ 3 = omega (arith, number_depth finding.best_lower_bound) in
     let between : depth (number_or_null gap) ≤ 3 = omega (arith, number_depth gap) in
     let named : depth (text_or_null context.name) ≤ 3 = omega (arith, text_depth context.name) in
     let stated : depth (number_or_null context.stated_cost) ≤ 3 = omega (arith, number_depth context.stated_cost) in
     let options : depth (options_told context.asked) ≤ 3 = omega (arith, options_depth context.asked) in
     let none : 0 ≤ 3 = omega arith in
     let most =
-    max-le none (max-le one (max-le none (max-le none (max-le between (max-le other (max-le named (max-le options (max-le few (max-le stated (max-le none (max-le none none))))))))))) in
+    max-le best
+    (max-le none (max-le one (max-le none (max-le none (max-le between (max-le other (max-le named (max-le options (max-le few (max-le stated (max-le none (max-le none none)))))))))))) in
     omega (arith, most)
 
 -- ---- what stands in it
@@ -116,12 +118,13 @@ null_or_number None value is = is
 null_or_number (Some m) value is = is
 
 pub is_document : (p : Problem) (finding : FindingOf) (context : ContextOf) (gap : Option ℕ) (values : List Data) (value : Data) → value ≡ document_of p finding context gap values
-    → IsGapOf (cost_told finding) finding.lower_bound gap → AreRoutes p (routes_told finding.plan) values → IsDocument p finding context value
+    → IsGapOf (cost_told finding) finding.best_lower_bound gap → AreRoutes p (routes_told finding.plan) values → IsDocument p finding context value
 is_document p finding context gap values value is least are =
     record {
       verdict = ap (get (codes "verdict")) is;
       cost = ap (get (codes "cost")) is;
       lower_bound = ap (get (codes "lower_bound")) is;
+      best_lower_bound = ap (get (codes "best_lower_bound")) is;
       gap = gap;
       least = least;
       gap_told = ap (get (codes "gap")) is;

@@ -60,13 +60,14 @@ options_told asked =
 abbrev pub cost_told : FindingOf → Option ℕ
 cost_told finding = option_map (λ plan. plan.cost) finding.plan
 
--- the object's verdict, cost, lower bound and gap, the nodes and the customers of each route, what is told of the problem, and with what
+-- the object's verdict, cost, both lower bounds and the gap by the best one, the nodes and the customers of each route, what is told of the problem, and with what
 pub record IsDocument (p : Problem) (finding : FindingOf) (context : ContextOf) (document : Data) : Type 0 where
   pub verdict : get (codes "verdict") document ≡ Some (string (status_text finding.status))
   pub cost : get (codes "cost") document ≡ Some (number_or_null (cost_told finding))
   pub lower_bound : get (codes "lower_bound") document ≡ Some (number_or_null finding.lower_bound)
+  pub best_lower_bound : get (codes "best_lower_bound") document ≡ Some (number_or_null finding.best_lower_bound)
   pub gap : Option ℕ
-  pub least : IsGapOf (cost_told finding) finding.lower_bound gap
+  pub least : IsGapOf (cost_told finding) finding.best_lower_bound gap
   pub gap_told : get (codes "gap") document ≡ Some (number_or_null gap)
   pub routes : List Data
   pub listed : get (codes "routes") document ≡ Some (array (items_of routes))

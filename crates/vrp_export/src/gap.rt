@@ -9,16 +9,16 @@ ghost use Rattle.vrp_model.specs.Route.{IsPlanOf};
 use vrp_answer::Finding;
 use vrp_model::{Instance, NO_COST, plans_cost_less};
 
-/// By how many hundredths of a percent of the lower bound the plan is above it, rounded up: no lawful plan is cheaper by more. `None`
+/// By how many hundredths of a percent of the best lower bound the plan is above it, rounded up: no lawful plan is cheaper by more. `None`
 /// where there is no such number.
 pub(crate) fn gap_of(instance: &Instance, finding: &Finding<'_>) -> Option<u64>
     requires { ForSome (option_map (λ plan. plan.now) finding.now.plan) (IsPlanOf instance.now) }
-    ensures { let told = told_by finding.now in IsGapOf (cost_told told) told.lower_bound result }
+    ensures { let told = told_by finding.now in IsGapOf (cost_told told) told.best_lower_bound result }
 {
     // All plans cost less than `NO_COST`.
     let _customers = instance.customers();
     plans_cost_less();
-    match (finding.plan, finding.lower_bound) {
+    match (finding.plan, finding.best_lower_bound) {
         (Some(plan), Some(bound)) => gap(plan.cost(), bound),
         _ => None,
     }

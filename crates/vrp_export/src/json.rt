@@ -47,11 +47,11 @@ pub struct Context<'a> {
     pub asked: Settings,
 }
 
-/// What is told of an instance as one JSON object and a line feed. It has the members `capacity`, `cost`, `customers`, `depot`, `gap`,
-/// `lower_bound`, `name`, `options`, `routes`, each of them with its `cost`, `customers`, `load` and `nodes`, `stated_cost`, `verdict` and
-/// `version`. Nodes have the file's numbers, and the customers of a route those of CVRPLIB: from 1 on by rising node, the depot left out.
-/// The gap is how far the plan may be from the best, in hundredths of a percent, rounded up. What isn't known is `null`, and without a
-/// plan there are no routes.
+/// What is told of an instance as one JSON object and a line feed. It has the members `best_lower_bound`, `capacity`, `cost`, `customers`,
+/// `depot`, `gap`, `lower_bound`, `name`, `options`, `routes`, each of them with its `cost`, `customers`, `load` and `nodes`,
+/// `stated_cost`, `verdict` and `version`. Nodes have the file's numbers, and the customers of a route those of CVRPLIB: from 1 on by
+/// rising node, the depot left out. The gap is how far the plan may be from the best, by the best lower bound, in hundredths of a
+/// percent, rounded up. What isn't known is `null`, and without a plan there are no routes.
 ///
 /// What stands in `load` and `cost` of a route is left open.
 pub fn json_text(
@@ -100,25 +100,25 @@ fn document(
     ensures { IfOk result (λ value. view value
         ≡ document_of instance.now (told_by finding.now) (context_by context.entry) gap (map view routes.items)) }
 {
-    let version = context.version;
     let verdict = finding.status.as_str();
     let cost = or_null(cost_of(finding.plan));
     let lower_bound = or_null(finding.lower_bound);
+    let best_lower_bound = or_null(finding.best_lower_bound);
     let gap = or_null(gap);
     let customers = instance.customers();
-    let capacity = instance.capacity();
     let depot = instance.node(0);
     let stated_cost = or_null(context.stated_cost);
     json!(in alloc; {
         "name": name,
-        "version": version,
+        "version": context.version,
         "verdict": verdict,
         "cost": cost,
         "stated_cost": stated_cost,
         "lower_bound": lower_bound,
+        "best_lower_bound": best_lower_bound,
         "gap": gap,
         "customers": customers,
-        "capacity": capacity,
+        "capacity": instance.capacity(),
         "depot": depot,
         "routes": routes,
         "options": options,

@@ -21,17 +21,20 @@ fn solutions(rt: HostRuntime) {
 
 // The customers are the nodes but the depot, numbered from 1. 17 is 1 below 18, and 1 of 17 is 588.2 hundredths of a percent.
 const TWO_ROUTES_JSON: &str =
-    "{\"capacity\":10,\"cost\":18,\"customers\":3,\"depot\":2,\"gap\":589,\"lower_bound\":17,\"name\":\"four\",\"options\":{\"budget\":1000,\"depot\":2,\"pieces\":64,\"seconds\":null,\"trucks\":null,\"workers\":2},\"routes\":[{\"cost\":12,\"customers\":[1,2],\"load\":9,\"nodes\":[1,3]},{\"cost\":6,\"customers\":[3],\"load\":7,\"nodes\":[4]}],\"stated_cost\":18,\"verdict\":\"Open\",\"version\":\"1.2.3\"}\n";
+    "{\"best_lower_bound\":17,\"capacity\":10,\"cost\":18,\"customers\":3,\"depot\":2,\"gap\":589,\"lower_bound\":9,\"name\":\"four\",\"options\":{\"budget\":1000,\"depot\":2,\"pieces\":64,\"seconds\":null,\"trucks\":null,\"workers\":2},\"routes\":[{\"cost\":12,\"customers\":[1,2],\"load\":9,\"nodes\":[1,3]},{\"cost\":6,\"customers\":[3],\"load\":7,\"nodes\":[4]}],\"stated_cost\":18,\"verdict\":\"Open\",\"version\":\"1.2.3\"}\n";
 
 const NO_PLAN_JSON: &str =
-    "{\"capacity\":10,\"cost\":null,\"customers\":3,\"depot\":2,\"gap\":null,\"lower_bound\":null,\"name\":null,\"options\":{\"budget\":null,\"depot\":null,\"pieces\":1,\"seconds\":60,\"trucks\":1,\"workers\":1},\"routes\":[],\"stated_cost\":null,\"verdict\":\"NoPlan\",\"version\":\"\"}\n";
+    "{\"best_lower_bound\":null,\"capacity\":10,\"cost\":null,\"customers\":3,\"depot\":2,\"gap\":null,\"lower_bound\":null,\"name\":null,\"options\":{\"budget\":null,\"depot\":null,\"pieces\":1,\"seconds\":60,\"trucks\":1,\"workers\":1},\"routes\":[],\"stated_cost\":null,\"verdict\":\"NoPlan\",\"version\":\"\"}\n";
 
 #[test]
 fn objects(rt: HostRuntime) {
     let alloc = rt.alloc();
     let four = instance(&rt, alloc, FOUR);
     let plan = plan(&rt, alloc, &four, TWO_ROUTES);
-    let open = told(Some(&plan), Status::Open, Some(17));
+    let open = Finding {
+        lower_bound: Some(9),
+        ..told(Some(&plan), Status::Open, Some(17))
+    };
     let text = json_text(alloc, &four, &open, CONTEXT).expect(&rt, "memory");
     assert_text(&rt, text.as_str(), TWO_ROUTES_JSON);
     let none = told(None, Status::NoPlan, None);
@@ -39,7 +42,7 @@ fn objects(rt: HostRuntime) {
     assert_text(&rt, text.as_str(), NO_PLAN_JSON);
 }
 
-// What is known of a plan that costs 18, and the gap.
+// What is known of a plan that costs 18, the best bound, and the gap by that. The other bound is 0.
 const GAPS: &[(Status, Option<u64>, &str)] = &[
     (Status::Proven, Some(18), "0"),
     (Status::Open, Some(18), "0"),
@@ -57,8 +60,11 @@ fn gaps(rt: HostRuntime) {
     let alloc = rt.alloc();
     let four = instance(&rt, alloc, FOUR);
     let plan = plan(&rt, alloc, &four, TWO_ROUTES);
-    for (status, lower_bound, gap) in GAPS {
-        let finding = told(Some(&plan), *status, *lower_bound);
+    for (status, best_lower_bound, gap) in GAPS {
+        let finding = Finding {
+            lower_bound: Some(0),
+            ..told(Some(&plan), *status, *best_lower_bound)
+        };
         let text = json_text(alloc, &four, &finding, CONTEXT).expect(&rt, "memory");
         let wanted = format!(in alloc; "\"gap\":{gap},").expect(&rt, "memory");
         assert!(&rt;

@@ -62,7 +62,7 @@ pub(crate) fn plan(rt: &impl Abort, alloc: Global, instance: &Instance, text: &s
         .plan
 }
 
-/// What is told of a plan, if there is one.
+/// What is told of a plan, if there is one, where no better lower bound is known.
 pub(crate) fn told(plan: Option<&Plan>, status: Status, lower_bound: Option<u64>) -> Finding<'_>
     ensures { option_map (λ plan. plan.now) result.plan ≡ option_map (λ plan. plan.now) plan.entry }
 {
@@ -70,6 +70,7 @@ pub(crate) fn told(plan: Option<&Plan>, status: Status, lower_bound: Option<u64>
         plan,
         status,
         lower_bound,
+        best_lower_bound: lower_bound,
     }
 }
 

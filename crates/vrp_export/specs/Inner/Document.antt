@@ -9,10 +9,11 @@ use Rattle.vrp_model.specs.Problem.{Problem, node_of, place_count}
 -- the document, with this gap and these routes
 abbrev pub document_of : Problem → FindingOf → ContextOf → Option ℕ → List Data → Data
 document_of p finding context gap routes =
-    object (member (codes "capacity") (number (unsigned p.capacity)) (member (codes "cost") (number_or_null (cost_told finding)) (member (codes "customers") (number (unsigned (place_count p - 1)))
+    object (member (codes "best_lower_bound") (number_or_null finding.best_lower_bound)
+    (member (codes "capacity") (number (unsigned p.capacity)) (member (codes "cost") (number_or_null (cost_told finding)) (member (codes "customers") (number (unsigned (place_count p - 1)))
     (member (codes "depot") (number (unsigned (node_of p 0))) (member (codes "gap") (number_or_null gap) (member (codes "lower_bound") (number_or_null finding.lower_bound) (member (codes "name") (text_or_null context.name)
     (member (codes "options") (options_told context.asked) (member (codes "routes") (array (items_of routes)) (member (codes "stated_cost") (number_or_null context.stated_cost)
-    (member (codes "verdict") (string (status_text finding.status)) (member (codes "version") (string context.version) no_members))))))))))))
+    (member (codes "verdict") (string (status_text finding.status)) (member (codes "version") (string context.version) no_members)))))))))))))
 
 -- a route
 abbrev pub route_object : ℕ → ℕ → Data → Data → Data
