@@ -196,7 +196,10 @@ fn narrowed_again<P: Guide, A: Ask>(
     }
     let routes = routes_of(alloc, ordered.as_slice())?;
     let routes = routes.as_slice();
-    let Some(marks) = marks_within(alloc, guide, ask, loads, routes, whole, budget)? else {
+    // One round: the guide knows good prices.
+    let mut round = 1.min(*budget);
+    *budget -= round;
+    let Some(marks) = marks_within(alloc, guide, ask, loads, routes, whole, &mut round)? else {
         return Ok(None);
     };
     let kept = kept_routes(alloc, ordered.as_slice(), marks.as_slice())?;
