@@ -11,7 +11,7 @@ use std::rt::{Clock, Files};
 use std::thread::Threads;
 use std::time::{Duration, Instant};
 use std::{env, fs};
-use vrp_ascent::{FoundPrices, find_prices};
+use vrp_ascent::{FoundPrices, find_prices_for_routes};
 use vrp_bound::MemoryTables;
 use vrp_first::{Crew, ENOUGH_MOVES, Unhurried, first_plan};
 use vrp_model::{Instance, NO_COST};
@@ -70,7 +70,7 @@ fn timed_prices<'a, R: Clock + Eprint + AllocGlobal>(
     ensures memory { IfOk result (λ found. found.memory.places ≡ place_count instance.now) }
 {
     let start = Instant::now(rt)?;
-    let found = find_prices(rt.alloc(), instance, cost, NEAR, steps, &|| true)?;
+    let found = find_prices_for_routes(rt.alloc(), instance, cost, NEAR, steps, &|| true)?;
     print_time(rt, "prices", start.elapsed(rt)?)?;
     found.context("no prices")
 }

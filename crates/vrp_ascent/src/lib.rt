@@ -14,4 +14,4 @@ mod unit;
 
 pub use purpose::MOST_SEARCHED;
 pub use remembered::{Remembered, is_affordable};
-pub use rounds::{FoundPrices, find_prices};
+pub use rounds::{FoundPrices, find_prices, find_prices_for_routes};

@@ -25,11 +25,16 @@ const LEAST_ROUNDS: u64 = 100;
 
 const LEAST_BOUNDING_ROUNDS: u64 = 20;
 
+// Finer units pay where so many rounds are left.
+const LEAST_FINE_ROUNDS: u64 = 300;
+
 /// What prices are sought for.
 #[derive(Clone, Copy, Debug)]
 pub(crate) enum Purpose {
     /// To prune partial plans: each is looked up in a table of the ways home.
     Search,
+    /// To list routes: their beginnings are looked up in the tables that bound, which are smaller.
+    Routes,
     /// To bound what every plan costs: one look at the tours.
     Bound,
 }
@@ -47,7 +52,7 @@ impl Purpose {
     /// The fewest rounds that are worth it.
     pub(crate) fn least_rounds(self) -> u64 {
         match self {
-            Purpose::Search => LEAST_ROUNDS,
+            Purpose::Search | Purpose::Routes => LEAST_ROUNDS,
             Purpose::Bound => LEAST_BOUNDING_ROUNDS,
         }
     }
@@ -55,7 +60,7 @@ impl Purpose {
     /// The most rounds; few instances take as many.
     pub(crate) fn most_rounds(self) -> u64 {
         match self {
-            Purpose::Search => 600,
+            Purpose::Search | Purpose::Routes => 600,
             Purpose::Bound => 20_000,
         }
     }
@@ -63,15 +68,24 @@ impl Purpose {
     /// Whether tables of this size are small enough, where so many steps may be taken in all.
     pub(crate) fn allows(self, size: Size, steps: u64) -> bool {
         match self {
-            Purpose::Search => size.steps() <= MAX_ROUND && homes(size) <= MAX_HOMES,
-            Purpose::Bound => {
-                let tours = size.whole.saturating_mul(size.room);
-                bound_table(size) <= MAX_BOUND_TABLE
-                    && tours <= MAX_BOUND_TABLE
-                    && size.steps() <= steps / LEAST_BOUNDING_ROUNDS
+            Purpose::Search => can_search(size),
+            Purpose::Routes => {
+                can_search(size)
+                    || (size.steps() <= MAX_ROUND.min(steps / LEAST_FINE_ROUNDS) && can_bound(size))
             }
+            Purpose::Bound => can_bound(size) && size.steps() <= steps / LEAST_BOUNDING_ROUNDS,
         }
     }
+}
+
+// Whether a round is short enough, and a table of the ways home small enough.
+fn can_search(size: Size) -> bool {
+    size.steps() <= MAX_ROUND && homes(size) <= MAX_HOMES
+}
+
+// Whether the tables that bound are small enough.
+fn can_bound(size: Size) -> bool {
+    bound_table(size) <= MAX_BOUND_TABLE && size.whole.saturating_mul(size.room) <= MAX_BOUND_TABLE
 }
 
 /// How many customers near each place walks remember where prices bound, of this many at most: as many as let the table that bounds be

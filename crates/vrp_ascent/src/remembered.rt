@@ -58,7 +58,9 @@ impl Remembered {
         ensures { IfOk result (λ made. made.memory.places ≡ place_count instance.now) }
     {
         match purpose {
-            Purpose::Search => Remembered::largest(alloc, instance, size, most, steps),
+            Purpose::Search | Purpose::Routes => Remembered::largest(
+                alloc, instance, size, most, steps,
+            ),
             Purpose::Bound => {
                 let near = remembered_for_bound(size, most, steps);
                 Remembered::new(alloc, instance, size, near)

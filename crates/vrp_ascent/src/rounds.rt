@@ -53,6 +53,46 @@ pub fn find_prices<'a, F: Fn() -> bool>(
         IfSome found (λ prices. prices.memory.places ≡ place_count instance.now)) }
 {
     let purpose = Purpose::of(instance);
+    prices_for(alloc, instance, purpose, cost, near, steps, goes_on)
+}
+
+/// The same for a list of routes, of an instance of at most 127 customers: by finer units where so many steps allow them, since there
+/// need be no table of the ways home.
+pub fn find_prices_for_routes<'a, F: Fn() -> bool>(
+    alloc: Global,
+    instance: &'a Instance,
+    cost: u64,
+    near: usize,
+    steps: u64,
+    goes_on: &F,
+) -> Result<Option<FoundPrices<'a>>, NoMemory>
+    requires near { near ≤ MOST_NEAR }
+    requires goes_on { F.IsAlwaysCallable goes_on.now }
+    ensures relaxation { IfOk result (λ found.
+        IfSome found (λ prices. prices.relaxation.problem ≡ instance.now)) }
+    ensures memory { IfOk result (λ found.
+        IfSome found (λ prices. prices.memory.places ≡ place_count instance.now)) }
+{
+    prices_for(alloc, instance, Purpose::Routes, cost, near, steps, goes_on)
+}
+
+// Prices and cuts for a purpose.
+fn prices_for<'a, F: Fn() -> bool>(
+    alloc: Global,
+    instance: &'a Instance,
+    purpose: Purpose,
+    cost: u64,
+    near: usize,
+    steps: u64,
+    goes_on: &F,
+) -> Result<Option<FoundPrices<'a>>, NoMemory>
+    requires near { near ≤ MOST_NEAR }
+    requires goes_on { F.IsAlwaysCallable goes_on.now }
+    ensures relaxation { IfOk result (λ found.
+        IfSome found (λ prices. prices.relaxation.problem ≡ instance.now)) }
+    ensures memory { IfOk result (λ found.
+        IfSome found (λ prices. prices.memory.places ≡ place_count instance.now)) }
+{
     let Some(unit) = unit_for(instance, purpose, steps) else {
         return Ok(None);
     };

@@ -22,16 +22,15 @@ pub(crate) fn unit_for(instance: &Instance, purpose: Purpose, steps: u64) -> Opt
         return Some(divisor);
     }
     match purpose {
-        Purpose::Search => least_by_halving(instance, divisor, steps),
+        Purpose::Search | Purpose::Routes => least_by_halving(instance, purpose, divisor, steps),
         Purpose::Bound => first_of_rising(instance, divisor, steps),
     }
 }
 
 // The least unit above this one, as if tables only got smaller with a greater one.
-fn least_by_halving(instance: &Instance, divisor: u64, steps: u64) -> Option<u64>
+fn least_by_halving(instance: &Instance, purpose: Purpose, divisor: u64, steps: u64) -> Option<u64>
     ensures { IfSome result (λ unit. 1 ≤ unit) }
 {
-    let purpose = Purpose::Search;
     let mut high = instance.capacity().max(1);
     if !purpose.allows(Size::in_units(instance, high), steps) {
         return None;

@@ -4,6 +4,8 @@
 #[cfg(test)]
 mod assertion;
 #[cfg(test)]
+mod fine;
+#[cfg(test)]
 mod found;
 #[cfg(test)]
 mod instances;

@@ -1,5 +1,6 @@
 //! What is made before the pieces are searched: a plan to begin with, and prices to prune by.
 ghost use Rattle.std.specs.Prelude.{◌≡◌, ◌<◌, ◌≤◌, None, IfOk, IfSome};
+ghost use Rattle.vrp_memory.specs.declared.memory.TheConstants.{MOST_NEAR};
 ghost use Rattle.vrp_model.specs.Problem.{place_count};
 ghost use Rattle.vrp_model.specs.Route.{IsPlanOf};
 ghost use Rattle.vrp_pool.specs.declared.preparation.TheConstants.{LEAST_PREPARED_BUDGET};
@@ -7,7 +8,7 @@ ghost use Rattle.vrp_pool.specs.declared.preparation.TheConstants.{LEAST_PREPARE
 use crate::timed_gate::TimedGate;
 use std::thread::Threads;
 use vrp_answer::{Gate, News, Shared};
-use vrp_ascent::{FoundPrices, MOST_SEARCHED, find_prices};
+use vrp_ascent::{FoundPrices, MOST_SEARCHED, find_prices, find_prices_for_routes};
 use vrp_first::{Crew, ENOUGH_MOVES, Watch};
 use vrp_model::{NoMemory, Plan};
 
@@ -137,18 +138,51 @@ fn prices_by_budget<'a, R, G: Gate>(
     ensures memory { IfOk result (λ found. IfSome found (λ prices. prices.memory.places ≡ place_count shared.now.problem)) }
 {
     let gate = shared.gate;
-    let budget = shared.budget_in_all();
-    let (near, steps) = if shared.instance.customers() < MANY_FOR_ROUTES {
-        (MOST_REMEMBERED, budget)
+    let instance = shared.instance;
+    let (near, steps) = steps_by_budget(shared);
+    let goes_on = || gate.goes_on();
+    if instance.customers() > MOST_SEARCHED {
+        find_prices(shared.alloc, instance, cost, near, steps, &goes_on)
     } else {
-        (MORE_REMEMBERED, budget.saturating_mul(MORE_STEPS))
+        find_prices_for_routes(shared.alloc, instance, cost, near, steps, &goes_on)
+    }
+}
+
+/// Prices to search pieces by, in units so coarse that there can be a table of the ways home, of an instance of at most 127 customers.
+pub(crate) fn prices_for_pieces<'a, R, G: Gate>(
+    shared: &Shared<'a, R, G>,
+) -> Result<Option<FoundPrices<'a>>, NoMemory>
+    ensures relaxation { IfOk result (λ found. IfSome found (λ prices. prices.relaxation.problem ≡ shared.now.problem)) }
+    ensures memory { IfOk result (λ found. IfSome found (λ prices. prices.memory.places ≡ place_count shared.now.problem)) }
+{
+    let instance = shared.instance;
+    let Some(plan) = shared.first else {
+        return Ok(None);
     };
+    if instance.customers() > MOST_SEARCHED {
+        return Ok(None);
+    }
+    let gate = shared.gate;
+    gate.hears(News::Prices);
+    let (near, steps) = steps_by_budget(shared);
     find_prices(
         shared.alloc,
-        shared.instance,
-        cost,
+        instance,
+        plan.cost(),
         near,
         steps,
         &|| gate.goes_on(),
     )
+}
+
+// How many customers near each place walks remember, and how many steps the budget allows.
+fn steps_by_budget<R, G: Gate>(shared: &Shared<'_, R, G>) -> (usize, u64)
+    ensures { result.0 ≤ MOST_NEAR }
+{
+    let budget = shared.budget_in_all();
+    if shared.instance.customers() < MANY_FOR_ROUTES {
+        (MOST_REMEMBERED, budget)
+    } else {
+        (MORE_REMEMBERED, budget.saturating_mul(MORE_STEPS))
+    }
 }

@@ -13,7 +13,7 @@ ghost use Rattle.vrp_answer.specs.Outcomes.{words_of};
 
 use crate::better_plan::better_plan;
 use crate::choice::{RoutesAnswer, answer_by_routes, copied_memory};
-use crate::preparation::{LEAST_PREPARED_BUDGET, first_plan, prices_found};
+use crate::preparation::{LEAST_PREPARED_BUDGET, first_plan, prices_for_pieces, prices_found};
 use crate::team::searched_by_all;
 use std::alloc::Global;
 use std::marker::Brand;
@@ -270,13 +270,45 @@ fn solve_by_routes<R: Threads + Wait + Sync, G: Gate + Sync>(
     let answer = if prices.has_completion_table() {
         solve_improved(&begun.by_prices(prices), cutting, workers)
     } else {
-        solve_improved(&begun, cutting, workers)
+        let coarse = prices_for_pieces(shared)?;
+        solve_by_coarse_prices(&begun, coarse, cutting, workers)
     };
     drop(better);
     Ok(Solved {
         answer: answer?,
         lower_bound,
     })
+}
+
+// Answers by the pieces, by these prices if there is a table of the ways home by them.
+fn solve_by_coarse_prices<R: Threads + Wait + Sync, G: Gate + Sync>(
+    shared: &Shared<'_, R, G>,
+    found: Option<FoundPrices<'_>>,
+    cutting: Cutting,
+    workers: u32,
+) -> Result<Answer, NoMemory>
+    requires relaxation { IfSome found (λ prices. prices.relaxation.problem ≡ shared.now.problem) }
+    requires memory { IfSome found (λ prices. prices.memory.places ≡ place_count shared.now.problem) }
+    requires cutting { IsCutting shared.now.problem cutting }
+    requires few { length cutting ≤ 2 * MAX_REFINED }
+    requires pieces { shared.now.pieces ≡ length cutting }
+    requires some_worker { 1 ≤ workers }
+    requires few_workers { workers ≤ MAX_WORKERS }
+    ensures answer { IfOk result (IsAnswer shared.now.problem cutting shared.now.budget shared.now.may_stop) }
+    ensures no_dearer { IfOk result (λ answer. cost_of (known_plan answer) ≤ cost_of shared.now.first) }
+{
+    let Some(FoundPrices { relaxation, memory }) = found else {
+        return solve_improved(shared, cutting, workers);
+    };
+    let prices = Prices::new(shared.alloc, &relaxation, memory)?;
+    let answer = if prices.has_completion_table() {
+        solve_improved(&shared.by_prices(&prices), cutting, workers)
+    } else {
+        solve_improved(shared, cutting, workers)
+    };
+    drop(prices);
+    drop(relaxation);
+    answer
 }
 
 // Looks for better plans, if a time is set, and answers by the pieces then.
