@@ -137,10 +137,10 @@ fn prices_by_budget<'a, R, G: Gate>(
     ensures relaxation { IfOk result (λ found. IfSome found (λ prices. prices.relaxation.problem ≡ shared.now.problem)) }
     ensures memory { IfOk result (λ found. IfSome found (λ prices. prices.memory.places ≡ place_count shared.now.problem)) }
 {
-    let gate = shared.gate;
     let instance = shared.instance;
     let (near, steps) = steps_by_budget(shared);
-    let goes_on = || gate.goes_on();
+    let timed = half_of_the_time(shared.gate);
+    let goes_on = || timed.should_continue();
     if instance.customers() > MOST_SEARCHED {
         find_prices(shared.alloc, instance, cost, near, steps, &goes_on)
     } else {
@@ -162,17 +162,25 @@ pub(crate) fn prices_for_pieces<'a, R, G: Gate>(
     if instance.customers() > MOST_SEARCHED {
         return Ok(None);
     }
-    let gate = shared.gate;
-    gate.hears(News::Prices);
+    shared.gate.hears(News::Prices);
     let (near, steps) = steps_by_budget(shared);
+    let timed = half_of_the_time(shared.gate);
     find_prices(
         shared.alloc,
         instance,
         plan.cost(),
         near,
         steps,
-        &|| gate.goes_on(),
+        &|| timed.should_continue(),
     )
+}
+
+// A gate that keeps half of the time that is left, where a time is set.
+fn half_of_the_time<G: Gate>(gate: &G) -> TimedGate<'_, G> {
+    TimedGate {
+        gate,
+        kept: gate.milliseconds_left().unwrap_or(0) / 2,
+    }
 }
 
 // How many customers near each place walks remember, and how many steps the budget allows.
