@@ -26,7 +26,7 @@ use vrp_search::{Cutting, Local, MAX_PIECES};
 
 // How an instance is searched.
 #[derive(Clone, Copy)]
-struct Way {
+struct Setup {
     budget: u64,
     by_savings: bool,
     pieces: u32,
@@ -49,13 +49,13 @@ fn main(rt: HostRuntime) -> Result<()> {
         _ => Whose::All,
     };
     let instance = read(&rt, name.as_str())?;
-    let way = Way {
+    let setup = Setup {
         budget,
         by_savings,
         pieces,
         whose,
     };
-    measure(&rt, name.as_str(), &instance, way)
+    measure(&rt, name.as_str(), &instance, setup)
 }
 
 // The plan that the search starts with, if there is one: one truck for each customer, or a plan by savings.
@@ -84,15 +84,15 @@ fn measure<R: Clock + Print + Eprint + AllocGlobal>(
     rt: &R,
     name: &str,
     instance: &Instance,
-    way: Way,
+    setup: Setup,
 ) -> Result<()>
-    requires budget { 1 ≤ way.budget }
-    requires pieces { way.pieces ≤ MAX_PIECES }
+    requires budget { 1 ≤ setup.budget }
+    requires pieces { setup.pieces ≤ MAX_PIECES }
 {
     let start = Instant::now(rt)?;
     let tables = Tables::over_all(rt.alloc(), instance)?;
     let tables_time = start.elapsed(rt)?;
-    measure_search(rt, name, instance, &tables, way)?;
+    measure_search(rt, name, instance, &tables, setup)?;
     eprintln!(rt; "tables in {} milliseconds", tables_time.as_millis())?;
     Ok(())
 }
@@ -103,15 +103,15 @@ fn measure_search<R: Clock + Print + Eprint + AllocGlobal>(
     name: &str,
     instance: &Instance,
     tables: &Tables<'_>,
-    way: Way,
+    setup: Setup,
 ) -> Result<()>
     requires tables { tables.now ≡ tables_over instance.now (customers instance.now) }
-    requires budget { 1 ≤ way.budget }
-    requires pieces { way.pieces ≤ MAX_PIECES }
+    requires budget { 1 ≤ setup.budget }
+    requires pieces { setup.pieces ≤ MAX_PIECES }
 {
-    let mut board = Local::open(first_plan(rt.alloc(), instance, way.by_savings)?);
+    let mut board = Local::open(first_plan(rt.alloc(), instance, setup.by_savings)?);
     let start = Instant::now(rt)?;
-    let looked = search_all(rt.alloc(), instance, tables, way, &mut board)?;
+    let looked = search_all(rt.alloc(), instance, tables, setup, &mut board)?;
     let time = start.elapsed(rt)?;
     let cost = board.plan().context("no plan")?.cost();
     println!(rt; "{name}: {looked} partial plans looked at, cost {cost}")?;
@@ -124,18 +124,18 @@ fn search_all(
     alloc: Global,
     instance: &Instance,
     tables: &Tables<'_>,
-    way: Way,
+    setup: Setup,
     board: &mut Local,
 ) -> Result<u64, NoMemory>
     requires tables { tables.now ≡ tables_over instance.now (customers instance.now) }
     requires board { ForSome board.old (IsPlanOf instance.now) }
-    requires budget { 1 ≤ way.budget }
-    requires pieces { way.pieces ≤ MAX_PIECES }
+    requires budget { 1 ≤ setup.budget }
+    requires pieces { setup.pieces ≤ MAX_PIECES }
 {
     let mut cutting = Cutting::whole(alloc, instance)?;
-    cutting.at_least(alloc, instance, way.pieces)?;
+    cutting.at_least(alloc, instance, setup.pieces)?;
     search_pieces(
-        alloc, instance, tables, &cutting, way.whose, way.budget, board,
+        alloc, instance, tables, &cutting, setup.whose, setup.budget, board,
     )
 }
 
