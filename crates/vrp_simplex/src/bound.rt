@@ -9,7 +9,7 @@ use vrp_partition::Route;
 pub(crate) const NO_BOUND: i64 = i64::MIN;
 
 // Larger prices can't be offered, and sums of them may have wrapped.
-const MOST_PRICE: u64 = 1 << 50;
+const MOST_PRICE: u64 = 1 << 52;
 
 impl Program {
     /// A lower bound by the prices, as a price, with the signs that a bound wants: the sum of the prices, and the least reduced cost
