@@ -6,7 +6,7 @@
 set -eu
 top=$(cd "$(dirname "$0")/.." && pwd)
 rounds=${ROUNDS:-5}
-cases=$top/crates/cases/data
+cases=$top/crates/check_cases/data
 alone=$("$top/bench/build.sh")
 (cd "$top/crates/cvrp" && rt run < "$cases/E-n7-k2.vrp" > /dev/null)
 program=$top/crates/cvrp/out/cvrp

@@ -3,7 +3,7 @@
 //!     rustc -O kernel.rs -o kernel
 //!     ./kernel [BUDGET [RULES]] < file.vrp      prints: cost, looked, seconds, millions of partial plans looked at each second
 //!
-//! It reads lawful files of the plainest spelling alone: EUC_2D or CEIL_2D with whole coordinates, or a matrix as LOWER_ROW or
+//! It reads feasible files of the plainest spelling alone: EUC_2D or CEIL_2D with whole coordinates, or a matrix as LOWER_ROW or
 //! FULL_MATRIX; one depot, node 1. It opens with one route for each customer, looks at children by rising symbol, and does not
 //! go below a child whose cost plus bound is above that plan's cost, or not under the cost of the last plan found.
 //! Where there and back weigh the same between any two nodes, two more rules hold, or those that RULES names (`both`, `forward`,
@@ -12,7 +12,7 @@
 //! any more, and which leaves some unserved or has an open route whose last customer is below its first.
 //! Demands are divided by their greatest common divisor. The bound is looked up in one flat table by place, room and rest; where
 //! a customer demands nothing, or the numbers are large, there is no such table and the capacity bound stands alone. Where these
-//! bounds don't prune a child, a least spanning tree and the least ways home may: with at least 5 customers unserved where no route
+//! bounds don't prune a child, a least spanning tree and the least arcs home may: with at least 5 customers unserved where no route
 //! is open and a truck carries three customers or more on average, and with at least 4 at an open route where it carries four or
 //! more; not with more than 100.
 mod problem;
@@ -23,10 +23,10 @@ use std::time::Instant;
 const NONE: u32 = 1 << 30;
 const MOST_STEPS: usize = 200_000_000;
 
-/// what the ways home of a load cost at least
-fn ways_home(p: &Problem, load: usize) -> u64 { (load as u64 * p.unit).div_ceil(p.whole) * p.least_home }
+/// what the arcs home of a load cost at least
+fn arcs_home(p: &Problem, load: usize) -> u64 { (load as u64 * p.unit).div_ceil(p.whole) * p.least_home }
 
-/// by place, room and rest: the least cost of a relaxed completion; at place 0 by rest alone; and what the ways home of a load cost
+/// by place, room and rest: the least cost of a relaxed completion; at place 0 by rest alone; and what the arcs home of a load cost
 struct Tables { rest: usize, room: usize, from: Vec<u32>, tours: Vec<u32>, home_for: Vec<u64> }
 
 fn tables(p: &Problem) -> Option<Tables> {
@@ -49,12 +49,12 @@ fn tables(p: &Problem) -> Option<Tables> {
         let all = if space <= r { walk[space * p.n + at] + tours[r - space] } else { NONE as u64 };
         from[(at * (room + 1) + space) * (rest + 1) + r] = less.min(all).min(NONE as u64) as u32;
     } } }
-    let home_for = (0..=rest + p.capacity).map(|x| ways_home(p, x)).collect();
+    let home_for = (0..=rest + p.capacity).map(|x| arcs_home(p, x)).collect();
     Some(Tables { rest, room, from, tours: tours.iter().map(|&x| x as u32).collect(), home_for })
 }
 
-/// the weight of a least spanning tree over the last place, the unserved customers and the depot, and the least ways home for the
-/// routes that must still be opened; `room` holds a place and its lesser way to those that are taken in
+/// the weight of a least spanning tree over the last place, the unserved customers and the depot, and the least arcs home for the
+/// routes that must still be opened; `room` holds a place and its lesser arc to those that are taken in
 fn tree(p: &Problem, at: usize, load: usize, rest: usize, free: &[bool], room: &mut Vec<(usize, u64)>) -> u64 {
     let link = |a: usize, b: usize| p.weight[a * p.n + b].min(p.weight[b * p.n + a]);
     room.clear();
@@ -64,8 +64,8 @@ fn tree(p: &Problem, at: usize, load: usize, rest: usize, free: &[bool], room: &
     while !room.is_empty() {
         let mut nearest = 0;
         for i in 1..room.len() { if room[i].1 < room[nearest].1 { nearest = i } }
-        let (place, way) = room.swap_remove(nearest);
-        weight += way;
+        let (place, arc) = room.swap_remove(nearest);
+        weight += arc;
         for other in room.iter_mut() { other.1 = other.1.min(link(place, other.0)) }
     }
     let space = if at == 0 { 0 } else { p.capacity - load };
@@ -83,7 +83,7 @@ fn tree(p: &Problem, at: usize, load: usize, rest: usize, free: &[bool], room: &
 
 /// the last route, before each symbol; `high` is the highest unserved customer, 0 where there is none
 #[derive(Clone, Copy)]
-struct Step { symbol: usize, load: usize, first: usize, high: usize, cost: u64, ins: u64, rest: usize }
+struct Step { symbol: usize, load: usize, first: usize, high: usize, cost: u64, inbound_sum: u64, rest: usize }
 
 fn search(p: &Problem, t: Option<&Tables>, budget: u64, forward: bool, past_dead: bool) -> (u64, u64) {
     let m = p.n - 1;
@@ -91,7 +91,7 @@ fn search(p: &Problem, t: Option<&Tables>, budget: u64, forward: bool, past_dead
     let floor: u64 = (1..p.n).map(|c| p.weight[c] + p.weight[c * p.n]).sum();
     let mut own = u64::MAX;
     let mut free = vec![true; p.n];
-    let mut stack = vec![Step { symbol: 0, load: 0, first: 0, high: m, cost: 0, ins: p.least_in[1..].iter().sum(), rest: p.demand.iter().sum() }];
+    let mut stack = vec![Step { symbol: 0, load: 0, first: 0, high: m, cost: 0, inbound_sum: p.least_in[1..].iter().sum(), rest: p.demand.iter().sum() }];
     let mut next = 0;
     let mut left = m;
     let mut looked = 1;
@@ -107,14 +107,14 @@ fn search(p: &Problem, t: Option<&Tables>, budget: u64, forward: bool, past_dead
             next += 1;
             let child = if k == 0 {
                 if here.symbol == 0 || forward && here.symbol < here.first { continue }
-                Step { symbol: 0, load: 0, first: here.first, high: here.high, cost: here.cost + p.weight[here.symbol * p.n], ins: here.ins, rest: here.rest }
+                Step { symbol: 0, load: 0, first: here.first, high: here.high, cost: here.cost + p.weight[here.symbol * p.n], inbound_sum: here.inbound_sum, rest: here.rest }
             } else {
                 if !free[k] { continue }
                 let (load, first) = if here.symbol == 0 { if k <= here.first { continue } (0, k) } else { (here.load, here.first) };
                 if load + p.demand[k] > p.capacity { continue }
                 let mut high = here.high;
                 if k == high { high -= 1; while !free[high] { high -= 1 } }
-                Step { symbol: k, load: load + p.demand[k], first, high, cost: here.cost + p.weight[here.symbol * p.n + k], ins: here.ins - p.least_in[k], rest: here.rest - p.demand[k] }
+                Step { symbol: k, load: load + p.demand[k], first, high, cost: here.cost + p.weight[here.symbol * p.n + k], inbound_sum: here.inbound_sum - p.least_in[k], rest: here.rest - p.demand[k] }
             };
             if looked == budget { return (floor.min(own), looked) }
             looked += 1;
@@ -128,9 +128,9 @@ fn search(p: &Problem, t: Option<&Tables>, budget: u64, forward: bool, past_dead
                         t.from[(child.symbol * (t.room + 1) + space) * (t.rest + 1) + child.rest]
                     } else { t.tours[child.rest] };
                     if q >= NONE { continue }
-                    (q as u64).max(child.ins + t.home_for[child.load + child.rest].max(out))
+                    (q as u64).max(child.inbound_sum + t.home_for[child.load + child.rest].max(out))
                 }
-                None => child.ins + ways_home(p, child.load + child.rest).max(out),
+                None => child.inbound_sum + arcs_home(p, child.load + child.rest).max(out),
             };
             if child.cost + bound > floor || child.cost + bound >= own { continue }
             if !is_open && left == 0 { own = child.cost; continue }

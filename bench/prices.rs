@@ -16,15 +16,15 @@ use std::time::Instant;
 
 const NONE: i64 = 1 << 40;
 
-/// what walks remember: by place the bit of each customer near it, and by way and memory the memory one stop earlier
-struct Memory {
+/// what walks remember: by place the bit of each customer near it, and by arc and memory the memory one stop earlier
+struct NgSets {
     masks: usize,
     bit: Vec<usize>,
     before: Vec<usize>,
 }
 
-impl Memory {
-    fn new(p: &Problem, size: usize) -> Memory {
+impl NgSets {
+    fn new(p: &Problem, size: usize) -> NgSets {
         let (n, size) = (p.n, size.min(p.n.saturating_sub(2)));
         let (mut near, mut bit) = (vec![vec![]; n], vec![0; n * n]);
         for at in 1..n {
@@ -40,13 +40,13 @@ impl Memory {
         let mut before = vec![0; n * n * masks];
         for from in 1..n {
             for stop in 1..n {
-                for memory in 0..masks {
-                    let kept = near[stop].iter().enumerate().filter(|x| memory >> x.0 & 1 == 1);
-                    before[(from * n + stop) * masks + memory] = kept.fold(bit[from * n + stop], |all, x| all | bit[from * n + x.1]);
+                for ng_sets in 0..masks {
+                    let kept = near[stop].iter().enumerate().filter(|x| ng_sets >> x.0 & 1 == 1);
+                    before[(from * n + stop) * masks + ng_sets] = kept.fold(bit[from * n + stop], |all, x| all | bit[from * n + x.1]);
                 }
             }
         }
-        Memory { masks, bit, before }
+        NgSets { masks, bit, before }
     }
 }
 
@@ -61,8 +61,8 @@ struct Tables {
     last: Vec<usize>,
 }
 
-fn tables(p: &Problem, memory: &Memory, ways: &[i64]) -> Tables {
-    let (n, masks) = (p.n, memory.masks);
+fn tables(p: &Problem, ng_sets: &NgSets, arcs: &[i64]) -> Tables {
+    let (n, masks) = (p.n, ng_sets.masks);
     let whole: usize = p.demand.iter().sum();
     let room = p.capacity.min(whole);
     let mut t = Tables {
@@ -74,7 +74,7 @@ fn tables(p: &Problem, memory: &Memory, ways: &[i64]) -> Tables {
         last: vec![0; whole + 1],
     };
     for at in 1..n {
-        t.walk[at * masks] = ways[at * n];
+        t.walk[at * masks] = arcs[at * n];
     }
     for load in 0..=room {
         for stop in 1..n {
@@ -88,15 +88,15 @@ fn tables(p: &Problem, memory: &Memory, ways: &[i64]) -> Tables {
                     continue;
                 }
                 let state = stop * masks + kept;
-                if cost + ways[stop] < t.tour[carried] {
-                    (t.tour[carried], t.first[carried]) = (cost + ways[stop], state);
+                if cost + arcs[stop] < t.tour[carried] {
+                    (t.tour[carried], t.first[carried]) = (cost + arcs[stop], state);
                 }
                 for from in 1..n {
-                    if from == stop || kept & memory.bit[stop * n + from] != 0 || carried + p.demand[from] > room {
+                    if from == stop || kept & ng_sets.bit[stop * n + from] != 0 || carried + p.demand[from] > room {
                         continue;
                     }
-                    let cell = (carried * n + from) * masks + memory.before[(from * n + stop) * masks + kept];
-                    let longer = cost + ways[from * n + stop];
+                    let cell = (carried * n + from) * masks + ng_sets.before[(from * n + stop) * masks + kept];
+                    let longer = cost + arcs[from * n + stop];
                     if longer < t.walk[cell] {
                         (t.walk[cell], t.next[cell]) = (longer, state);
                     }
@@ -120,7 +120,7 @@ fn tables(p: &Problem, memory: &Memory, ways: &[i64]) -> Tables {
 struct Cut {
     inside: u64,
     trucks: i64,
-    toll: i64,
+    cut_price: i64,
     direction: i64,
 }
 
@@ -130,28 +130,28 @@ impl Cut {
     }
 }
 
-/// the ways with prices and tolls, and what both add to each plan together
+/// the arcs with prices and cut prices, and what both add to each plan together
 fn priced(p: &Problem, scale: i64, price: &[i64], cuts: &[Cut]) -> (Vec<i64>, i64) {
     let n = p.n;
-    let mut ways = vec![0; n * n];
+    let mut arcs = vec![0; n * n];
     for from in 0..n {
         for to in 0..n {
-            ways[from * n + to] = scale * p.weight[from * n + to] as i64 + price[from] + price[to];
+            arcs[from * n + to] = scale * p.weight[from * n + to] as i64 + price[from] + price[to];
         }
     }
     let mut owed = 2 * price.iter().sum::<i64>();
-    for cut in cuts.iter().filter(|cut| cut.toll > 0) {
-        owed -= 2 * cut.trucks * cut.toll;
-        for way in 0..n * n {
-            if cut.is_crossed(way / n, way % n) {
-                ways[way] -= cut.toll;
+    for cut in cuts.iter().filter(|cut| cut.cut_price > 0) {
+        owed -= 2 * cut.trucks * cut.cut_price;
+        for arc in 0..n * n {
+            if cut.is_crossed(arc / n, arc % n) {
+                arcs[arc] -= cut.cut_price;
             }
         }
     }
-    (ways, owed)
+    (arcs, owed)
 }
 
-/// the ways of the least tours of the whole demand
+/// the arcs of the least tours of the whole demand
 fn used_ways(p: &Problem, masks: usize, t: &Tables) -> Vec<(usize, usize)> {
     let mut used = vec![];
     let mut rest = t.tours.len() - 1;
@@ -194,15 +194,15 @@ fn grown(p: &Problem, flow: &[i64], start: usize) -> Option<(i64, u64, i64)> {
 }
 
 /// prices and cuts by a deflected subgradient; the bound that they give, by the scale, and after how many rounds
-fn ascend(p: &Problem, memory: &Memory, scale: i64, cost: i64, most_cuts: usize) -> (Vec<i64>, Vec<Cut>, i64, i32) {
+fn ascend(p: &Problem, ng_sets: &NgSets, scale: i64, cost: i64, most_cuts: usize) -> (Vec<i64>, Vec<Cut>, i64, i32) {
     let n = p.n;
-    let (mut price, mut cuts, mut way) = (vec![0; n], Vec::<Cut>::new(), vec![0; n]);
+    let (mut price, mut cuts, mut arc) = (vec![0; n], Vec::<Cut>::new(), vec![0; n]);
     let (mut best, mut low) = ((price.clone(), cuts.clone()), i64::MIN);
     let mut flow = vec![0; n * n];
     let (mut pace, mut stale) = (1024, 0);
     for round in 0..600 {
-        let (ways, owed) = priced(p, scale, &price, &cuts);
-        let t = tables(p, memory, &ways);
+        let (arcs, owed) = priced(p, scale, &price, &cuts);
+        let t = tables(p, ng_sets, &arcs);
         let bound = t.tours[t.tours.len() - 1] - owed;
         stale = if bound - low > low.saturating_abs() / 20_000 || low == i64::MIN { 0 } else { stale + 1 };
         if bound > low {
@@ -214,7 +214,7 @@ fn ascend(p: &Problem, memory: &Memory, scale: i64, cost: i64, most_cuts: usize)
         if low > scale * (cost - 1) || pace < 4 {
             return (best.0, best.1, low, round);
         }
-        let used = used_ways(p, memory.masks, &t);
+        let used = used_ways(p, ng_sets.masks, &t);
         let mut uses = vec![0; n * n];
         for &(from, to) in &used {
             uses[from * n + to] += 1024;
@@ -229,7 +229,7 @@ fn ascend(p: &Problem, memory: &Memory, scale: i64, cost: i64, most_cuts: usize)
             let before = cuts.len();
             for (_, inside, trucks) in found {
                 if cuts.len() < before + 8 && cuts.iter().all(|cut| cut.inside != inside) {
-                    cuts.push(Cut { inside, trucks, toll: 0, direction: 0 });
+                    cuts.push(Cut { inside, trucks, cut_price: 0, direction: 0 });
                 }
             }
             if cuts.len() > before {
@@ -238,14 +238,14 @@ fn ascend(p: &Problem, memory: &Memory, scale: i64, cost: i64, most_cuts: usize)
         }
         let mut long = 0;
         for stop in 1..n {
-            let visits = used.iter().filter(|way| way.1 == stop).count() as i64;
-            way[stop] = (3 * way[stop] + 7 * 256 * (visits - 1)) / 10;
-            long += way[stop] * way[stop];
+            let visits = used.iter().filter(|arc| arc.1 == stop).count() as i64;
+            arc[stop] = (3 * arc[stop] + 7 * 256 * (visits - 1)) / 10;
+            long += arc[stop] * arc[stop];
         }
         for cut in cuts.iter_mut() {
-            let crossed = used.iter().filter(|way| cut.is_crossed(way.0, way.1)).count() as i64;
+            let crossed = used.iter().filter(|arc| cut.is_crossed(arc.0, arc.1)).count() as i64;
             cut.direction = (3 * cut.direction + 7 * 256 * (2 * cut.trucks - crossed)) / 10;
-            if cut.direction > 0 || cut.toll > 0 {
+            if cut.direction > 0 || cut.cut_price > 0 {
                 long += cut.direction * cut.direction / 4;
             }
         }
@@ -254,44 +254,44 @@ fn ascend(p: &Problem, memory: &Memory, scale: i64, cost: i64, most_cuts: usize)
         }
         let gap = (scale * cost + scale * cost / 200 - bound).max(scale);
         for stop in 1..n {
-            price[stop] += pace * gap / 8 * way[stop] / long;
+            price[stop] += pace * gap / 8 * arc[stop] / long;
         }
         for cut in cuts.iter_mut() {
-            cut.toll = (cut.toll + pace * gap / 16 * cut.direction / long).max(0);
+            cut.cut_price = (cut.cut_price + pace * gap / 16 * cut.direction / long).max(0);
         }
     }
     (best.0, best.1, low, 600)
 }
 
 /// the least completion by place, room and rest; NO_WAY where there is none
-fn homes(p: &Problem, masks: usize, t: &Tables) -> Vec<u32> {
+fn completion_table(p: &Problem, masks: usize, t: &Tables) -> Vec<u32> {
     let (whole, room) = (t.tours.len() - 1, t.tour.len() - 1);
-    let mut homes = vec![u32::MAX; p.n * (room + 1) * (whole + 1)];
+    let mut completion_table = vec![u32::MAX; p.n * (room + 1) * (whole + 1)];
     for at in 1..p.n {
         for load in 0..=room {
             let walk = (0..masks).map(|kept| t.walk[(load * p.n + at) * masks + kept]).min().unwrap();
             for rest in 0..=whole {
                 let cell = (at * (room + 1) + load) * (whole + 1) + rest;
-                let mut least = if load > 0 { homes[cell - whole - 1] } else { u32::MAX };
+                let mut least = if load > 0 { completion_table[cell - whole - 1] } else { u32::MAX };
                 if load <= rest {
                     let cost = walk + t.tours[rest - load];
                     if cost < NONE {
                         least = least.min(cost as u32);
                     }
                 }
-                homes[cell] = least;
+                completion_table[cell] = least;
             }
         }
     }
-    homes
+    completion_table
 }
 
-struct Front {
+struct Prefix {
     at: usize,
     load: usize,
     rest: usize,
     cost: i64,
-    paid: i64,
+    priced: i64,
     served: u64,
     first: usize,
     next: usize,
@@ -300,11 +300,11 @@ struct Front {
 
 /// depth first, routes by rising first customer, each in the direction whose first customer is the lesser: the partial plans
 /// that are looked at, and the cost of the best plan that was found, if one costs no more than this
-fn search(p: &Problem, t: &Tables, homes: &[u32], scale: i64, ways: &[i64], owed: i64, cost: i64) -> (u64, Option<i64>) {
+fn search(p: &Problem, t: &Tables, completion_table: &[u32], scale: i64, arcs: &[i64], owed: i64, cost: i64) -> (u64, Option<i64>) {
     let n = p.n;
     let (whole, room) = (t.tours.len() - 1, t.tour.len() - 1);
     let all = (1u64 << (n - 1) << 1) - 2;
-    let root = Front { at: 0, load: 0, rest: whole, cost: 0, paid: 0, served: 0, first: 0, next: 0, one: false };
+    let root = Prefix { at: 0, load: 0, rest: whole, cost: 0, priced: 0, served: 0, first: 0, next: 0, one: false };
     let mut stack = vec![root];
     let (mut looked, mut limit, mut found) = (0, cost, None);
     while let Some(f) = stack.last_mut() {
@@ -320,18 +320,18 @@ fn search(p: &Problem, t: &Tables, homes: &[u32], scale: i64, ways: &[i64], owed
                 continue;
             }
             looked += 1;
-            let (cost, paid) = (f.cost + p.weight[f.at * n + s] as i64, f.paid + ways[f.at * n + s]);
+            let (cost, priced) = (f.cost + p.weight[f.at * n + s] as i64, f.priced + arcs[f.at * n + s]);
             let (load, rest) = if s == 0 { (0, f.rest) } else { (f.load + p.demand[s], f.rest - p.demand[s]) };
             let more = if s == 0 {
                 t.tours[rest]
             } else {
                 let left = (p.capacity - load).min(room);
-                match homes[(s * (room + 1) + left) * (whole + 1) + rest] {
+                match completion_table[(s * (room + 1) + left) * (whole + 1) + rest] {
                     u32::MAX => NONE,
                     more => more as i64,
                 }
             };
-            if more >= NONE || paid + more - owed > scale * limit {
+            if more >= NONE || priced + more - owed > scale * limit {
                 continue;
             }
             if s == 0 && f.served == all {
@@ -342,10 +342,10 @@ fn search(p: &Problem, t: &Tables, homes: &[u32], scale: i64, ways: &[i64], owed
             }
             let served = if s == 0 { f.served } else { f.served | 1 << s };
             let first = if s > 0 && f.at == 0 { s } else { f.first };
-            child = Some(Front { at: s, load, rest, cost, paid, served, first, next: 0, one: s > 0 && f.at == 0 });
+            child = Some(Prefix { at: s, load, rest, cost, priced, served, first, next: 0, one: s > 0 && f.at == 0 });
         }
         match child {
-            Some(front) => stack.push(front),
+            Some(partial) => stack.push(partial),
             None => {
                 stack.pop();
             }
@@ -358,31 +358,31 @@ fn main() {
     let words: Vec<String> = std::env::args().skip(1).collect();
     let cost: i64 = words[0].parse().unwrap();
     let p = read();
-    let memory = Memory::new(&p, words.get(1).map_or(3, |word| word.parse().unwrap()));
+    let ng_sets = NgSets::new(&p, words.get(1).map_or(3, |word| word.parse().unwrap()));
     let most_cuts = words.get(2).map_or(100, |word| word.parse().unwrap());
     assert!(p.n <= 64 && p.symmetric && !p.demand[1..].contains(&0));
     let scale = (1_000_000_000 / cost).clamp(1, 1000);
     let clock = Instant::now();
-    let (mut price, cuts, low, rounds) = ascend(&p, &memory, scale, cost, most_cuts);
+    let (mut price, cuts, low, rounds) = ascend(&p, &ng_sets, scale, cost, most_cuts);
     let rounds_took = clock.elapsed().as_secs_f64();
-    // No way below nothing: a price in proportion to the demand changes no comparison.
-    let (ways, _) = priced(&p, scale, &price, &cuts);
+    // No arc below nothing: a price in proportion to the demand changes no comparison.
+    let (arcs, _) = priced(&p, scale, &price, &cuts);
     let mut lift = 0;
-    for way in 0..p.n * p.n {
-        let (from, to) = (way / p.n, way % p.n);
-        if from != to && ways[way] < 0 {
+    for arc in 0..p.n * p.n {
+        let (from, to) = (arc / p.n, arc % p.n);
+        if from != to && arcs[arc] < 0 {
             let units = (p.demand[from] + p.demand[to]) as i64;
-            lift = lift.max((units - 1 - ways[way]) / units);
+            lift = lift.max((units - 1 - arcs[arc]) / units);
         }
     }
     for stop in 1..p.n {
         price[stop] += lift * p.demand[stop] as i64;
     }
-    let (ways, owed) = priced(&p, scale, &price, &cuts);
-    let t = tables(&p, &memory, &ways);
-    let homes = homes(&p, memory.masks, &t);
+    let (arcs, owed) = priced(&p, scale, &price, &cuts);
+    let t = tables(&p, &ng_sets, &arcs);
+    let completion_table = completion_table(&p, ng_sets.masks, &t);
     let clock = Instant::now();
-    let (looked, found) = search(&p, &t, &homes, scale, &ways, owed, cost);
+    let (looked, found) = search(&p, &t, &completion_table, scale, &arcs, owed, cost);
     let took = clock.elapsed().as_secs_f64();
     println!(
         "bound {:.2}, {rounds} rounds in {rounds_took:.3} seconds; cost {}, {looked} partial plans in {took:.3} seconds, million/s {:.1}",

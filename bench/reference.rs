@@ -30,9 +30,9 @@ fn weights(text: &str, n: usize) -> Vec<u32> {
     let mut weights = vec![0u32; n * n];
     for row in 0..n {
         for column in 0..row {
-            let way = weight(point(row), point(column)) as u32;
-            weights[row * n + column] = way;
-            weights[column * n + row] = way;
+            let arc = weight(point(row), point(column)) as u32;
+            weights[row * n + column] = arc;
+            weights[column * n + row] = arc;
         }
     }
     weights

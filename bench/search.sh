@@ -1,12 +1,12 @@
 #!/usr/bin/env bash
 # Times the proved search (crates/bench_search) beside a plain kernel in Rust (bench/kernel.rs), with the same budget.
 # Prints for each file how many million partial plans each looks at in a second, and the ratio. Both prune by the same three bounds,
-# keep ties and, in symmetric instances, close routes in one direction alone and stop at dead partial plans, so the two look at the
+# keep ties and, in symmetric instances, close routes in one direction alone and stop at partial plans without completion, so the two look at the
 # same ones.
 # Needs the Rattle kit's command rt, rustc and awk.
 set -eu
 top=$(cd "$(dirname "$0")/.." && pwd)
-cases=$top/crates/cases/data
+cases=$top/crates/check_cases/data
 program=$("$top/bench/build.sh")
 budget=${1:-100000000}
 room=$(mktemp -d)

@@ -3,7 +3,7 @@
 # Each is the least of three runs. Needs the Rattle kit's command rt, which builds the program at its first use.
 set -eu
 top=$(cd "$(dirname "$0")/.." && pwd)
-cases=$top/crates/cases/data
+cases=$top/crates/check_cases/data
 (cd "$top/crates/cvrp" && rt run < "$cases/E-n7-k2.vrp" > /dev/null)
 program=$top/crates/cvrp/out/cvrp
 

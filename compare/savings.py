@@ -9,7 +9,7 @@ import sys
 from slow_judge import is_symmetric, load, plan_cost
 from slow_reader import outcome
 
-# How many near neighbours a customer has, and the tenths of its weight that the way between two customers counts.
+# How many near neighbours a customer has, and the tenths of its weight that the arc between two customers counts.
 NEAR = 40
 TENTHS = range(4, 21)
 

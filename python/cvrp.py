@@ -49,7 +49,7 @@ class Solution:
 
     `routes` has each route's customers in the order in which they are served, numbered from 1 without the depot, as a .sol file of
     CVRPLIB has them; `nodes` has the same routes by the node numbers of the problem's file. Both are empty, and `cost` is None, where
-    no plan is known. No lawful plan costs less than `best_lower_bound`, and `gap` is how far the plan may be above that, in hundredths of
+    no plan is known. No feasible plan costs less than `best_lower_bound`, and `gap` is how far the plan may be above that, in hundredths of
     a percent, rounded up: 0 where it is proven, None where cost or bound is not known. `lower_bound` is the number that a report has
     behind `Open`: never above the other, and the same where `seconds` are given. `proven` says that the plan is a cheapest one.
 

@@ -1,12 +1,12 @@
-//! How good prices are, and how fast the search by them looks: it finds prices for the instance in a CVRP file, with a first plan's cost
-//! to aim at, and searches its whole tree till the budget is spent. The command line names the file, the budget in partial plans, the
-//! steps that may be taken to find prices, and how many customers near each place walks may remember. What was found goes to standard
-//! output, and how long it took to standard error.
+//! How good prices are, and how fast the search by them looks: it finds prices for the instance in a CVRP file, with a heuristic
+//! plan's cost to aim at, and searches its whole tree till the budget is spent. The command line names the file, the budget in
+//! partial plans, the steps that may be taken to find prices, and how many customers near each place walks may remember. What was
+//! found goes to standard output, and how long it took to standard error.
 #![tactic(auto)]
 
 ghost use Rattle.std.specs.Prelude.{◌≡◌, ◌≤◌, IfOk};
 ghost use Rattle.std.specs.Option.{ForSome};
-ghost use Rattle.vrp_memory.specs.declared.memory.TheConstants.{MOST_NEAR};
+ghost use Rattle.vrp_bound_ng.specs.declared.ng_sets.TheConstants.{MOST_NEAR};
 ghost use Rattle.vrp_model.specs.Problem.{customers, place_count};
 ghost use Rattle.vrp_bound.specs.Tables.{tables_over};
 ghost use Rattle.vrp_model.specs.Route.{IsPlanOf};
@@ -17,10 +17,10 @@ use std::rt::{Clock, Files};
 use std::thread::Threads;
 use std::time::{Duration, Instant};
 use std::{env, fs};
-use vrp_ascent::{FoundPrices, find_prices};
-use vrp_bound::{MemoryTables, Tables};
-use vrp_first::{Crew, ENOUGH_MOVES, Unhurried, first_plan};
-use vrp_memory::{MOST_NEAR, Memory};
+use vrp_bound::{NgTables, Tables};
+use vrp_bound_ascent::{FoundPrices, find_prices};
+use vrp_bound_ng::{MOST_NEAR, NgSets};
+use vrp_heuristic::{Crew, ENOUGH_MOVES, Unhurried, heuristic_plan};
 use vrp_model::{Instance, NO_COST, Plan};
 use vrp_search::{Cutting, Ended, Local, Prices, search_by_prices};
 
@@ -78,7 +78,7 @@ fn measure<R: Clock + Print + Eprint + AllocGlobal + Threads + Sync>(
     Ok(())
 }
 
-// Finds prices, with a first plan's cost to aim at, and searches by them.
+// Finds prices, with a heuristic plan's cost to aim at, and searches by them.
 fn search_by_found<R: Clock + Eprint + AllocGlobal>(
     rt: &R,
     instance: &Instance,
@@ -97,7 +97,7 @@ fn search_by_found<R: Clock + Eprint + AllocGlobal>(
     timed_search(rt, instance, found, budget, board)
 }
 
-// The first plan, and prints how long it took.
+// The heuristic plan, and prints how long it took.
 fn timed_plan<R: Clock + Eprint + AllocGlobal + Threads + Sync>(
     rt: &R,
     instance: &Instance,
@@ -112,7 +112,7 @@ fn timed_plan<R: Clock + Eprint + AllocGlobal + Threads + Sync>(
         workers: 1,
         watch: &Unhurried,
     };
-    let found = first_plan(&crew, ENOUGH_MOVES)?;
+    let found = heuristic_plan(&crew, ENOUGH_MOVES)?;
     print_time(rt, "first plan", start.elapsed(rt)?)?;
     found.context("no first plan")
 }
@@ -127,7 +127,7 @@ fn timed_prices<'a, R: Clock + Eprint + AllocGlobal>(
 ) -> Result<FoundPrices<'a>>
     requires { near ≤ MOST_NEAR }
     ensures relaxation { IfOk result (λ found. found.relaxation.problem ≡ instance.now) }
-    ensures memory { IfOk result (λ found. found.memory.places ≡ place_count instance.now) }
+    ensures ng_sets { IfOk result (λ found. found.ng_sets.places ≡ place_count instance.now) }
 {
     let start = Instant::now(rt)?;
     let found = find_prices(rt.alloc(), instance, cost, near, steps, &|| true)?;
@@ -161,10 +161,10 @@ fn print_bound<R: Eprint + AllocGlobal>(
 fn least_tours(alloc: Global, instance: &Instance, found: &FoundPrices<'_>) -> Result<u64>
     requires { found.now.relaxation.problem ≡ instance.now }
 {
-    let size = found.memory.size().min(MOST_NEAR);
-    let memory = Memory::nearest(alloc, instance, size)?;
+    let size = found.ng_sets.size().min(MOST_NEAR);
+    let ng_sets = NgSets::nearest(alloc, instance, size)?;
     let relaxed = found.relaxation.relaxed();
-    let tables = MemoryTables::new(alloc, relaxed, memory)?;
+    let tables = NgTables::new(alloc, relaxed, ng_sets)?;
     let tours = tables.bound(0, 0, relaxed.whole_demand());
     tours.context("no tours")
 }
@@ -178,13 +178,16 @@ fn timed_search<R: Clock + Eprint + AllocGlobal>(
     board: &mut Local,
 ) -> Result<End>
     requires relaxation { found.relaxation.problem ≡ instance.now }
-    requires memory { found.memory.places ≡ place_count instance.now }
+    requires ng_sets { found.ng_sets.places ≡ place_count instance.now }
     requires board { ForSome board.old (IsPlanOf instance.now) }
     requires budget { 1 ≤ budget }
 {
     let start = Instant::now(rt)?;
-    let FoundPrices { relaxation, memory } = found;
-    let prices = Prices::new(rt.alloc(), &relaxation, memory)?;
+    let FoundPrices {
+        relaxation,
+        ng_sets,
+    } = found;
+    let prices = Prices::new(rt.alloc(), &relaxation, ng_sets)?;
     search_with(rt, instance, &prices, start, budget, board)
 }
 

@@ -1,6 +1,6 @@
-//! How many useful routes there are, and how fast they are listed. The command line names a CVRP file, the steps that may be taken to
-//! find prices, the cost that the first plan has at most, 0 standing for what the first plan of the program costs, and how many workers
-//! list. What was found goes to standard output, and how long it took to standard error.
+//! How many useful routes there are, and how fast they are listed. The command line names a CVRP file, the steps that may be taken
+//! to find prices, the cost that the canonical plan has at most, 0 standing for what the heuristic plan of the program costs, and
+//! how many workers list. What was found goes to standard output, and how long it took to standard error.
 #![tactic(auto)]
 
 ghost use Rattle.std.specs.Prelude.{◌≡◌, ◌+◌, ◌<◌, ◌≤◌, IfOk};
@@ -11,9 +11,9 @@ use std::rt::{Clock, Files};
 use std::thread::Threads;
 use std::time::{Duration, Instant};
 use std::{env, fs};
-use vrp_ascent::{FoundPrices, find_prices_for_routes};
-use vrp_bound::MemoryTables;
-use vrp_first::{Crew, ENOUGH_MOVES, Unhurried, first_plan};
+use vrp_bound::NgTables;
+use vrp_bound_ascent::{FoundPrices, find_prices_for_routes};
+use vrp_heuristic::{Crew, ENOUGH_MOVES, Unhurried, heuristic_plan};
 use vrp_model::{Instance, NO_COST};
 use vrp_routes::{Listed, MOST_CUSTOMERS, can_list, list_routes};
 
@@ -33,7 +33,7 @@ fn main(rt: HostRuntime) -> Result<()> {
     let instance = read(&rt, name.as_str())?;
     ensure!(can_list(&instance), "more than {MOST_CUSTOMERS} customers");
     let limit = match limit {
-        0 => cost_of_first(&rt, &instance)?,
+        0 => cost_of_heuristic(&rt, &instance)?,
         limit => limit,
     };
     let found = timed_prices(&rt, &instance, limit, steps)?;
@@ -46,8 +46,8 @@ fn read<R: Files + AllocGlobal>(rt: &R, name: &str) -> Result<Instance> {
     Ok(vrp_text::read(rt.alloc(), &bytes, None)?)
 }
 
-// What a first plan costs.
-fn cost_of_first<R: AllocGlobal + Threads + Sync>(rt: &R, instance: &Instance) -> Result<u64> {
+// What a heuristic plan costs.
+fn cost_of_heuristic<R: AllocGlobal + Threads + Sync>(rt: &R, instance: &Instance) -> Result<u64> {
     let crew = Crew {
         rt,
         alloc: rt.alloc(),
@@ -55,7 +55,7 @@ fn cost_of_first<R: AllocGlobal + Threads + Sync>(rt: &R, instance: &Instance) -
         workers: 1,
         watch: &Unhurried,
     };
-    let plan = first_plan(&crew, ENOUGH_MOVES)?;
+    let plan = heuristic_plan(&crew, ENOUGH_MOVES)?;
     Ok(plan.context("no plan")?.cost())
 }
 
@@ -67,7 +67,7 @@ fn timed_prices<'a, R: Clock + Eprint + AllocGlobal>(
     steps: u64,
 ) -> Result<FoundPrices<'a>>
     ensures relaxation { IfOk result (λ found. found.relaxation.problem ≡ instance.now) }
-    ensures memory { IfOk result (λ found. found.memory.places ≡ place_count instance.now) }
+    ensures ng_sets { IfOk result (λ found. found.ng_sets.places ≡ place_count instance.now) }
 {
     let start = Instant::now(rt)?;
     let found = find_prices_for_routes(rt.alloc(), instance, cost, NEAR, steps, &|| true)?;
@@ -85,11 +85,14 @@ fn print_routes<R: Clock + Print + Eprint + AllocGlobal + Threads + Sync>(
 ) -> Result<()>
     requires workers { 0 < workers }
     requires few { place_count found.relaxation.problem ≤ MOST_CUSTOMERS + 1 }
-    requires memory { found.memory.places ≡ place_count found.relaxation.problem }
+    requires ng_sets { found.ng_sets.places ≡ place_count found.relaxation.problem }
     requires limit { limit ≤ NO_COST }
 {
-    let FoundPrices { relaxation, memory } = found;
-    let tables = MemoryTables::new(rt.alloc(), relaxation.relaxed(), memory)?;
+    let FoundPrices {
+        relaxation,
+        ng_sets,
+    } = found;
+    let tables = NgTables::new(rt.alloc(), relaxation.relaxed(), ng_sets)?;
     let start = Instant::now(rt)?;
     let listed = list_routes(
         rt,

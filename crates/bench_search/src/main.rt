@@ -1,7 +1,7 @@
 //! How fast the search looks: it searches the tree of the instance in a CVRP file, till its budget is spent. Both are named on the
-//! command line. What it found goes to standard output, and how long it took to standard error. More words may follow: the first plan
-//! (`singles`, or `savings` as the command has it), how many pieces the tree is cut into (1), and whose tables a piece is searched
-//! with (`all` as the command does, or `own`).
+//! command line. What it found goes to standard output, and how long it took to standard error. More words may follow: the
+//! heuristic plan (`singles`, or `savings` as the command has it), how many pieces the tree is cut into (1), and whose tables a
+//! piece is searched with (`all` as the command does, or `own`).
 #![tactic(auto)]
 
 ghost use Rattle.std.specs.Prelude.{◌≡◌, ◌≤◌, IfOk};
@@ -9,7 +9,7 @@ ghost use Rattle.std.specs.Option.{ForSome};
 ghost use Rattle.vrp_model.specs.Problem.{customers};
 ghost use Rattle.vrp_bound.specs.Tables.{tables_over};
 ghost use Rattle.vrp_model.specs.Route.{IsPlanOf};
-ghost use Rattle.vrp_tree.specs.declared.cutting.TheConstants.{MAX_PIECES};
+ghost use Rattle.vrp_search_tree.specs.declared.cutting.TheConstants.{MAX_PIECES};
 
 mod pieces;
 
@@ -20,8 +20,8 @@ use std::rt::{Clock, Files};
 use std::time::{Duration, Instant};
 use std::{env, fs};
 use vrp_bound::Tables;
+use vrp_heuristic_savings::savings_plan;
 use vrp_model::{Instance, NoMemory, Plan};
-use vrp_savings::savings_plan;
 use vrp_search::{Cutting, Local, MAX_PIECES};
 
 // How an instance is searched.
@@ -59,7 +59,7 @@ fn main(rt: HostRuntime) -> Result<()> {
 }
 
 // The plan that the search starts with, if there is one: one truck for each customer, or a plan by savings.
-fn first_plan(
+fn heuristic_plan(
     alloc: Global,
     instance: &Instance,
     by_savings: bool,
@@ -109,7 +109,7 @@ fn measure_search<R: Clock + Print + Eprint + AllocGlobal>(
     requires budget { 1 ≤ setup.budget }
     requires pieces { setup.pieces ≤ MAX_PIECES }
 {
-    let mut board = Local::open(first_plan(rt.alloc(), instance, setup.by_savings)?);
+    let mut board = Local::open(heuristic_plan(rt.alloc(), instance, setup.by_savings)?);
     let start = Instant::now(rt)?;
     let looked = search_all(rt.alloc(), instance, tables, setup, &mut board)?;
     let time = start.elapsed(rt)?;
@@ -135,7 +135,13 @@ fn search_all(
     let mut cutting = Cutting::whole(alloc, instance)?;
     cutting.at_least(alloc, instance, setup.pieces)?;
     search_pieces(
-        alloc, instance, tables, &cutting, setup.whose, setup.budget, board,
+        alloc,
+        instance,
+        tables,
+        &cutting,
+        setup.whose,
+        setup.budget,
+        board,
     )
 }
 

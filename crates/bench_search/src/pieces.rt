@@ -4,8 +4,8 @@ ghost use Rattle.std.specs.Option.{ForSome};
 ghost use Rattle.vrp_model.specs.Problem.{customers};
 ghost use Rattle.vrp_bound.specs.Tables.{tables_over};
 ghost use Rattle.vrp_model.specs.Route.{IsPlanOf};
-ghost use Rattle.vrp_model.specs.Word.{IsFront, unserved_in};
-ghost use Rattle.vrp_tree.specs.Cutting.{IsCutting};
+ghost use Rattle.vrp_model.specs.Word.{IsPrefix, unserved_in};
+ghost use Rattle.vrp_search_tree.specs.Cutting.{IsCutting};
 
 use std::alloc::Global;
 use vrp_bound::Tables;
@@ -58,7 +58,7 @@ fn search_piece(
     board: &mut Local,
 ) -> Result<u64, NoMemory>
     requires tables { tables.now ≡ tables_over instance.now (customers instance.now) }
-    requires front { IsFront instance.now piece.now.word }
+    requires prefix { IsPrefix instance.now piece.now.word }
     requires board { ForSome board.old (IsPlanOf instance.now) }
     requires budget { 1 ≤ budget }
     ensures { ForSome board.new (IsPlanOf instance.now) }
@@ -85,7 +85,7 @@ fn own_tables<'a>(
     instance: &'a Instance,
     piece: &Piece,
 ) -> Result<Tables<'a>, NoMemory>
-    requires { IsFront instance.now piece.now.word }
+    requires { IsPrefix instance.now piece.now.word }
     ensures { IfOk result (λ made.
         made ≡ tables_over instance.now (unserved_in instance.now piece.now.word)) }
 {

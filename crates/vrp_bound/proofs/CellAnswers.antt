@@ -10,7 +10,7 @@ use Rattle.vrp_bound.specs.declared.completions.Shape.{Shape}
 use Rattle.vrp_bound.specs.Inner.Cells.{HasRelaxed, HasTours, IsLeastCell, mark}
 use Rattle.vrp_bound.specs.Inner.Filled.{AreCells, AreFilled}
 use Rattle.vrp_bound.specs.Tables.{AreMade}
-use Rattle.vrp_bound.specs.Remembering.{IsRememberingBound}
+use Rattle.vrp_bound.specs.NgWalks.{IsNgBound}
 use Rattle.vrp_bound.specs.Inner.Units.{IsUnit, in_units}
 use Rattle.vrp_bound.proofs.FirstTour.{bound_of_cell, least_at_depot, none_of_cell}
 use Rattle.vrp_bound.proofs.InUnits.{IsLoadIn, least_in_units, load_floored, none_in_units}
@@ -79,13 +79,13 @@ least_from_customer p q near among others unit other at load free rest carried w
     (subst (λ n. IsLeastCell (HasRelaxed (in_units unit p) near among at (p.capacity / unit - n) carried) cell) left moved) in
     least_in_units unit p near among at load (p.capacity / unit - (p.capacity - load) / unit) rest cell is (load_floored unit p.capacity load is.some light) (whole_rest unit other rest carried whole same_unit carried_is whole_is all) here
 
-pub answer_some : (p : Problem) (near : ℕ → List ℕ) (among : List ℕ) (cells : Cells) (at load rest cell : ℕ) → AreCells p near among cells → IsLeastCell (HasRelaxed p near among at load rest) cell → cell < mark → IsRememberingBound p near among at load rest (Some cell)
+pub answer_some : (p : Problem) (near : ℕ → List ℕ) (among : List ℕ) (cells : Cells) (at load rest cell : ℕ) → AreCells p near among cells → IsLeastCell (HasRelaxed p near among at load rest) cell → cell < mark → IsNgBound p near among at load rest (Some cell)
 answer_some p near among cells at load rest cell are least small = record {
   made = λ _. bound_of_cell p near among at load rest cell least small;
   none_made = λ none. absurd (none are.made);
 }
 
-pub answer_none : (p : Problem) (near : ℕ → List ℕ) (among : List ℕ) (cells : Cells) (at load rest cell : ℕ) → AreCells p near among cells → rest ≤ load_of p among → IsLeastCell (HasRelaxed p near among at load rest) cell → mark ≤ cell → IsRememberingBound p near among at load rest None
+pub answer_none : (p : Problem) (near : ℕ → List ℕ) (among : List ℕ) (cells : Cells) (at load rest cell : ℕ) → AreCells p near among cells → rest ≤ load_of p among → IsLeastCell (HasRelaxed p near among at load rest) cell → mark ≤ cell → IsNgBound p near among at load rest None
 answer_none p near among cells at load rest cell are within least large = record {
   made = λ _. none_of_cell p near among at load rest cell are.scope within least large;
   none_made = λ none. absurd (none are.made);

@@ -1,20 +1,20 @@
--- Tables over those customers alone that a front leaves unserved bound no lower than tables over all.
+-- Tables over those customers alone that a prefix leaves unserved bound no lower than tables over all.
 use Rattle.std.proofs.Common.{◌≡◌, ◌≢◌, ℕ, ◌+◌, ◌*◌, ◌≤◌, inl, inr, Option, Some, None, List, [], ◌∷◌, map, length, get_or, refl, subst, arith}
 use Rattle.std.specs.List.{All, Contains, sum_by}
 use Rattle.std.proofs.lemmas.Bool.{cases_lt}
 use Rattle.std.proofs.lemmas.List.Elements.{All-cons, All-contains, All-contains_itself, All-nil, All-tail}
 use Rattle.std.proofs.lemmas.List.Sums.{sum_by-cons}
 use Rattle.std.proofs.lemmas.Nat.{mul-le}
-use Rattle.vrp_model.specs.Front.{open_load}
+use Rattle.vrp_model.specs.Prefix.{open_load}
 use Rattle.vrp_model.specs.Problem.{IsProblem, Problem, customers, demand_of}
 use Rattle.vrp_model.specs.Route.{load_of}
-use Rattle.vrp_model.specs.Word.{IsFront, last_symbol, unserved_in}
+use Rattle.vrp_model.specs.Word.{IsPrefix, last_symbol, unserved_in}
 use Rattle.vrp_model.proofs.CustomerPlaces.{customer_is_some}
 use Rattle.vrp_model.proofs.DistinctWithin.{length_among, sum_among}
 use Rattle.vrp_model.proofs.UnservedCustomers.{unserved_are_customers, unserved_distinct}
 use Rattle.vrp_bound.specs.Tables.{AreMade, IsBound, room_of}
 use Rattle.vrp_bound.specs.Walk.{IsRelaxed, IsTour, IsWalk}
-use Rattle.vrp_bound.proofs.ServedBehind.{light_front}
+use Rattle.vrp_bound.proofs.ServedBehind.{light_prefix}
 
 -- ---- more customers
 
@@ -79,8 +79,8 @@ by_trucks_alone p among at load problem light differ = record {
 
 -- ---- the bounds
 
-unserved_differ : (p : Problem) (front : List ℕ) → All (λ customer. 0 ≢ customer) (unserved_in p front)
-unserved_differ p front = λ k d lt. λ same. absurd (let some = customer_is_some p (get_or (unserved_in p front) k d) (unserved_are_customers p front k d lt) in omega (arith, some, same))
+unserved_differ : (p : Problem) (prefix : List ℕ) → All (λ customer. 0 ≢ customer) (unserved_in p prefix)
+unserved_differ p prefix = λ k d lt. λ same. absurd (let some = customer_is_some p (get_or (unserved_in p prefix) k d) (unserved_are_customers p prefix k d lt) in omega (arith, some, same))
 
 some_bound : (p : Problem) (among : List ℕ) (at load rest : ℕ) (home : List ℕ) (tours : List (List ℕ)) (own : Option ℕ) → IsRelaxed p among at load rest home tours → IsBound p among at load rest own → (more : ℕ) × (own ≡ Some more)
 some_bound p among at load rest home tours None relaxed is =
@@ -102,19 +102,19 @@ no_lower p few many at load rest least more among shorter lighter all own = elim
       absurd (omega (arith, less, is))
 ]
 
-pub fewer_bound_no_lower : (p : Problem) (front : List ℕ) (least : ℕ) (own : Option ℕ) → IsProblem p → IsFront p front
-    → IsBound p (customers p) (last_symbol front) (open_load p front) (load_of p (unserved_in p front)) (Some least)
-    → IsBound p (unserved_in p front) (last_symbol front) (open_load p front) (load_of p (unserved_in p front)) own
+pub fewer_bound_no_lower : (p : Problem) (prefix : List ℕ) (least : ℕ) (own : Option ℕ) → IsProblem p → IsPrefix p prefix
+    → IsBound p (customers p) (last_symbol prefix) (open_load p prefix) (load_of p (unserved_in p prefix)) (Some least)
+    → IsBound p (unserved_in p prefix) (last_symbol prefix) (open_load p prefix) (load_of p (unserved_in p prefix)) own
     → (more : ℕ) × (own ≡ Some more) × (least ≤ more)
-fewer_bound_no_lower p front least own problem is_front all is_own =
-    let few = unserved_in p front in
-    let at = last_symbol front in
-    let load = open_load p front in
-    let relaxed = by_trucks_alone p few at load problem (light_front p front is_front) (unserved_differ p front) in
+fewer_bound_no_lower p prefix least own problem is_prefix all is_own =
+    let few = unserved_in p prefix in
+    let at = last_symbol prefix in
+    let load = open_load p prefix in
+    let relaxed = by_trucks_alone p few at load problem (light_prefix p prefix is_prefix) (unserved_differ p prefix) in
     let (more, is) = some_bound p few at load (load_of p few) [] (map alone few) own relaxed is_own in (
       more,
       is,
-      no_lower p few (customers p) at load (load_of p few) least more (unserved_are_customers p front) (length_among few (customers p) (unserved_distinct p front) (unserved_are_customers p front))
-          (sum_among (demand_of p) few (customers p) (unserved_distinct p front) (unserved_are_customers p front)) all
+      no_lower p few (customers p) at load (load_of p few) least more (unserved_are_customers p prefix) (length_among few (customers p) (unserved_distinct p prefix) (unserved_are_customers p prefix))
+          (sum_among (demand_of p) few (customers p) (unserved_distinct p prefix) (unserved_are_customers p prefix)) all
           (subst (λ (o : Option ℕ). IsBound p few at load (load_of p few) o) is is_own),
     )

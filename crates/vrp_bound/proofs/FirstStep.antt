@@ -8,7 +8,7 @@ use Rattle.vrp_model.specs.Problem.{IsProblem, Problem, demand_of, place_count, 
 use Rattle.vrp_model.specs.Route.{load_of}
 use Rattle.vrp_bound.specs.Inner.Cells.{HasWalk, IsLeastCell}
 use Rattle.vrp_bound.specs.Inner.Scope.{IsScope}
-use Rattle.vrp_bound.specs.Remembering.{IsRememberingWalk, nothing_near}
+use Rattle.vrp_bound.specs.NgWalks.{IsNgWalk, nothing_near}
 use Rattle.vrp_bound.specs.Walk.{walk_cost}
 use Rattle.vrp_bound.proofs.NothingNear.{next_remembered}
 use Rattle.vrp_bound.proofs.LeastOfCosts.{IsCostBelow, IsSum, least_same, least_one, least_sum}
@@ -69,7 +69,7 @@ least_step p near among at load k cell inside differs fits least =
     (λ cost step. step.behind)
     (least_sum IsFirst (HasWalk p near among c (load - demand_of p c)) w cell (least_one w) least)
 
-step_of_walk : (p : Problem) (near : ℕ → List ℕ) (among : List ℕ) (at load cost : ℕ) (stops : List ℕ) → 0 < load → IsRememberingWalk p near among at stops → load_of p stops ≡ load → walk_cost p at stops ≡ cost → IsCostBelow (IsStep p near among at load) (length among) cost
+step_of_walk : (p : Problem) (near : ℕ → List ℕ) (among : List ℕ) (at load cost : ℕ) (stops : List ℕ) → 0 < load → IsNgWalk p near among at stops → load_of p stops ≡ load → walk_cost p at stops ≡ cost → IsCostBelow (IsStep p near among at load) (length among) cost
 step_of_walk p near among at load cost [] some walk loaded costs = absurd (omega (arith, some, loaded))
 step_of_walk p near among at load cost (stop ∷ stops) some walk loaded costs =
     let (k, lt, is) = walk.within 0 stop (omega arith) in
@@ -83,7 +83,7 @@ step_of_walk p near among at load cost (stop ∷ stops) some walk loaded costs =
       costs = refl;
     } in
     record {
-      way = k;
+      arc = k;
       below = lt;
       has = record {
         inside = lt;
@@ -103,13 +103,13 @@ step_of_walk p near among at load cost (stop ∷ stops) some walk loaded costs =
 pub walk_is_step : (p : Problem) (near : ℕ → List ℕ) (among : List ℕ) (at load cost : ℕ) → 0 < load → HasWalk p near among at load cost → IsCostBelow (IsStep p near among at load) (length among) cost
 walk_is_step p near among at load cost some has = step_of_walk p near among at load cost has.stops some has.walks has.loaded has.costs
 
--- without a memory each step and walk from there is a walk
+-- without ng-sets each step and walk from there is a walk
 pub step_is_walk : (p : Problem) (among : List ℕ) (at load cost : ℕ) → IsCostBelow (IsStep p nothing_near among at load) (length among) cost → HasWalk p nothing_near among at load cost
 step_is_walk p among at load cost below =
     let step = below.has in
-    let c = get_or among below.way 0 in
+    let c = get_or among below.arc 0 in
     let behind = step.behind.has_second in
-    let contains : Contains among c = Contains-get_or among below.way 0 below.below in
+    let contains : Contains among c = Contains-get_or among below.arc 0 below.below in
     record {
       stops = c ∷ behind.stops;
       walks = record { within = All-cons (Contains among) c behind.stops contains behind.walks.within; fresh = (λ has. step.differs (next_remembered c at behind.stops has), behind.walks.fresh) };

@@ -5,14 +5,14 @@ use Rattle.vrp_model.specs.Problem.{Problem}
 use Rattle.vrp_model.specs.Route.{load_of}
 use Rattle.vrp_bound.specs.Inner.Cells.{HasRelaxed, IsLeastCell, mark}
 use Rattle.vrp_bound.specs.Inner.Units.{IsUnit, in_units}
-use Rattle.vrp_bound.specs.Remembering.{IsRememberingTour, IsRememberingWalk}
+use Rattle.vrp_bound.specs.NgWalks.{IsNgTour, IsNgWalk}
 use Rattle.vrp_bound.proofs.LeastOfCosts.{least_same}
 use Rattle.vrp_bound.proofs.WholeUnits.{load_in, loads_in, units_of_whole, units_rise, units_within, within_of_units}
 
-walk_same : (p q : Problem) (near : ℕ → List ℕ) (among : List ℕ) (at : ℕ) (stops : List ℕ) → IsRememberingWalk p near among at stops → IsRememberingWalk q near among at stops
+walk_same : (p q : Problem) (near : ℕ → List ℕ) (among : List ℕ) (at : ℕ) (stops : List ℕ) → IsNgWalk p near among at stops → IsNgWalk q near among at stops
 walk_same p q near among at stops walk = record { within = walk.within; fresh = walk.fresh }
 
-tour_to : (unit : ℕ) (p : Problem) (near : ℕ → List ℕ) (among stops : List ℕ) → IsUnit p among unit → IsRememberingTour p near among stops → IsRememberingTour (in_units unit p) near among stops
+tour_to : (unit : ℕ) (p : Problem) (near : ℕ → List ℕ) (among stops : List ℕ) → IsUnit p among unit → IsNgTour p near among stops → IsNgTour (in_units unit p) near among stops
 tour_to unit p near among stops is tour =
     let load = load_in unit p among stops is tour.walks.within in
     record {
@@ -21,7 +21,7 @@ tour_to unit p near among stops is tour =
       fits = units_within unit (load_of (in_units unit p) stops) p.capacity is.some (omega (arith, load, tour.fits));
     }
 
-tour_from : (unit : ℕ) (p : Problem) (near : ℕ → List ℕ) (among stops : List ℕ) → IsUnit p among unit → IsRememberingTour (in_units unit p) near among stops → IsRememberingTour p near among stops
+tour_from : (unit : ℕ) (p : Problem) (near : ℕ → List ℕ) (among stops : List ℕ) → IsUnit p among unit → IsNgTour (in_units unit p) near among stops → IsNgTour p near among stops
 tour_from unit p near among stops is tour =
     let load = load_in unit p among stops is tour.walks.within in
     record {

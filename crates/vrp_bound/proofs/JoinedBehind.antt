@@ -1,5 +1,5 @@
--- What a lawful word adds to a front joins all places that are left: symbol by symbol, a tree whose links and whose ways home cost
--- no more than what is driven.
+-- What a feasible word adds to a prefix joins all places that are left: symbol by symbol, a tree whose links and whose arcs home
+-- cost no more than what is driven.
 use Rattle.std.proofs.Common.{◌≡◌, ℕ, zero, suc, ◌+◌, ◌≤◌, List, [], ◌∷◌, ◌++◌, length, refl, sym, subst, arith}
 use Rattle.std.specs.List.Sorted.{IsPermutation}
 use Rattle.std.proofs.lemmas.List.Sorted.{IsPermutation-cons, IsPermutation-middle, IsPermutation-refl, IsPermutation-trans}
@@ -9,12 +9,12 @@ use Rattle.vrp_model.specs.Route.{cost_along}
 use Rattle.vrp_model.specs.Word.{served_in}
 use Rattle.vrp_model.proofs.Words.{serves_customer}
 use Rattle.vrp_bound.specs.SpanningTree.{IsSpanningTree, Step, link_weight, tree_weight}
-use Rattle.vrp_bound.specs.TreeBound.{homes_cost, to_join}
+use Rattle.vrp_bound.specs.TreeBound.{arcs_home_cost, to_join}
 use Rattle.vrp_bound.proofs.GrownTrees.{behind, grows_within, here, new_places, weight_first, within_cons}
 use Rattle.vrp_bound.proofs.RoutesOpened.{opened}
 use Rattle.vrp_bound.proofs.SymbolBySymbol.{HoldsBySymbol}
 
--- Of what is driven behind a place: a tree from there, and the ways home of the routes that are opened
+-- Of what is driven behind a place: a tree from there, and the arcs home of the routes that are opened
 pub record HasTree (p : Problem) (at : ℕ) (more : List ℕ) : Type 0 where
   pub steps : List Step
   pub tree : IsSpanningTree (at ∷ []) (to_join at (served_in more)) steps
@@ -22,9 +22,9 @@ pub record HasTree (p : Problem) (at : ℕ) (more : List ℕ) : Type 0 where
   pub others : List ℕ
   pub parts : IsPermutation (last_stops ++ others) (served_in more)
   pub one_each : length last_stops ≡ opened at more
-  pub paid : tree_weight p steps + homes_cost p last_stops ≤ cost_along p at more
+  pub paid : tree_weight p steps + arcs_home_cost p last_stops ≤ cost_along p at more
 
--- The same where the route that is open is a later one: it is joined to the depot already, and its way home is one of them
+-- The same where the route that is open is a later one: it is joined to the depot already, and its arc home is one of them
 pub record HasLaterTree (p : Problem) (at : ℕ) (more : List ℕ) : Type 0 where
   pub steps : List Step
   pub tree : IsSpanningTree (at ∷ 0 ∷ []) (served_in more) steps
@@ -32,7 +32,7 @@ pub record HasLaterTree (p : Problem) (at : ℕ) (more : List ℕ) : Type 0 wher
   pub others : List ℕ
   pub parts : IsPermutation (last_stops ++ others) (at ∷ served_in more)
   pub one_each : length last_stops ≡ 1 + opened at more
-  pub paid : tree_weight p steps + homes_cost p last_stops ≤ cost_along p at more
+  pub paid : tree_weight p steps + arcs_home_cost p last_stops ≤ cost_along p at more
 
 abbrev pub HasLater : Problem → ℕ → List ℕ → Type 0
 HasLater p zero more = Unit {0}
@@ -156,5 +156,5 @@ trees_by_symbol p = record {
   nothing = (none_driven p, tt);
   home = λ j load more place light rest. (home_tree p j more rest.0, home_later p j more rest.0);
   leaves = λ k more fits rest. (leaving_tree p k more rest.1, tt);
-  goes_on = λ j load k more place differs fits rest. (onward_tree p j k more rest.0, onward_later p j k more rest.1);
+  continues = λ j load k more place differs fits rest. (onward_tree p j k more rest.0, onward_later p j k more rest.1);
 }

@@ -1,4 +1,4 @@
--- This many customers with the least ways home, taken one by one.
+-- This many customers with the least arcs home, taken one by one.
 use Rattle.std.proofs.Common.{◌≡◌, ℕ, ◌+◌, ◌-◌, ◌*◌, ◌≤◌, min, List, [], ◌∷◌, ◌++◌, length, refl, sym, ap, subst, ◌∙◌, length-append, arith}
 use Rattle.std.specs.List.{All, sum_by}
 use Rattle.std.specs.List.Sorted.{IsPermutation}
@@ -8,10 +8,10 @@ use Rattle.std.proofs.lemmas.List.Sorted.{All-permutation, IsPermutation-append_
 use Rattle.std.proofs.lemmas.List.Sums.{sum_by-append, sum_by-cons}
 use Rattle.vrp_model.specs.Problem.{Problem, weight_of}
 use Rattle.vrp_model.specs.declared.limits.TheConstants.{MAX_WEIGHT}
-use Rattle.vrp_bound.specs.declared.way.Way.{Way}
-use Rattle.vrp_bound.specs.Inner.Ways.{IsSmallWay, ways_home}
-use Rattle.vrp_bound.specs.TreeBound.{AreLeastHomes, homes_cost}
-use Rattle.vrp_bound.proofs.Waiting.{waiting, waiting_homes}
+use Rattle.vrp_bound.specs.declared.arc.Arc.{Arc}
+use Rattle.vrp_bound.specs.Inner.Arcs.{IsSmallArc, arcs_home}
+use Rattle.vrp_bound.specs.TreeBound.{AreLeastArcsHome, arcs_home_cost}
+use Rattle.vrp_bound.proofs.Waiting.{waiting, waiting_arcs_home}
 
 -- ---- numbers up to a limit, out of a list whose others are no less, have the least sum: each list of as many gives up no more of
 -- what is missing up to the limit
@@ -54,74 +54,74 @@ least_sum_of f top all chosen left others rest below above parts other_parts sam
       sum_by-append g others rest,
     )
 
--- ---- the ways home, while some of the customers are chosen
+-- ---- the arcs home, while some of the customers are chosen
 
-pub record IsChoosing (p : Problem) (among : List ℕ) (ways : List Way) (count weight : ℕ) : Type 0 where
+pub record IsChoosing (p : Problem) (among : List ℕ) (arcs : List Arc) (count weight : ℕ) : Type 0 where
   pub chosen : List ℕ
-  pub parts : IsPermutation (chosen ++ waiting ways) among
+  pub parts : IsPermutation (chosen ++ waiting arcs) among
   pub counted : length chosen ≡ count
-  pub weighs : homes_cost p chosen ≡ weight
+  pub weighs : arcs_home_cost p chosen ≡ weight
   pub top : ℕ
   pub below : All (λ k. weight_of p k 0 ≤ top) chosen
-  pub above : All (λ way. top ≤ way.weight) ways
-  pub homes : All (λ way. way.weight ≡ weight_of p way.place 0) ways
-  pub small : All (IsSmallWay p) ways
-  pub bounded : weight + MAX_WEIGHT * length ways ≤ MAX_WEIGHT * length among
+  pub above : All (λ arc. top ≤ arc.weight) arcs
+  pub completion_table : All (λ arc. arc.weight ≡ weight_of p arc.place 0) arcs
+  pub small : All (IsSmallArc p) arcs
+  pub bounded : weight + MAX_WEIGHT * length arcs ≤ MAX_WEIGHT * length among
 
-pub choosing_start : (p : Problem) (among : List ℕ) (ways : List Way) → ways ≡ ways_home p among → All (IsSmallWay p) ways → IsChoosing p among ways 0 0
-choosing_start p among ways are small =
-    let same : waiting ways ≡ among = ap waiting are ∙ waiting_homes p among in
+pub choosing_start : (p : Problem) (among : List ℕ) (arcs : List Arc) → arcs ≡ arcs_home p among → All (IsSmallArc p) arcs → IsChoosing p among arcs 0 0
+choosing_start p among arcs are small =
+    let same : waiting arcs ≡ among = ap waiting are ∙ waiting_arcs_home p among in
     record {
       chosen = [];
-      parts = subst (IsPermutation (waiting ways)) same (IsPermutation-refl (waiting ways));
+      parts = subst (IsPermutation (waiting arcs)) same (IsPermutation-refl (waiting arcs));
       counted = refl;
       weighs = refl;
       top = 0;
       below = All-nil (λ k. weight_of p k 0 ≤ 0);
       above = λ i d lt. omega arith;
-      homes = subst (All (λ way. way.weight ≡ weight_of p way.place 0)) (sym are) (All-map (λ way. way.weight ≡ weight_of p way.place 0) (λ place. record { place = place; weight = weight_of p place 0 }) among (λ i d lt. refl));
+      completion_table = subst (All (λ arc. arc.weight ≡ weight_of p arc.place 0)) (sym are) (All-map (λ arc. arc.weight ≡ weight_of p arc.place 0) (λ place. record { place = place; weight = weight_of p place 0 }) among (λ i d lt. refl));
       small = small;
-      bounded = omega (arith, ap length same, length-map ways (λ way. way.place));
+      bounded = omega (arith, ap length same, length-map arcs (λ arc. arc.place));
     }
 
-pub left_to_choose : (p : Problem) (among : List ℕ) (ways : List Way) (count weight : ℕ) → IsChoosing p among ways count weight → count + length ways ≡ length among
-left_to_choose p among ways count weight choosing =
-    omega (arith, length_permutation (choosing.chosen ++ waiting ways) among choosing.parts, length-append choosing.chosen (waiting ways), length-map ways (λ way. way.place), choosing.counted)
+pub left_to_choose : (p : Problem) (among : List ℕ) (arcs : List Arc) (count weight : ℕ) → IsChoosing p among arcs count weight → count + length arcs ≡ length among
+left_to_choose p among arcs count weight choosing =
+    omega (arith, length_permutation (choosing.chosen ++ waiting arcs) among choosing.parts, length-append choosing.chosen (waiting arcs), length-map arcs (λ arc. arc.place), choosing.counted)
 
-pub choosing_step : (p : Problem) (among : List ℕ) (ways left : List Way) (next : Way) (count weight : ℕ) → IsChoosing p among ways count weight → IsPermutation ways (next ∷ left)
-    → All (λ way. next.weight ≤ way.weight) ways → IsChoosing p among left (count + 1) (weight + next.weight)
-choosing_step p among ways left next count weight choosing moved nearest =
+pub choosing_step : (p : Problem) (among : List ℕ) (arcs left : List Arc) (next : Arc) (count weight : ℕ) → IsChoosing p among arcs count weight → IsPermutation arcs (next ∷ left)
+    → All (λ arc. next.weight ≤ arc.weight) arcs → IsChoosing p among left (count + 1) (weight + next.weight)
+choosing_step p among arcs left next count weight choosing moved nearest =
     let chosen = choosing.chosen in
-    let home : next.weight ≡ weight_of p next.place 0 = All-head (λ way. way.weight ≡ weight_of p way.place 0) next left (All-permutation (λ way. way.weight ≡ weight_of p way.place 0) ways (next ∷ left) moved choosing.homes) in
-    let above : choosing.top ≤ next.weight = All-head (λ way. choosing.top ≤ way.weight) next left (All-permutation (λ way. choosing.top ≤ way.weight) ways (next ∷ left) moved choosing.above) in
-    let small = All-permutation (IsSmallWay p) ways (next ∷ left) moved choosing.small in
-    let small_next = All-head (IsSmallWay p) next left small in
-    let waits : IsPermutation (next.place ∷ waiting left) (waiting ways) = IsPermutation-sym (waiting ways) (next.place ∷ waiting left) (IsPermutation-map (λ (way : Way). way.place) ways (next ∷ left) moved) in
+    let home : next.weight ≡ weight_of p next.place 0 = All-head (λ arc. arc.weight ≡ weight_of p arc.place 0) next left (All-permutation (λ arc. arc.weight ≡ weight_of p arc.place 0) arcs (next ∷ left) moved choosing.completion_table) in
+    let above : choosing.top ≤ next.weight = All-head (λ arc. choosing.top ≤ arc.weight) next left (All-permutation (λ arc. choosing.top ≤ arc.weight) arcs (next ∷ left) moved choosing.above) in
+    let small = All-permutation (IsSmallArc p) arcs (next ∷ left) moved choosing.small in
+    let small_next = All-head (IsSmallArc p) next left small in
+    let waits : IsPermutation (next.place ∷ waiting left) (waiting arcs) = IsPermutation-sym (waiting arcs) (next.place ∷ waiting left) (IsPermutation-map (λ (arc : Arc). arc.place) arcs (next ∷ left) moved) in
     record {
       chosen = next.place ∷ chosen;
       parts = IsPermutation-trans (next.place ∷ (chosen ++ waiting left)) (chosen ++ (next.place ∷ waiting left)) among
           (IsPermutation-sym (chosen ++ (next.place ∷ waiting left)) (next.place ∷ (chosen ++ waiting left)) (IsPermutation-middle chosen next.place (waiting left)))
-          (IsPermutation-trans (chosen ++ (next.place ∷ waiting left)) (chosen ++ waiting ways) among (IsPermutation-append_right chosen (next.place ∷ waiting left) (waiting ways) waits) choosing.parts);
+          (IsPermutation-trans (chosen ++ (next.place ∷ waiting left)) (chosen ++ waiting arcs) among (IsPermutation-append_right chosen (next.place ∷ waiting left) (waiting arcs) waits) choosing.parts);
       counted = omega (arith, choosing.counted);
       weighs = omega (arith, choosing.weighs, home, sum_by-cons (λ customer. weight_of p customer 0) next.place chosen);
       top = next.weight;
       below = All-cons (λ k. weight_of p k 0 ≤ next.weight) next.place chosen (omega (arith, home)) (All-weaker (λ k. weight_of p k 0 ≤ choosing.top) (λ k. weight_of p k 0 ≤ next.weight) (λ k under. omega (arith, under, above)) chosen choosing.below);
-      above = All-tail (λ way. next.weight ≤ way.weight) next left (All-permutation (λ way. next.weight ≤ way.weight) ways (next ∷ left) moved nearest);
-      homes = All-tail (λ way. way.weight ≡ weight_of p way.place 0) next left (All-permutation (λ way. way.weight ≡ weight_of p way.place 0) ways (next ∷ left) moved choosing.homes);
-      small = All-tail (IsSmallWay p) next left small;
-      bounded = omega (arith, choosing.bounded, small_next.small, length_permutation ways (next ∷ left) moved);
+      above = All-tail (λ arc. next.weight ≤ arc.weight) next left (All-permutation (λ arc. next.weight ≤ arc.weight) arcs (next ∷ left) moved nearest);
+      completion_table = All-tail (λ arc. arc.weight ≡ weight_of p arc.place 0) next left (All-permutation (λ arc. arc.weight ≡ weight_of p arc.place 0) arcs (next ∷ left) moved choosing.completion_table);
+      small = All-tail (IsSmallArc p) next left small;
+      bounded = omega (arith, choosing.bounded, small_next.small, length_permutation arcs (next ∷ left) moved);
     }
 
--- the way home of each place that waits is no less than the limit
-waits_above : (p : Problem) (top : ℕ) (ways : List Way) → All (λ way. top ≤ way.weight) ways → All (λ way. way.weight ≡ weight_of p way.place 0) ways → All (λ k. top ≤ weight_of p k 0) (waiting ways)
-waits_above p top ways above homes =
-    All-map (λ k. top ≤ weight_of p k 0) (λ (way : Way). way.place) ways (λ i d lt. omega (arith, above i d lt, homes i d lt))
+-- the arc home of each place that waits is no less than the limit
+waits_above : (p : Problem) (top : ℕ) (arcs : List Arc) → All (λ arc. top ≤ arc.weight) arcs → All (λ arc. arc.weight ≡ weight_of p arc.place 0) arcs → All (λ k. top ≤ weight_of p k 0) (waiting arcs)
+waits_above p top arcs above completion_table =
+    All-map (λ k. top ≤ weight_of p k 0) (λ (arc : Arc). arc.place) arcs (λ i d lt. omega (arith, above i d lt, completion_table i d lt))
 
-pub choosing_end : (p : Problem) (among : List ℕ) (ways : List Way) (most count weight : ℕ) → IsChoosing p among ways count weight → count ≡ min most (length among) → AreLeastHomes p among most weight
-choosing_end p among ways most count weight choosing all = record {
-  met = (choosing.chosen, record { others = waiting ways; parts = choosing.parts; count = choosing.counted ∙ all }, choosing.weighs);
+pub choosing_end : (p : Problem) (among : List ℕ) (arcs : List Arc) (most count weight : ℕ) → IsChoosing p among arcs count weight → count ≡ min most (length among) → AreLeastArcsHome p among most weight
+choosing_end p among arcs most count weight choosing all = record {
+  met = (choosing.chosen, record { others = waiting arcs; parts = choosing.parts; count = choosing.counted ∙ all }, choosing.weighs);
   least = λ others some.
       let f : ℕ → ℕ = λ customer. weight_of p customer 0 in
-      let low = least_sum_of f choosing.top among choosing.chosen (waiting ways) others some.others choosing.below (waits_above p choosing.top ways choosing.above choosing.homes) choosing.parts some.parts (omega (arith, some.count, choosing.counted, all)) in
+      let low = least_sum_of f choosing.top among choosing.chosen (waiting arcs) others some.others choosing.below (waits_above p choosing.top arcs choosing.above choosing.completion_table) choosing.parts some.parts (omega (arith, some.count, choosing.counted, all)) in
       omega (arith, low, choosing.weighs);
 }

@@ -3,11 +3,11 @@ use Rattle.std.proofs.Common.{◌≡◌, ℕ, ◌+◌, ◌<◌, ◌≤◌, min, 
 use Rattle.std.proofs.lemmas.Bool.{cases_lt}
 use Rattle.vrp_bound.specs.Inner.Cells.{IsLeastCell, mark}
 
--- a cost of one of the first ways
-pub record IsCostBelow (IsCost : ℕ → ℕ → Type 0) (ways cost : ℕ) : Type 0 where
-  pub way : ℕ
-  pub below : way < ways
-  pub has : IsCost way cost
+-- a cost of one of the first arcs
+pub record IsCostBelow (IsCost : ℕ → ℕ → Type 0) (arcs cost : ℕ) : Type 0 where
+  pub arc : ℕ
+  pub below : arc < arcs
+  pub has : IsCost arc cost
 
 -- a sum of two costs
 pub record IsSum (IsFirst IsSecond : ℕ → Type 0) (cost : ℕ) : Type 0 where
@@ -18,39 +18,39 @@ pub record IsSum (IsFirst IsSecond : ℕ → Type 0) (cost : ℕ) : Type 0 where
   pub whole : cost ≡ first + second
 
 -- nothing looked at
-pub least_none : (IsCost : ℕ → ℕ → Type 0) (ways : ℕ) → ((way cost : ℕ) → way < ways → IsCost way cost → ⊥) → IsLeastCell (IsCostBelow IsCost ways) mark
-least_none IsCost ways none = record {
+pub least_none : (IsCost : ℕ → ℕ → Type 0) (arcs : ℕ) → ((arc cost : ℕ) → arc < arcs → IsCost arc cost → ⊥) → IsLeastCell (IsCostBelow IsCost arcs) mark
+least_none IsCost arcs none = record {
   met = λ small. absurd (omega (arith, small));
-  least = λ cost has. absurd (none has.way cost has.below has.has);
+  least = λ cost has. absurd (none has.arc cost has.below has.has);
 }
 
--- the way has no cost
-pub least_skipped : (IsCost : ℕ → ℕ → Type 0) (ways best : ℕ) → IsLeastCell (IsCostBelow IsCost ways) best → ((cost : ℕ) → IsCost ways cost → ⊥) → IsLeastCell (IsCostBelow IsCost (ways + 1)) best
-least_skipped IsCost ways best least none = record {
-  met = λ small. let has = least.met small in record { way = has.way; below = omega (arith, has.below); has = has.has };
-  least = λ cost has. elim (cases_lt has.way ways) [
-    | inl before ↦ least.least cost (record { way = has.way; below = before; has = has.has })
-    | inr behind ↦ let last : has.way ≡ ways = omega (arith, behind, has.below) in absurd (none cost (subst (λ way. IsCost way cost) last has.has))
+-- the arc has no cost
+pub least_skipped : (IsCost : ℕ → ℕ → Type 0) (arcs best : ℕ) → IsLeastCell (IsCostBelow IsCost arcs) best → ((cost : ℕ) → IsCost arcs cost → ⊥) → IsLeastCell (IsCostBelow IsCost (arcs + 1)) best
+least_skipped IsCost arcs best least none = record {
+  met = λ small. let has = least.met small in record { arc = has.arc; below = omega (arith, has.below); has = has.has };
+  least = λ cost has. elim (cases_lt has.arc arcs) [
+    | inl before ↦ least.least cost (record { arc = has.arc; below = before; has = has.has })
+    | inr behind ↦ let last : has.arc ≡ arcs = omega (arith, behind, has.below) in absurd (none cost (subst (λ arc. IsCost arc cost) last has.has))
   ];
 }
 
--- the least so far, or the least of the way that was looked at
-pub least_more : (IsCost : ℕ → ℕ → Type 0) (ways best cell : ℕ) → IsLeastCell (IsCostBelow IsCost ways) best → IsLeastCell (IsCost ways) cell → IsLeastCell (IsCostBelow IsCost (ways + 1)) (min best cell)
-least_more IsCost ways best cell least here = record {
+-- the least so far, or the least of the arc that was looked at
+pub least_more : (IsCost : ℕ → ℕ → Type 0) (arcs best cell : ℕ) → IsLeastCell (IsCostBelow IsCost arcs) best → IsLeastCell (IsCost arcs) cell → IsLeastCell (IsCostBelow IsCost (arcs + 1)) (min best cell)
+least_more IsCost arcs best cell least here = record {
   met = λ small. elim (cases_lt cell best) [
     | inl less ↦
         let is : cell ≡ min best cell = omega arith in
-        subst (IsCostBelow IsCost (ways + 1)) is (record { way = ways; below = omega arith; has = here.met (omega arith) })
+        subst (IsCostBelow IsCost (arcs + 1)) is (record { arc = arcs; below = omega arith; has = here.met (omega arith) })
     | inr more ↦
         let is : best ≡ min best cell = omega arith in
         let has = least.met (omega arith) in
-        subst (IsCostBelow IsCost (ways + 1)) is (record { way = has.way; below = omega (arith, has.below); has = has.has })
+        subst (IsCostBelow IsCost (arcs + 1)) is (record { arc = has.arc; below = omega (arith, has.below); has = has.has })
   ];
-  least = λ cost has. elim (cases_lt has.way ways) [
-    | inl before ↦ let low : best ≤ cost = least.least cost (record { way = has.way; below = before; has = has.has }) in omega (arith, low)
+  least = λ cost has. elim (cases_lt has.arc arcs) [
+    | inl before ↦ let low : best ≤ cost = least.least cost (record { arc = has.arc; below = before; has = has.has }) in omega (arith, low)
     | inr behind ↦
-        let last : has.way ≡ ways = omega (arith, behind, has.below) in
-        let low : cell ≤ cost = here.least cost (subst (λ way. IsCost way cost) last has.has) in
+        let last : has.arc ≡ arcs = omega (arith, behind, has.below) in
+        let low : cell ≤ cost = here.least cost (subst (λ arc. IsCost arc cost) last has.has) in
         omega (arith, low)
   ];
 }

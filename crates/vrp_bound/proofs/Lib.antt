@@ -16,8 +16,8 @@ pub mod LeastOfCosts
 pub mod NothingNear
 pub mod OneTreeBound
 pub mod PulledRows
-pub mod RememberingCompletions
-pub mod RememberingSteps
+pub mod NgCompletions
+pub mod NgSteps
 pub mod RoutesOpened
 pub mod SameCounts
 pub mod ServedBehind
@@ -27,7 +27,7 @@ pub mod TableSizes
 pub mod TreeBelow
 pub mod Trucks
 pub mod Waiting
-pub mod WaysHome
-pub mod WaysLookedAt
+pub mod CompletionTables
+pub mod ArcsLookedAt
 pub mod WholeUnits
-pub mod WithoutMemory
+pub mod WithoutNgSets

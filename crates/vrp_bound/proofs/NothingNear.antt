@@ -2,8 +2,8 @@
 use Rattle.std.proofs.Common.{◌≡◌, ℕ, zero, suc, List, [], ◌∷◌, refl, sym, subst, arith}
 use Rattle.std.specs.List.{Contains, filter}
 use Rattle.vrp_model.specs.Word.{stands_in}
-use Rattle.vrp_memory.specs.Remembering.{NoneRemembered, remembered}
-use Rattle.vrp_bound.specs.Remembering.{nothing_near}
+use Rattle.vrp_bound_ng.specs.NgWalks.{NoneRemembered, remembered}
+use Rattle.vrp_bound.specs.NgWalks.{nothing_near}
 use Rattle.vrp_bound.specs.Walk.{NeighborsDiffer}
 
 nothing_kept : (xs : List ℕ) → filter (stands_in []) xs ≡ []

@@ -3,7 +3,7 @@ use Rattle.std.proofs.Common.{◌≡◌, ℕ, max, List, [], ◌∷◌, ap, subs
 use Rattle.vrp_model.specs.Problem.{Problem}
 use Rattle.vrp_bound.specs.Capacity.{IsTrucks}
 use Rattle.vrp_bound.specs.SpanningTree.{IsLeastTree}
-use Rattle.vrp_bound.specs.TreeBound.{AreLeastHomes, IsLaterRoutes, IsTreeBound, first_route, to_join}
+use Rattle.vrp_bound.specs.TreeBound.{AreLeastArcsHome, IsLaterRoutes, IsTreeBound, first_route, to_join}
 
 one_trucks : (capacity amount one other : ℕ) → IsTrucks capacity amount one → IsTrucks capacity amount other → one ≡ other
 one_trucks capacity amount one other is also = omega (arith, is.least other also.enough, also.least one is.enough)
@@ -18,8 +18,8 @@ one_tree p taken places one other is also =
     let (others, other_tree, other_weighs) = also.met in
     omega (arith, weighs, other_weighs, is.least others other_tree, also.least steps tree)
 
-one_homes : (p : Problem) (among : List ℕ) (most one other : ℕ) → AreLeastHomes p among most one → AreLeastHomes p among most other → one ≡ other
-one_homes p among most one other is also =
+one_arcs_home : (p : Problem) (among : List ℕ) (most one other : ℕ) → AreLeastArcsHome p among most one → AreLeastArcsHome p among most other → one ≡ other
+one_arcs_home p among most one other is also =
     let (chosen, some, weighs) = is.met in
     let (others, other_some, other_weighs) = also.met in
     omega (arith, weighs, other_weighs, is.least others other_some, also.least chosen some)
@@ -27,6 +27,6 @@ one_homes p among most one other is also =
 pub one_number : (p : Problem) (at load : ℕ) (unserved : List ℕ) (rest bound other : ℕ) → IsTreeBound p at load unserved rest bound → IsTreeBound p at load unserved rest other → bound ≡ other
 one_number p at load unserved rest bound other is also =
     let later = one_later p at load unserved rest is.later also.later is.count also.count in
-    let homes = one_homes p unserved also.later is.homes also.homes (subst (λ n. AreLeastHomes p unserved n is.homes) later is.least_homes) also.least_homes in
+    let completion_table = one_arcs_home p unserved also.later is.completion_table also.completion_table (subst (λ n. AreLeastArcsHome p unserved n is.completion_table) later is.least_arcs_home) also.least_arcs_home in
     let tree = one_tree p (at ∷ []) (to_join at unserved) is.tree also.tree is.least_tree also.least_tree in
-    omega (arith, homes, tree, is.is, also.is)
+    omega (arith, completion_table, tree, is.is, also.is)

@@ -1,7 +1,7 @@
 -- A row of cells, after one more cell was pulled.
 use Rattle.std.proofs.Common.{◌≡◌, ℕ, ◌+◌, ◌<◌, ◌≤◌, min, inl, inr, List, length, length-set, get_or, set, get_or-set_other, get_or-set_same, refl, sym, ap, ◌∙◌, arith}
 use Rattle.std.proofs.lemmas.Bool.{cases_eq, cases_lt}
-use Rattle.vrp_bound.specs.Inner.MemoryCells.{ArePulled}
+use Rattle.vrp_bound.specs.Inner.NgCells.{ArePulled}
 
 pub none_pulled : (weight : ℕ) (behind before row : List ℕ) → ArePulled weight 0 behind before row row
 none_pulled weight behind before row = record {
@@ -25,7 +25,7 @@ skipped_pull weight k behind before old new outside are = record {
   ];
 }
 
--- the cell of the memory before the k-th cell behind, written
+-- the cell of the ng-set before the k-th cell behind, written
 pub more_pulled : (weight k t value : ℕ) (behind before old new : List ℕ) → t ≡ get_or before k 0 → t < length old → value ≡ min (get_or new t 0) (weight + get_or behind k 0) → ArePulled weight k behind before old new → ArePulled weight (k + 1) behind before old (set new t value)
 more_pulled weight k t value behind before old new is inside least are =
     let within : t < length new = omega (arith, inside, are.len) in

@@ -38,6 +38,6 @@ all_carried p problem =
     let few : length (customers p) ≤ 1199 = omega (arith, length-range_with_len 1 (place_count p - 1), problem.few_places) in
     omega (arith, demands_fit p (customers p) problem, mul-le (length (customers p)) p.capacity 1199 p.capacity few (omega arith))
 
--- the ways home cost little enough
-pub homes_fit : (returns home : ℕ) → returns ≤ 1200 → home ≤ 1000000000 → returns * home ≤ 1200000000000
-homes_fit returns home few small = omega (arith, mul-le returns home 1200 1000000000 few small)
+-- the arcs home cost little enough
+pub returns_fit : (returns home : ℕ) → returns ≤ 1200 → home ≤ 1000000000 → returns * home ≤ 1200000000000
+returns_fit returns home few small = omega (arith, mul-le returns home 1200 1000000000 few small)

@@ -2,15 +2,15 @@
 use Rattle.std.specs.Prelude.{◌≡◌, ℕ, ◌+◌, ◌-◌, ◌*◌, ◌≤◌, ◌==◌, if◌then◌else◌, Option, List}
 use Rattle.std.specs.List.{All, sum_by}
 use Rattle.std.specs.Option.{ForSome}
-use Rattle.vrp_model.specs.LeastWay.{IsLeastHome, IsLeastIn}
+use Rattle.vrp_model.specs.LeastArc.{IsLeastHome, IsLeastIn}
 use Rattle.vrp_model.specs.Problem.{Problem}
 use Rattle.vrp_model.specs.Word.{unserved_in}
 
--- what the least ways into the customers cost together that the word leaves unserved
-pub record IsInsOf (p : Problem) (word : List ℕ) (ins : ℕ) : Type 0 where
+-- what the least arcs into the customers cost together that the word leaves unserved
+pub record IsInboundSumOf (p : Problem) (word : List ℕ) (inbound_sum : ℕ) : Type 0 where
   pub least_in : ℕ → ℕ
   pub each : All (λ customer. IsLeastIn p customer (least_in customer)) (unserved_in p word)
-  pub whole : ins ≡ sum_by least_in (unserved_in p word)
+  pub whole : inbound_sum ≡ sum_by least_in (unserved_in p word)
 
 -- what the truck that is out can still take; none is out at the depot
 abbrev pub free_room : Problem → ℕ → ℕ → ℕ
@@ -32,10 +32,10 @@ pub record IsReturns (p : Problem) (at load rest returns : ℕ) : Type 0 where
   pub carry : IsTrucks p.capacity (rest - free_room p at load) trucks
   pub all : returns ≡ trucks + (if at == 0 then 0 else 1)
 
--- the ways into the unserved customers, and the ways home
-pub record IsCapacityBound (p : Problem) (at load ins rest bound : ℕ) : Type 0 where
+-- the arcs into the unserved customers, and the arcs home
+pub record IsCapacityBound (p : Problem) (at load inbound_sum rest bound : ℕ) : Type 0 where
   pub returns : ℕ
   pub count : IsReturns p at load rest returns
   pub home : ℕ
   pub least_home : IsLeastHome p home
-  pub is : bound ≡ ins + returns * home
+  pub is : bound ≡ inbound_sum + returns * home

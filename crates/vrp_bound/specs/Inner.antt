@@ -1,9 +1,9 @@
 -- What inner contracts alone cite: nobody has to believe it.
 pub mod Cells
 pub mod Filled
-pub mod MemoryCells
-pub mod MemoryScaled
+pub mod NgCells
+pub mod NgScaled
 pub mod Scaled
 pub mod Scope
 pub mod Units
-pub mod Ways
+pub mod Arcs

@@ -1,8 +1,8 @@
-pub mod AtFront
+pub mod AtPrefix
 pub mod Bound
 pub mod Capacity
 pub mod Inner
-pub mod Remembering
+pub mod NgWalks
 pub mod SpanningTree
 pub mod Tables
 pub mod TreeBound

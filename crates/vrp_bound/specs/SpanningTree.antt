@@ -4,7 +4,7 @@ use Rattle.std.specs.List.{Contains, sum_by}
 use Rattle.std.specs.List.Sorted.{IsPermutation}
 use Rattle.vrp_model.specs.Problem.{Problem, weight_of}
 
--- the lesser of the two ways between two places
+-- the lesser of the two arcs between two places
 abbrev pub link_weight : Problem → ℕ → ℕ → ℕ
 link_weight p one other = min (weight_of p one other) (weight_of p other one)
 

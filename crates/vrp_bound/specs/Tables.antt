@@ -3,7 +3,7 @@ use Rattle.std.specs.Prelude.{◌≡◌, ℕ, ◌+◌, ◌*◌, ◌≤◌, min, 
 use Rattle.std.specs.List.{All}
 use Rattle.vrp_model.specs.Problem.{Problem, demand_of}
 use Rattle.vrp_model.specs.Route.{load_of}
-use Rattle.vrp_memory.specs.Near.{NearOf}
+use Rattle.vrp_bound_ng.specs.Near.{NearOf}
 use Rattle.vrp_bound.specs.Walk.{IsLeastRelaxed, NoneRelaxed}
 
 pub record TablesOf : Type 0 where
@@ -13,8 +13,8 @@ pub record TablesOf : Type 0 where
 abbrev pub tables_over : Problem → List ℕ → TablesOf
 tables_over problem among = record { problem = problem; among = among }
 
--- of walks that remember, over all customers
-pub record MemoryTablesOf : Type 0 where
+-- of ng-walks, over all customers
+pub record NgTablesOf : Type 0 where
   pub problem : Problem
   pub near : NearOf
 

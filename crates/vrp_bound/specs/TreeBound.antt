@@ -1,4 +1,4 @@
--- The tree bound: a least spanning tree over the places that are still to be joined, and the least ways home.
+-- The tree bound: a least spanning tree over the places that are still to be joined, and the least arcs home.
 use Rattle.std.specs.Prelude.{◌≡◌, ℕ, zero, suc, ◌+◌, ◌-◌, ◌≤◌, max, min, List, [], ◌∷◌, ◌++◌, length}
 use Rattle.std.specs.List.{sum_by}
 use Rattle.std.specs.List.Sorted.{IsPermutation}
@@ -30,20 +30,20 @@ pub record AreSomeOf (customers : List ℕ) (most : ℕ) (chosen : List ℕ) : T
   pub parts : IsPermutation (chosen ++ others) customers
   pub count : length chosen ≡ min most (length customers)
 
-abbrev pub homes_cost : Problem → List ℕ → ℕ
-homes_cost p chosen = sum_by (λ customer. weight_of p customer 0) chosen
+abbrev pub arcs_home_cost : Problem → List ℕ → ℕ
+arcs_home_cost p chosen = sum_by (λ customer. weight_of p customer 0) chosen
 
--- this many customers' ways home have this weight, and no others have less
-pub record AreLeastHomes (p : Problem) (customers : List ℕ) (most weight : ℕ) : Type 0 where
-  pub met : (chosen : List ℕ) × AreSomeOf customers most chosen × (homes_cost p chosen ≡ weight)
-  pub least : (chosen : List ℕ) → AreSomeOf customers most chosen → weight ≤ homes_cost p chosen
+-- this many customers' arcs home have this weight, and no others have less
+pub record AreLeastArcsHome (p : Problem) (customers : List ℕ) (most weight : ℕ) : Type 0 where
+  pub met : (chosen : List ℕ) × AreSomeOf customers most chosen × (arcs_home_cost p chosen ≡ weight)
+  pub least : (chosen : List ℕ) → AreSomeOf customers most chosen → weight ≤ arcs_home_cost p chosen
 
--- the least tree, and a way home for each route that must still be opened, from different customers
+-- the least tree, and an arc home for each route that must still be opened, from different customers
 pub record IsTreeBound (p : Problem) (at load : ℕ) (unserved : List ℕ) (rest bound : ℕ) : Type 0 where
   pub tree : ℕ
   pub least_tree : IsLeastTree p (at ∷ []) (to_join at unserved) tree
   pub later : ℕ
   pub count : IsLaterRoutes p at load unserved rest later
-  pub homes : ℕ
-  pub least_homes : AreLeastHomes p unserved later homes
-  pub is : bound ≡ tree + homes
+  pub completion_table : ℕ
+  pub least_arcs_home : AreLeastArcsHome p unserved later completion_table
+  pub is : bound ≡ tree + completion_table

@@ -32,7 +32,7 @@ pub record IsRelaxed (p : Problem) (among : List ℕ) (at load rest : ℕ) (home
   pub each : All (IsTour p among) tours
   pub whole : load_of p home + sum_by (load_of p) tours ≡ rest
 
--- at the depot there is no way home to pay for
+-- at the depot there is no arc home to pay for
 abbrev pub home_cost : Problem → ℕ → List ℕ → ℕ
 home_cost p zero home = 0
 home_cost p (suc k) home = walk_cost p (suc k) home

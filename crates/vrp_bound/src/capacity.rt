@@ -4,25 +4,25 @@ ghost use Rattle.vrp_model.specs.Problem.{customers, place_count};
 ghost use Rattle.vrp_model.specs.Route.{load_of};
 ghost use Rattle.vrp_bound.specs.Capacity.{IsCapacityBound, IsTrucks};
 
-use vrp_model::{Instance, MAX_WAYS};
+use vrp_model::{Instance, MAX_ARCS};
 
-/// What is at least still to pay from a place, with this load on the truck that is out there: `ins`, the sum of the least ways
-/// into the unserved customers, and a least way home for that truck and for each that carries what it can't take of the rest.
-pub fn cap_bound(instance: &Instance, at: u16, load: u64, ins: u64, rest: u64) -> u64
+/// What is at least still to pay from a place, with this load on the truck that is out there: `inbound_sum`, the sum of the least
+/// arcs into the unserved customers, and a least arc home for that truck and for each that carries what it can't take of the rest.
+pub fn cap_bound(instance: &Instance, at: u16, load: u64, inbound_sum: u64, rest: u64) -> u64
     requires place { at < place_count instance.now }
     requires load { load ≤ instance.now.capacity }
     requires depot { at ≡ 0 → load ≡ 0 }
-    requires ins { ins ≤ MAX_WAYS }
+    requires inbound_sum { inbound_sum ≤ MAX_ARCS }
     requires rest { rest ≤ load_of instance.now (customers instance.now) }
-    ensures bound { IsCapacityBound instance.now at load ins rest result }
-    ensures small { result ≤ 2 * MAX_WAYS }
+    ensures bound { IsCapacityBound instance.now at load inbound_sum rest result }
+    ensures small { result ≤ 2 * MAX_ARCS }
 {
     let home = instance.least_home();
     let capacity = instance.capacity();
     let room = if at == 0 { 0 } else { capacity - load };
     let trucks = trucks_needed(capacity, rest.saturating_sub(room));
     let returns = if at == 0 { trucks } else { trucks + 1 };
-    ins + returns * home
+    inbound_sum + returns * home
 }
 
 /// The least number of trucks that carry so much.

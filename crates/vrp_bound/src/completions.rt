@@ -8,14 +8,14 @@ ghost use Rattle.vrp_bound.specs.Inner.Scaled.{IsOfPlaces, near_with};
 ghost use Rattle.vrp_bound.specs.Inner.Scope.{IsScope};
 ghost use Rattle.vrp_bound.specs.Tables.{AreMade};
 
-use crate::homes::{Looks, homes_for, least_way_home, looked_up};
+use crate::completion_table::{Looks, completion_table_for, least_completion, lookup};
 use crate::quotients::Quotients;
 use crate::scope::{Scope, are_made, demand_of_all};
 use crate::tours::tours;
 use crate::units::{UnitScope, demands_in_units, unit_of};
 use crate::walks::{MARK, walks};
 use std::alloc::Global;
-use vrp_memory::Memory;
+use vrp_bound_ng::NgSets;
 use vrp_model::{Instance, NoMemory};
 
 /// Some customers of an instance, and the cells from which the least completions are read.
@@ -41,7 +41,7 @@ pub(crate) struct Cells {
     tours: Vec<u64>,
     // By place, room and rest. None where that would be too many, or a cost is too large: then `walks` and `tours` are looked
     // through.
-    pub(crate) homes: Option<Vec<u32>>,
+    pub(crate) completion_table: Option<Vec<u32>>,
 }
 
 /// How cells are kept.
@@ -51,29 +51,29 @@ pub struct Shape {
     pub unit: u64,
     /// How many amounts are looked up in units; those above are divided.
     pub quotients: usize,
-    /// Whether there is a table of the ways home.
-    pub has_homes: bool,
+    /// Whether there is a completion table.
+    pub has_completion_table: bool,
 }
 
 impl<'a> Completions<'a> {
-    /// Over these customers, by rising place, for this many looks. Walks have this memory, if any.
+    /// Over these customers, by rising place, for this many looks. Walks have these ng-sets, if any.
     pub(crate) fn new(
         alloc: Global,
         instance: &'a Instance,
         customers: &[u16],
-        memory: Option<&Memory>,
+        ng_sets: Option<&NgSets>,
         looks: Looks,
     ) -> Result<Completions<'a>, NoMemory>
         requires rising { IsStrictlyIncreasing customers.now }
         requires customers { All (Contains (customers_of instance.now)) customers.now }
-        requires places { IsOfPlaces memory (place_count instance.now) }
-        ensures held { IfOk result (λ held. AreHeld (near_with memory.entry) held) }
+        requires places { IsOfPlaces ng_sets (place_count instance.now) }
+        ensures held { IfOk result (λ held. AreHeld (near_with ng_sets.entry) held) }
         ensures instance { IfOk result (λ held. held.instance.now ≡ instance.now) }
         ensures customers { IfOk result (λ held. held.customers.items ≡ customers.now) }
     {
         let scope = Scope::new(instance, customers);
         let cells = if are_made(scope) {
-            Some(Cells::fill(alloc, scope, memory, looks)?)
+            Some(Cells::fill(alloc, scope, ng_sets, looks)?)
         } else {
             None
         };
@@ -84,30 +84,30 @@ impl<'a> Completions<'a> {
         })
     }
 
-    /// The least cost of what carries the rest from a place, where the open truck has this load. `None`: nothing carries exactly the
-    /// rest. 0 where there are no cells. The memory is that of the walks.
+    /// The least cost of what carries the rest from a place, where the open truck has this load. `None`: nothing carries exactly
+    /// the rest. 0 where there are no cells. The ng-sets are those of the walks.
     #[inline(always)]
     pub(crate) fn bound(
         &self,
-        memory: Option<&Memory>,
+        ng_sets: Option<&NgSets>,
         at: u16,
         load: u64,
         rest: u64,
     ) -> Option<u64>
-        requires held { AreHeld (near_with memory) self.now }
-        requires places { IsOfPlaces memory (place_count self.now.instance.now) }
+        requires held { AreHeld (near_with ng_sets) self.now }
+        requires places { IsOfPlaces ng_sets (place_count self.now.instance.now) }
         requires place { at < place_count self.now.instance.now }
         requires load { load ≤ self.now.instance.now.capacity }
         requires depot { at ≡ 0 → load ≡ 0 }
         requires rest { rest ≤ load_of self.now.instance.now self.now.customers.items }
-        ensures bound { IsHeldBound (near_with memory.entry) self.now at load rest result }
+        ensures bound { IsHeldBound (near_with ng_sets.entry) self.now at load rest result }
         ensures small { IfSome result (λ least. least < 4000000000000000000) }
     {
         let Some(cells) = &self.cells else {
             return Some(0);
         };
         let scope = Scope::new(self.instance, self.customers.as_slice());
-        let least = cells.least(scope, memory, at, load, rest);
+        let least = cells.least(scope, ng_sets, at, load, rest);
         if least < MARK { Some(least) } else { None }
     }
 
@@ -121,7 +121,7 @@ impl<'a> Completions<'a> {
         Some(Shape {
             unit: cells.unit,
             quotients: cells.quotients.count(),
-            has_homes: cells.homes.is_some(),
+            has_completion_table: cells.completion_table.is_some(),
         })
     }
 }
@@ -131,21 +131,21 @@ impl Cells {
     fn fill(
         alloc: Global,
         scope: Scope<'_>,
-        memory: Option<&Memory>,
+        ng_sets: Option<&NgSets>,
         looks: Looks,
     ) -> Result<Cells, NoMemory>
         requires made { AreMade scope.instance.now scope.customers.now }
         requires scope { IsScope scope.instance.now scope.customers.now }
-        requires places { IsOfPlaces memory scope.places }
-        ensures { IfOk result (λ cells. AreCellsOver scope.entry (near_with memory.entry) cells) }
+        requires places { IsOfPlaces ng_sets scope.places }
+        ensures { IfOk result (λ cells. AreCellsOver scope.entry (near_with ng_sets.entry) cells) }
     {
-        let units = UnitScope::new(scope, memory, unit_of(scope));
+        let units = UnitScope::new(scope, ng_sets, unit_of(scope));
         let demand = units.whole_units(demand_of_all(scope));
         let room = units.whole_units(scope.instance.capacity()).min(demand);
         let demands = demands_in_units(alloc, units)?;
         let walks = walks(alloc, units, &demands, room)?;
         let tours = tours(alloc, units, &walks, room, demand)?;
-        let homes = homes_for(looks, alloc, units, &walks, &tours, room)?;
+        let completion_table = completion_table_for(looks, alloc, units, &walks, &tours, room)?;
         let quotients = Quotients::up_to(alloc, units.unit, demand_of_all(scope))?;
         Ok(Cells {
             unit: units.unit,
@@ -153,23 +153,30 @@ impl Cells {
             room,
             walks,
             tours,
-            homes,
+            completion_table,
         })
     }
 
     // The least cost of what carries the rest from a place, or the mark or more where nothing does. Every walk takes up a whole
     // number of units: so nothing carries a rest that is none, and what the open truck can still take is floored.
     #[inline(always)]
-    fn least(&self, scope: Scope<'_>, memory: Option<&Memory>, at: u16, load: u64, rest: u64) -> u64
-        requires cells { AreCellsOver scope (near_with memory) self.now }
-        requires places { IsOfPlaces memory scope.places }
+    fn least(
+        &self,
+        scope: Scope<'_>,
+        ng_sets: Option<&NgSets>,
+        at: u16,
+        load: u64,
+        rest: u64,
+    ) -> u64
+        requires cells { AreCellsOver scope (near_with ng_sets) self.now }
+        requires places { IsOfPlaces ng_sets scope.places }
         requires place { at < place_count scope.instance.now }
         requires load { load ≤ scope.instance.now.capacity }
         requires depot { at ≡ 0 → load ≡ 0 }
         requires rest { rest ≤ load_of scope.instance.now scope.customers.now }
-        ensures { IsLeastOver scope.entry (near_with memory.entry) at load rest result }
+        ensures { IsLeastOver scope.entry (near_with ng_sets.entry) at load rest result }
     {
-        let units = UnitScope::new(scope, memory, self.unit);
+        let units = UnitScope::new(scope, ng_sets, self.unit);
         let carried = self.quotients.whole_units(rest);
         let whole = carried * self.unit;
         if whole != rest {
@@ -179,9 +186,17 @@ impl Cells {
             return self.tours[carried as usize];
         }
         let free = self.quotients.whole_units(scope.instance.capacity() - load);
-        match &self.homes {
-            Some(homes) => looked_up(units, homes, &self.tours, self.room, at, free, carried),
-            None => least_way_home(units, &self.walks, &self.tours, at, free, carried),
+        match &self.completion_table {
+            Some(completion_table) => lookup(
+                units,
+                completion_table,
+                &self.tours,
+                self.room,
+                at,
+                free,
+                carried,
+            ),
+            None => least_completion(units, &self.walks, &self.tours, at, free, carried),
         }
     }
 }

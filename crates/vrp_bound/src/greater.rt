@@ -7,17 +7,17 @@ ghost use Rattle.vrp_bound.specs.Bound.{IsLowerBound};
 use crate::capacity::cap_bound;
 use crate::tables::Tables;
 use crate::trucks_left::can_carry;
-use vrp_model::{Instance, MAX_WAYS};
+use vrp_model::{Instance, MAX_ARCS};
 
-/// What is at least still to pay from a place, with this load on the truck that is out there, by both bounds: `ins` is the sum
-/// of the least ways into the unserved customers, `rest` what they demand, `left` how many routes may still be opened. `None` where
-/// nothing carries exactly the rest, or the trucks that are left are too few: then there is no lawful plan.
+/// What is at least still to pay from a place, with this load on the truck that is out there, by both bounds: `inbound_sum` is the
+/// sum of the least arcs into the unserved customers, `rest` what they demand, `left` how many routes may still be opened. `None`
+/// where nothing carries exactly the rest, or the trucks that are left are too few: then there is no feasible plan.
 pub fn bound(
     tables: &Tables<'_>,
     instance: &Instance,
     at: u16,
     load: u64,
-    ins: u64,
+    inbound_sum: u64,
     rest: u64,
     left: Option<u16>,
 ) -> Option<u64>
@@ -25,16 +25,16 @@ pub fn bound(
     requires place { at < place_count instance.now }
     requires load { load ≤ instance.now.capacity }
     requires depot { at ≡ 0 → load ≡ 0 }
-    requires ins { ins ≤ MAX_WAYS }
+    requires inbound_sum { inbound_sum ≤ MAX_ARCS }
     requires rest { rest ≤ load_of instance.now tables.now.among }
     requires all { rest ≤ load_of instance.now (customers instance.now) }
-    ensures bound { IsLowerBound instance.now tables.now.among at load ins rest left result }
+    ensures bound { IsLowerBound instance.now tables.now.among at load inbound_sum rest left result }
     ensures small { IfSome result (λ least. least < 4000000000000000000) }
 {
     if !can_carry(instance, at, load, rest, left) {
         return None;
     }
-    let capacity = cap_bound(instance, at, load, ins, rest);
+    let capacity = cap_bound(instance, at, load, inbound_sum, rest);
     match tables.q_bound(at, load, rest) {
         None => None,
         Some(relaxed) => Some(relaxed.max(capacity)),

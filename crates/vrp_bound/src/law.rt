@@ -2,65 +2,66 @@
 ghost use Rattle.std.specs.Prelude.{◌≡◌, ℕ, ◌+◌, ◌≤◌, Option, MatchOption, List, ◌++◌};
 ghost use Rattle.std.specs.List.{All, Contains};
 ghost use Rattle.vrp_model.specs.Problem.{IsProblem, Problem, customers};
-ghost use Rattle.vrp_model.specs.Word.{IsFront, IsLawfulWord, unserved_in, word_cost};
-ghost use Rattle.vrp_bound.specs.AtFront.{CanCarryAt, Completes, CompletesRemembering, IsBoundAt, IsCapacityBoundAt, IsLowerBoundAt, IsTreeBoundAt, completed_cost};
-ghost use Rattle.vrp_bound.specs.Capacity.{IsInsOf};
-ghost use Rattle.vrp_bound.specs.Remembering.{IsRememberingRelaxed, IsRememberingWalk, nothing_near};
+ghost use Rattle.vrp_model.specs.Word.{IsPrefix, IsLawfulWord, unserved_in, word_cost};
+ghost use Rattle.vrp_bound.specs.AtPrefix.{CanCarryAt, Completes, CompletesByNgWalks, IsBoundAt, IsCapacityBoundAt, IsLowerBoundAt, IsTreeBoundAt, completed_cost};
+ghost use Rattle.vrp_bound.specs.Capacity.{IsInboundSumOf};
+ghost use Rattle.vrp_bound.specs.NgWalks.{IsNgRelaxed, IsNgWalk, nothing_near};
 ghost use Rattle.vrp_bound.specs.TreeBound.{IsTreeBound};
 ghost use Rattle.vrp_bound.specs.Walk.{IsRelaxed, IsWalk};
 
-/// What a lawful word adds to a front that it begins with is a relaxed completion of the front, of the same cost, over any
-/// customers among whom are all that the front leaves unserved.
+/// What a feasible word adds to a partial plan that it begins with is a relaxed completion of the partial plan, of the same cost,
+/// over any customers among whom are all that the partial plan leaves unserved.
 pub fn relaxed_completions()
-    ensures { (p : Problem) (front more among : List ℕ)
-        → IsProblem p → IsLawfulWord p (front ++ more) → All (Contains among) (unserved_in p front)
-        → (home : List ℕ) × (tours : List (List ℕ)) × Completes p among front home tours
-        × (completed_cost p front home tours ≡ word_cost p (front ++ more)) }
+    ensures { (p : Problem) (prefix more among : List ℕ)
+        → IsProblem p → IsLawfulWord p (prefix ++ more) → All (Contains among) (unserved_in p prefix)
+        → (home : List ℕ) × (tours : List (List ℕ)) × Completes p among prefix home tours
+        × (completed_cost p prefix home tours ≡ word_cost p (prefix ++ more)) }
 {}
 
-/// The same of walks that remember, whoever is near which place.
-pub fn remembering_completions()
-    ensures { (p : Problem) (near : ℕ → List ℕ) (front more among : List ℕ)
-        → IsProblem p → IsLawfulWord p (front ++ more) → All (Contains among) (unserved_in p front)
+/// The same of ng-walks, whoever is near which place.
+pub fn ng_completions()
+    ensures { (p : Problem) (near : ℕ → List ℕ) (prefix more among : List ℕ)
+        → IsProblem p → IsLawfulWord p (prefix ++ more) → All (Contains among) (unserved_in p prefix)
         → (home : List ℕ) × (tours : List (List ℕ))
-        × CompletesRemembering p near among front home tours
-        × (completed_cost p front home tours ≡ word_cost p (front ++ more)) }
+        × CompletesByNgWalks p near among prefix home tours
+        × (completed_cost p prefix home tours ≡ word_cost p (prefix ++ more)) }
 {}
 
-/// A walk that remembers is a walk, and what such walks complete is completed by walks: so their bound is no lower. With nobody near
+/// An ng-walk is a walk, and what such walks complete is completed by walks: so their bound is no lower. With nobody near
 /// they are the same.
-pub fn remembering_is_tighter()
+pub fn ng_is_tighter()
     ensures walks { (p : Problem) (near : ℕ → List ℕ) (among : List ℕ) (at : ℕ) (stops : List ℕ)
-        → IsRememberingWalk p near among at stops → IsWalk p among at stops }
+        → IsNgWalk p near among at stops → IsWalk p among at stops }
     ensures relaxed { (p : Problem) (near : ℕ → List ℕ) (among : List ℕ) (at load rest : ℕ)
         → (home : List ℕ) (tours : List (List ℕ))
-        → IsRememberingRelaxed p near among at load rest home tours
+        → IsNgRelaxed p near among at load rest home tours
         → IsRelaxed p among at load rest home tours }
     ensures same { (p : Problem) (among : List ℕ) (at : ℕ) (stops : List ℕ)
-        → IsWalk p among at stops → IsRememberingWalk p nothing_near among at stops }
+        → IsWalk p among at stops → IsNgWalk p nothing_near among at stops }
 {}
 
-/// No lawful word that begins with a front adds less to it than the lower bound; and where that is `None`, there is no such word.
+/// No feasible word that begins with a partial plan adds less to it than the lower bound; and where that is `None`, there is no
+/// such word.
 pub fn bounds_hold()
-    ensures { (p : Problem) (front more among : List ℕ) (ins : ℕ) (answer : Option ℕ)
-        → IsProblem p → IsLawfulWord p (front ++ more) → All (Contains among) (unserved_in p front)
-        → IsInsOf p front ins → IsLowerBoundAt p among front ins answer
-        → MatchOption answer ⊥ (λ least. word_cost p front + least ≤ word_cost p (front ++ more)) }
+    ensures { (p : Problem) (prefix more among : List ℕ) (inbound_sum : ℕ) (answer : Option ℕ)
+        → IsProblem p → IsLawfulWord p (prefix ++ more) → All (Contains among) (unserved_in p prefix)
+        → IsInboundSumOf p prefix inbound_sum → IsLowerBoundAt p among prefix inbound_sum answer
+        → MatchOption answer ⊥ (λ least. word_cost p prefix + least ≤ word_cost p (prefix ++ more)) }
 {}
 
-/// No lawful word that begins with a front adds less to it than the capacity bound.
+/// No feasible word that begins with a partial plan adds less to it than the capacity bound.
 pub fn capacity_bounds()
-    ensures { (p : Problem) (front more : List ℕ) (ins bound : ℕ)
-        → IsProblem p → IsLawfulWord p (front ++ more)
-        → IsInsOf p front ins → IsCapacityBoundAt p front ins bound
-        → word_cost p front + bound ≤ word_cost p (front ++ more) }
+    ensures { (p : Problem) (prefix more : List ℕ) (inbound_sum bound : ℕ)
+        → IsProblem p → IsLawfulWord p (prefix ++ more)
+        → IsInboundSumOf p prefix inbound_sum → IsCapacityBoundAt p prefix inbound_sum bound
+        → word_cost p prefix + bound ≤ word_cost p (prefix ++ more) }
 {}
 
-/// No lawful word that begins with a front adds less to it than the tree bound.
+/// No feasible word that begins with a partial plan adds less to it than the tree bound.
 pub fn tree_bounds()
-    ensures { (p : Problem) (front more : List ℕ) (bound : ℕ)
-        → IsProblem p → IsLawfulWord p (front ++ more) → IsTreeBoundAt p front bound
-        → word_cost p front + bound ≤ word_cost p (front ++ more) }
+    ensures { (p : Problem) (prefix more : List ℕ) (bound : ℕ)
+        → IsProblem p → IsLawfulWord p (prefix ++ more) → IsTreeBoundAt p prefix bound
+        → word_cost p prefix + bound ≤ word_cost p (prefix ++ more) }
 {}
 
 /// The tree bound is one number.
@@ -70,16 +71,16 @@ pub fn one_tree_bound()
         → bound ≡ other }
 {}
 
-/// Where a lawful word begins with a front, the trucks that the front leaves can carry what it leaves.
+/// Where a feasible word begins with a partial plan, the trucks that the partial plan leaves can carry what it leaves.
 pub fn trucks_left_carry()
-    ensures { (p : Problem) (front more : List ℕ) → IsProblem p → IsLawfulWord p (front ++ more)
-        → CanCarryAt p front }
+    ensures { (p : Problem) (prefix more : List ℕ) → IsProblem p → IsLawfulWord p (prefix ++ more)
+        → CanCarryAt p prefix }
 {}
 
-/// Tables over those customers alone that a front leaves unserved bound no lower there than tables over all customers.
+/// Tables over those customers alone that a partial plan leaves unserved bound no lower there than tables over all customers.
 pub fn fewer_customers()
-    ensures { (p : Problem) (front : List ℕ) (least : ℕ) (own : Option ℕ)
-        → IsProblem p → IsFront p front
-        → IsBoundAt p (customers p) front (Some least) → IsBoundAt p (unserved_in p front) front own
+    ensures { (p : Problem) (prefix : List ℕ) (least : ℕ) (own : Option ℕ)
+        → IsProblem p → IsPrefix p prefix
+        → IsBoundAt p (customers p) prefix (Some least) → IsBoundAt p (unserved_in p prefix) prefix own
         → (more : ℕ) × (own ≡ Some more) × (least ≤ more) }
 {}

@@ -2,16 +2,18 @@
 //! bound, and the least spanning tree.
 #![tactic(auto)]
 
+mod arc;
+mod arcs;
 mod capacity;
+mod completion_table;
 mod completions;
 mod divisor;
 mod greater;
-mod homes;
 mod law;
-mod least_homes;
-mod memory_scope;
-mod memory_tables;
-mod memory_walks;
+mod least_arcs_home;
+mod ng_scope;
+mod ng_tables;
+mod ng_walks;
 mod quotients;
 mod scope;
 mod spanning;
@@ -21,23 +23,21 @@ mod tree;
 mod trucks_left;
 mod units;
 mod walks;
-mod way;
-mod ways;
 
+pub use arc::Arc;
+pub use arcs::take_least;
 pub use capacity::{cap_bound, trucks_needed};
 pub use completions::Shape;
 pub use divisor::gcd;
 pub use greater::bound;
 pub use law::{
-    bounds_hold, capacity_bounds, fewer_customers, one_tree_bound, relaxed_completions,
-    remembering_completions, remembering_is_tighter, tree_bounds, trucks_left_carry,
+    bounds_hold, capacity_bounds, fewer_customers, ng_completions, ng_is_tighter, one_tree_bound,
+    relaxed_completions, tree_bounds, trucks_left_carry,
 };
-pub use memory_tables::MemoryTables;
+pub use ng_tables::NgTables;
 pub use quotients::Quotients;
 pub use scope::Scope;
 pub use tables::Tables;
-pub use tree::TreeRoom;
+pub use tree::TreeScratch;
 pub use trucks_left::can_carry;
 pub use units::unit_of;
-pub use way::Way;
-pub use ways::take_least;

@@ -5,8 +5,8 @@ ghost use Rattle.vrp_model.specs.Problem.{customers, place_count};
 ghost use Rattle.vrp_model.specs.Route.{load_of};
 ghost use Rattle.vrp_bound.specs.Tables.{AreMade, IsBound, tables_over};
 
+use crate::completion_table::Looks;
 use crate::completions::{Completions, Shape};
-use crate::homes::Looks;
 use std::alloc::Global;
 use std::marker::Model;
 use vrp_model::{Instance, NoMemory};
@@ -20,7 +20,7 @@ pub struct Tables<'a> {
 impl<'a> Model for Tables<'a> {
     ghost use Rattle.vrp_bound.specs.Tables.{TablesOf};
     ghost use Rattle.vrp_bound.specs.Inner.Filled.{AreHeld, tables_held};
-    ghost use Rattle.vrp_bound.specs.Remembering.{nothing_near};
+    ghost use Rattle.vrp_bound.specs.NgWalks.{nothing_near};
 
     ghost Value = { TablesOf };
 

@@ -5,42 +5,42 @@ ghost use Rattle.vrp_model.specs.Problem.{IsProblem, customers, place_count};
 ghost use Rattle.vrp_model.specs.Route.{load_of};
 ghost use Rattle.vrp_bound.specs.TreeBound.{IsLaterRoutes, IsTreeBound};
 
+use crate::arc::Arc;
 use crate::capacity::trucks_needed;
-use crate::least_homes::least_homes;
+use crate::least_arcs_home::least_arcs_home;
 use crate::spanning::least_tree;
-use crate::way::Way;
 use std::alloc::Global;
 use std::marker::Model;
-use vrp_model::{Instance, MAX_WAYS, NoMemory};
+use vrp_model::{Instance, MAX_ARCS, NoMemory};
 
-/// Room in which least trees and least ways home are found, so that no bound asks for memory. As a value: for how many places.
+/// Room in which least trees and least arcs home are found, so that no bound asks for memory. As a value: for how many places.
 #[derive(Debug, Drop)]
-pub struct TreeRoom {
-    ways: Vec<Way>,
+pub struct TreeScratch {
+    arcs: Vec<Arc>,
 }
 
-impl Model for TreeRoom {
+impl Model for TreeScratch {
     ghost use Rattle.std.specs.Prelude.{ℕ, vec_capacity};
 
     ghost Value = { ℕ };
 
-    ghost view = { λ a. vec_capacity a.ways };
+    ghost view = { λ a. vec_capacity a.arcs };
 }
 
-impl TreeRoom {
+impl TreeScratch {
     /// Room for all places of an instance.
-    pub fn new(alloc: Global, instance: &Instance) -> Result<TreeRoom, NoMemory>
+    pub fn new(alloc: Global, instance: &Instance) -> Result<TreeScratch, NoMemory>
         ensures { IfOk result (λ room. place_count instance.now ≤ room) }
     {
         let places = usize::from(instance.customers()) + 1;
-        Ok(TreeRoom {
-            ways: Vec::with_capacity(alloc, places)?,
+        Ok(TreeScratch {
+            arcs: Vec::with_capacity(alloc, places)?,
         })
     }
 
     /// What is at least still to pay from a place, with this load on the truck that is out there: the weight of a least spanning
     /// tree over the last place, the unserved customers and the depot, where the weight between two places is the lesser of the
-    /// two ways; and for each route that must still be opened a way home, the least ones from different customers. `unserved` is
+    /// two arcs; and for each route that must still be opened an arc home, the least ones from different customers. `unserved` is
     /// by rising place, and `rest` what they demand. No route is open where the place is the depot.
     pub fn tree_bound(
         &mut self,
@@ -57,12 +57,12 @@ impl TreeRoom {
         requires customers { All (Contains (customers instance.now)) unserved.now }
         requires rest { rest ≤ load_of instance.now (customers instance.now) }
         ensures bound { IsTreeBound instance.now at load unserved.now rest result }
-        ensures small { result ≤ 2 * MAX_WAYS }
+        ensures small { result ≤ 2 * MAX_ARCS }
         ensures room { self.new ≡ self.old }
     {
         let later = later_routes(instance, at, load, unserved, rest);
-        let tree = least_tree(&mut self.ways, instance, at, unserved);
-        tree + least_homes(&mut self.ways, instance, unserved, later)
+        let tree = least_tree(&mut self.arcs, instance, at, unserved);
+        tree + least_arcs_home(&mut self.arcs, instance, unserved, later)
     }
 }
 

@@ -8,7 +8,7 @@ ghost use Rattle.vrp_bound.specs.Inner.Units.{IsGreatestUnit, IsUnit, in_units};
 use crate::divisor::gcd;
 use crate::scope::Scope;
 use std::alloc::Global;
-use vrp_memory::Memory;
+use vrp_bound_ng::NgSets;
 use vrp_model::{Instance, NoMemory};
 
 /// Some customers of an instance, what walks through them remember, if anything, and a unit that divides each of their demands.
@@ -17,30 +17,30 @@ pub(crate) struct UnitScope<'a> {
     pub(crate) instance: &'a Instance,
     pub(crate) customers: &'a [u16],
     pub(crate) places: usize,
-    pub(crate) memory: Option<&'a Memory>,
+    pub(crate) ng_sets: Option<&'a NgSets>,
     pub(crate) unit: u64,
     ghost some: { 1 ≤ unit },
     ghost counted: { places ≡ place_count instance.now },
-    ghost of_places: { ForSome memory (λ memory. memory.now.places ≡ places) },
+    ghost of_places: { ForSome ng_sets (λ ng_sets. ng_sets.now.places ≡ places) },
     ghost scope: { IsScope (in_units unit instance.now) customers.now },
 }
 
 impl<'a> UnitScope<'a> {
     /// These customers, with their demands counted in this unit.
-    pub(crate) fn new(scope: Scope<'a>, memory: Option<&'a Memory>, unit: u64) -> UnitScope<'a>
-        requires places { ForSome memory (λ memory. memory.now.places ≡ scope.places) }
+    pub(crate) fn new(scope: Scope<'a>, ng_sets: Option<&'a NgSets>, unit: u64) -> UnitScope<'a>
+        requires places { ForSome ng_sets (λ ng_sets. ng_sets.now.places ≡ scope.places) }
         requires scope { IsScope scope.instance.now scope.customers.now }
         requires unit { IsUnit scope.instance.now scope.customers.now unit }
         ensures instance { result.instance.now ≡ scope.entry.instance.now }
         ensures customers { result.customers.now ≡ scope.entry.customers.now }
-        ensures memory { result.memory ≡ memory.entry }
+        ensures ng_sets { result.ng_sets ≡ ng_sets.entry }
         ensures unit { result.unit ≡ unit }
     {
         UnitScope {
             instance: scope.instance,
             customers: scope.customers,
             places: scope.places,
-            memory,
+            ng_sets,
             unit,
         }
     }

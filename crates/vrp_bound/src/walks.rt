@@ -4,8 +4,8 @@ ghost use Rattle.vrp_model.specs.Problem.{place_count};
 ghost use Rattle.vrp_bound.specs.Inner.Cells.{mark};
 ghost use Rattle.vrp_bound.specs.Inner.Scaled.{ArePlainWalks, ArePlainWalksSoFar, AreWalksOver, IsLeastPlainWalk, room_over, scaled};
 
-use crate::memory_scope::MemoryScope;
-use crate::memory_walks::walks_by_memory;
+use crate::ng_scope::NgScope;
+use crate::ng_walks::walks_by_ng_set;
 use crate::units::UnitScope;
 use std::alloc::Global;
 use vrp_model::NoMemory;
@@ -24,10 +24,10 @@ pub(crate) fn walks(
     requires room { room ≡ room_over scope }
     ensures { IfOk result (λ cells. AreWalksOver scope.entry cells.items) }
 {
-    match scope.memory {
-        Some(memory) => {
-            let scope = MemoryScope::new(scope, memory, demands);
-            walks_by_memory(alloc, scope, room)
+    match scope.ng_sets {
+        Some(ng_sets) => {
+            let scope = NgScope::new(scope, ng_sets, demands);
+            walks_by_ng_set(alloc, scope, room)
         }
         None => plain_walks(alloc, scope, demands, room),
     }

@@ -3,13 +3,13 @@ use Rattle.std.proofs.Common.{◌≡◌, ℕ, ◌+◌, ◌<◌, ◌≤◌, List,
 use Rattle.std.proofs.lemmas.List.Elements.{All-nil}
 use Rattle.vrp_partition.specs.Choice.{IsCheapest, NoneBelow}
 use Rattle.vrp_canonical.specs.Reaching.{IsFleet, IsPoolOf, IsRoute, Reaches}
-use Rattle.vrp_canonical.proofs.Begun.{all_unserved, first_cheapest, in_pool, least_first}
-use Rattle.vrp_canonical.proofs.PlanChoices.{goes_on_reached}
+use Rattle.vrp_canonical.proofs.Begun.{all_unserved, canonical_cheapest, in_pool, least_first}
+use Rattle.vrp_canonical.proofs.PlanChoices.{continues_reached}
 use Rattle.vrp_model.specs.Cheapest.{NoneCheaper}
-use Rattle.vrp_model.specs.Order.{IsFirst}
+use Rattle.vrp_model.specs.Order.{IsCanonical}
 use Rattle.vrp_model.specs.Problem.{IsProblem, Problem, customers}
 use Rattle.vrp_model.specs.Route.{IsLawful, PricedPlan, plan_cost}
-use Rattle.vrp_model.proofs.FirstPlans.{first_plan}
+use Rattle.vrp_model.proofs.CanonicalPlans.{canonical_exists}
 use Rattle.vrp_partition.specs.declared.route.Route.{Route}
 use Rattle.vrp_routes.specs.Label.{set_of as stops_set}
 
@@ -26,26 +26,26 @@ cheapest_no pool routes unserved trucks incumbent found most answer room none re
 
 -- ---- of the whole problem
 
-pub cheapest_first : (p : Problem) (limit : ℕ) (stops : List (List ℕ)) (pool routes : List Route) (trucks incumbent found : ℕ)
+pub cheapest_canonical : (p : Problem) (limit : ℕ) (stops : List (List ℕ)) (pool routes : List Route) (trucks incumbent found : ℕ)
     → IsProblem p → IsPoolOf p limit stops pool → IsFleet p trucks → found ≤ limit
     → IsCheapest pool (stops_set (customers p)) trucks incumbent found routes → found < incumbent
-    → (plan : PricedPlan) × IsFirst p plan × (plan.cost ≡ found)
-cheapest_first p limit stops pool routes trucks incumbent found problem pool_of fleet within answer below =
+    → (plan : PricedPlan) × IsCanonical p plan × (plan.cost ≡ found)
+cheapest_canonical p limit stops pool routes trucks incumbent found problem pool_of fleet within answer below =
     let (choice, cost) = answer.attained below in
     least_first p limit stops pool trucks found problem pool_of fleet within
     (record { parts = routes; choice = choice; cheap = omega (arith, cost) })
     (λ other reached. omega (arith, answer.least reached.parts reached.choice, reached.cheap))
 
--- where no choice costs less than a bound, no lawful plan within the limit does
+-- where no choice costs less than a bound, no feasible plan within the limit does
 none_below : (p : Problem) (limit : ℕ) (stops : List (List ℕ)) (pool : List Route) (trucks bound : ℕ) (others : List (List ℕ))
     → IsProblem p → IsPoolOf p limit stops pool → IsFleet p trucks → NoneBelow pool (stops_set (customers p)) trucks bound
     → IsLawful p others → plan_cost p others ≤ limit → bound ≤ plan_cost p others
 none_below p limit stops pool trucks bound others problem pool_of fleet below lawful cheap =
     let free : plan_cost p [] ≡ 0 = refl in
-    let (plan, first) = first_plan p others problem lawful in
-    let most = first_cheapest p plan others first lawful in
-    let known = in_pool p limit stops pool plan pool_of first (omega (arith, most, cheap)) in
-    let reached = goes_on_reached p limit stops pool trucks [] plan.routes (stops_set (customers p)) trucks plan.cost plan.cost pool_of fleet (All-nil (IsRoute p)) (all_unserved p) (omega arith) (omega (arith, free)) first.plan_of.lawful known (omega (arith, first.plan_of.priced)) in
+    let (plan, canonical) = canonical_exists p others problem lawful in
+    let most = canonical_cheapest p plan others canonical lawful in
+    let known = in_pool p limit stops pool plan pool_of canonical (omega (arith, most, cheap)) in
+    let reached = continues_reached p limit stops pool trucks [] plan.routes (stops_set (customers p)) trucks plan.cost plan.cost pool_of fleet (All-nil (IsRoute p)) (all_unserved p) (omega arith) (omega (arith, free)) canonical.plan_of.lawful known (omega (arith, canonical.plan_of.priced)) in
     omega (arith, below reached.parts reached.choice, reached.cheap, most)
 
 pub none_cheap : (p : Problem) (limit : ℕ) (stops : List (List ℕ)) (pool routes : List Route) (trucks incumbent : ℕ) (others : List (List ℕ))

@@ -1,4 +1,5 @@
--- One pass over the pool: the routes that are chosen are the first ones of the first plan, and its others stand later in the pool.
+-- One pass over the pool: the routes that are chosen are the first ones of the canonical plan, and its others stand later in the
+-- pool.
 use Rattle.std.proofs.Common.{◌≡◌, ◌≢◌, ℕ, ◌+◌, ◌<◌, ◌≤◌, min, inl, inr, List, [], ◌∷◌, ◌++◌, bit_and, bit_xor, drop, length, length-append, length-drop, get_or, refl, sym, ap, subst, ◌∙◌, append_assoc, append-nil, arith}
 use Rattle.std.specs.Int.{bit_at}
 use Rattle.std.specs.List.{All, AllPairs, Contains, remove}
@@ -9,31 +10,31 @@ use Rattle.std.proofs.lemmas.List.Elements.{All-append, All-contains, All-contai
 use Rattle.std.proofs.lemmas.List.Sorted.{All-permutation, IsPermutation-remove, length_permutation, sum_by-IsPermutation}
 use Rattle.std.proofs.lemmas.List.Sums.{sum_by-append, sum_by-cons}
 use Rattle.std.proofs.lemmas.Nat.Bits.{bit_at-lt, bit_at_and, bit_at_xor, same_from_bits}
-use Rattle.vrp_canonical.specs.Reaching.{AreUnserved, GoesOn, IsFleet, IsPoolOf, IsRoute, IsTask, Reaches, plan_at, routes_at, seen}
+use Rattle.vrp_canonical.specs.Reaching.{AreUnserved, Continues, IsFleet, IsPoolOf, IsRoute, IsTask, Reaches, plan_at, routes_at, seen}
 use Rattle.vrp_canonical.specs.Passing.{IsAfter, IsBegun}
 use Rattle.vrp_canonical.specs.declared.residual.Residual.{Residual}
 use Rattle.vrp_canonical.proofs.Counted.{served_visited, visited_served}
 use Rattle.vrp_canonical.proofs.NextRoutes.{first_or_later, next_is}
-use Rattle.vrp_canonical.proofs.PlanChoices.{are_distinct, goes_on_reached, reached_goes_on, routes_known}
-use Rattle.vrp_model.specs.Order.{IsEarlier, IsFirst}
+use Rattle.vrp_canonical.proofs.PlanChoices.{are_distinct, continues_reached, reached_continues, routes_known}
+use Rattle.vrp_model.specs.Order.{IsEarlier, IsCanonical}
 use Rattle.vrp_model.specs.Problem.{HasTrucks, IsProblem, Problem, customers}
 use Rattle.vrp_model.specs.Route.{IsLawful, PricedPlan, load_of, plan_cost, route_cost}
-use Rattle.vrp_model.proofs.FirstPlans.{first_plan}
+use Rattle.vrp_model.proofs.CanonicalPlans.{canonical_exists}
 use Rattle.vrp_partition.specs.Choice.{visits}
 use Rattle.vrp_partition.specs.declared.route.Route.{Route}
 use Rattle.vrp_routes.specs.Label.{set_of}
 
--- ---- what the first plan costs
+-- ---- what the canonical plan costs
 
-pub first_cheapest : (p : Problem) (plan : PricedPlan) (routes : List (List ℕ)) → IsFirst p plan → IsLawful p routes → plan.cost ≤ plan_cost p routes
-first_cheapest p plan routes first lawful = elim (cases_lt (plan_cost p routes) plan.cost) [
-  | inl less ↦ absurd (first.none_before (record { routes = routes; cost = plan_cost p routes }) (record { lawful = lawful; priced = refl }) (inl less))
+pub canonical_cheapest : (p : Problem) (plan : PricedPlan) (routes : List (List ℕ)) → IsCanonical p plan → IsLawful p routes → plan.cost ≤ plan_cost p routes
+canonical_cheapest p plan routes canonical lawful = elim (cases_lt (plan_cost p routes) plan.cost) [
+  | inl less ↦ absurd (canonical.none_before (record { routes = routes; cost = plan_cost p routes }) (record { lawful = lawful; priced = refl }) (inl less))
   | inr within ↦ within
 ]
 
--- the routes of the first plan stand in the pool
-pub in_pool : (p : Problem) (limit : ℕ) (stops : List (List ℕ)) (pool : List Route) (plan : PricedPlan) → IsPoolOf p limit stops pool → IsFirst p plan → plan.cost ≤ limit → All (Contains stops) plan.routes
-in_pool p limit stops pool plan pool_of first cheap = All-weaker (Contains plan.routes) (Contains stops) (λ r among. pool_of.every r (record { plan = plan; first = first; cheap = cheap; among = among })) plan.routes (All-contains_itself plan.routes)
+-- the routes of the canonical plan stand in the pool
+pub in_pool : (p : Problem) (limit : ℕ) (stops : List (List ℕ)) (pool : List Route) (plan : PricedPlan) → IsPoolOf p limit stops pool → IsCanonical p plan → plan.cost ≤ limit → All (Contains stops) plan.routes
+in_pool p limit stops pool plan pool_of canonical cheap = All-weaker (Contains plan.routes) (Contains stops) (λ r among. pool_of.every r (record { plan = plan; canonical = canonical; cheap = cheap; among = among })) plan.routes (All-contains_itself plan.routes)
 
 -- before any route is chosen all customers are unserved
 pub all_unserved : (p : Problem) → AreUnserved p [] (set_of (customers p))
@@ -43,16 +44,16 @@ pub least_first : (p : Problem) (limit : ℕ) (stops : List (List ℕ)) (pool : 
     → IsProblem p → IsPoolOf p limit stops pool → IsFleet p trucks → least ≤ limit
     → Reaches pool (set_of (customers p)) trucks least
     → ((cost : ℕ) → Reaches pool (set_of (customers p)) trucks cost → least ≤ cost)
-    → (plan : PricedPlan) × IsFirst p plan × (plan.cost ≡ least)
+    → (plan : PricedPlan) × IsCanonical p plan × (plan.cost ≡ least)
 least_first p limit stops pool trucks least problem pool_of fleet within reached none =
     let free : plan_cost p [] ≡ 0 = refl in
-    let on = reached_goes_on p limit stops pool trucks [] (set_of (customers p)) trucks least least pool_of fleet (All-nil (IsRoute p)) (all_unserved p) (omega arith) (omega (arith, free)) reached in
-    let (plan, first) = first_plan p on.others problem on.lawful in
-    let most : plan.cost ≤ least = omega (arith, first_cheapest p plan on.others first on.lawful, on.cheap) in
-    let known = in_pool p limit stops pool plan pool_of first (omega (arith, most, within)) in
-    let cheap : plan_cost p plan.routes ≤ plan.cost = omega (arith, first.plan_of.priced) in
-    let low = none plan.cost (goes_on_reached p limit stops pool trucks [] plan.routes (set_of (customers p)) trucks plan.cost plan.cost pool_of fleet (All-nil (IsRoute p)) (all_unserved p) (omega arith) (omega (arith, free)) first.plan_of.lawful known cheap) in
-    (plan, first, omega (arith, most, low))
+    let on = reached_continues p limit stops pool trucks [] (set_of (customers p)) trucks least least pool_of fleet (All-nil (IsRoute p)) (all_unserved p) (omega arith) (omega (arith, free)) reached in
+    let (plan, canonical) = canonical_exists p on.others problem on.lawful in
+    let most : plan.cost ≤ least = omega (arith, canonical_cheapest p plan on.others canonical on.lawful, on.cheap) in
+    let known = in_pool p limit stops pool plan pool_of canonical (omega (arith, most, within)) in
+    let cheap : plan_cost p plan.routes ≤ plan.cost = omega (arith, canonical.plan_of.priced) in
+    let low = none plan.cost (continues_reached p limit stops pool trucks [] plan.routes (set_of (customers p)) trucks plan.cost plan.cost pool_of fleet (All-nil (IsRoute p)) (all_unserved p) (omega arith) (omega (arith, free)) canonical.plan_of.lawful known cheap) in
+    (plan, canonical, omega (arith, most, low))
 
 -- ---- sets
 
@@ -104,7 +105,7 @@ setting_out p limit stops pool whole task = record {
   routes = All-nil (IsRoute p);
   others = task.plan.routes;
   is = refl;
-  among = in_pool p limit stops pool task.plan task.pool_of task.first (omega (arith, task.cost_is, task.within));
+  among = in_pool p limit stops pool task.plan task.pool_of task.canonical (omega (arith, task.cost_is, task.within));
   unserved = subst (AreUnserved p []) (sym task.customers_are) (all_unserved p);
   trucks = omega arith;
   cost = let free : plan_cost p [] ≡ 0 = refl in omega (arith, free);
@@ -120,28 +121,28 @@ later_rise stops index rising = All-from_get_or (IsEarlier (get_or stops index [
     let within : index + 1 + k < length stops = omega (arith, lt, length-drop (index + 1) stops) in
     subst (IsEarlier (get_or stops index [])) (sym (get_or-drop (index + 1) stops k [])) (rising index (index + 1 + k) [] (omega arith) within))
 
--- the other routes of the first plan stand in the pool
+-- the other routes of the canonical plan stand in the pool
 pub others_known : (p : Problem) (limit : ℕ) (stops : List (List ℕ)) (pool : List Route) (whole : Residual) (task : IsTask p limit stops pool whole)
     → (routes others : List (List ℕ)) → task.plan.routes ≡ routes ++ others → All (Contains stops) others
 others_known p limit stops pool whole task routes others is =
-    let known = in_pool p limit stops pool task.plan task.pool_of task.first (omega (arith, task.cost_is, task.within)) in
+    let known = in_pool p limit stops pool task.plan task.pool_of task.canonical (omega (arith, task.cost_is, task.within)) in
     All-weaker (Contains others) (Contains stops) (λ r among. All-contains (Contains stops) task.plan.routes r known (subst (λ (rs : List (List ℕ)). Contains rs r) (sym is) (Contains-append_right routes others r among))) others (All-contains_itself others)
 
 routes_push : (stops : List (List ℕ)) (chosen : List ℕ) (index : ℕ) → routes_at stops (chosen ++ index ∷ []) ≡ routes_at stops chosen ++ get_or stops index [] ∷ []
 routes_push stops chosen index = map-append (λ at. get_or stops at []) chosen (index ∷ [])
 
 -- a plan goes on with a route of the pool where the answer is yes for it
-pub asked_goes_on : (p : Problem) (limit : ℕ) (stops : List (List ℕ)) (pool : List Route) (whole : Residual) (task : IsTask p limit stops pool whole)
+pub asked_continues : (p : Problem) (limit : ℕ) (stops : List (List ℕ)) (pool : List Route) (whole : Residual) (task : IsTask p limit stops pool whole)
     → (index : ℕ) (chosen : List ℕ) (rest : Residual) → IsBegun p stops task.plan whole index chosen rest → (at left allowance : ℕ) → at < length stops
     → bit_and (set_of (get_or stops at [])) rest.unserved ≡ set_of (get_or stops at [])
     → left + 1 ≤ rest.trucks → route_cost p (get_or stops at []) + allowance ≤ rest.most
     → Reaches pool (bit_xor rest.unserved (set_of (get_or stops at []))) left allowance
-    → GoesOn p whole.most (routes_at stops chosen ++ get_or stops at [] ∷ [])
-asked_goes_on p limit stops pool whole task index chosen rest begun at left allowance lt within few cheap reached =
+    → Continues p whole.most (routes_at stops chosen ++ get_or stops at [] ∷ [])
+asked_continues p limit stops pool whole task index chosen rest begun at left allowance lt within few cheap reached =
     let r = get_or stops at [] in
     let routes = routes_at stops chosen in
     let each : All (IsRoute p) (routes ++ r ∷ []) = All-push (IsRoute p) routes r begun.routes (task.pool_of.each at [] lt) in
-    reached_goes_on p limit stops pool whole.trucks (routes ++ r ∷ []) (bit_xor rest.unserved (set_of r)) left allowance whole.most task.pool_of task.fleet each (unserved_push p routes r rest.unserved begun.unserved within)
+    reached_continues p limit stops pool whole.trucks (routes ++ r ∷ []) (bit_xor rest.unserved (set_of r)) left allowance whole.most task.pool_of task.fleet each (unserved_push p routes r rest.unserved begun.unserved within)
     (omega (arith, length-append routes (r ∷ []), length-map chosen (λ at. get_or stops at []), few, begun.trucks))
     (omega (arith, cost_push p routes r, cheap, begun.cost)) reached
 
@@ -149,7 +150,7 @@ asked_goes_on p limit stops pool whole task index chosen rest begun at left allo
 pub taken_on : (p : Problem) (limit : ℕ) (stops : List (List ℕ)) (pool : List Route) (whole : Residual) (task : IsTask p limit stops pool whole)
     → (index : ℕ) (chosen : List ℕ) (rest next : Residual) → IsBegun p stops task.plan whole index chosen rest → index < length stops
     → IsAfter rest (seen p (get_or stops index [])) next
-    → GoesOn p whole.most (routes_at stops chosen ++ get_or stops index [] ∷ [])
+    → Continues p whole.most (routes_at stops chosen ++ get_or stops index [] ∷ [])
     → IsBegun p stops task.plan whole (index + 1) (chosen ++ index ∷ []) next
 taken_on p limit stops pool whole task index chosen rest next begun lt after on =
     let r = get_or stops index [] in
@@ -158,11 +159,11 @@ taken_on p limit stops pool whole task index chosen rest next begun lt after on 
     let each : All (IsRoute p) (routes ++ r ∷ []) = All-push (IsRoute p) routes r begun.routes (task.pool_of.each index [] lt) in
     let unserved = unserved_push p routes r rest.unserved begun.unserved after.within in
     let split = split_at stops index lt in
-    let follows = next_is p task.plan routes begun.others later r task.first begun.is
+    let follows = next_is p task.plan routes begun.others later r task.canonical begun.is
     (subst (λ (xs : List (List ℕ)). All (Contains xs) begun.others) split begun.among)
     (later_rise stops index task.rising)
     (subst (All (IsRoute p)) split (All-drop (IsRoute p) index stops task.pool_of.each))
-    (subst (λ n. GoesOn p n (routes ++ r ∷ [])) (sym task.cost_is) on) in
+    (subst (λ n. Continues p n (routes ++ r ∷ [])) (sym task.cost_is) on) in
     let same = sym (routes_push stops chosen index) in
     record {
       routes = subst (All (IsRoute p)) same each;
@@ -174,7 +175,7 @@ taken_on p limit stops pool whole task index chosen rest next begun lt after on 
       cost = omega (arith, begun.cost, after.most, cost_push p routes r, ap (plan_cost p) same);
     }
 
--- each other route of the first plan serves none but unserved customers
+-- each other route of the canonical plan serves none but unserved customers
 pub standing : (p : Problem) (limit : ℕ) (stops : List (List ℕ)) (pool : List Route) (whole : Residual) (task : IsTask p limit stops pool whole)
     → (index : ℕ) (chosen : List ℕ) (rest : Residual) (begun : IsBegun p stops task.plan whole index chosen rest) (r : List ℕ) → Contains begun.others r
     → bit_and (set_of r) rest.unserved ≡ set_of r
@@ -185,7 +186,7 @@ standing p limit stops pool whole task index chosen rest begun r (at, lt, is) =
     let known = others_known p limit stops pool whole task routes begun.others begun.is in
     let old_each = routes_known p stops begun.others task.pool_of.each known in
     let others_each = All-permutation (IsRoute p) begun.others (r ∷ others) moved old_each in
-    let (lawful, price) = moved_plan p routes begun.others (r ∷ others) begun.routes others_each old_each moved (subst (IsLawful p) begun.is task.first.plan_of.lawful) in
+    let (lawful, price) = moved_plan p routes begun.others (r ∷ others) begun.routes others_each old_each moved (subst (IsLawful p) begun.is task.canonical.plan_of.lawful) in
     let all_each : All (IsRoute p) (routes ++ r ∷ others) = All-append (IsRoute p) routes (r ∷ others) begun.routes others_each in
     set_within (set_of r) rest.unserved (λ k.
     omega (arith, begun.unserved k, served_visited p (routes ++ r ∷ others) (are_distinct p (routes ++ r ∷ others) all_each) lawful.served k, sum_by-append (λ x. bit_at (set_of x) k) routes (r ∷ others), sum_by-cons (λ x. bit_at (set_of x) k) r others))
@@ -221,12 +222,12 @@ same_plan plan other routes cost = λ i. record { routes = routes i; cost = cost
 
 pub arrived : (p : Problem) (limit : ℕ) (stops : List (List ℕ)) (pool : List Route) (whole : Residual) (task : IsTask p limit stops pool whole)
     → (index : ℕ) (chosen : List ℕ) (rest : Residual) → IsBegun p stops task.plan whole index chosen rest → length pool ≤ index
-    → IsFirst p (plan_at stops chosen whole.most)
+    → IsCanonical p (plan_at stops chosen whole.most)
 arrived p limit stops pool whole task index chosen rest begun end =
     let many : length pool ≡ length stops = ap length task.pool_of.is ∙ length-map stops (seen p) in
     let none : begun.others ≡ [] = none_stands (drop index stops) begun.others (drop_all index stops (omega (arith, many, end))) begun.among in
     let routes : task.plan.routes ≡ routes_at stops chosen = begun.is ∙ ap (λ (rs : List (List ℕ)). routes_at stops chosen ++ rs) none ∙ append-nil (routes_at stops chosen) in
-    subst (IsFirst p) (same_plan task.plan (plan_at stops chosen whole.most) routes task.cost_is) task.first
+    subst (IsCanonical p) (same_plan task.plan (plan_at stops chosen whole.most) routes task.cost_is) task.canonical
 
 -- ---- the same of the routes as the pool has them
 

@@ -10,13 +10,13 @@ use Rattle.std.proofs.lemmas.List.Sorted.{All-permutation, Contains-permutation,
 use Rattle.std.proofs.lemmas.List.Sums.{get_or-le-sum_by, sum_by-append, sum_by-cons}
 use Rattle.std.proofs.lemmas.Nat.Bits.{bit_at-lt}
 use Rattle.vrp_canonical.specs.Passing.{AllHave, GoesBelow, IsAfter, IsAnswer, IsBegun, IsInside, IsPart, StandsWithin, route_in}
-use Rattle.vrp_canonical.specs.Reaching.{GoesOn, IsPoolOf, IsRoute, IsTask, Reaches, routes_at, seen}
+use Rattle.vrp_canonical.specs.Reaching.{Continues, IsPoolOf, IsRoute, IsTask, Reaches, routes_at, seen}
 use Rattle.vrp_canonical.specs.declared.residual.Residual.{Residual}
-use Rattle.vrp_canonical.proofs.Begun.{asked_goes_on, is_seen, moved_plan, others_known, set_within, standing, taken_bit, taken_on}
+use Rattle.vrp_canonical.proofs.Begun.{asked_continues, is_seen, moved_plan, others_known, set_within, standing, taken_bit, taken_on}
 use Rattle.vrp_canonical.proofs.Counted.{served_visited}
 use Rattle.vrp_canonical.proofs.NextRoutes.{none_earlier, none_left}
 use Rattle.vrp_canonical.proofs.PlanChoices.{are_distinct, plan_reaches, routes_known}
-use Rattle.vrp_model.specs.Order.{IsEarlier, IsFirst}
+use Rattle.vrp_model.specs.Order.{IsEarlier, IsCanonical}
 use Rattle.vrp_model.specs.Problem.{Problem, customers}
 use Rattle.vrp_model.specs.Route.{IsLawful, PricedPlan, plan_cost}
 use Rattle.vrp_model.proofs.CustomerPlaces.{customer_is_some}
@@ -61,9 +61,9 @@ said_yes p limit stops pool whole task index chosen rest begun customer low high
     let left = rest.trucks - 1 in
     let allowance = rest.most - x.cost in
     let few : left + 1 ≤ rest.trucks = omega (arith, many, reached.choice.few) in
-    let dear = sum_by-IsPermutation (λ (r : Route). r.cost) parts (x ∷ others) moved in
+    let costly = sum_by-IsPermutation (λ (r : Route). r.cost) parts (x ∷ others) moved in
     let split = sum_by-cons (λ (r : Route). r.cost) x others in
-    let cheap : x.cost + allowance ≤ rest.most = omega (arith, reached.cheap, dear, split) in
+    let cheap : x.cost + allowance ≤ rest.most = omega (arith, reached.cheap, costly, split) in
     let asked : Reaches pool (bit_xor rest.unserved x.set) left allowance = record {
       parts = others;
       choice = record {
@@ -71,7 +71,7 @@ said_yes p limit stops pool whole task index chosen rest begun customer low high
         once = λ k. omega (arith, bits k, taken_bit x.set rest.unserved k within);
         few = omega (arith, reached.choice.few, many);
       };
-      cheap = omega (arith, reached.cheap, dear, split);
+      cheap = omega (arith, reached.cheap, costly, split);
     } in
     elim (All-contains (λ y. Contains pool y × (StandsWithin pool low high y ⊎ (bit_at y.set customer ≡ 0))) part x is_part.sound (All-contains (Contains part) parts x reached.choice.known v.here)).1 [
       | inr lacks ↦ absurd (omega (arith, lacks, v.has))
@@ -83,7 +83,7 @@ said_yes p limit stops pool whole task index chosen rest begun customer low high
             at = stands.at;
             below = stands.below;
             within = inside;
-            on = asked_goes_on p limit stops pool whole task index chosen rest begun stands.at left allowance inside
+            on = asked_continues p limit stops pool whole task index chosen rest begun stands.at left allowance inside
                 (subst (λ (y : Route). bit_and y.set rest.unserved ≡ y.set) e within)
                 few
                 (subst (λ (y : Route). y.cost + allowance ≤ rest.most) e cheap)
@@ -119,10 +119,10 @@ said_no p limit stops pool whole task low chosen rest begun customer high part i
     let moved : IsPermutation begun.others (x ∷ others) = IsPermutation-remove begun.others i x in_rest (sym is) in
     let each = routes_known p stops begun.others task.pool_of.each known in
     let others_each : All (IsRoute p) (x ∷ others) = All-permutation (IsRoute p) begun.others (x ∷ others) moved each in
-    let (lawful, price) = moved_plan p routes begun.others (x ∷ others) begun.routes others_each each moved (subst (IsLawful p) begun.is task.first.plan_of.lawful) in
+    let (lawful, price) = moved_plan p routes begun.others (x ∷ others) begun.routes others_each each moved (subst (IsLawful p) begun.is task.canonical.plan_of.lawful) in
     let all_each : All (IsRoute p) (routes ++ x ∷ others) = All-append (IsRoute p) routes (x ∷ others) begun.routes others_each in
     let alone : visits set_of others customer ≡ 0 = omega (arith, has, bit_at-lt unserved customer, begun.unserved customer, served_visited p (routes ++ x ∷ others) (are_distinct p (routes ++ x ∷ others) all_each) lawful.served customer, sum_by-append (λ y. bit_at (set_of y) customer) routes (x ∷ others), sum_by-cons (λ y. bit_at (set_of y) customer) x others) in
-    let first : Contains part (seen p x) = subst (Contains part) seen_x (is_part.every n within within from (subst (λ (y : Route). bit_and y.set unserved ≡ y.set) (sym seen_x) (inside_of x here)) (inl below)) in
+    let ahead : Contains part (seen p x) = subst (Contains part) seen_x (is_part.every n within within from (subst (λ (y : Route). bit_and y.set unserved ≡ y.set) (sym seen_x) (inside_of x here)) (inl below)) in
     let in_part : All (λ y. Contains part (seen p y)) others = λ k d k_lt.
     let y = get_or others k d in
     let there : Contains begun.others y = Contains-permutation (x ∷ others) begun.others y (IsPermutation-sym begun.others (x ∷ others) moved) (suc k, omega (arith, k_lt), get_or_default others k y d k_lt) in
@@ -132,9 +132,9 @@ said_no p limit stops pool whole task low chosen rest begun customer high part i
     let (m_within, seen_y) = place_of p limit stops pool whole task y (low + j) m_lt m_is in
     let lacks : bit_at (set_of y) customer ≡ 0 = omega (arith, alone, get_or-le-sum_by (λ z. bit_at (set_of z) customer) others k d k_lt) in
     subst (Contains part) seen_y (is_part.every (low + j) m_within m_within (omega arith) (subst (λ (z : Route). bit_and z.set unserved ≡ z.set) (sym seen_y) (inside_of y there)) (inr (subst (λ (z : Route). bit_at z.set customer ≡ 0) (sym seen_y) lacks))) in
-    let cheap : plan_cost p (routes ++ x ∷ others) ≤ whole.most = omega (arith, price, ap (plan_cost p) begun.is, task.first.plan_of.priced, task.cost_is) in
+    let cheap : plan_cost p (routes ++ x ∷ others) ≤ whole.most = omega (arith, price, ap (plan_cost p) begun.is, task.canonical.plan_of.priced, task.cost_is) in
     let many : length routes ≡ length chosen = length-map chosen (λ at. get_or stops at []) in
-    never (plan_reaches p part whole.trucks routes (x ∷ others) unserved rest.trucks rest.most whole.most task.fleet all_each begun.unserved lawful (All-cons (λ y. Contains part (seen p y)) x others first in_part) (omega (arith, many, begun.trucks)) cheap (omega (arith, begun.cost))) in
+    never (plan_reaches p part whole.trucks routes (x ∷ others) unserved rest.trucks rest.most whole.most task.fleet all_each begun.unserved lawful (All-cons (λ y. Contains part (seen p y)) x others ahead in_part) (omega (arith, many, begun.trucks)) cheap (omega (arith, begun.cost))) in
     record {
       routes = begun.routes;
       others = begun.others;
@@ -152,21 +152,21 @@ said_no p limit stops pool whole task low chosen rest begun customer high part i
       cost = begun.cost;
     }
 
--- no plan goes on with an earlier route than the first plan
-pub too_early : (p : Problem) (limit : ℕ) (stops : List (List ℕ)) (pool : List Route) (plan : PricedPlan) (routes others : List (List ℕ)) (at low most : ℕ) → IsPoolOf p limit stops pool → AllPairs IsEarlier stops → IsFirst p plan → plan.routes ≡ routes ++ others
-    → All (Contains (drop low stops)) others → at < length stops → at < low → plan.cost ≡ most → GoesOn p most (routes ++ get_or stops at [] ∷ []) → ⊥
-too_early p limit stops pool plan routes [] at low most pool_of rising first is among within early cost on =
+-- no plan goes on with an earlier route than the canonical plan
+pub too_early : (p : Problem) (limit : ℕ) (stops : List (List ℕ)) (pool : List Route) (plan : PricedPlan) (routes others : List (List ℕ)) (at low most : ℕ) → IsPoolOf p limit stops pool → AllPairs IsEarlier stops → IsCanonical p plan → plan.routes ≡ routes ++ others
+    → All (Contains (drop low stops)) others → at < length stops → at < low → plan.cost ≡ most → Continues p most (routes ++ get_or stops at [] ∷ []) → ⊥
+too_early p limit stops pool plan routes [] at low most pool_of rising canonical is among within early cost on =
     let r = get_or stops at [] in
     let route : IsRoute p r = pool_of.each at [] within in
-    none_left p routes on.others r (subst (IsLawful p) (is ∙ append-nil routes) first.plan_of.lawful) (subst (IsLawful p) (append_assoc routes (r ∷ []) on.others) on.lawful) route.some
-too_early p limit stops pool plan routes (next ∷ others) at low most pool_of rising first is among within early cost on =
+    none_left p routes on.others r (subst (IsLawful p) (is ∙ append-nil routes) canonical.plan_of.lawful) (subst (IsLawful p) (append_assoc routes (r ∷ []) on.others) on.lawful) route.some
+too_early p limit stops pool plan routes (next ∷ others) at low most pool_of rising canonical is among within early cost on =
     let r = get_or stops at [] in
     let same = append_assoc routes (r ∷ []) on.others in
     let (j, lt, found) = among 0 next (omega arith) in
     let inside : low + j < length stops = omega (arith, lt, length-drop low stops) in
     let here : get_or stops (low + j) [] ≡ next = get_or_default stops (low + j) [] next inside ∙ sym (get_or-drop low stops j next) ∙ found in
     let route : IsRoute p next = subst (IsRoute p) here (pool_of.each (low + j) [] inside) in
-    none_earlier p plan routes others on.others r next first is (subst (IsLawful p) same on.lawful)
+    none_earlier p plan routes others on.others r next canonical is (subst (IsLawful p) same on.lawful)
     (omega (arith, on.cheap, cost, ap (plan_cost p) same))
     (All-weaker (Contains (customers p)) (λ k. 0 < k) (customer_is_some p) next route.begins.known)
     (subst (IsEarlier r) here (rising at (low + j) [] (omega (arith, early)) inside))
@@ -174,17 +174,17 @@ too_early p limit stops pool plan routes (next ∷ others) at low most pool_of r
 -- where the next route can't stand earlier and a plan goes on with a route that doesn't stand later, it goes on with this one
 pub narrowed : (p : Problem) (limit : ℕ) (stops : List (List ℕ)) (pool : List Route) (whole : Residual) (task : IsTask p limit stops pool whole)
     → (low : ℕ) (chosen : List ℕ) (rest : Residual) → IsBegun p stops task.plan whole low chosen rest → GoesBelow p stops whole.most (routes_at stops chosen) (low + 1)
-    → GoesOn p whole.most (routes_at stops chosen ++ get_or stops low [] ∷ [])
+    → Continues p whole.most (routes_at stops chosen ++ get_or stops low [] ∷ [])
 narrowed p limit stops pool whole task low chosen rest begun goes =
     elim (cases_lt goes.at low) [
-      | inr from ↦ subst (λ n. GoesOn p whole.most (routes_at stops chosen ++ get_or stops n [] ∷ [])) (omega (arith, from, goes.below)) goes.on
-      | inl early ↦ absurd (too_early p limit stops pool task.plan (routes_at stops chosen) begun.others goes.at low whole.most task.pool_of task.rising task.first begun.is begun.among goes.within early task.cost_is goes.on)
+      | inr from ↦ subst (λ n. Continues p whole.most (routes_at stops chosen ++ get_or stops n [] ∷ [])) (omega (arith, from, goes.below)) goes.on
+      | inl early ↦ absurd (too_early p limit stops pool task.plan (routes_at stops chosen) begun.others goes.at low whole.most task.pool_of task.rising task.canonical begun.is begun.among goes.within early task.cost_is goes.on)
     ]
 
 -- the next route is taken
 pub taken_narrowed : (p : Problem) (limit : ℕ) (stops : List (List ℕ)) (pool : List Route) (whole : Residual) (task : IsTask p limit stops pool whole)
     → (index : ℕ) (chosen : List ℕ) (rest next : Residual) → IsBegun p stops task.plan whole index chosen rest → index < length pool
-    → IsAfter rest (route_in pool index) next → GoesOn p whole.most (routes_at stops chosen ++ get_or stops index [] ∷ [])
+    → IsAfter rest (route_in pool index) next → Continues p whole.most (routes_at stops chosen ++ get_or stops index [] ∷ [])
     → IsBegun p stops task.plan whole (index + 1) (chosen ++ index ∷ []) next
 taken_narrowed p limit stops pool whole task index chosen rest next begun lt after on =
     let (inside, same) = is_seen p limit stops pool index task.pool_of lt in

@@ -1,4 +1,4 @@
--- The next route of the first plan.
+-- The next route of the canonical plan.
 use Rattle.std.proofs.Common.{◌≡◌, ◌≢◌, ℕ, zero, suc, ◌+◌, ◌<◌, ◌≤◌, ◌⊎◌, inl, inr, List, [], ◌∷◌, ◌++◌, length, length-append, get_or, refl, sym, ap, subst, ◌∙◌, append_assoc, append-nil, arith}
 use Rattle.std.specs.List.{All, Contains, concat}
 use Rattle.std.proofs.lemmas.Bool.{cases_lt}
@@ -6,9 +6,9 @@ use Rattle.std.proofs.lemmas.List.Elements.{All-contains, All-tail, All-weaker, 
 use Rattle.std.proofs.lemmas.List.Folds.{concat-append}
 use Rattle.std.proofs.lemmas.List.Sorted.{length_permutation}
 use Rattle.std.proofs.lemmas.Nat.Bits.{bit_at-lt}
-use Rattle.vrp_canonical.specs.Reaching.{GoesOn, IsRoute}
+use Rattle.vrp_canonical.specs.Reaching.{Continues, IsRoute}
 use Rattle.vrp_canonical.proofs.Counted.{bits_are, times, times_append, times_moved, here_once}
-use Rattle.vrp_model.specs.Order.{IsEarlier, IsFirst}
+use Rattle.vrp_model.specs.Order.{IsEarlier, IsCanonical}
 use Rattle.vrp_model.specs.Problem.{Problem, customers}
 use Rattle.vrp_model.specs.Route.{IsLawful, PricedPlan, plan_cost}
 use Rattle.vrp_model.specs.Word.{word_of}
@@ -54,12 +54,12 @@ none_left p chosen others (k ∷ r) lawful also some =
     omega (arith, one, other, parts, length-append (k ∷ r) (concat others))
 
 -- a plan that costs no more doesn't go on with an earlier route
-pub none_earlier : (p : Problem) (plan : PricedPlan) (chosen rest others : List (List ℕ)) (r next : List ℕ) → IsFirst p plan → plan.routes ≡ chosen ++ next ∷ rest
+pub none_earlier : (p : Problem) (plan : PricedPlan) (chosen rest others : List (List ℕ)) (r next : List ℕ) → IsCanonical p plan → plan.routes ≡ chosen ++ next ∷ rest
     → IsLawful p (chosen ++ r ∷ others) → plan_cost p (chosen ++ r ∷ others) ≤ plan.cost → All (λ k. 0 < k) next → IsEarlier r next → ⊥
-none_earlier p plan chosen rest others r next first is lawful cheap some earlier =
+none_earlier p plan chosen rest others r next canonical is lawful cheap some earlier =
     let routes = chosen ++ r ∷ others in
     let other : PricedPlan = record { routes = routes; cost = plan_cost p routes } in
-    let none = first.none_before other (record { lawful = lawful; priced = refl }) in
+    let none = canonical.none_before other (record { lawful = lawful; priced = refl }) in
     let one = word_of-append chosen (r ∷ others) in
     let two = ap word_of is ∙ word_of-append chosen (next ∷ rest) in
     let words : IsEarlier (word_of routes) (word_of plan.routes) = rw (one, two) (earlier_behind (word_of chosen) (word_of (r ∷ others)) (word_of (next ∷ rest)) (closed_earlier r next (word_of others) (word_of rest) some earlier)) in
@@ -69,22 +69,22 @@ none_earlier p plan chosen rest others r next first is lawful cheap some earlier
     ]
 
 pub next_is : (p : Problem) (plan : PricedPlan) (chosen rest later : List (List ℕ)) (r : List ℕ)
-    → IsFirst p plan → plan.routes ≡ chosen ++ rest
+    → IsCanonical p plan → plan.routes ≡ chosen ++ rest
     → All (Contains (r ∷ later)) rest → All (IsEarlier r) later → All (IsRoute p) (r ∷ later)
-    → GoesOn p plan.cost (chosen ++ r ∷ [])
+    → Continues p plan.cost (chosen ++ r ∷ [])
     → (others : List (List ℕ)) × (rest ≡ r ∷ others) × All (Contains later) others
-next_is p plan chosen [] later r first is among earlier routes on =
-    let lawful : IsLawful p chosen = subst (IsLawful p) (is ∙ append-nil chosen) first.plan_of.lawful in
+next_is p plan chosen [] later r canonical is among earlier routes on =
+    let lawful : IsLawful p chosen = subst (IsLawful p) (is ∙ append-nil chosen) canonical.plan_of.lawful in
     let also : IsLawful p (chosen ++ r ∷ on.others) = subst (IsLawful p) (append_assoc chosen (r ∷ []) on.others) on.lawful in
     absurd (none_left p chosen on.others r lawful also (let here = routes 0 r (omega arith) in here.some))
-next_is p plan chosen (next ∷ rest) later r first is among earlier routes on =
+next_is p plan chosen (next ∷ rest) later r canonical is among earlier routes on =
     let same = append_assoc chosen (r ∷ []) on.others in
     let lawful : IsLawful p (chosen ++ r ∷ on.others) = subst (IsLawful p) same on.lawful in
     let cheap : plan_cost p (chosen ++ r ∷ on.others) ≤ plan.cost = subst (λ (rs : List (List ℕ)). plan_cost p rs ≤ plan.cost) same on.cheap in
     elim (first_or_later r next later (among 0 next (omega arith))) [
       | inl here ↦
           let is_r : plan.routes ≡ chosen ++ r ∷ rest = is ∙ ap (λ (x : List ℕ). chosen ++ x ∷ rest) (sym here) in
-          let whole : IsLawful p (chosen ++ r ∷ rest) = subst (IsLawful p) is_r first.plan_of.lawful in
+          let whole : IsLawful p (chosen ++ r ∷ rest) = subst (IsLawful p) is_r canonical.plan_of.lawful in
           let some : r ≢ [] = (let route = routes 0 r (omega arith) in route.some) in (
             rest,
             ap (λ (x : List ℕ). x ∷ rest) (sym here),
@@ -96,24 +96,24 @@ next_is p plan chosen (next ∷ rest) later r first is among earlier routes on =
       | inr behind ↦
           let route : IsRoute p next = All-contains (IsRoute p) later next (All-tail (IsRoute p) r later routes) behind in
           let some : All (λ k. 0 < k) next = All-weaker (Contains (customers p)) (λ k. 0 < k) (customer_is_some p) next route.begins.known in
-          absurd (none_earlier p plan chosen rest on.others r next first is lawful cheap some (All-contains (IsEarlier r) later next earlier behind))
+          absurd (none_earlier p plan chosen rest on.others r next canonical is lawful cheap some (All-contains (IsEarlier r) later next earlier behind))
     ]
 
 -- the earliest route of the pool with which a plan that costs no more goes on is the next one
 pub earliest_next : (p : Problem) (plan : PricedPlan) (stops chosen rest : List (List ℕ)) (r : List ℕ)
-    → IsFirst p plan → plan.routes ≡ chosen ++ rest → All (Contains stops) rest → All (IsRoute p) stops → r ≢ []
-    → GoesOn p plan.cost (chosen ++ r ∷ [])
-    → ((s : List ℕ) → Contains stops s → IsEarlier s r → GoesOn p plan.cost (chosen ++ s ∷ []) → ⊥)
+    → IsCanonical p plan → plan.routes ≡ chosen ++ rest → All (Contains stops) rest → All (IsRoute p) stops → r ≢ []
+    → Continues p plan.cost (chosen ++ r ∷ [])
+    → ((s : List ℕ) → Contains stops s → IsEarlier s r → Continues p plan.cost (chosen ++ s ∷ []) → ⊥)
     → (others : List (List ℕ)) × (rest ≡ r ∷ others)
-earliest_next p plan stops chosen [] r first is known routes some on none =
-    absurd (none_left p chosen on.others r (subst (IsLawful p) (is ∙ append-nil chosen) first.plan_of.lawful) (subst (IsLawful p) (append_assoc chosen (r ∷ []) on.others) on.lawful) some)
-earliest_next p plan stops chosen (next ∷ rest) r first is known routes some on none =
+earliest_next p plan stops chosen [] r canonical is known routes some on none =
+    absurd (none_left p chosen on.others r (subst (IsLawful p) (is ∙ append-nil chosen) canonical.plan_of.lawful) (subst (IsLawful p) (append_assoc chosen (r ∷ []) on.others) on.lawful) some)
+earliest_next p plan stops chosen (next ∷ rest) r canonical is known routes some on none =
     let same = append_assoc chosen (r ∷ []) on.others in
     let stands : Contains stops next = known 0 next (omega arith) in
     let route : IsRoute p next = All-contains (IsRoute p) stops next routes stands in
     let back : chosen ++ next ∷ rest ≡ (chosen ++ next ∷ []) ++ rest = sym (append_assoc chosen (next ∷ []) rest) in
     elim (earlier_total r next) [
-      | inl earlier ↦ absurd (none_earlier p plan chosen rest on.others r next first is (subst (IsLawful p) same on.lawful) (omega (arith, on.cheap, ap (plan_cost p) same)) (All-weaker (Contains (customers p)) (λ k. 0 < k) (customer_is_some p) next route.begins.known) earlier)
+      | inl earlier ↦ absurd (none_earlier p plan chosen rest on.others r next canonical is (subst (IsLawful p) same on.lawful) (omega (arith, on.cheap, ap (plan_cost p) same)) (All-weaker (Contains (customers p)) (λ k. 0 < k) (customer_is_some p) next route.begins.known) earlier)
       | inr (inl level) ↦ (rest, ap (λ (x : List ℕ). x ∷ rest) (sym level))
-      | inr (inr later) ↦ absurd (none next stands later (record { others = rest; lawful = subst (IsLawful p) (is ∙ back) first.plan_of.lawful; cheap = omega (arith, first.plan_of.priced, ap (plan_cost p) (is ∙ back)) }))
+      | inr (inr later) ↦ absurd (none next stands later (record { others = rest; lawful = subst (IsLawful p) (is ∙ back) canonical.plan_of.lawful; cheap = omega (arith, canonical.plan_of.priced, ap (plan_cost p) (is ∙ back)) }))
     ]

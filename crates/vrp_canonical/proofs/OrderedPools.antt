@@ -58,21 +58,21 @@ seen_ordered p limit stops pool (route ∷ ordered) pool_of stand =
     let rest = seen_ordered p limit stops pool ordered pool_of (All-tail (StandsIn stops pool) route ordered stand) in
     λ i. here i ∷ rest i
 
--- a route of a first plan within the limit is marked, and so it is listed
+-- a route of a canonical plan within the limit is marked, and so it is listed
 marked_useful : (p : Problem) (limit most trucks count : ℕ) (stops : List (List ℕ)) (pool : List Route) (marks : List Bool) (listed : List ListedRoute)
     → IsPoolOf p limit stops pool → IsFleet p trucks → most ≤ limit → MarksWithin pool (set_of (customers p)) trucks most marks → length stops ≤ count → AreMarked stops pool marks count listed
     → (xs : List ℕ) → IsUseful p most xs → Contains (map stops_of listed) xs
 marked_useful p limit most trucks count stops pool marks listed pool_of fleet within marked all are xs useful =
     let plan = useful.plan in
-    let known = in_pool p limit stops pool plan pool_of useful.first (omega (arith, useful.cheap, within)) in
+    let known = in_pool p limit stops pool plan pool_of useful.canonical (omega (arith, useful.cheap, within)) in
     let (k, lt, is) = All-contains (Contains stops) plan.routes xs known useful.among in
     let same : get_or stops k [] ≡ xs = get_or_default stops k [] xs lt ∙ is in
     let many : length pool ≡ length stops = ap length pool_of.is ∙ length-map stops (seen p) in
     let inside : k < length pool = omega (arith, lt, many) in
     let choice = plan_choice p pool trucks [] plan.routes (set_of (customers p)) trucks fleet
-    (routes_known p stops plan.routes pool_of.each known) (all_unserved p) useful.first.plan_of.lawful
+    (routes_known p stops plan.routes pool_of.each known) (all_unserved p) useful.canonical.plan_of.lawful
     (seen_known p limit stops pool plan.routes pool_of known) (omega arith) in
-    let cheap : cost_of (map (seen p) plan.routes) ≤ most = omega (arith, seen_cost p plan.routes, useful.first.plan_of.priced, useful.cheap) in
+    let cheap : cost_of (map (seen p) plan.routes) ≤ most = omega (arith, seen_cost p plan.routes, useful.canonical.plan_of.priced, useful.cheap) in
     let as_seen : route_in pool k ≡ seen p xs = sym (is_seen p limit stops pool k pool_of inside).1 ∙ ap (seen p) same in
     elim (cases_Bool (get_or marks k false)) [
       | inl mark ↦ subst (Contains (map stops_of listed)) same (are.every k (omega (arith, lt, all)) lt mark)

@@ -1,4 +1,4 @@
--- Choices of a pool are lawful plans, and plans whose routes stand in the pool are choices of it.
+-- Choices of a pool are feasible plans, and plans whose routes stand in the pool are choices of it.
 use Rattle.std.proofs.Common.{◌≡◌, ◌≢◌, ℕ, ◌+◌, ◌<◌, ◌≤◌, List, [], ◌∷◌, ◌++◌, length, length-append, get_or, map, refl, sym, ap, subst, ◌∙◌, arith}
 use Rattle.std.specs.Int.{bit_at}
 use Rattle.std.specs.List.{All, Contains, sum_by}
@@ -6,7 +6,7 @@ use Rattle.std.proofs.lemmas.List.{get_or-map, length-map}
 use Rattle.std.proofs.lemmas.List.Elements.{All-append, All-cons, All-contains, All-map, All-nil, All-tail, All-weaker, Contains-get_or}
 use Rattle.std.proofs.lemmas.List.Sums.{sum_by-append, sum_by-cons}
 use Rattle.vrp_partition.specs.Choice.{IsChoice}
-use Rattle.vrp_canonical.specs.Reaching.{AreUnserved, GoesOn, IsFleet, IsPoolOf, IsRoute, Reaches, seen}
+use Rattle.vrp_canonical.specs.Reaching.{AreUnserved, Continues, IsFleet, IsPoolOf, IsRoute, Reaches, seen}
 use Rattle.vrp_canonical.proofs.Counted.{served_visited, visited_served}
 use Rattle.vrp_model.specs.Problem.{Problem}
 use Rattle.vrp_model.specs.Route.{IsLawful, load_of, plan_cost, route_cost}
@@ -48,16 +48,16 @@ routes_known p stops routes each known = All-weaker (Contains stops) (IsRoute p)
 pub are_distinct : (p : Problem) (routes : List (List ℕ)) → All (IsRoute p) routes → All AreDistinct routes
 are_distinct p routes each = All-weaker (IsRoute p) AreDistinct (λ r route. route.begins.once) routes each
 
-pub reached_goes_on : (p : Problem) (limit : ℕ) (stops : List (List ℕ)) (pool : List Route) (trucks : ℕ) (chosen : List (List ℕ)) (unserved left allowance most : ℕ)
+pub reached_continues : (p : Problem) (limit : ℕ) (stops : List (List ℕ)) (pool : List Route) (trucks : ℕ) (chosen : List (List ℕ)) (unserved left allowance most : ℕ)
     → IsPoolOf p limit stops pool → IsFleet p trucks → All (IsRoute p) chosen → AreUnserved p chosen unserved
     → length chosen + left ≤ trucks → plan_cost p chosen + allowance ≤ most
-    → Reaches pool unserved left allowance → GoesOn p most chosen
-reached_goes_on p limit stops pool trucks chosen unserved left allowance most pool_of fleet routes are_unserved few cheap reached =
+    → Reaches pool unserved left allowance → Continues p most chosen
+reached_continues p limit stops pool trucks chosen unserved left allowance most pool_of fleet routes are_unserved few cheap reached =
     let parts = unseen p stops reached.parts (subst (λ (ps : List Route). All (Contains ps) reached.parts) pool_of.is reached.choice.known) in
     let others = parts.routes in
     let each : All (IsRoute p) (chosen ++ others) = All-append (IsRoute p) chosen others routes (routes_known p stops others pool_of.each parts.known) in
     let as_many : length reached.parts ≡ length others = ap length parts.is ∙ length-map others (seen p) in
-    let as_dear : cost_of reached.parts ≡ plan_cost p others = ap cost_of parts.is ∙ sum_by_map (λ (r : Route). r.cost) (seen p) others in
+    let as_costly : cost_of reached.parts ≡ plan_cost p others = ap cost_of parts.is ∙ sum_by_map (λ (r : Route). r.cost) (seen p) others in
     record {
       others = others;
       lawful = record {
@@ -68,7 +68,7 @@ reached_goes_on p limit stops pool trucks chosen unserved left allowance most po
         fits = All-weaker (IsRoute p) (λ r. load_of p r ≤ p.capacity) (λ r route. route.begins.light) (chosen ++ others) each;
         few = fleet.has (length (chosen ++ others)) (omega (arith, as_many, length-append chosen others, few, reached.choice.few));
       };
-      cheap = omega (arith, reached.cheap, as_dear, sum_by-append (route_cost p) chosen others, cheap);
+      cheap = omega (arith, reached.cheap, as_costly, sum_by-append (route_cost p) chosen others, cheap);
     }
 
 -- the other routes of a plan are a choice of each part of the pool that has them
@@ -106,11 +106,11 @@ pub seen_known : (p : Problem) (limit : ℕ) (stops : List (List ℕ)) (pool : L
 seen_known p limit stops pool others pool_of known =
     subst (λ (ps : List Route). All (λ r. Contains ps (seen p r)) others) (sym pool_of.is) (All-weaker (Contains stops) (λ r. Contains (map (seen p) stops) (seen p r)) (mapped_known (seen p) stops) others known)
 
-pub goes_on_reached : (p : Problem) (limit : ℕ) (stops : List (List ℕ)) (pool : List Route) (trucks : ℕ) (chosen others : List (List ℕ)) (unserved left allowance most : ℕ)
+pub continues_reached : (p : Problem) (limit : ℕ) (stops : List (List ℕ)) (pool : List Route) (trucks : ℕ) (chosen others : List (List ℕ)) (unserved left allowance most : ℕ)
     → IsPoolOf p limit stops pool → IsFleet p trucks → All (IsRoute p) chosen → AreUnserved p chosen unserved
     → trucks ≤ length chosen + left → most ≤ plan_cost p chosen + allowance
     → IsLawful p (chosen ++ others) → All (Contains stops) others → plan_cost p (chosen ++ others) ≤ most
     → Reaches pool unserved left allowance
-goes_on_reached p limit stops pool trucks chosen others unserved left allowance most pool_of fleet routes are_unserved few allowed lawful known cheap =
+continues_reached p limit stops pool trucks chosen others unserved left allowance most pool_of fleet routes are_unserved few allowed lawful known cheap =
     plan_reaches p pool trucks chosen others unserved left allowance most fleet (All-append (IsRoute p) chosen others routes (routes_known p stops others pool_of.each known)) are_unserved lawful
     (seen_known p limit stops pool others pool_of known) few cheap allowed

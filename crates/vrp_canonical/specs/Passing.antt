@@ -2,14 +2,14 @@
 use Rattle.std.specs.Prelude.{◌≡◌, ◌⊎◌, ℕ, ◌+◌, ◌<◌, ◌≤◌, ◌↔◌, Bool, IsTrue, List, [], ◌∷◌, ◌++◌, bit_and, bit_xor, drop, length, slice_index_or}
 use Rattle.std.specs.Int.{bit_at}
 use Rattle.std.specs.List.{All, Contains}
-use Rattle.vrp_canonical.specs.Reaching.{AreUnserved, GoesOn, IsRoute, Reaches, routes_at}
+use Rattle.vrp_canonical.specs.Reaching.{AreUnserved, Continues, IsRoute, Reaches, routes_at}
 use Rattle.vrp_canonical.specs.declared.residual.Residual.{Residual}
 use Rattle.vrp_model.specs.Problem.{Problem}
 use Rattle.vrp_model.specs.Route.{PricedPlan, plan_cost}
 use Rattle.vrp_partition.specs.declared.route.Route.{Route}
 
--- what is known before a place of the pool: the first plan begins with the routes that are chosen, each other one stands from this
--- place on, and the residual problem is what the chosen ones leave
+-- what is known before a place of the pool: the canonical plan begins with the routes that are chosen, each other one stands from
+-- this place on, and the residual problem is what the chosen ones leave
 pub record IsBegun (p : Problem) (stops : List (List ℕ)) (plan : PricedPlan) (whole : Residual) (index : ℕ) (chosen : List ℕ) (rest : Residual) : Type 0 where
   pub routes : All (IsRoute p) (routes_at stops chosen)
   pub others : List (List ℕ)
@@ -58,12 +58,12 @@ pub record GoesBelow (p : Problem) (stops : List (List ℕ)) (most : ℕ) (route
   pub at : ℕ
   pub below : at < high
   pub within : at < length stops
-  pub on : GoesOn p most (routes ++ slice_index_or stops at [] ∷ [])
+  pub on : Continues p most (routes ++ slice_index_or stops at [] ∷ [])
 
 -- the routes up to a place are passed, and if it is before the end its route is the next one
 pub record IsNarrowed (p : Problem) (stops : List (List ℕ)) (plan : PricedPlan) (whole : Residual) (chosen : List ℕ) (rest : Residual) (end at : ℕ) : Type 0 where
   pub begun : IsBegun p stops plan whole at chosen rest
-  pub next : at < end → GoesOn p whole.most (routes_at stops chosen ++ slice_index_or stops at [] ∷ [])
+  pub next : at < end → Continues p whole.most (routes_at stops chosen ++ slice_index_or stops at [] ∷ [])
 
 -- the answer to the question about such a part
 abbrev pub IsAnswer : List Route → Residual → ℕ → ℕ → ℕ → Bool → Type 0

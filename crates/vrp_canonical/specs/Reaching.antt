@@ -2,7 +2,7 @@
 use Rattle.std.specs.Prelude.{◌≡◌, ◌≢◌, ℕ, ◌+◌, ◌≤◌, List, [], ◌++◌, length, map, slice_index_or}
 use Rattle.std.specs.Int.{bit_at}
 use Rattle.std.specs.List.{All, AllPairs, Contains}
-use Rattle.vrp_model.specs.Order.{IsEarlier, IsFirst}
+use Rattle.vrp_model.specs.Order.{IsEarlier, IsCanonical}
 use Rattle.vrp_model.specs.Problem.{HasTrucks, Problem, customers}
 use Rattle.vrp_model.specs.Route.{IsLawful, PricedPlan, plan_cost, route_cost}
 use Rattle.vrp_partition.specs.Choice.{IsChoice}
@@ -22,13 +22,13 @@ pub record IsRoute (p : Problem) (stops : List ℕ) : Type 0 where
 abbrev pub seen : Problem → List ℕ → Route
 seen p stops = record { set = stops_set stops; cost = route_cost p stops }
 
--- these are the stops of the routes of a pool, and each route of a first plan that costs no more than the limit is among them
+-- these are the stops of the routes of a pool, and each route of a canonical plan that costs no more than the limit is among them
 pub record IsPoolOf (p : Problem) (limit : ℕ) (stops : List (List ℕ)) (pool : List Route) : Type 0 where
   pub is : pool ≡ map (seen p) stops
   pub each : All (IsRoute p) stops
   pub every : (xs : List ℕ) → IsUseful p limit xs → Contains stops xs
 
--- a lawful plan has no more routes than this, and for each number of routes up to it there are trucks
+-- a feasible plan has no more routes than this, and for each number of routes up to it there are trucks
 pub record IsFleet (p : Problem) (trucks : ℕ) : Type 0 where
   pub has : (routes : ℕ) → routes ≤ trucks → HasTrucks p routes
   pub most : (routes : List (List ℕ)) → IsLawful p routes → length routes ≤ trucks
@@ -39,25 +39,25 @@ pub record Reaches (pool : List Route) (unserved trucks most : ℕ) : Type 0 whe
   pub choice : IsChoice set_of pool unserved trucks parts
   pub cheap : cost_of parts ≤ most
 
--- a lawful plan that costs no more than this begins with these routes
-pub record GoesOn (p : Problem) (most : ℕ) (front : List (List ℕ)) : Type 0 where
+-- a feasible plan that costs no more than this begins with these routes
+pub record Continues (p : Problem) (most : ℕ) (prefix : List (List ℕ)) : Type 0 where
   pub others : List (List ℕ)
-  pub lawful : IsLawful p (front ++ others)
-  pub cheap : plan_cost p (front ++ others) ≤ most
+  pub lawful : IsLawful p (prefix ++ others)
+  pub cheap : plan_cost p (prefix ++ others) ≤ most
 
 -- each customer is in one of these routes or unserved
 abbrev pub AreUnserved : Problem → List (List ℕ) → ℕ → Type 0
 AreUnserved p routes unserved = (k : ℕ) → visits stops_set routes k + bit_at unserved k ≡ bit_at (stops_set (customers p)) k
 
--- a pool in the order of its routes' stops, symbol by symbol, and a residual problem before any route is chosen: all customers are unserved, the whole fleet is left, and what the routes
--- may cost is what the first plan costs
+-- a pool in the order of its routes' stops, symbol by symbol, and a residual problem before any route is chosen: all customers are
+-- unserved, the whole fleet is left, and what the routes may cost is what the canonical plan costs
 pub record IsTask (p : Problem) (limit : ℕ) (stops : List (List ℕ)) (pool : List Route) (whole : Residual) : Type 0 where
   pub pool_of : IsPoolOf p limit stops pool
   pub rising : AllPairs IsEarlier stops
   pub customers_are : whole.unserved ≡ stops_set (customers p)
   pub fleet : IsFleet p whole.trucks
   pub plan : PricedPlan
-  pub first : IsFirst p plan
+  pub canonical : IsCanonical p plan
   pub cost_is : plan.cost ≡ whole.most
   pub within : whole.most ≤ limit
 

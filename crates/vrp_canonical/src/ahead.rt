@@ -1,4 +1,4 @@
-//! Questions that are asked ahead, several at a time: those that come up if the choice that is known is the first plan.
+//! Questions that are asked ahead, several at a time: those that come up if the choice that is known is the canonical plan.
 ghost use Rattle.std.specs.Prelude.{◌≡◌, ◌+◌, ◌<◌, ◌≤◌, IfOk, IfSome, OnOk, length};
 ghost use Rattle.std.specs.Int.{bit_at};
 ghost use Rattle.std.specs.List.{All};
@@ -45,8 +45,8 @@ pub struct Reply {
     pub spent: u64,
 }
 
-// A step of the pass through the pool, if the known choice is the first plan: what is asked, and what is left to be done from which
-// place on.
+// A step of the pass through the pool, if the known choice is the canonical plan: what is asked, and what is left to be done from
+// which place on.
 #[derive(Clone, Copy, Debug)]
 struct Step {
     question: Question,
@@ -66,11 +66,11 @@ impl<P: Guide + Send> Asked<P> {
         requires workers { 1 ≤ team.now.workers }
         ensures { IfOk self.new (IsReply pool.now) }
     {
-        self.reply = self.searched(team, loads, pool, budget);
+        self.reply = self.find_reply(team, loads, pool, budget);
     }
 
     // What comes of the question by a search alone.
-    fn searched<R: Threads + Sync, A: Ask>(
+    fn find_reply<R: Threads + Sync, A: Ask>(
         &self,
         team: &Team<'_, R, A>,
         loads: &Loads,
@@ -113,8 +113,8 @@ impl<P: Guide + Send> Asked<P> {
 }
 
 impl<R: Threads + Sync, P: Guide + Send, A: Ask + Sync> Searches<'_, R, P, A> {
-    /// Answers to the questions that come up from a place on if the choice that is known is the first plan, up to the first yes, by
-    /// which it is not. Which questions these are is left open, and so is how much of the budget is spent.
+    /// Answers to the questions that come up from a place on if the choice that is known is the canonical plan, up to the first
+    /// yes, by which it is not. Which questions these are is left open, and so is how much of the budget is spent.
     pub fn ask_ahead(
         &mut self,
         pool: &[Route],
@@ -125,15 +125,15 @@ impl<R: Threads + Sync, P: Guide + Send, A: Ask + Sync> Searches<'_, R, P, A> {
     {
         let questions = self.likely_questions(pool, rest, index)?;
         let mut answers = Vec::new(self.team.alloc);
-        let mut first = 0;
-        while first < questions.len() {
+        let mut next = 0;
+        while next < questions.len() {
             // The first questions are about most customers, and so the longest: each goes to another worker.
-            let count = self.team.workers.min(questions.len() - first);
-            let asked = self.asked(pool, &questions[first..first + count])?;
+            let count = self.team.workers.min(questions.len() - next);
+            let asked = self.asked(pool, &questions[next..next + count])?;
             if !self.take_replies(pool, asked, &mut answers)? {
                 return Ok(answers);
             }
-            first += count;
+            next += count;
         }
         Ok(answers)
     }
@@ -196,7 +196,7 @@ impl<R: Threads + Sync, P: Guide + Send, A: Ask + Sync> Searches<'_, R, P, A> {
         Ok(true)
     }
 
-    // The questions that come up from a place on if the choice that is known is the first plan. Nothing is promised of them.
+    // The questions that come up from a place on if the choice that is known is the canonical plan. Nothing is promised of them.
     fn likely_questions(
         &self,
         pool: &[Route],

@@ -1,22 +1,22 @@
-//! The first plan from a complete pool of routes.
+//! The canonical plan from a complete pool of routes.
 ghost use Rattle.std.specs.Prelude.{◌≡◌, ◌≤◌, ℕ, IfOk, IfSome, map};
-ghost use Rattle.vrp_canonical.specs.Ending.{IfBound, IfFirst};
+ghost use Rattle.vrp_canonical.specs.Ending.{IfBound, IfCanonical};
 ghost use Rattle.vrp_canonical.specs.Ordering.{AreOrdered, chosen_of, route_of, stops_of};
 ghost use Rattle.vrp_canonical.specs.Reaching.{IsFleet, IsTask};
 ghost use Rattle.vrp_model.specs.Cheapest.{NoneCheaper};
-ghost use Rattle.vrp_model.specs.Order.{IsFirst};
+ghost use Rattle.vrp_model.specs.Order.{IsCanonical};
 ghost use Rattle.vrp_model.specs.Problem.{IsProblem, Problem, customers, place_count};
 ghost use Rattle.vrp_partition.specs.Pricing.{MarksWithin};
 ghost use Rattle.vrp_routes.specs.Label.{set_of};
 ghost use Rattle.vrp_routes.specs.Pool.{IsPool};
 
 use crate::everyone::all_customers;
-use crate::first::first_places;
 use crate::loads::Loads;
 use crate::ordered::{
     ListedRoute, chosen_routes, in_order, kept_routes, marked_routes, routes_of, word_at,
     word_of_choice,
 };
+use crate::plan_places::canonical_places;
 use crate::residual::Residual;
 use crate::searches::{Quiet, Searches, search_within};
 use crate::trucks::fleet;
@@ -26,26 +26,26 @@ use vrp_model::{Instance, NoMemory, Plan};
 use vrp_partition::{Ask, Found, Guide, Route, Team, all_fit, routes_within};
 use vrp_routes::RoutePool;
 
-/// What a search for the first plan came to.
+/// What a search for the canonical plan came to.
 #[derive(Debug, Drop)]
 pub enum PlanSearch {
-    /// The first plan.
-    First(Plan),
+    /// The canonical plan.
+    Canonical(Plan),
     /// The search ended unfinished.
     Unfinished {
         /// That of the cheapest plan that it found, which need not be trusted, and is empty where it found none below the known one.
         word: Vec<u16>,
-        /// No lawful plan costs less; 0 where nothing is known.
+        /// No feasible plan costs less; 0 where nothing is known.
         lower_bound: u64,
     },
 }
 
-/// The first plan of an instance, by cost and then symbol by symbol, from a pool that was listed with the cost of a known plan as its
-/// limit. The pool is narrowed to the routes that may stand in a choice within the limit; the cheapest choice of these is searched for,
-/// of which the team's asked one is told how far it is, and then the next route of the first plan again and again, each time by forks of
-/// the guide, which need not be trusted. Unfinished where the budget was spent or a search would not go on, where an amount doesn't fit
-/// 32 bits, or where no choice costs as little as the known plan: when, is left open, and so are how high the lower bound is then, and
-/// how much of the budget is spent.
+/// The canonical plan of an instance, by cost and then symbol by symbol, from a pool that was listed with the cost of a known plan
+/// as its limit. The pool is narrowed to the routes that may stand in a choice within the limit; the cheapest choice of these is
+/// searched for, of which the team's asked one is told how far it is, and then the next route of the canonical plan again and
+/// again, each time by forks of the guide, which need not be trusted. Unfinished where the budget was spent or a search would not
+/// go on, where an amount doesn't fit 32 bits, or where no choice costs as little as the known plan: when, is left open, and so are
+/// how high the lower bound is then, and how much of the budget is spent.
 pub fn canonical_plan<R: Threads + Sync, P: Guide + Send, A: Ask + Sync>(
     team: &Team<'_, R, A>,
     instance: &Instance,
@@ -57,7 +57,7 @@ pub fn canonical_plan<R: Threads + Sync, P: Guide + Send, A: Ask + Sync>(
     requires workers { 1 ≤ team.now.workers }
     requires few { place_count instance.now ≤ 128 }
     requires pool { IsPool instance.now known.now.cost pool.now }
-    ensures first { IfOk result (IfFirst (IsFirst instance.now)) }
+    ensures canonical { IfOk result (IfCanonical (IsCanonical instance.now)) }
     ensures bound { IfOk result (IfBound (NoneCheaper instance.now)) }
     ensures budget { budget.new ≤ budget.old }
 {
@@ -114,7 +114,7 @@ pub fn canonical_plan<R: Threads + Sync, P: Guide + Send, A: Ask + Sync>(
         whole,
         budget,
     )? {
-        Some(plan) => Ok(PlanSearch::First(plan)),
+        Some(plan) => Ok(PlanSearch::Canonical(plan)),
         None => Ok(PlanSearch::Unfinished {
             word,
             lower_bound: most,
@@ -124,7 +124,7 @@ pub fn canonical_plan<R: Threads + Sync, P: Guide + Send, A: Ask + Sync>(
 
 // A search that found no plan.
 fn unfinished(alloc: Global) -> Result<PlanSearch, NoMemory>
-    ensures first { IfOk result (IfFirst (λ _. ⊥)) }
+    ensures canonical { IfOk result (IfCanonical (λ _. ⊥)) }
     ensures bound { IfOk result (IfBound (λ bound. bound ≡ 0)) }
 {
     Ok(PlanSearch::Unfinished {
@@ -233,7 +233,7 @@ fn marks_within<P: Guide, A: Ask>(
     Ok(Some(marks))
 }
 
-// The first plan, whose routes are among these, by a pass over them. A choice that is known answers some questions by itself.
+// The canonical plan, whose routes are among these, by a pass over them. A choice that is known answers some questions by itself.
 fn plan_by_pass<R: Threads + Sync, P: Guide + Send, A: Ask + Sync>(
     team: &Team<'_, R, A>,
     instance: &Instance,
@@ -246,7 +246,7 @@ fn plan_by_pass<R: Threads + Sync, P: Guide + Send, A: Ask + Sync>(
 ) -> Result<Option<Plan>, NoMemory>
     requires workers { 1 ≤ team.now.workers }
     requires task { IsTask instance.now whole.most (map stops_of ordered.now) (map route_of ordered.now) whole }
-    ensures first { IfOk result (λ found. IfSome found (IsFirst instance.now)) }
+    ensures canonical { IfOk result (λ found. IfSome found (IsCanonical instance.now)) }
     ensures budget { budget.new ≤ budget.old }
 {
     let alloc = team.alloc;
@@ -264,7 +264,7 @@ fn plan_by_pass<R: Threads + Sync, P: Guide + Send, A: Ask + Sync>(
     found
 }
 
-// The first plan, whose routes are among these.
+// The canonical plan, whose routes are among these.
 fn plan_among<R: Threads + Sync, P: Guide + Send, A: Ask + Sync>(
     alloc: Global,
     instance: &Instance,
@@ -273,10 +273,10 @@ fn plan_among<R: Threads + Sync, P: Guide + Send, A: Ask + Sync>(
     whole: Residual,
 ) -> Result<Option<Plan>, NoMemory>
     requires { IsTask instance.now whole.most (map stops_of ordered.now) (map route_of ordered.now) whole }
-    ensures { IfOk result (λ found. IfSome found (IsFirst instance.now)) }
+    ensures { IfOk result (λ found. IfSome found (IsCanonical instance.now)) }
 {
     let routes = routes_of(alloc, ordered)?;
-    let Some(places) = first_places(alloc, searches, routes.as_slice(), whole)? else {
+    let Some(places) = canonical_places(alloc, searches, routes.as_slice(), whole)? else {
         return Ok(None);
     };
     let word = word_at(alloc, ordered, places.as_slice())?;

@@ -2,24 +2,24 @@
 ghost use Rattle.std.specs.Prelude.{◌≡◌, ◌≢◌, ◌+◌, ◌≤◌, ◌<◌, ℕ, List, [], ◌∷◌, ◌++◌, length};
 ghost use Rattle.std.specs.List.{All, Contains};
 ghost use Rattle.vrp_partition.specs.Choice.{IsCheapest};
-ghost use Rattle.vrp_canonical.specs.Reaching.{AreUnserved, GoesOn, IsFleet, IsPoolOf, IsRoute, Reaches};
-ghost use Rattle.vrp_model.specs.Order.{IsEarlier, IsFirst};
+ghost use Rattle.vrp_canonical.specs.Reaching.{AreUnserved, Continues, IsFleet, IsPoolOf, IsRoute, Reaches};
+ghost use Rattle.vrp_model.specs.Order.{IsEarlier, IsCanonical};
 ghost use Rattle.vrp_model.specs.Problem.{IsProblem, Problem, customers};
 ghost use Rattle.vrp_model.specs.Route.{IsLawful, PricedPlan, plan_cost};
 ghost use Rattle.vrp_partition.specs.declared.route.Route.{Route};
 ghost use Rattle.vrp_routes.specs.Label.{set_of};
 
-/// A choice of the pool for the unserved customers makes a lawful plan with the routes that are chosen, where the fleet has the trucks
-/// for both and together they cost no more than this.
+/// A choice of the pool for the unserved customers makes a feasible plan with the routes that are chosen, where the fleet has the
+/// trucks for both and together they cost no more than this.
 pub fn choices_are_plans()
     ensures { (p : Problem) (limit : ℕ) (stops : List (List ℕ)) (pool : List Route) (trucks : ℕ) (chosen : List (List ℕ))
         (unserved left allowance most : ℕ)
         → IsPoolOf p limit stops pool → IsFleet p trucks → All (IsRoute p) chosen → AreUnserved p chosen unserved
         → length chosen + left ≤ trucks → plan_cost p chosen + allowance ≤ most
-        → Reaches pool unserved left allowance → GoesOn p most chosen }
+        → Reaches pool unserved left allowance → Continues p most chosen }
 {}
 
-/// A lawful plan whose other routes stand in the pool is a choice of it.
+/// A feasible plan whose other routes stand in the pool is a choice of it.
 pub fn plans_are_choices()
     ensures { (p : Problem) (limit : ℕ) (stops : List (List ℕ)) (pool : List Route) (trucks : ℕ) (chosen others : List (List ℕ))
         (unserved left allowance most : ℕ)
@@ -29,44 +29,44 @@ pub fn plans_are_choices()
         → Reaches pool unserved left allowance }
 {}
 
-/// The first plan begins with some routes, and its others are among a route and later ones. Where a plan that costs no more goes
-/// on with this route, so does the first one.
+/// The canonical plan begins with some routes, and its others are among a route and later ones. Where a plan that costs no more
+/// goes on with this route, so does the canonical one.
 pub fn next_route()
     ensures { (p : Problem) (plan : PricedPlan) (chosen rest later : List (List ℕ)) (route : List ℕ)
-        → IsFirst p plan → plan.routes ≡ chosen ++ rest
+        → IsCanonical p plan → plan.routes ≡ chosen ++ rest
         → All (Contains (route ∷ later)) rest → All (IsEarlier route) later → All (IsRoute p) (route ∷ later)
-        → GoesOn p plan.cost (chosen ++ route ∷ [])
+        → Continues p plan.cost (chosen ++ route ∷ [])
         → (others : List (List ℕ)) × (rest ≡ route ∷ others) × All (Contains later) others }
 {}
 
-/// The earliest route of the pool with which a plan that costs no more than the first one goes on is its next route. Whether the
-/// others begin above its first customer need not be asked.
+/// The earliest route of the pool with which a plan that costs no more than the canonical one goes on is its next route. Whether
+/// the others begin above its first customer need not be asked.
 pub fn earliest_is_next()
     ensures { (p : Problem) (plan : PricedPlan) (stops chosen rest : List (List ℕ)) (route : List ℕ)
-        → IsFirst p plan → plan.routes ≡ chosen ++ rest → All (Contains stops) rest → All (IsRoute p) stops → route ≢ []
-        → GoesOn p plan.cost (chosen ++ route ∷ [])
-        → ((other : List ℕ) → Contains stops other → IsEarlier other route → GoesOn p plan.cost (chosen ++ other ∷ []) → ⊥)
+        → IsCanonical p plan → plan.routes ≡ chosen ++ rest → All (Contains stops) rest → All (IsRoute p) stops → route ≢ []
+        → Continues p plan.cost (chosen ++ route ∷ [])
+        → ((other : List ℕ) → Contains stops other → IsEarlier other route → Continues p plan.cost (chosen ++ other ∷ []) → ⊥)
         → (others : List (List ℕ)) × (rest ≡ route ∷ others) }
 {}
 
-/// The least cost of a choice is what the first plan costs, where that is no more than the limit.
-pub fn least_is_first()
+/// The least cost of a choice is what the canonical plan costs, where that is no more than the limit.
+pub fn least_is_canonical()
     ensures { (p : Problem) (limit : ℕ) (stops : List (List ℕ)) (pool : List Route) (trucks least : ℕ)
         → IsProblem p → IsPoolOf p limit stops pool → IsFleet p trucks → least ≤ limit
         → Reaches pool (set_of (customers p)) trucks least
         → ((cost : ℕ) → Reaches pool (set_of (customers p)) trucks cost → least ≤ cost)
-        → (plan : PricedPlan) × IsFirst p plan × (plan.cost ≡ least) }
+        → (plan : PricedPlan) × IsCanonical p plan × (plan.cost ≡ least) }
 {}
 
 /// So is the cost of the cheapest choice below an incumbent.
-pub fn cheapest_is_first()
+pub fn cheapest_is_canonical()
     ensures { (p : Problem) (limit : ℕ) (stops : List (List ℕ)) (pool routes : List Route) (trucks incumbent found : ℕ)
         → IsProblem p → IsPoolOf p limit stops pool → IsFleet p trucks → found ≤ limit
         → IsCheapest pool (set_of (customers p)) trucks incumbent found routes → found < incumbent
-        → (plan : PricedPlan) × IsFirst p plan × (plan.cost ≡ found) }
+        → (plan : PricedPlan) × IsCanonical p plan × (plan.cost ≡ found) }
 {}
 
-/// Where no choice is below the incumbent, no lawful plan that costs no more than the limit is.
+/// Where no choice is below the incumbent, no feasible plan that costs no more than the limit is.
 pub fn none_is_cheap()
     ensures { (p : Problem) (limit : ℕ) (stops : List (List ℕ)) (pool routes : List Route)
         (trucks incumbent : ℕ) (others : List (List ℕ))

@@ -1,16 +1,16 @@
-//! The first plan from a complete pool of routes, route by route.
+//! The canonical plan from a complete pool of routes, route by route.
 #![tactic(auto)]
 
 mod ahead;
 mod canonical;
 mod everyone;
-mod first;
 mod known;
 mod law;
 mod loads;
 mod narrow;
 mod ordered;
 mod part;
+mod plan_places;
 mod question;
 mod residual;
 mod run;
@@ -18,10 +18,10 @@ mod searches;
 mod trucks;
 
 pub use canonical::{PlanSearch, canonical_plan};
-pub use first::first_places;
 pub use law::{
-    cheapest_answers, cheapest_is_first, choices_are_plans, earliest_is_next, least_is_first,
-    next_route, none_is_cheap, plans_are_choices,
+    cheapest_answers, cheapest_is_canonical, choices_are_plans, earliest_is_next,
+    least_is_canonical, next_route, none_is_cheap, plans_are_choices,
 };
+pub use plan_places::canonical_places;
 pub use residual::Residual;
 pub use trucks::fleet;

@@ -15,8 +15,9 @@ use std::alloc::{AllocError, Global};
 use std::thread::Threads;
 use vrp_partition::{Ask, Guide, Route};
 
-/// The place of the next route of the first plan, if it stands in a run of routes that have a customer in common: the question asks
-/// for one between the run's places. Else the end of the run. `None` where an answer wasn't known. Answers that are known are used.
+/// The place of the next route of the canonical plan, if it stands in a run of routes that have a customer in common: the question
+/// asks for one between the run's places. Else the end of the run. `None` where an answer wasn't known. Answers that are known are
+/// used.
 pub fn narrow<R: Threads + Sync, P: Guide + Send, A: Ask + Sync>(
     alloc: Global,
     searches: &mut Searches<'_, R, P, A>,

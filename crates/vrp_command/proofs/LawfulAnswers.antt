@@ -1,21 +1,21 @@
--- The plan of an answer is lawful, and no lawful plan costs less than the best bound that is told of it.
+-- The plan of an answer is feasible, and no feasible plan costs less than the best bound that is told of it.
 use Rattle.std.proofs.Common.{◌≡◌, ◌∙◌, inl, inr, ℕ, Bool, Option, None, Some, max, refl, ap, sym, subst}
 use Rattle.std.specs.Option.{ForSome}
 use Rattle.std.proofs.Math.Nat.{max-le}
 use Rattle.std.proofs.lemmas.Bool.{cases_lt}
 use Rattle.vrp_model.specs.Cheapest.{NoneCheaper}
-use Rattle.vrp_model.specs.Order.{IsFirst}
+use Rattle.vrp_model.specs.Order.{IsCanonical}
 use Rattle.vrp_model.specs.Problem.{Problem}
 use Rattle.vrp_model.specs.Route.{IsPlanOf, PricedPlan, plan_cost}
-use Rattle.vrp_answer.specs.Finding.{FindingOf, bounded_finding, finding_of}
+use Rattle.vrp_pool_answer.specs.Finding.{FindingOf, bounded_finding, finding_of}
 use Rattle.vrp_command.specs.Answer.{IsAnswerTo}
 use Rattle.vrp_command.specs.Found.{told_of}
 use Rattle.vrp_pool.specs.Answer.{known_plan}
-use Rattle.vrp_answer.specs.declared.answers.Answer.{Answer}
-use Rattle.vrp_answer.specs.declared.answers.Answer.TheVariants.{NoPlan, Open, Proven}
+use Rattle.vrp_pool_answer.specs.declared.answers.Answer.{Answer}
+use Rattle.vrp_pool_answer.specs.declared.answers.Answer.TheVariants.{NoPlan, Open, Proven}
 
 pub answer_lawful : (p : Problem) (pieces budget : ℕ) (may_stop : Bool) (found : Answer) → IsAnswerTo p pieces budget may_stop found → ForSome (known_plan found) (IsPlanOf p)
-answer_lawful p pieces budget may_stop (Proven plan) first = λ other same. (let one : plan ≡ other = cc in subst (IsPlanOf p) one first.plan_of)
+answer_lawful p pieces budget may_stop (Proven plan) canonical = λ other same. (let one : plan ≡ other = cc in subst (IsPlanOf p) one canonical.plan_of)
 answer_lawful p pieces budget may_stop (Open plan low lowest) left = left.left_open.plan_of
 answer_lawful p pieces budget may_stop NoPlan nothing = λ other same. absurd (let never : None ≡ Some other = same in cc)
 
@@ -25,7 +25,7 @@ told_plan (Proven plan) = refl
 told_plan (Open plan low lowest) = refl
 told_plan NoPlan = refl
 
--- and so the plan that is told is lawful
+-- and so the plan that is told is feasible
 pub told_lawful : (p : Problem) (pieces budget : ℕ) (may_stop : Bool) (found : Answer) (told : FindingOf) → told ≡ finding_of found → IsAnswerTo p pieces budget may_stop found → ForSome told.plan (IsPlanOf p)
 told_lawful p pieces budget may_stop found told is answer =
     subst (λ (plan : Option PricedPlan). ForSome plan (IsPlanOf p)) (sym (ap (λ (f : FindingOf). f.plan) is ∙ told_plan found)) (answer_lawful p pieces budget may_stop found answer)
@@ -46,16 +46,16 @@ told_of_lawful p pieces budget may_stop seconds found bound told is answer =
 
 -- ---- the best bound
 
--- no lawful plan costs less than the first one
-first_cheapest : (p : Problem) (plan : PricedPlan) → IsFirst p plan → NoneCheaper p plan.cost
-first_cheapest p plan first = λ routes lawful. elim (cases_lt (plan_cost p routes) plan.cost) [
-  | inl less ↦ absurd (first.none_before (record { routes = routes; cost = plan_cost p routes }) (record { lawful = lawful; priced = refl }) (inl less))
+-- no feasible plan costs less than the canonical one
+canonical_cheapest : (p : Problem) (plan : PricedPlan) → IsCanonical p plan → NoneCheaper p plan.cost
+canonical_cheapest p plan canonical = λ routes lawful. elim (cases_lt (plan_cost p routes) plan.cost) [
+  | inl less ↦ absurd (canonical.none_before (record { routes = routes; cost = plan_cost p routes }) (record { lawful = lawful; priced = refl }) (inl less))
   | inr within ↦ within
 ]
 
 bounded_none_cheaper : (p : Problem) (pieces budget : ℕ) (may_stop : Bool) (found : Answer) (bound : ℕ) → IsAnswerTo p pieces budget may_stop found → NoneCheaper p bound
     → ForSome (bounded_finding found bound).best_lower_bound (NoneCheaper p)
-bounded_none_cheaper p pieces budget may_stop (Proven plan) bound first none_below = λ best same. (let one : plan.cost ≡ best = cc in subst (NoneCheaper p) one (first_cheapest p plan first))
+bounded_none_cheaper p pieces budget may_stop (Proven plan) bound canonical none_below = λ best same. (let one : plan.cost ≡ best = cc in subst (NoneCheaper p) one (canonical_cheapest p plan canonical))
 bounded_none_cheaper p pieces budget may_stop (Open plan low lowest) bound left none_below =
     λ best same. (let one : max low bound ≡ best = cc in subst (NoneCheaper p) one (λ routes lawful. max-le (left.left_open.none_cheaper routes lawful) (none_below routes lawful)))
 bounded_none_cheaper p pieces budget may_stop NoPlan bound nothing none_below = λ best same. absurd (let never : None ≡ Some best = same in cc)

@@ -1,17 +1,17 @@
 -- What is written of a problem, said of the bytes that mean it.
 use Rattle.std.proofs.Common.{◌≡◌, ◌∙◌, ℕ, Bool, Option, List, Result, Ok, Err, OnOk, IfOk, IfErr, ap, subst, sym}
-use Rattle.vrp_answer.specs.Finding.{FindingOf, finding_of}
-use Rattle.vrp_answer.specs.declared.answers.Answer.{Answer}
-use Rattle.vrp_answer.specs.declared.status.Status.{Status}
+use Rattle.vrp_pool_answer.specs.Finding.{FindingOf, finding_of}
+use Rattle.vrp_pool_answer.specs.declared.answers.Answer.{Answer}
+use Rattle.vrp_pool_answer.specs.declared.status.Status.{Status}
 use Rattle.vrp_model.specs.Problem.{Problem}
 use Rattle.vrp_command.specs.Answer.{IsAnswerTo}
 use Rattle.vrp_command.specs.Form.{WritesPart, WritesText}
 use Rattle.vrp_command.specs.Run.{AnswersBytes, PrintsAnswer, PrintsPart, ReadsProblem, ReportsAnswer}
 use Rattle.vrp_command.specs.declared.form.Form.TheVariants as form
-use Rattle.vrp_request.specs.declared.options.Options.{Options}
-use Rattle.vrp_streams.specs.Report.{report_of}
-use Rattle.vrp_streams.specs.declared.fault.RunError.{RunError}
-use Rattle.vrp_streams.specs.declared.fault.RunError.TheVariants as fault
+use Rattle.vrp_command_request.specs.declared.options.Options.{Options}
+use Rattle.vrp_command_streams.specs.Report.{report_of}
+use Rattle.vrp_command_streams.specs.declared.fault.RunError.{RunError}
+use Rattle.vrp_command_streams.specs.declared.fault.RunError.TheVariants as fault
 
 -- the report of an answer to the problem answers the bytes that mean it
 answers : (options : Options) (may_stop : Bool) (unread_old unread_new : Option (List ℕ)) (problem : Problem) (found : Answer) (told : FindingOf) (report : List ℕ) → told ≡ finding_of found

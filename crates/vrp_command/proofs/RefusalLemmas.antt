@@ -2,7 +2,7 @@
 use Rattle.std.proofs.Common.{◌≢◌}
 use Rattle.vrp_text.specs.declared.error.TextError.{TextError}
 use Rattle.vrp_text.specs.declared.error.TextError.TheVariants as text
-use Rattle.vrp_streams.specs.Fault.{refusal_fault}
+use Rattle.vrp_command_streams.specs.Fault.{refusal_fault}
 use Rattle.vrp_command.specs.Run.{OnRefusedFile}
 
 -- what is known of a refusal is known of its fault

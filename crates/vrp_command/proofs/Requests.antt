@@ -1,10 +1,10 @@
 -- What is found of a problem and written, said of the request and of the bytes that were read.
 use Rattle.std.proofs.Common.{◌≡◌, ◌∙◌, ◌≤◌, inl, inr, ℕ, Bool, None, Option, Some, List, Result, Ok, Err, IsTrue, OnOk, IfOk, IfErr, ap, refl, subst, sym}
 use Rattle.std.specs.Option.{ForSome, option_and_then, option_map}
-use Rattle.vrp_answer.specs.Answer.{known_plan}
-use Rattle.vrp_answer.specs.Finding.{FindingOf, lawful_finding}
-use Rattle.vrp_answer.specs.declared.answers.Answer.{Answer}
-use Rattle.vrp_answer.specs.declared.status.Status.{Status}
+use Rattle.vrp_pool_answer.specs.Answer.{known_plan}
+use Rattle.vrp_pool_answer.specs.Finding.{FindingOf, lawful_finding}
+use Rattle.vrp_pool_answer.specs.declared.answers.Answer.{Answer}
+use Rattle.vrp_pool_answer.specs.declared.status.Status.{Status}
 use Rattle.vrp_command.proofs.LawfulAnswers.{best_none_cheaper}
 use Rattle.vrp_command.specs.Answer.{IsAnswerTo}
 use Rattle.vrp_command.specs.Form.{IsFormIn, IsTextAs, WritesPart, WritesText}
@@ -22,18 +22,18 @@ use Rattle.vrp_command.specs.declared.form.Form.TheVariants as form
 use Rattle.vrp_command.specs.declared.start.StartError.{StartError}
 use Rattle.vrp_command.specs.declared.start.StartError.TheVariants as start_fault
 use Rattle.vrp_command.specs.declared.start.StartFile.{StartFile}
-use Rattle.vrp_export.specs.Json.{ContextOf, IsJsonOf}
-use Rattle.vrp_export.specs.Name.{name_of}
+use Rattle.vrp_plan_write.specs.Json.{ContextOf, IsJsonOf}
+use Rattle.vrp_plan_write.specs.Name.{name_of}
 use Rattle.vrp_model.specs.Cheapest.{NoneCheaper, cost_of}
 use Rattle.vrp_model.specs.Problem.{Problem}
 use Rattle.vrp_model.specs.Route.{IsPlanOf, PricedPlan}
-use Rattle.vrp_request.specs.declared.options.Format.{Format}
-use Rattle.vrp_request.specs.declared.options.Format.TheVariants as format
-use Rattle.vrp_request.specs.declared.options.Options.{Options}
-use Rattle.vrp_request.specs.declared.options.Request.{Request}
-use Rattle.vrp_solution.specs.declared.solution.Solution.{Solution}
-use Rattle.vrp_streams.specs.declared.fault.RunError.{RunError}
-use Rattle.vrp_streams.specs.declared.fault.RunError.TheVariants as fault
+use Rattle.vrp_command_request.specs.declared.options.Format.{Format}
+use Rattle.vrp_command_request.specs.declared.options.Format.TheVariants as format
+use Rattle.vrp_command_request.specs.declared.options.Options.{Options}
+use Rattle.vrp_command_request.specs.declared.options.Request.{Request}
+use Rattle.vrp_plan_read.specs.declared.solution.Solution.{Solution}
+use Rattle.vrp_command_streams.specs.declared.fault.RunError.{RunError}
+use Rattle.vrp_command_streams.specs.declared.fault.RunError.TheVariants as fault
 use Rattle.vrp_text.specs.declared.error.TextError.{TextError}
 
 -- a text in the form that is asked for is the text that is asked for
@@ -66,7 +66,7 @@ writes_found_part request context may_stop p start asked told written_old writte
 writes_found_part request context may_stop p start asked told written_old written_new is found (Err error) written =
     λ failed. (let part = written failed in record { finding = told; found = found; text = part.text; told = text_asked request.format context asked p told part.text is part.told; output = part.output })
 
--- the plan to begin with is lawful, and only checked
+-- the plan to begin with is feasible, and only checked
 pub is_checked : (request : Request) (may_stop : Bool) (p : Problem) (start : Option PricedPlan) (plan : PricedPlan) (told : FindingOf) → IsTrue request.check → start ≡ Some plan → told ≡ lawful_finding plan → IsFoundBy request may_stop p start told
 is_checked request may_stop p start plan told asked given is = inl (record { asked = asked; plan = plan; given = given; told = is })
 
@@ -74,13 +74,13 @@ is_checked request may_stop p start plan told asked given is = inl (record { ask
 pub is_searched : (request : Request) (may_stop : Bool) (p : Problem) (start : Option PricedPlan) (found : Answer) (bound : ℕ) (told : FindingOf) → (IsTrue request.check → start ≡ None)
     → IsAnswerTo p request.options.pieces request.options.budget may_stop found → cost_of (known_plan found) ≤ cost_of start → NoneCheaper p bound → told ≡ told_of request.seconds found bound
     → IsFoundBy request may_stop p start told
-is_searched request may_stop p start found bound told unchecked answer no_dearer none_below is =
+is_searched request may_stop p start found bound told unchecked answer no_costlier none_below is =
     inr
     (record {
       unchecked = unchecked;
       answer = found;
       answer_is = answer;
-      no_dearer = no_dearer;
+      no_costlier = no_costlier;
       bound = bound;
       none_below = none_below;
       told = is;

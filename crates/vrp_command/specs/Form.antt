@@ -1,15 +1,15 @@
 -- A form, and what is written in it.
 use Rattle.std.specs.Io.KnownBytes.{Appends}
 use Rattle.std.specs.Prelude.{◌≡◌, ℕ, Option, List, ⊤}
-use Rattle.vrp_answer.specs.Finding.{FindingOf}
+use Rattle.vrp_pool_answer.specs.Finding.{FindingOf}
 use Rattle.vrp_command.specs.declared.form.Form.{Form}
 use Rattle.vrp_command.specs.declared.form.Form.TheVariants as form
-use Rattle.vrp_export.specs.Json.{ContextOf, IsJsonOf, context_by}
+use Rattle.vrp_plan_write.specs.Json.{ContextOf, IsJsonOf, context_by}
 use Rattle.vrp_model.specs.Problem.{Problem}
-use Rattle.vrp_request.specs.declared.options.Format.{Format}
-use Rattle.vrp_request.specs.declared.options.Format.TheVariants as format
-use Rattle.vrp_streams.specs.Output.{AppendsPart}
-use Rattle.vrp_streams.specs.Report.{report_of, solution_of}
+use Rattle.vrp_command_request.specs.declared.options.Format.{Format}
+use Rattle.vrp_command_request.specs.declared.options.Format.TheVariants as format
+use Rattle.vrp_command_streams.specs.Output.{AppendsPart}
+use Rattle.vrp_command_streams.specs.Report.{report_of, solution_of}
 
 -- this form is asked for, and with JSON this is told beside the finding
 abbrev pub IsFormIn : Format → ContextOf → Form → Type 0

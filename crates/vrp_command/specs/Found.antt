@@ -2,38 +2,38 @@
 use Rattle.std.specs.Io.KnownBytes.{Appends}
 use Rattle.std.specs.Option.{ForSome}
 use Rattle.std.specs.Prelude.{◌≡◌, ◌⊎◌, ℕ, ◌≤◌, Bool, IsTrue, Option, Some, None, List}
-use Rattle.vrp_answer.specs.Answer.{known_plan}
-use Rattle.vrp_answer.specs.Finding.{FindingOf, bounded_finding, by_best_bound, lawful_finding}
-use Rattle.vrp_answer.specs.declared.answers.Answer.{Answer}
-use Rattle.vrp_answer.specs.declared.status.Status.{Status}
+use Rattle.vrp_pool_answer.specs.Answer.{known_plan}
+use Rattle.vrp_pool_answer.specs.Finding.{FindingOf, bounded_finding, by_best_bound, lawful_finding}
+use Rattle.vrp_pool_answer.specs.declared.answers.Answer.{Answer}
+use Rattle.vrp_pool_answer.specs.declared.status.Status.{Status}
 use Rattle.vrp_command.specs.Answer.{IsAnswerTo}
 use Rattle.vrp_command.specs.Text.{IsTextIn}
-use Rattle.vrp_export.specs.Json.{ContextOf}
+use Rattle.vrp_plan_write.specs.Json.{ContextOf}
 use Rattle.vrp_model.specs.Cheapest.{NoneCheaper, cost_of}
 use Rattle.vrp_model.specs.Problem.{Problem}
 use Rattle.vrp_model.specs.Route.{PricedPlan}
-use Rattle.vrp_request.specs.declared.options.Request.{Request}
-use Rattle.vrp_streams.specs.Output.{AppendsPart}
+use Rattle.vrp_command_request.specs.declared.options.Request.{Request}
+use Rattle.vrp_command_streams.specs.Output.{AppendsPart}
 
--- the plan to begin with is only to be checked: it is lawful
+-- the plan to begin with is only to be checked: it is feasible
 pub record IsChecked (request : Request) (start : Option PricedPlan) (finding : FindingOf) : Type 0 where
   pub asked : IsTrue request.check
   pub plan : PricedPlan
   pub given : start ≡ Some plan
   pub told : finding ≡ lawful_finding plan
 
--- what is told of an answer, and of a bound below which no lawful plan costs: where a time was set, the best of both bounds alone
+-- what is told of an answer, and of a bound below which no feasible plan costs: where a time was set, the best of both bounds alone
 abbrev pub told_of : Option ℕ → Answer → ℕ → FindingOf
 told_of None answer bound = bounded_finding answer bound
 told_of (Some seconds) answer bound = by_best_bound (bounded_finding answer bound)
 
--- an answer was searched for, as the options ask for it, its plan costs no more than the one to begin with, and no lawful plan costs less
--- than the best bound that is told
+-- an answer was searched for, as the options ask for it, its plan costs no more than the one to begin with, and no feasible plan
+-- costs less than the best bound that is told
 pub record IsSearchedFor (request : Request) (may_stop : Bool) (problem : Problem) (start : Option PricedPlan) (finding : FindingOf) : Type 0 where
   pub unchecked : IsTrue request.check → start ≡ None
   pub answer : Answer
   pub answer_is : IsAnswerTo problem request.options.pieces request.options.budget may_stop answer
-  pub no_dearer : cost_of (known_plan answer) ≤ cost_of start
+  pub no_costlier : cost_of (known_plan answer) ≤ cost_of start
   pub bound : ℕ
   pub none_below : NoneCheaper problem bound
   pub told : finding ≡ told_of request.seconds answer bound

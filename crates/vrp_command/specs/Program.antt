@@ -2,8 +2,8 @@
 use Rattle.std.specs.Io.KnownBytes.{Appends}
 use Rattle.std.specs.Option.{option_and_then}
 use Rattle.std.specs.Prelude.{◌≡◌, ◌≢◌, ℕ, ◌<◌, ◌≤◌, Bool, true, IsSomeAnd, Option, Some, None, Result, Ok, Err, List, length, ⊤}
-use Rattle.vrp_answer.specs.Finding.{FindingOf}
-use Rattle.vrp_answer.specs.declared.status.Status.{Status}
+use Rattle.vrp_pool_answer.specs.Finding.{FindingOf}
+use Rattle.vrp_pool_answer.specs.declared.status.Status.{Status}
 use Rattle.vrp_command.specs.Found.{IsFoundBy}
 use Rattle.vrp_command.specs.Run.{OnRefusedFile, ReadsProblem, limited}
 use Rattle.vrp_command.specs.Start.{start_code}
@@ -14,16 +14,16 @@ use Rattle.vrp_command.specs.declared.start.StartError.{StartError}
 use Rattle.vrp_command.specs.declared.start.StartError.TheVariants as start_fault
 use Rattle.vrp_command.specs.declared.start.StartFile.{StartFile}
 use Rattle.vrp_command.specs.declared.start.StartFile.TheVariants.{Opened, Unopened}
-use Rattle.vrp_export.specs.Name.{name_of}
-use Rattle.vrp_lexer.specs.declared.limits.TheConstants.{MAX_BYTES}
+use Rattle.vrp_plan_write.specs.Name.{name_of}
+use Rattle.vrp_text_lexer.specs.declared.limits.TheConstants.{MAX_BYTES}
 use Rattle.vrp_model.specs.Problem.{Problem}
 use Rattle.vrp_model.specs.Route.{PricedPlan}
-use Rattle.vrp_request.specs.declared.options.Request.{Request}
-use Rattle.vrp_solution.specs.Solution.{GivesPlan, IsRefusedFor, stated_cost}
-use Rattle.vrp_solution.specs.declared.error.SolutionError.TheVariants as solution
-use Rattle.vrp_streams.specs.Fault.{exit_code}
-use Rattle.vrp_streams.specs.Input.{IsInput}
-use Rattle.vrp_streams.specs.Output.{AppendsPart}
+use Rattle.vrp_command_request.specs.declared.options.Request.{Request}
+use Rattle.vrp_plan_read.specs.Solution.{GivesPlan, IsRefusedFor, stated_cost}
+use Rattle.vrp_plan_read.specs.declared.error.SolutionError.TheVariants as solution
+use Rattle.vrp_command_streams.specs.Fault.{exit_code}
+use Rattle.vrp_command_streams.specs.Input.{IsInput}
+use Rattle.vrp_command_streams.specs.Output.{AppendsPart}
 use Rattle.vrp_text.specs.Meaning.{MeansProblem}
 use Rattle.vrp_text.specs.declared.error.TextError.{TextError}
 

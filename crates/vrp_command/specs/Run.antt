@@ -6,15 +6,15 @@ use Rattle.vrp_text.specs.Meaning.{MeansProblem, MeansRefusal}
 use Rattle.vrp_text.specs.declared.error.TextError.{TextError}
 use Rattle.vrp_text.specs.declared.error.TextError.TheVariants as text
 use Rattle.vrp_command.specs.Answer.{IsAnswerTo}
-use Rattle.vrp_streams.specs.Input.{IsInput}
-use Rattle.vrp_streams.specs.Output.{AppendsPart}
-use Rattle.vrp_streams.specs.Report.{report_of}
-use Rattle.vrp_streams.specs.declared.fault.RunError.{RunError}
-use Rattle.vrp_streams.specs.declared.fault.RunError.TheVariants as fault
-use Rattle.vrp_request.specs.declared.options.Options.{Options}
-use Rattle.vrp_answer.specs.Finding.{finding_of}
-use Rattle.vrp_answer.specs.declared.answers.Answer.{Answer}
-use Rattle.vrp_answer.specs.declared.status.Status.{Status}
+use Rattle.vrp_command_streams.specs.Input.{IsInput}
+use Rattle.vrp_command_streams.specs.Output.{AppendsPart}
+use Rattle.vrp_command_streams.specs.Report.{report_of}
+use Rattle.vrp_command_streams.specs.declared.fault.RunError.{RunError}
+use Rattle.vrp_command_streams.specs.declared.fault.RunError.TheVariants as fault
+use Rattle.vrp_command_request.specs.declared.options.Options.{Options}
+use Rattle.vrp_pool_answer.specs.Finding.{finding_of}
+use Rattle.vrp_pool_answer.specs.declared.answers.Answer.{Answer}
+use Rattle.vrp_pool_answer.specs.declared.status.Status.{Status}
 
 -- the status of a run that prints this answer
 abbrev pub status_of : Answer → Status

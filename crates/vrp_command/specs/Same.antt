@@ -1,9 +1,9 @@
 -- What two runs have in common that answer Proven over the same bytes.
 use Rattle.std.specs.Prelude.{◌≡◌, ℕ, List, ⊤}
-use Rattle.vrp_answer.specs.Finding.{FindingOf}
-use Rattle.vrp_request.specs.declared.options.Format.{Format}
-use Rattle.vrp_request.specs.declared.options.Format.TheVariants as format
-use Rattle.vrp_request.specs.declared.options.Request.{Request}
+use Rattle.vrp_pool_answer.specs.Finding.{FindingOf}
+use Rattle.vrp_command_request.specs.declared.options.Format.{Format}
+use Rattle.vrp_command_request.specs.declared.options.Format.TheVariants as format
+use Rattle.vrp_command_request.specs.declared.options.Request.{Request}
 
 -- in this form nothing is printed but what was found: JSON also has how the run was asked for, and of a picture nothing is known
 abbrev pub IsOfFindingAlone : Format → Type 0

@@ -1,14 +1,14 @@
 -- What is printed of a finding, in the form that a request asks for.
 use Rattle.std.specs.Prelude.{◌≡◌, ℕ, if◌then◌else◌, Option, None, Some, List, ⊤}
-use Rattle.vrp_answer.specs.Finding.{FindingOf}
-use Rattle.vrp_export.specs.Json.{ContextOf, IsJsonOf}
-use Rattle.vrp_export.specs.declared.json.Settings.{Settings}
+use Rattle.vrp_pool_answer.specs.Finding.{FindingOf}
+use Rattle.vrp_plan_write.specs.Json.{ContextOf, IsJsonOf}
+use Rattle.vrp_plan_write.specs.declared.json.Settings.{Settings}
 use Rattle.vrp_model.specs.Problem.{Problem}
-use Rattle.vrp_request.specs.declared.grammar.TheConstants.{VERSION}
-use Rattle.vrp_request.specs.declared.options.Format.{Format}
-use Rattle.vrp_request.specs.declared.options.Format.TheVariants as format
-use Rattle.vrp_request.specs.declared.options.Request.{Request}
-use Rattle.vrp_streams.specs.Report.{report_of, solution_of}
+use Rattle.vrp_command_request.specs.declared.grammar.TheConstants.{VERSION}
+use Rattle.vrp_command_request.specs.declared.options.Format.{Format}
+use Rattle.vrp_command_request.specs.declared.options.Format.TheVariants as format
+use Rattle.vrp_command_request.specs.declared.options.Request.{Request}
+use Rattle.vrp_command_streams.specs.Report.{report_of, solution_of}
 
 -- the budget that a request states
 abbrev pub budget_of : Request → Option ℕ

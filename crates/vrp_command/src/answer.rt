@@ -3,17 +3,17 @@ ghost use Rattle.std.specs.Prelude.{◌≤◌, IfOk};
 ghost use Rattle.std.specs.Option.{ForSome, option_map};
 ghost use Rattle.vrp_model.specs.Route.{IsPlanOf};
 ghost use Rattle.vrp_model.specs.Cheapest.{NoneCheaper, cost_of};
-ghost use Rattle.vrp_answer.specs.Answer.{known_plan};
+ghost use Rattle.vrp_pool_answer.specs.Answer.{known_plan};
 ghost use Rattle.vrp_command.specs.Answer.{IsAnswerTo};
-ghost use Rattle.vrp_request.specs.Options.{AreInRange};
+ghost use Rattle.vrp_command_request.specs.Options.{AreInRange};
 
 use std::alloc::Global;
 use std::sync::Wait;
 use std::thread::Threads;
+use vrp_command_request::Options;
 use vrp_model::{Instance, Plan};
 use vrp_pool::{Gate, SolveError, Solved, solve_from};
-use vrp_request::Options;
-use vrp_tree::Cutting;
+use vrp_search_tree::Cutting;
 
 /// Cuts the tree of an instance into as many pieces as the options say, and has each searched with their budget by their workers, who
 /// begin with a plan, if one is given.
@@ -29,7 +29,7 @@ pub(crate) fn cut_and_solve<T: Threads + Wait + Sync, G: Gate + Sync>(
     requires options { AreInRange options }
     ensures answer { IfOk result (λ solved.
         IsAnswerTo instance.now options.pieces options.budget (G.may_stop gate.now) solved.answer) }
-    ensures no_dearer { IfOk result (λ solved. cost_of (known_plan solved.answer)
+    ensures no_costlier { IfOk result (λ solved. cost_of (known_plan solved.answer)
         ≤ cost_of (option_map (λ plan. plan.now) start.entry)) }
     ensures bound { IfOk result (λ solved. NoneCheaper instance.now solved.lower_bound) }
 {

@@ -2,13 +2,13 @@
 ghost use Rattle.std.specs.Io.KnownBytes.{Keeps};
 ghost use Rattle.std.specs.Option.{option_map};
 ghost use Rattle.std.specs.Prelude.{◌≡◌, ◌≢◌, ◌+◌, None, IfOk, IfErr, string_bytes};
-ghost use Rattle.vrp_request.specs.Options.{AreInRange};
+ghost use Rattle.vrp_command_request.specs.Options.{AreInRange};
 ghost use Rattle.vrp_command.specs.Form.{IsFormIn};
 ghost use Rattle.vrp_command.specs.Inner.Written.{OnFault, WritesOn, WritesPartOn};
 ghost use Rattle.vrp_command.specs.Program.{OnRefusal, PrintsRequest, PrintsPartOfRequest, RefusesStart, RefusesStartFile};
 ghost use Rattle.vrp_command.specs.Run.{RefusesInput};
 ghost use Rattle.vrp_command.specs.Text.{context_of};
-ghost use Rattle.vrp_streams.specs.Input.{TakesAtMost};
+ghost use Rattle.vrp_command_streams.specs.Input.{TakesAtMost};
 
 use crate::fault::RequestError;
 use crate::form::{Form, NoPoints, form_of};
@@ -19,9 +19,9 @@ use std::alloc::Global;
 use std::io::{Read, Write};
 use std::sync::Wait;
 use std::thread::Threads;
+use vrp_command_request::{Format, Request};
+use vrp_command_streams::{RunError, Status};
 use vrp_pool::Gate;
-use vrp_request::{Format, Request};
-use vrp_streams::{RunError, Status};
 use vrp_text::MAX_BYTES;
 
 /// Answers a request by a gate that is told how the run goes, and may stop the search.

@@ -1,10 +1,10 @@
 //! A run: from the bytes of a file to the bytes of a report, or of an answer in another form.
 ghost use Rattle.std.specs.Prelude.{◌≡◌, ◌≢◌, ◌+◌, false, IfOk, IfErr};
 ghost use Rattle.std.specs.Io.KnownBytes.{Keeps};
-ghost use Rattle.vrp_request.specs.Options.{AreInRange};
+ghost use Rattle.vrp_command_request.specs.Options.{AreInRange};
 ghost use Rattle.vrp_command.specs.Program.{OnRefusal, PrintsRequest, PrintsPartOfRequest, RefusesStart, may_stop_by};
 ghost use Rattle.vrp_command.specs.Run.{PrintsAnswer, PrintsPart, RefusesInput, OnRefusedFile};
-ghost use Rattle.vrp_streams.specs.Input.{TakesAtMost};
+ghost use Rattle.vrp_command_streams.specs.Input.{TakesAtMost};
 
 use crate::answer::cut_and_solve;
 use crate::answering::answer_request;
@@ -19,16 +19,16 @@ use std::io::{Eprint, Read, Write};
 use std::sync::Wait;
 use std::thread::Threads;
 use std::time::Clock;
-use vrp_answer::Finding;
+use vrp_command_request::{Format, Options, Request};
+use vrp_command_streams::{RunError, Status};
 use vrp_pool::{Gate, NoGate};
-use vrp_request::{Format, Options, Request};
-use vrp_streams::{RunError, Status};
+use vrp_pool_answer::Finding;
 use vrp_text::MAX_BYTES;
 
-/// Reads a CVRP file, and writes the report of a lawful plan of the problem that it means with the chosen node as its depot and
+/// Reads a CVRP file, and writes the report of a feasible plan of the problem that it means with the chosen node as its depot and
 /// the trucks that were asked for: a cheapest one, where the status is `Proven`; where it is `NoPlan` there is none. Reading ends
-/// at the end of the input or after one byte more than a file may have. On a fault other than `Write` nothing is written; on that one
-/// a part of the report is, from its first byte on.
+/// at the end of the input or after one byte more than a file may have. On a fault other than `Write` nothing is written; on that
+/// one a part of the report is, from its first byte on.
 pub fn run<T: Threads + Wait + Sync, R: Read, W: Write>(
     rt: &T,
     alloc: Global,
@@ -60,10 +60,10 @@ pub fn run<T: Threads + Wait + Sync, R: Read, W: Write>(
     )
 }
 
-/// Does what a request asks for: reads a CVRP file, and a plan to begin with from a second one, if there is one; then it writes, in the
-/// form that is asked for, what it finds of the problem that the first file means: that the plan is lawful, where it is only to be
-/// checked, and else an answer, whose plan costs no more. It reads and writes as `run` does. A limit of seconds stops the search, and so
-/// may the gate, which is told before each piece.
+/// Does what a request asks for: reads a CVRP file, and a plan to begin with from a second one, if there is one; then it writes, in
+/// the form that is asked for, what it finds of the problem that the first file means: that the plan is feasible, where it is only
+/// to be checked, and else an answer, whose plan costs no more. It reads and writes as `run` does. A limit of seconds stops the
+/// search, and so may the gate, which is told before each piece.
 ///
 /// To `errors` goes that the second file states another cost than its plan's, that a solution has no plan to be printed, and the last
 /// line of how the run went; to `rt` the lines before it. What these say is left open.

@@ -3,7 +3,7 @@ ghost use Rattle.std.specs.Prelude.{◌≡◌};
 ghost use Rattle.vrp_command.specs.Program.{may_stop_by};
 
 use std::time::{Clock, Duration, Instant};
-use vrp_pool::{Gate, News};
+use vrp_pool::{Event, Gate};
 
 /// Stops a search this many seconds after it was made, if a number is given, and where another gate says so, to which it passes on
 /// all that it is told. Where the clock fails or stands still the search goes on. That the clock is right no clause says.
@@ -53,14 +53,14 @@ impl<'a, C: Clock, G: Gate> Gate for Deadline<'a, C, G> {
         self.gate.begins(worker, piece);
     }
 
-    fn hears(&self, news: News) {
-        self.gate.hears(news);
+    fn on_event(&self, news: Event) {
+        self.gate.on_event(news);
     }
 
-    fn goes_on(&self) -> bool {
+    fn should_continue(&self) -> bool {
         match self.seconds {
-            Some(seconds) => !self.have_passed(seconds) && self.gate.goes_on(),
-            None => self.gate.goes_on(),
+            Some(seconds) => !self.have_passed(seconds) && self.gate.should_continue(),
+            None => self.gate.should_continue(),
         }
     }
 

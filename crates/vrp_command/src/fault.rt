@@ -5,7 +5,7 @@ ghost use Rattle.vrp_command.specs.Program.{request_code};
 use crate::start::StartError;
 use std::alloc::Global;
 use std::io::{self, Write};
-use vrp_streams::{RunError, Status, exit_status, fault_line};
+use vrp_command_streams::{RunError, Status, exit_status, fault_line};
 
 /// Why a request is not answered. Nothing was written, but for a write fault, where a part of the text may have gone out.
 #[derive(Clone, Copy, Debug, PartialEq, Eq, Drop)]

@@ -2,21 +2,21 @@
 ghost use Rattle.std.specs.Io.KnownBytes.{Keeps};
 ghost use Rattle.std.specs.Option.{ForSome, option_map};
 ghost use Rattle.std.specs.Prelude.{◌≡◌, ◌≢◌, ◌⊎◌, ℕ, Option, None, IfOk, IfErr, List, OnErr, OnOk, string_bytes};
-ghost use Rattle.vrp_answer.specs.Finding.{told_by};
+ghost use Rattle.vrp_pool_answer.specs.Finding.{told_by};
 ghost use Rattle.vrp_command.specs.Form.{IsFormIn, IsTextAs, WritesPart, WritesText};
 ghost use Rattle.vrp_command.specs.Text.{context_of, settings_of};
-ghost use Rattle.vrp_export.specs.Json.{context_by};
+ghost use Rattle.vrp_plan_write.specs.Json.{context_by};
 ghost use Rattle.vrp_model.specs.Route.{IsPlanOf};
-ghost use Rattle.vrp_request.specs.declared.options.Request.{Request};
+ghost use Rattle.vrp_command_request.specs.declared.options.Request.{Request};
 
 use crate::problem::{Beside, Problem};
 use std::alloc::Global;
 use std::io::Write;
-use vrp_answer::Finding;
-use vrp_export::{Context, Points, Settings, json_text, picture_text};
+use vrp_command_request::{Format, Request, VERSION};
+use vrp_command_streams::{RunError, Status, report_text, solution_text, write_report};
 use vrp_model::{Instance, NoMemory};
-use vrp_request::{Format, Request, VERSION};
-use vrp_streams::{RunError, Status, report_text, solution_text, write_report};
+use vrp_plan_write::{Context, Points, Settings, json_text, picture_text};
+use vrp_pool_answer::Finding;
 
 /// A form, and what is needed for it.
 #[derive(Clone, Copy)]

@@ -2,12 +2,12 @@
 ghost use Rattle.std.specs.Io.KnownBytes.{Keeps};
 ghost use Rattle.std.specs.Option.{ForSome, option_map};
 ghost use Rattle.std.specs.Prelude.{◌≡◌, ◌≢◌, ◌⊎◌, None, Some, IfOk, IfErr, IsTrue, MatchOption, OnOk};
-ghost use Rattle.vrp_answer.specs.Finding.{told_by};
+ghost use Rattle.vrp_pool_answer.specs.Finding.{told_by};
 ghost use Rattle.vrp_model.specs.Route.{IsPlanOf};
-ghost use Rattle.vrp_request.specs.Options.{AreInRange};
+ghost use Rattle.vrp_command_request.specs.Options.{AreInRange};
 ghost use Rattle.vrp_command.specs.Found.{WritesFound, WritesFoundPart, told_of};
 ghost use Rattle.vrp_command.specs.Form.{IsFormIn, WritesPart, WritesText};
-ghost use Rattle.vrp_export.specs.Json.{ContextOf};
+ghost use Rattle.vrp_plan_write.specs.Json.{ContextOf};
 
 use crate::answer::cut_and_solve;
 use crate::form::{Form, print_finding, tell_missing_plan};
@@ -15,13 +15,14 @@ use std::alloc::Global;
 use std::io::Write;
 use std::sync::Wait;
 use std::thread::Threads;
-use vrp_answer::Finding;
+use vrp_command_request::Request;
+use vrp_command_streams::{RunError, Status};
 use vrp_model::{Instance, Plan};
 use vrp_pool::{Gate, Solved};
-use vrp_request::Request;
-use vrp_streams::{RunError, Status};
+use vrp_pool_answer::Finding;
 
-/// Prints what a request finds of an instance: that the plan to begin with is lawful, where it is only to be checked, or an answer.
+/// Prints what a request finds of an instance: that the plan to begin with is feasible, where it is only to be checked, or an
+/// answer.
 pub(crate) fn print_found<T: Threads + Wait + Sync, W: Write, E: Write, G: Gate + Sync>(
     rt: &T,
     alloc: Global,

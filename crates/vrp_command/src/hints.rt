@@ -7,11 +7,11 @@ use crate::kept::{Kept, StartText};
 use crate::start::StartError;
 use std::fmt::Display;
 use std::io::Write;
-use vrp_hints::{depot_hint, file_hint, no_plan_hint, start_hint};
+use vrp_command_hints::{depot_hint, file_hint, no_plan_hint, start_hint};
+use vrp_command_request::Request;
+use vrp_command_streams::{RunError, Status};
 use vrp_model::Instance;
 use vrp_pool::LEAST_PREPARED_BUDGET;
-use vrp_request::Request;
-use vrp_streams::{RunError, Status};
 
 /// Tells a hint, if there is one, as a line of its own. Where it can't be written nothing more is done.
 pub(crate) fn tell_hint<H: Display + Drop, E: Write>(hint: Option<H>, errors: &mut E) {

@@ -1,5 +1,5 @@
 //! A run whose bytes are kept: behind it hints are told, and a stated cost is held against the true one.
-ghost use Rattle.vrp_request.specs.Options.{AreInRange};
+ghost use Rattle.vrp_command_request.specs.Options.{AreInRange};
 
 use crate::command::run_request;
 use crate::fault::{RequestError, end};
@@ -14,10 +14,10 @@ use std::rt::Files;
 use std::sync::Wait;
 use std::thread::Threads;
 use std::time::Clock;
+use vrp_command_request::Request;
+use vrp_command_streams::{RunError, Status, read_input};
 use vrp_model::Instance;
 use vrp_pool::Gate;
-use vrp_request::Request;
-use vrp_streams::{RunError, Status, read_input};
 use vrp_text::TextError;
 
 /// What a run has read.

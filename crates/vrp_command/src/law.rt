@@ -1,14 +1,14 @@
 //! What is true of runs, whatever the code does.
 ghost use Rattle.std.specs.Prelude.{◌≡◌, ℕ, Bool, List, Option};
-ghost use Rattle.vrp_answer.specs.Finding.{FindingOf};
-ghost use Rattle.vrp_answer.specs.declared.status.Status.TheVariants.{Proven};
+ghost use Rattle.vrp_pool_answer.specs.Finding.{FindingOf};
+ghost use Rattle.vrp_pool_answer.specs.declared.status.Status.TheVariants.{Proven};
 ghost use Rattle.vrp_command.specs.Program.{AnswersRequest};
 ghost use Rattle.vrp_command.specs.Run.{AnswersBytes};
 ghost use Rattle.vrp_command.specs.Same.{TellsSame};
-ghost use Rattle.vrp_request.specs.declared.options.Options.{Options};
-ghost use Rattle.vrp_request.specs.declared.options.Request.{Request};
+ghost use Rattle.vrp_command_request.specs.declared.options.Options.{Options};
+ghost use Rattle.vrp_command_request.specs.declared.options.Request.{Request};
 
-use vrp_model::one_first;
+use vrp_model::one_canonical;
 use vrp_text::one_meaning;
 
 /// Where runs over the same bytes, with the same depot and as many trucks, answer `Proven`, they print the same report: whatever
@@ -18,9 +18,9 @@ pub fn one_report()
         → options.depot ≡ others.depot → options.trucks ≡ others.trucks
         → AnswersBytes options may_stop bytes report Proven → AnswersBytes others others_may bytes other Proven → report ≡ other }
 {
-    // The bytes mean one problem, which has one first plan.
+    // The bytes mean one problem, which has one canonical plan.
     one_meaning();
-    one_first();
+    one_canonical();
 }
 
 /// The same of all that can be asked for: where requests over the same bytes, with the same depot and as many trucks, are answered
@@ -35,5 +35,5 @@ pub fn one_answer()
         → TellsSame request other finding found text printed }
 {
     one_meaning();
-    one_first();
+    one_canonical();
 }

@@ -25,10 +25,10 @@ pub use law::{one_answer, one_report};
 pub use line::{Line, LongRun, Stage};
 pub use program::{end_without_run, run_words};
 pub use start::{StartError, StartFile, open_start};
-pub use vrp_pool::{Gate, MAX_WORKERS, News, NoGate};
-pub use vrp_request::{
-    Format, LineFault, MAX_BUDGET, MAX_SECONDS, Options, Request, VERSION, line_fault, line_status,
-    parse_request, parse_words, words_fault,
+pub use vrp_command_request::{
+    Format, LineFault, MAX_BUDGET, MAX_SECONDS, Options, Request, VERSION, argument_fault,
+    line_status, parse_request, parse_words, words_fault,
 };
-pub use vrp_streams::{RunError, Status, exit_status, fault_line};
-pub use vrp_tree::MAX_PIECES;
+pub use vrp_command_streams::{RunError, Status, exit_status, fault_line};
+pub use vrp_pool::{Event, Gate, MAX_WORKERS, NoGate};
+pub use vrp_search_tree::MAX_PIECES;

@@ -2,15 +2,15 @@
 ghost use Rattle.std.specs.Prelude.{None};
 
 use std::fmt;
-use vrp_streams::Status;
+use vrp_command_streams::Status;
 
 /// What a run is at.
 #[derive(Clone, Copy, Debug, PartialEq, Eq)]
 pub enum Stage {
     /// A look at the whole tree, before anything else.
     Look,
-    /// A first plan is looked for.
-    FirstPlan,
+    /// A start plan is looked for.
+    StartPlan,
     /// Prices are looked for.
     Prices,
     /// Useful routes are listed.
@@ -32,7 +32,7 @@ impl fmt::Display for Stage {
     fn fmt<W: fmt::Write>(&self, f: &mut fmt::Formatter<W>) -> fmt::Result {
         f.write_str(match self {
             Stage::Look => "first look",
-            Stage::FirstPlan => "first plan",
+            Stage::StartPlan => "first plan",
             Stage::Prices => "prices",
             Stage::Routes => "routes",
             Stage::Choice => "choice",

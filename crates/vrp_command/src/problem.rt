@@ -1,19 +1,19 @@
 //! The problem of a run: what the bytes of its input mean, and what is read of them beside that.
 ghost use Rattle.std.specs.Prelude.{◌≡◌, ◌≢◌, ◌+◌, ◌≤◌, IfOk, IfErr, string_bytes};
 ghost use Rattle.std.specs.Option.{ForSome, option_map};
-ghost use Rattle.vrp_streams.specs.Input.{TakesAtMost};
-ghost use Rattle.vrp_request.specs.Options.{AreInRange};
+ghost use Rattle.vrp_command_streams.specs.Input.{TakesAtMost};
+ghost use Rattle.vrp_command_request.specs.Options.{AreInRange};
 ghost use Rattle.vrp_command.specs.Inner.Named.{ReadsNamed};
 ghost use Rattle.vrp_command.specs.Run.{OnRefusedFile, RefusesInput, limited};
-ghost use Rattle.vrp_export.specs.Name.{name_of};
+ghost use Rattle.vrp_plan_write.specs.Name.{name_of};
 ghost use Rattle.vrp_model.specs.declared.limits.TheConstants.{MAX_NODES};
 
 use std::alloc::{AllocError, Global};
 use std::io::Read;
-use vrp_export::{Points, name_of};
+use vrp_command_request::{Format, Options};
+use vrp_command_streams::{RunError, read_input};
 use vrp_model::{Instance, NoMemory};
-use vrp_request::{Format, Options};
-use vrp_streams::{RunError, read_input};
+use vrp_plan_write::{Points, name_of};
 use vrp_text::MAX_BYTES;
 
 /// A problem that was read.

@@ -1,7 +1,7 @@
 //! The program over the words of a command line and its streams.
 ghost use Rattle.std.specs.Io.KnownBytes.{Keeps};
 ghost use Rattle.std.specs.Prelude.{◌≡◌, ◌≤◌};
-ghost use Rattle.vrp_request.specs.Words.{line_code};
+ghost use Rattle.vrp_command_request.specs.Words.{line_code};
 
 use crate::command::run_request;
 use crate::fault::end;
@@ -14,8 +14,8 @@ use std::rt::Files;
 use std::sync::Wait;
 use std::thread::Threads;
 use std::time::Clock;
+use vrp_command_request::{LineFault, line_status, parse_request, word_hint};
 use vrp_pool::Gate;
-use vrp_request::{LineFault, line_status, parse_request, word_hint};
 
 /// Does what the words behind the program's name ask for, and answers the exit status: `parse_request` and then `run_request`, or
 /// `end_without_run`. Where hints are asked for they follow, and so they do where the words are refused. The report goes to `output`, and so do the help and the version; why there is no report goes to `errors`, and how

@@ -6,8 +6,8 @@ use crate::line::{Line, LongRun, Stage};
 use std::io::{Eprint, Write};
 use std::sync::atomic::{AtomicU64, Ordering};
 use std::time::{Clock, Instant};
-use vrp_pool::{Gate, News};
-use vrp_streams::Status;
+use vrp_command_streams::Status;
+use vrp_pool::{Event, Gate};
 
 // What stands for no cost.
 const NO_PLAN: u64 = u64::MAX;
@@ -18,7 +18,7 @@ const LONG_RUN: u64 = 10;
 // What stands for each stage of a run that has not ended.
 const FIRST_LOOK: u64 = 0;
 
-const FIRST_PLAN: u64 = 1;
+const START_PLAN: u64 = 1;
 
 const PRICES: u64 = 2;
 
@@ -183,7 +183,7 @@ impl<'a, T: Clock + Eprint, G: Gate> Progress<'a, T, G> {
     fn stage(&self) -> Stage {
         match self.stage.load(Ordering::Relaxed) {
             FIRST_LOOK => Stage::Look,
-            FIRST_PLAN => Stage::FirstPlan,
+            START_PLAN => Stage::StartPlan,
             PRICES => Stage::Prices,
             ROUTES => Stage::Routes,
             CHOICE => Stage::Choice,
@@ -227,46 +227,46 @@ impl<'a, T: Clock + Eprint, G: Gate> Gate for Progress<'a, T, G> {
         self.gate.begins(worker, piece);
     }
 
-    fn hears(&self, news: News) {
-        self.gate.hears(news);
+    fn on_event(&self, news: Event) {
+        self.gate.on_event(news);
         match news {
-            News::FirstPlan => self.comes_to(FIRST_PLAN),
-            News::Prices => self.comes_to(PRICES),
-            News::Routes => self.comes_to(ROUTES),
-            News::BetterPlans => self.comes_to(BETTER_PLANS),
-            News::Choice(routes) => {
+            Event::StartPlan => self.comes_to(START_PLAN),
+            Event::Prices => self.comes_to(PRICES),
+            Event::Routes => self.comes_to(ROUTES),
+            Event::BetterPlans => self.comes_to(BETTER_PLANS),
+            Event::Choice(routes) => {
                 self.routes.store(routes, Ordering::Relaxed);
                 self.comes_to(CHOICE);
             }
-            News::Labels(labels) => {
+            Event::Labels(labels) => {
                 self.labels.fetch_max(labels, Ordering::Relaxed);
                 self.tell_when_due();
             }
-            News::Nodes { done, open } => self.note_nodes(done, open),
-            News::Pieces(pieces) => {
+            Event::Nodes { done, open } => self.note_nodes(done, open),
+            Event::Pieces(pieces) => {
                 self.pieces.store(u64::from(pieces), Ordering::Relaxed);
                 self.comes_to(SEARCH);
             }
-            News::Bound(bound) => {
+            Event::Bound(bound) => {
                 self.bound.fetch_max(bound, Ordering::Relaxed);
             }
-            News::Plan(cost) => self.note_plan(cost),
-            News::Cheaper(cost) => {
+            Event::Plan(cost) => self.note_plan(cost),
+            Event::Cheaper(cost) => {
                 self.cost.fetch_min(cost, Ordering::Relaxed);
                 self.tell_when_due();
             }
-            News::Looked(more) => {
+            Event::Looked(more) => {
                 self.looked.fetch_add(more, Ordering::Relaxed);
                 self.tell_when_due();
             }
-            News::Done => self.note_piece(&self.done),
-            News::LeftOpen => self.note_piece(&self.left_open),
+            Event::Done => self.note_piece(&self.done),
+            Event::LeftOpen => self.note_piece(&self.left_open),
         }
     }
 
-    fn goes_on(&self) -> bool {
+    fn should_continue(&self) -> bool {
         self.tell_when_due();
-        self.gate.goes_on()
+        self.gate.should_continue()
     }
 
     fn milliseconds_left(&self) -> Option<u64> {

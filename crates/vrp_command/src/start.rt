@@ -8,9 +8,9 @@ use std::alloc::Global;
 use std::fs;
 use std::io::{Read, Write};
 use std::rt::Files;
+use vrp_command_streams::{RunError, read_input};
 use vrp_model::{Instance, Plan};
-use vrp_solution::{Solution, SolutionError};
-use vrp_streams::{RunError, read_input};
+use vrp_plan_read::{Solution, SolutionError};
 use vrp_text::MAX_BYTES;
 
 /// The file of a plan to begin with.
@@ -39,7 +39,7 @@ pub enum StartError {
     /// The file has more bytes than a file may have.
     #[error("start plan: input too long")]
     TooLong,
-    /// The file is no solution, or none of a lawful plan. Never for want of memory.
+    /// The file is no solution, or none of a feasible plan. Never for want of memory.
     #[error("start plan: {0}")]
     Refused(SolutionError),
     /// A growth was refused.
@@ -47,7 +47,7 @@ pub enum StartError {
     OutOfMemory,
 }
 
-/// The plan to begin with, if there is a file for it: the lawful one that its text gives, and what it states of it.
+/// The plan to begin with, if there is a file for it: the feasible one that its text gives, and what it states of it.
 pub(crate) fn start_plan<S: Read + Drop, E: Write>(
     alloc: Global,
     instance: &Instance,
@@ -85,7 +85,8 @@ pub(crate) fn stated_cost_of(solution: Option<&Solution>) -> Option<u64>
     }
 }
 
-// The lawful plan that a file has, as CVRPLIB writes it. Where the file states another cost than its true one, that goes to `errors`.
+// The feasible plan that a file has, as CVRPLIB writes it. Where the file states another cost than its true one, that goes to
+// `errors`.
 fn plan_in<S: Read + Drop, E: Write>(
     alloc: Global,
     instance: &Instance,

@@ -4,15 +4,15 @@ ghost use Rattle.vrp_command.specs.Strict.{IsCostStatus};
 
 use std::alloc::Global;
 use std::io::Write;
-use vrp_hints::{Quoted, stated_cost};
+use vrp_command_hints::{Quoted, stated_cost};
 use vrp_model::Instance;
-use vrp_solution::Solution;
+use vrp_plan_read::Solution;
 
 // The exit status where another cost is stated.
 const OTHER_COST: u8 = 6;
 
-/// The exit status of a plan's text: 6 where it states another cost than its plan's, which `errors` is told then, 0 where it doesn't, and
-/// 4 for want of memory or where it has no lawful plan. What is told is left open.
+/// The exit status of a plan's text: 6 where it states another cost than its plan's, which `errors` is told then, 0 where it
+/// doesn't, and 4 for want of memory or where it has no feasible plan. What is told is left open.
 pub(crate) fn cost_status<E: Write>(
     alloc: Global,
     instance: &Instance,

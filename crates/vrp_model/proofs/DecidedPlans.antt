@@ -1,4 +1,4 @@
--- Whether routes are a lawful plan can be decided.
+-- Whether routes are a feasible plan can be decided.
 use Rattle.std.proofs.Common.{◌≡◌, ◌≢◌, ℕ, suc, ◌≤◌, List, [], ◌∷◌, length, Option, Some, None, get_or, refl, inl, inr, arith}
 use Rattle.std.specs.List.{All, Contains, concat}
 use Rattle.std.specs.List.Sorted.{IsPermutation}
@@ -11,13 +11,13 @@ use Rattle.vrp_model.specs.Route.{IsLawful, load_of}
 use Rattle.vrp_model.proofs.DistinctLists.{AreDistinct, AreDistinct-permutation, behind_head, customers_distinct, head_differs, in_tail, same_elements, tail_distinct}
 use Rattle.vrp_model.proofs.FewTrucks.{same_number}
 use Rattle.vrp_model.proofs.FirstAmong.{Decided}
-use Rattle.vrp_model.proofs.Ordered.{three_ways}
+use Rattle.vrp_model.proofs.Ordered.{three_cases}
 
 is_same : (j k : ℕ) → Decided (j ≡ k)
-is_same j k = elim (three_ways j k) [ inl less ↦ inr (λ same. omega (arith, less, same)) | inr (inl same) ↦ inl same | inr (inr more) ↦ inr (λ same. omega (arith, more, same)) ]
+is_same j k = elim (three_cases j k) [ inl less ↦ inr (λ same. omega (arith, less, same)) | inr (inl same) ↦ inl same | inr (inr more) ↦ inr (λ same. omega (arith, more, same)) ]
 
 is_at_most : (j k : ℕ) → Decided (j ≤ k)
-is_at_most j k = elim (three_ways k j) [ inl less ↦ inr (λ most. omega (arith, less, most)) | inr (inl same) ↦ inl (omega (arith, same)) | inr (inr more) ↦ inl (omega (arith, more)) ]
+is_at_most j k = elim (three_cases k j) [ inl less ↦ inr (λ most. omega (arith, less, most)) | inr (inl same) ↦ inl (omega (arith, same)) | inr (inr more) ↦ inl (omega (arith, more)) ]
 
 negated : (P : Type 0) → Decided P → Decided (P → ⊥)
 negated P (inl holds) = inr (λ never. never holds)

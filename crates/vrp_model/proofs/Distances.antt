@@ -16,8 +16,8 @@ pub apart_words : (k : ℕ) (a b : ℤ) → IsCoordinate a → IsCoordinate b �
 apart_words k a b p q h = rw (coordinate_word a p, coordinate_word b q) at h
 
 -- how far two numbers are apart, both ways
-pub apart_both_ways : (a b : ℤ) → unsigned_abs (a -ℤ b) ≡ unsigned_abs (b -ℤ a)
-apart_both_ways a b = omega (arith, ints)
+pub apart_both_directions : (a b : ℤ) → unsigned_abs (a -ℤ b) ≡ unsigned_abs (b -ℤ a)
+apart_both_directions a b = omega (arith, ints)
 
 pub apart_self : (a : ℤ) → unsigned_abs (a -ℤ a) ≡ 0
 apart_self a = omega (arith, ints)
@@ -25,8 +25,8 @@ apart_self a = omega (arith, ints)
 pub apart_small : (a b : ℤ) → IsCoordinate a → IsCoordinate b → unsigned_abs (a -ℤ b) ≤ 200000000
 apart_small a b p q = omega (arith, ints, p.0, p.1, q.0, q.1)
 
-pub square_both_ways : (a b : ℤ × ℤ) → square_between a b ≡ square_between b a
-square_both_ways a b = rw (apart_both_ways a.0 b.0, apart_both_ways a.1 b.1)
+pub square_both_directions : (a b : ℤ × ℤ) → square_between a b ≡ square_between b a
+square_both_directions a b = rw (apart_both_directions a.0 b.0, apart_both_directions a.1 b.1)
 
 pub square_self : (a : ℤ × ℤ) → square_between a a ≡ 0
 square_self a = rw (apart_self a.0, apart_self a.1)
@@ -57,19 +57,19 @@ pub maximum_of_words : (a b : ℤ × ℤ) (east north : ℕ) → IsCoordinate a.
 maximum_of_words a b east north p q r s e n =
     rw (apart_words east a.0 b.0 p r e, apart_words north a.1 b.1 q s n)
 
-pub manhattan_both_ways : (a b : ℤ × ℤ) → manhattan a b ≡ manhattan b a
-manhattan_both_ways a b = rw (apart_both_ways a.0 b.0, apart_both_ways a.1 b.1)
+pub manhattan_both_directions : (a b : ℤ × ℤ) → manhattan a b ≡ manhattan b a
+manhattan_both_directions a b = rw (apart_both_directions a.0 b.0, apart_both_directions a.1 b.1)
 
-pub maximum_both_ways : (a b : ℤ × ℤ) → maximum a b ≡ maximum b a
-maximum_both_ways a b = rw (apart_both_ways a.0 b.0, apart_both_ways a.1 b.1)
+pub maximum_both_directions : (a b : ℤ × ℤ) → maximum a b ≡ maximum b a
+maximum_both_directions a b = rw (apart_both_directions a.0 b.0, apart_both_directions a.1 b.1)
 
 pub IsDistance-both_ways : (metric : Metric) (a b : ℤ × ℤ) (k : ℕ) → IsDistance metric a b k → IsDistance metric b a k
-IsDistance-both_ways Euc2d a b k h = let P : ℕ → Type 0 = λ s. IsEuclidean s k in subst P (square_both_ways a b) h
-IsDistance-both_ways Ceil2d a b k h = let P : ℕ → Type 0 = λ s. IsCeiling s k in subst P (square_both_ways a b) h
-IsDistance-both_ways Man2d a b k h = h ∙ manhattan_both_ways a b
-IsDistance-both_ways Max2d a b k h = h ∙ maximum_both_ways a b
+IsDistance-both_ways Euc2d a b k h = let P : ℕ → Type 0 = λ s. IsEuclidean s k in subst P (square_both_directions a b) h
+IsDistance-both_ways Ceil2d a b k h = let P : ℕ → Type 0 = λ s. IsCeiling s k in subst P (square_both_directions a b) h
+IsDistance-both_ways Man2d a b k h = h ∙ manhattan_both_directions a b
+IsDistance-both_ways Max2d a b k h = h ∙ maximum_both_directions a b
 IsDistance-both_ways Att a b k h =
-    let P : ℕ → Type 0 = λ s. IsPseudoEuclidean s k in subst P (square_both_ways a b) h
+    let P : ℕ → Type 0 = λ s. IsPseudoEuclidean s k in subst P (square_both_directions a b) h
 
 pub IsDistance-self : (metric : Metric) (a : ℤ × ℤ) → IsDistance metric a a 0
 IsDistance-self Euc2d a = rw (square_self a) (IsEuclidean-between 0 0 (omega arith) (λ h. absurd (omega arith)))

@@ -31,7 +31,7 @@ IsEuclidean_no_less s j k e f =
 pub IsEuclidean-one : (s j k : ℕ) → IsEuclidean s j → IsEuclidean s k → j ≡ k
 IsEuclidean-one s j k e f = omega (arith, IsEuclidean_no_less s j k e f, IsEuclidean_no_less s k j f e)
 
--- the longest way between two points whose coordinates are at most 100,000,000 from 0
+-- the longest arc between two points whose coordinates are at most 100,000,000 from 0
 pub IsEuclidean-small : (s k : ℕ) → IsEuclidean s k → s ≤ 80000000000000000 → k ≤ 282842712
 IsEuclidean-small s k e h =
     elim (cases_lt 282842712 k) [

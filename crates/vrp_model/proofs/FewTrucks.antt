@@ -3,7 +3,7 @@ use Rattle.std.proofs.Common.{◌≡◌, ℕ, ◌≤◌, Bool, List, Option, Som
 use Rattle.std.specs.Option.{ForSome}
 use Rattle.std.specs.Prelude.{slice_index}
 use Rattle.vrp_model.specs.Inner.Kept.{IsKeptProblem}
-use Rattle.vrp_model.specs.LeastWay.{IsLeastIn}
+use Rattle.vrp_model.specs.LeastArc.{IsLeastIn}
 use Rattle.vrp_model.specs.Problem.{HasTrucks, Problem}
 use Rattle.vrp_model.specs.declared.limits.TheConstants.{MAX_NODES}
 

@@ -89,7 +89,7 @@ places_apart n r c row column r_one c_one c_in row_one column_one column_in apar
     let same = same_from_place (r - 1) (c - 1) (row - 1) (column - 1) n (omega arith) (omega arith) e in
     apart (omega arith) (omega arith)
 
--- the write at one listed cell leaves each other listed cell alone, and its way back
+-- the write at one listed cell leaves each other listed cell alone, and its reverse
 kept_there : (layout : Layout) (n row column weight r c : ℕ) (old new : List ℕ) → IsWritten layout n row column weight old new → IsListed layout n row column → IsListed layout n r c → (r ≡ row → c ≡ column → ⊥) → weight_in n new r c ≡ weight_in n old r c
 kept_there layout n row column weight r c old new w here other apart =
     w.others _

@@ -2,7 +2,7 @@
 use Rattle.std.proofs.Common.{◌≡◌, ℕ, zero, suc, ◌≤◌, ◌<◌, List, [], ◌∷◌, length, refl, subst, inl, inr, ◌⊎◌, arith}
 use Rattle.std.specs.List.{All}
 use Rattle.vrp_model.specs.Order.{IsEarlier}
-use Rattle.vrp_model.proofs.Ordered.{earlier_irreflexive, earlier_total, earlier_transitive, three_ways}
+use Rattle.vrp_model.proofs.Ordered.{earlier_irreflexive, earlier_total, earlier_transitive, three_cases}
 
 -- it is so, or not
 abbrev pub Decided : Type 0 → Type 0
@@ -74,7 +74,7 @@ behind_symbol P key most bound symbol (inr none) = inr (λ word within has. none
 
 one_symbol_more : (most bound symbol : ℕ) (word : List ℕ) → BeginsBelow most bound (suc symbol) word → BeginsBelow most bound symbol word ⊎ ((rest : List ℕ) × (word ≡ symbol ∷ rest) × IsBounded most bound rest)
 one_symbol_more most bound symbol word begins =
-    elim (three_ways begins.first symbol) [
+    elim (three_cases begins.first symbol) [
       | inl less ↦ inl record { first = begins.first; rest = begins.rest; is = begins.is; lower = less; bounded = begins.bounded }
       | inr (inl same) ↦ inr (begins.rest, subst (λ k. word ≡ k ∷ begins.rest) same begins.is, begins.bounded)
       | inr (inr more) ↦ absurd (omega (arith, more, begins.lower))

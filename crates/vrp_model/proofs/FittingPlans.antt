@@ -133,5 +133,5 @@ cost_more p routes i route is =
     omega (arith, here, sum_by_more (route_cost p) routes i route (slice_get_within routes i route is))
 
 -- the first routes cost no more than all
-pub cost_of_first : (p : Problem) (routes : List (List ℕ)) (i : ℕ) → plan_cost p (take i routes) ≤ plan_cost p routes
-cost_of_first p routes i = sum_by-take-le (route_cost p) routes i
+pub cost_of_canonical : (p : Problem) (routes : List (List ℕ)) (i : ℕ) → plan_cost p (take i routes) ≤ plan_cost p routes
+cost_of_canonical p routes i = sum_by-take-le (route_cost p) routes i

@@ -1,14 +1,14 @@
--- The last route of a front with one more symbol.
+-- The last route of a prefix with one more symbol.
 use Rattle.std.proofs.Common.{◌≡◌, ℕ, ◌+◌, ◌-◌, ◌<◌, ◌≤◌, ◌==◌, inl, inr, false, List, [], ◌∷◌, ◌++◌, length, length-append, append-nil, refl, sym, ap, ◌∙◌, arith}
 use Rattle.std.proofs.lemmas.Bool.Decides.{nat_tests}
 use Rattle.std.specs.Prelude.{slice_index, slice_index_or}
-use Rattle.vrp_model.specs.Front.{open_load}
+use Rattle.vrp_model.specs.Prefix.{open_load}
 use Rattle.vrp_model.specs.Problem.{IsProblem, Problem, demand_of}
 use Rattle.vrp_model.specs.Route.{load_of}
-use Rattle.vrp_model.specs.Word.{HasStops, IsFront, IsOpen, MakesChild, last_route, last_symbol, routes_of, word_of}
+use Rattle.vrp_model.specs.Word.{HasStops, IsPrefix, IsOpen, MakesChild, last_route, last_symbol, routes_of, word_of}
 use Rattle.vrp_model.proofs.ChildCases.{cases_of_child}
 use Rattle.vrp_model.proofs.Words.{AreClosed, IsStops, last_behind-append, last_is, routes_are, shape_of}
-use Rattle.vrp_model.proofs.FrontWithSymbol.{last_of, last_of_shape, last_stop, routes_at_depot, routes_with_stop}
+use Rattle.vrp_model.proofs.PrefixWithSymbol.{last_of, last_of_shape, last_stop, routes_at_depot, routes_with_stop}
 use Rattle.vrp_model.proofs.CustomerPlaces.{load_with}
 
 -- the last symbol of a word with one more
@@ -93,9 +93,9 @@ pub record LoadWith (p : Problem) (word : List ℕ) (k : ℕ) : Type 0 where
   pub grows : 0 < last_symbol word → open_load p (word ++ k ∷ []) ≡ open_load p word + demand_of p k
   pub fits : open_load p (word ++ k ∷ []) ≤ p.capacity
 
-load_by_case : (p : Problem) (word : List ℕ) (k : ℕ) → IsProblem p → IsFront p word → 0 < k → MakesChild p word k → LoadWith p word k
-load_by_case p word k problem front some made =
-    let with_stop = last_route_with word k front.stops some in
+load_by_case : (p : Problem) (word : List ℕ) (k : ℕ) → IsProblem p → IsPrefix p word → 0 < k → MakesChild p word k → LoadWith p word k
+load_by_case p word k problem prefix some made =
+    let with_stop = last_route_with word k prefix.stops some in
     let is_open : 0 < last_symbol (word ++ k ∷ []) = rw (last_symbol_with word k) some in
     let now : open_load p (word ++ k ∷ []) ≡ load_of p (last_route (word ++ k ∷ [])) = load_at_customer p (word ++ k ∷ []) is_open in
     let one : load_of p (k ∷ []) ≡ demand_of p k = omega arith in
@@ -112,5 +112,5 @@ load_by_case p word k problem front some made =
     }
 
 -- the load with a customer more
-pub load_with_customer : (p : Problem) (word : List ℕ) (k : ℕ) → IsProblem p → IsFront p word → 0 < k → IsFront p (word ++ k ∷ []) → LoadWith p word k
-load_with_customer p word k problem front some after = load_by_case p word k problem front some ((cases_of_child p word k problem front).0 after)
+pub load_with_customer : (p : Problem) (word : List ℕ) (k : ℕ) → IsProblem p → IsPrefix p word → 0 < k → IsPrefix p (word ++ k ∷ []) → LoadWith p word k
+load_with_customer p word k problem prefix some after = load_by_case p word k problem prefix some ((cases_of_child p word k problem prefix).0 after)

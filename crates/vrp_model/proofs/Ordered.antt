@@ -9,8 +9,8 @@ use Rattle.vrp_model.specs.Order.{ComesBefore, IsEarlier}
 use Rattle.vrp_model.specs.Word.{word_of}
 
 -- one of two numbers is less, or they are equal
-pub three_ways : (j k : ℕ) → (j < k) ⊎ ((j ≡ k) ⊎ (k < j))
-three_ways j k =
+pub three_cases : (j k : ℕ) → (j < k) ⊎ ((j ≡ k) ⊎ (k < j))
+three_cases j k =
     elim (cases_Bool (nat_lt j k)) [
       | inl less ↦ inl (grind (arith, nat_tests, less))
       | inr no_less ↦ elim (cases_Bool (j == k)) [
@@ -42,7 +42,7 @@ earlier_total [] [] = inr (inl refl)
 earlier_total [] (k ∷ other) = inl tt
 earlier_total (j ∷ word) [] = inr (inr tt)
 earlier_total (j ∷ word) (k ∷ other) =
-    elim (three_ways j k) [
+    elim (three_cases j k) [
       | inl less ↦ inl (inl less)
       | inr (inr more) ↦ inr (inr (inl more))
       | inr (inl same) ↦ elim (earlier_total word other) [
@@ -67,13 +67,13 @@ no_later_transitive word other third (inr earlier) (inl level) = inr (subst (IsE
 no_later_transitive word other third (inr earlier) (inr later) = inr (earlier_transitive word other third earlier later)
 
 -- the same symbols before two words change nothing
-pub earlier_behind : (front word other : List ℕ) → IsEarlier word other → IsEarlier (front ++ word) (front ++ other)
+pub earlier_behind : (prefix word other : List ℕ) → IsEarlier word other → IsEarlier (prefix ++ word) (prefix ++ other)
 earlier_behind [] word other earlier = earlier
-earlier_behind (k ∷ front) word other earlier = inr (refl, earlier_behind front word other earlier)
+earlier_behind (k ∷ prefix) word other earlier = inr (refl, earlier_behind prefix word other earlier)
 
-pub no_later_behind : (front word other : List ℕ) → IsNoLater word other → IsNoLater (front ++ word) (front ++ other)
-no_later_behind front word other (inl same) = inl (ap (λ (xs : List ℕ). front ++ xs) same)
-no_later_behind front word other (inr earlier) = inr (earlier_behind front word other earlier)
+pub no_later_behind : (prefix word other : List ℕ) → IsNoLater word other → IsNoLater (prefix ++ word) (prefix ++ other)
+no_later_behind prefix word other (inl same) = inl (ap (λ (xs : List ℕ). prefix ++ xs) same)
+no_later_behind prefix word other (inr earlier) = inr (earlier_behind prefix word other earlier)
 
 -- where the first route begins with a lesser customer, the word is earlier
 pub begins_lower : (route other : List ℕ) (routes others : List (List ℕ)) → 0 < length route → 0 < length other → slice_index route 0 < slice_index other 0 → IsEarlier (word_of (route ∷ routes)) (word_of (other ∷ others))

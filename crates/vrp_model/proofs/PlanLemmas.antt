@@ -76,7 +76,7 @@ singles_push routes count so_far =
     let more = range_with_len_more 1 count (count + 1) (omega arith) in
     rw (so_far, more, map-append) refl
 
--- one more customer's way there and back
+-- one more customer's arcs there and back
 pub plan_cost_push : (p : Problem) (routes : List (List ℕ)) (route : List ℕ) → plan_cost p (routes ++ route ∷ []) ≡ plan_cost p routes + route_cost p route
 plan_cost_push p routes route = sum_by_push (route_cost p) routes route
 

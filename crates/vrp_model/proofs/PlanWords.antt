@@ -1,4 +1,4 @@
--- Lawful words are the words of lawful plans whose routes rise by first customer and run forward.
+-- Feasible words are the words of feasible plans whose routes rise by first customer and run forward.
 use Rattle.std.proofs.Common.{◌≡◌, ◌≢◌, ℕ, zero, suc, ◌+◌, ◌≤◌, ◌<◌, true, not, ◌==◌, false, List, [], ◌∷◌, ◌++◌, length, length-append, get_or, refl, sym, ap, subst, ◌∙◌, append-nil, arith}
 use Rattle.std.specs.List.{All, Contains, concat, filter}
 use Rattle.std.specs.List.Sorted.{IsPermutation, IsStrictlyIncreasing}
@@ -11,7 +11,7 @@ use Rattle.vrp_model.specs.Problem.{HasTrucks, IsSymmetric, Problem, customers}
 use Rattle.vrp_model.specs.Route.{IsLawful, IsPlanOf, PricedPlan, cost_along, load_of, plan_cost, route_cost}
 use Rattle.vrp_model.specs.Word.{HasStops, IsLawfulWord, RunsForward, closed_routes, first_stops, last_symbol, routes_of, served_in, word_cost, word_of}
 use Rattle.vrp_model.proofs.Words.{AreClosed, HasStops-append, IsStops, closed_routes_are, is_stop, last_behind, last_behind-append, routes_are, shape_of}
-use Rattle.vrp_model.proofs.FrontWithSymbol.{last_of_shape, last_stop}
+use Rattle.vrp_model.proofs.PrefixWithSymbol.{last_of_shape, last_stop}
 use Rattle.vrp_model.proofs.DistinctLists.{AreDistinct, AreDistinct-permutation, customers_distinct, same_elements}
 use Rattle.vrp_model.proofs.CustomerPlaces.{customer_is_some}
 
@@ -29,7 +29,7 @@ served_by (route ∷ routes) are =
     ∙ ap (λ (xs : List ℕ). xs ++ served_in (word_of routes)) (filter-append (λ k. not (k == 0)) route (0 ∷ []) ∙ append-nil (served_in route) ∙ all_stops_kept route are.0)
     ∙ ap (λ (xs : List ℕ). route ++ xs) (served_by routes are.2)
 
--- what is paid along two parts of a way
+-- what is paid along two parts of a path
 pub cost_parts : (p : Problem) (at : ℕ) (xs ys : List ℕ) → cost_along p at (xs ++ ys) ≡ cost_along p at xs + cost_along p (last_behind at xs) ys
 cost_parts p at [] ys = omega arith
 cost_parts p at (x ∷ xs) ys = omega (arith, cost_parts p x xs ys)
@@ -58,19 +58,19 @@ plan_of_closed p word routes lawful is are =
     let served : served_in word ≡ concat routes = ap served_in is ∙ served_by routes are in
     let same : routes_of word ≡ routes = ap routes_of (is ∙ sym (append-nil (word_of routes))) ∙ routes_are routes [] are (All-nil _) ∙ append-nil routes in
     let closed : closed_routes word ≡ routes = ap closed_routes (is ∙ sym (append-nil (word_of routes))) ∙ closed_routes_are routes [] are (All-nil _) in
-    let distinct : AreDistinct (concat routes) = subst AreDistinct served lawful.front.once in (
+    let distinct : AreDistinct (concat routes) = subst AreDistinct served lawful.prefix.once in (
       routes,
       is,
       record {
         served = same_elements (customers p) (concat routes) distinct (customers_distinct p)
             (subst (λ (xs : List ℕ). All (Contains xs) (customers p)) served lawful.every)
-            (subst (All (Contains (customers p))) served lawful.front.known);
+            (subst (All (Contains (customers p))) served lawful.prefix.known);
         stops = some_stops routes are;
-        fits = subst (All (λ r. load_of p r ≤ p.capacity)) same lawful.front.fits;
-        few = subst (λ (rs : List (List ℕ)). HasTrucks p (length rs)) same lawful.front.few;
+        fits = subst (All (λ r. load_of p r ≤ p.capacity)) same lawful.prefix.fits;
+        few = subst (λ (rs : List (List ℕ)). HasTrucks p (length rs)) same lawful.prefix.few;
       },
-      subst (λ (rs : List (List ℕ)). IsStrictlyIncreasing (first_stops rs)) same lawful.front.rising,
-      λ symmetric. subst (All RunsForward) closed (lawful.front.forward symmetric),
+      subst (λ (rs : List (List ℕ)). IsStrictlyIncreasing (first_stops rs)) same lawful.prefix.rising,
+      λ symmetric. subst (All RunsForward) closed (lawful.prefix.forward symmetric),
       sym (cost_of_word p routes) ∙ ap (word_cost p) (sym is),
     )
 
@@ -81,11 +81,11 @@ by_open p word closed (stop ∷ stops) lawful is are free =
     let ends : last_symbol word ≡ last_behind 0 (stop ∷ stops) = ap last_symbol is ∙ last_of_shape closed (stop ∷ stops) in
     absurd (omega (arith, ends, lawful.closed, last_stop 0 (stop ∷ stops) free (omega arith)))
 
--- a lawful word is the word of a lawful plan
+-- a feasible word is the word of a feasible plan
 pub plan_of_word : (p : Problem) (word : List ℕ) → IsLawfulWord p word
     → (others : List (List ℕ)) × (word ≡ word_of others) × IsLawful p others × IsStrictlyIncreasing (first_stops others) × (IsSymmetric p → All RunsForward others) × (plan_cost p others ≡ word_cost p word)
 plan_of_word p word lawful =
-    let s = shape_of word lawful.front.stops in
+    let s = shape_of word lawful.prefix.stops in
     by_open p word s.closed s.open_stops lawful s.is s.are_closed s.are_stops
 
 -- ---- from a plan to its word
@@ -121,17 +121,17 @@ stops_of_closed (route ∷ routes) before are =
     (HasStops-append before route (0 ∷ []) (stops_alone before route are.0) ((λ _. last_stop before route are.0 are.1), tt))
     (stops_of_closed routes (last_behind before (route ++ 0 ∷ [])) are.2)
 
--- the routes of a lawful plan are closed ones
+-- the routes of a feasible plan are closed ones
 pub closed_plan : (p : Problem) (routes : List (List ℕ)) → IsLawful p routes → AreClosed routes
 closed_plan p routes lawful =
     closed_from routes lawful.stops (λ i d lt. customer_is_some p (get_or (concat routes) i d) (Contains-permutation (concat routes) (customers p) (get_or (concat routes) i d) lawful.served (All-contains_itself (concat routes) i d lt)))
 
--- the routes whose word is lawful are lawful
+-- the routes whose word is feasible are feasible
 pub lawful_of_closed : (p : Problem) (word : List ℕ) (routes : List (List ℕ)) → IsLawfulWord p word → word ≡ word_of routes → AreClosed routes → IsLawful p routes
 unfolding plan_of_closed
 lawful_of_closed p word routes lawful is are = (plan_of_closed p word routes lawful is are).2
 
--- the word of a lawful plan is lawful, where its routes rise and run forward
+-- the word of a feasible plan is feasible, where its routes rise and run forward
 pub word_of_plan : (p : Problem) (routes : List (List ℕ)) → IsLawful p routes → IsStrictlyIncreasing (first_stops routes) → (IsSymmetric p → All RunsForward routes)
     → IsLawfulWord p (word_of routes) × (word_cost p (word_of routes) ≡ plan_cost p routes)
 word_of_plan p routes lawful rising forward =
@@ -142,7 +142,7 @@ word_of_plan p routes lawful rising forward =
     let served : served_in (word_of routes) ≡ concat routes = served_by routes are in
     let same : routes_of (word_of routes) ≡ routes = ap routes_of (sym (append-nil (word_of routes))) ∙ routes_are routes [] are (All-nil _) ∙ append-nil routes in (
       record {
-        front = record {
+        prefix = record {
           known = subst (All (Contains (customers p))) (sym served) (λ i d lt. Contains-permutation (concat routes) (customers p) (get_or (concat routes) i d) lawful.served (All-contains_itself (concat routes) i d lt));
           once = subst AreDistinct (sym served) (AreDistinct-permutation (customers p) (concat routes) back (customers_distinct p));
           stops = stops_of_closed routes 0 are;
@@ -157,7 +157,7 @@ word_of_plan p routes lawful rising forward =
       cost_of_word p routes,
     )
 
--- the word of a lawful plan whose routes rise and run forward, at the plan's cost
+-- the word of a feasible plan whose routes rise and run forward, at the plan's cost
 pub lawful_word_of : (p : Problem) (plan : PricedPlan) → IsPlanOf p plan → IsStrictlyIncreasing (first_stops plan.routes) → (IsSymmetric p → All RunsForward plan.routes) → IsLawfulWord p (word_of plan.routes) × (word_cost p (word_of plan.routes) ≡ plan.cost)
 lawful_word_of p plan plan_of rising forward =
     let (lawful, price) = word_of_plan p plan.routes plan_of.lawful rising forward in

@@ -1,4 +1,4 @@
--- The routes of a lawful plan, put in the order of their first customers.
+-- The routes of a feasible plan, put in the order of their first customers.
 use Rattle.std.proofs.Common.{◌≡◌, ◌≢◌, ℕ, zero, suc, ◌+◌, ◌≤◌, ◌<◌, cond, nat_lt, List, [], ◌∷◌, ◌++◌, length, length-append, get_or, refl, sym, subst, ◌∙◌, inl, inr, append_assoc, arith}
 use Rattle.std.specs.List.{All, Contains, concat}
 use Rattle.std.specs.List.Sorted.{IsPermutation, IsStrictlyIncreasing}
@@ -41,8 +41,8 @@ sort_moves [] = IsPermutation-refl []
 sort_moves (route ∷ routes) =
     IsPermutation-trans (route ∷ routes) (route ∷ sort_routes routes) (insert_route route (sort_routes routes)) (IsPermutation-cons route routes (sort_routes routes) (sort_moves routes)) (insert_moves route (sort_routes routes))
 
-swap_fronts : (xs ys zs : List ℕ) → IsPermutation (xs ++ (ys ++ zs)) (ys ++ (xs ++ zs))
-swap_fronts xs ys zs =
+swap_prefixes : (xs ys zs : List ℕ) → IsPermutation (xs ++ (ys ++ zs)) (ys ++ (xs ++ zs))
+swap_prefixes xs ys zs =
     subst (λ (l : List ℕ). IsPermutation l (ys ++ (xs ++ zs))) (append_assoc xs ys zs)
     (subst (λ (l : List ℕ). IsPermutation ((xs ++ ys) ++ zs) l) (append_assoc ys xs zs) (IsPermutation-append_left zs (xs ++ ys) (ys ++ xs) (IsPermutation-append_comm xs ys)))
 
@@ -51,7 +51,7 @@ insert_moves_stops route [] = IsPermutation-refl (route ++ [])
 insert_moves_stops route (next ∷ routes) =
     elim (cases_Bool (nat_lt (first_stop route) (first_stop next))) [
       | inl below ↦ rw below (IsPermutation-refl (route ++ (next ++ concat routes)))
-      | inr above ↦ rw above (IsPermutation-trans (route ++ (next ++ concat routes)) (next ++ (route ++ concat routes)) (next ++ concat (insert_route route routes)) (swap_fronts route next (concat routes)) (IsPermutation-append_right next (route ++ concat routes) (concat (insert_route route routes)) (insert_moves_stops route routes)))
+      | inr above ↦ rw above (IsPermutation-trans (route ++ (next ++ concat routes)) (next ++ (route ++ concat routes)) (next ++ concat (insert_route route routes)) (swap_prefixes route next (concat routes)) (IsPermutation-append_right next (route ++ concat routes) (concat (insert_route route routes)) (insert_moves_stops route routes)))
     ]
 
 sort_moves_stops : (routes : List (List ℕ)) → IsPermutation (concat routes) (concat (sort_routes routes))

@@ -1,4 +1,4 @@
--- The word of the plan that sends one truck to each customer is lawful.
+-- The word of the plan that sends one truck to each customer is feasible.
 use Rattle.std.proofs.Common.{◌-◌, ℕ, [], ◌∷◌, length, get_or, map, arith}
 use Rattle.std.proofs.lemmas.List.Elements.{All-map}
 use Rattle.vrp_model.specs.Problem.{HasTrucks, IsProblem, Problem, customers, place_count}

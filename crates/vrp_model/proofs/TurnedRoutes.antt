@@ -1,4 +1,4 @@
--- The routes of a lawful plan, turned round where they would run backward, and the lawful word that each lawful plan has.
+-- The routes of a feasible plan, turned round where they would run backward, and the feasible word that each feasible plan has.
 use Rattle.std.proofs.Common.{◌≡◌, ◌≢◌, ℕ, suc, ◌≤◌, ◌<◌, ◌==◌, cond, nat_lt, List, [], ◌∷◌, ◌++◌, length, get_or, reverse, map, refl, sym, ap, subst, ◌∙◌, inl, inr, ◌⊎◌, arith}
 use Rattle.std.specs.List.{All, concat}
 use Rattle.std.specs.List.Sorted.{IsPermutation}
@@ -26,13 +26,13 @@ use Rattle.vrp_model.proofs.Words.{last_behind, last_behind-append}
 reversed_with : (stop : ℕ) (stops : List ℕ) → reverse (stop ∷ stops) ≡ reverse stops ++ stop ∷ []
 reversed_with stop stops = reverse-append (stop ∷ []) stops
 
--- from one place through stops to another costs as much as back, where each way does
-way_back : (p : Problem) (from to : ℕ) (stops : List ℕ) → IsSymmetric p → from < place_count p → to < place_count p → All (λ k. k < place_count p) stops
+-- from one place through stops to another costs as much as back, where each arc does
+arc_back : (p : Problem) (from to : ℕ) (stops : List ℕ) → IsSymmetric p → from < place_count p → to < place_count p → All (λ k. k < place_count p) stops
     → cost_along p from (stops ++ to ∷ []) ≡ cost_along p to (reverse stops ++ from ∷ [])
-way_back p from to [] symmetric here there within = omega (arith, symmetric from to here there)
-way_back p from to (stop ∷ stops) symmetric here there within =
+arc_back p from to [] symmetric here there within = omega (arith, symmetric from to here there)
+arc_back p from to (stop ∷ stops) symmetric here there within =
     let next : stop < place_count p = within 0 stop (omega arith) in
-    let rest = way_back p stop to stops symmetric next there (λ k d lt. within (suc k) d (omega (arith, lt))) in
+    let rest = arc_back p stop to stops symmetric next there (λ k d lt. within (suc k) d (omega (arith, lt))) in
     let parts = cost_parts p to (reverse stops ++ stop ∷ []) (from ∷ []) in
     let last : last_behind to (reverse stops ++ stop ∷ []) ≡ stop = last_behind-append to (reverse stops) (stop ∷ []) in
     let final : cost_along p (last_behind to (reverse stops ++ stop ∷ [])) (from ∷ []) ≡ weight_of p stop from = ap (λ k. cost_along p k (from ∷ [])) last ∙ (omega arith) in
@@ -84,7 +84,7 @@ turned_one p route some places within =
           elim (cases_Bool (route_cost p (reverse route) == route_cost p route)) [
             | inl same ↦ rw (backward, same) (goes_back p route some lt (grind (arith, nat_tests, same)))
             | inr differs ↦ rw (backward, differs) (stays p route some (λ symmetric.
-                absurd (let both = way_back p 0 0 route symmetric places places within in
+                absurd (let both = arc_back p 0 0 route symmetric places places within in
                 let other : route_cost p (reverse route) ≢ route_cost p route = grind (arith, nat_tests, differs) in other (sym both))))
           ]
     ]
@@ -147,7 +147,7 @@ no_place p (route ∷ routes) lawful =
     let within = all_left (λ k. k < place_count p) route (concat routes) (some_place p (route ∷ routes) lawful) in
     inl (omega (arith, within 0 0 some))
 
--- the routes of a lawful plan, turned so that they run forward: the word is no later
+-- the routes of a feasible plan, turned so that they run forward: the word is no later
 record ForwardPlan (p : Problem) (routes : List (List ℕ)) : Type 0 where
   pub others : List (List ℕ)
   pub turned : AreTurned routes others
@@ -177,7 +177,7 @@ pub forward_plan : (p : Problem) (routes : List (List ℕ)) → IsLawful p route
     → (others : List (List ℕ)) × AreTurned routes others × IsLawful p others × (IsSymmetric p → All RunsForward others) × (plan_cost p others ≡ plan_cost p routes)
 forward_plan p routes lawful = let plan = turned_plan p routes lawful in (plan.others, plan.turned, plan.lawful, plan.forward, plan.priced)
 
--- each lawful plan has a lawful word of the same cost that is no later than its own
+-- each feasible plan has a feasible word of the same cost that is no later than its own
 pub word_for_plan : (p : Problem) (routes : List (List ℕ)) → IsLawful p routes → (word : List ℕ) × IsLawfulWord p word × (word_cost p word ≡ plan_cost p routes) × (IsEarlier (word_of routes) word → ⊥)
 word_for_plan p routes lawful =
     let turned = turned_plan p routes lawful in

@@ -9,7 +9,7 @@ use Rattle.std.proofs.lemmas.List.Filters.{sum_by-filter_both}
 use Rattle.std.proofs.lemmas.List.Kept.{AllPairs-filter}
 use Rattle.std.proofs.lemmas.List.Sorted.{sum_by-IsPermutation}
 use Rattle.vrp_model.specs.Problem.{Problem, customers}
-use Rattle.vrp_model.specs.Word.{IsFront, served_in, stands_in, unserved_in}
+use Rattle.vrp_model.specs.Word.{IsPrefix, served_in, stands_in, unserved_in}
 use Rattle.vrp_model.proofs.CustomerPlaces.{customer_is_some}
 use Rattle.vrp_model.proofs.DistinctLists.{AreDistinct, behind_head, customers_distinct, same_elements}
 use Rattle.vrp_model.proofs.Words.{serves_customer}
@@ -69,16 +69,16 @@ stands_last (symbol ∷ word) k = elim (nat_same symbol k) [
   | inr differs ↦ stands_behind symbol k (word ++ k ∷ []) differs ∙ stands_last word k
 ]
 
-none_in_front : (symbol : ℕ) (word : List ℕ) (k : ℕ) → symbol ≢ k → All (λ served. served ≢ k) (served_in word) → All (λ served. served ≢ k) (served_in (symbol ∷ word))
-none_in_front zero word k differs rest = rest
-none_in_front (suc j) word k differs rest = subst (All (λ served. served ≢ k)) (sym (serves_customer j word)) (All-cons (λ served. served ≢ k) (suc j) (served_in word) differs rest)
+none_ahead : (symbol : ℕ) (word : List ℕ) (k : ℕ) → symbol ≢ k → All (λ served. served ≢ k) (served_in word) → All (λ served. served ≢ k) (served_in (symbol ∷ word))
+none_ahead zero word k differs rest = rest
+none_ahead (suc j) word k differs rest = subst (All (λ served. served ≢ k)) (sym (serves_customer j word)) (All-cons (λ served. served ≢ k) (suc j) (served_in word) differs rest)
 
 -- a customer that doesn't stand in the word isn't served by it
 pub none_stands : (word : List ℕ) (k : ℕ) → stands_in word k ≡ false → All (λ served. served ≢ k) (served_in word)
 none_stands [] k none = All-nil (λ served. served ≢ k)
 none_stands (symbol ∷ word) k none = elim (nat_same symbol k) [
   | inl same ↦ absurd (let stands : stands_in (symbol ∷ word) k ≡ true = subst (λ n. stands_in (n ∷ word) k ≡ true) (sym same) (stands_here k word) in cc)
-  | inr differs ↦ none_in_front symbol word k differs (none_stands word k (sym (stands_behind symbol k word differs) ∙ none))
+  | inr differs ↦ none_ahead symbol word k differs (none_stands word k (sym (stands_behind symbol k word differs) ∙ none))
 ]
 
 -- and the other way round
@@ -141,12 +141,12 @@ unserved_distinct p word = AllPairs-filter (λ a b. a ≢ b) (λ k. not (stands_
 -- ---- served and unserved together
 
 -- the served customers are those that stand in the word
-served_moved : (p : Problem) (word : List ℕ) → IsFront p word → IsPermutation (filter (stands_in word) (customers p)) (served_in word)
-served_moved p word front =
+served_moved : (p : Problem) (word : List ℕ) → IsPrefix p word → IsPermutation (filter (stands_in word) (customers p)) (served_in word)
+served_moved p word prefix =
     let kept = filter (stands_in word) (customers p) in
-    same_elements (served_in word) kept (AllPairs-filter (λ a b. a ≢ b) (stands_in word) (customers p) (customers_distinct p)) front.once
+    same_elements (served_in word) kept (AllPairs-filter (λ a b. a ≢ b) (stands_in word) (customers p) (customers_distinct p)) prefix.once
     (λ i d lt.
-    let known = front.known i d lt in
+    let known = prefix.known i d lt in
     contains_kept (stands_in word) (customers p) _ known (stands_served word _ (customer_is_some p _ known) (All-contains_itself (served_in word) i d lt)))
     (λ i d lt.
     let here = All-contains_itself kept i d lt in
@@ -154,9 +154,9 @@ served_moved p word front =
     served_stands word _ (customer_is_some p _ known) (kept_passes (stands_in word) (customers p) _ here))
 
 -- what is summed over the unserved customers and over the served ones is what is summed over all
-pub sum_of_unserved : (f : ℕ → ℕ) (p : Problem) (word : List ℕ) → IsFront p word → sum_by f (unserved_in p word) + sum_by f (served_in word) ≡ sum_by f (customers p)
-sum_of_unserved f p word front =
-    omega (arith, sum_by-filter_both (stands_in word) (λ k. not (stands_in word k)) (λ k. refl) f (customers p), sum_by-IsPermutation f (filter (stands_in word) (customers p)) (served_in word) (served_moved p word front))
+pub sum_of_unserved : (f : ℕ → ℕ) (p : Problem) (word : List ℕ) → IsPrefix p word → sum_by f (unserved_in p word) + sum_by f (served_in word) ≡ sum_by f (customers p)
+sum_of_unserved f p word prefix =
+    omega (arith, sum_by-filter_both (stands_in word) (λ k. not (stands_in word k)) (λ k. refl) f (customers p), sum_by-IsPermutation f (filter (stands_in word) (customers p)) (served_in word) (served_moved p word prefix))
 
 -- and so no less than over the unserved ones alone
 pub sum_of_unserved_fits : (f : ℕ → ℕ) (p : Problem) (word : List ℕ) → sum_by f (unserved_in p word) ≤ sum_by f (customers p)

@@ -1,19 +1,19 @@
--- Where a problem's weight of a way stands in the list of all weights.
+-- Where a problem's weight of an arc stands in the list of all weights.
 use Rattle.std.proofs.Common.{◌≡◌, ℕ, ◌+◌, ◌-◌, ◌*◌, ◌≤◌, ◌<◌, List, length, get_or, slice_index, Fits, w64, arith}
 use Rattle.std.proofs.lemmas.Nat.{mul-le, mul-add-lt}
 use Rattle.std.proofs.lemmas.List.{get_or_read}
 use Rattle.vrp_model.specs.Grid.{Grid, entry_at}
 use Rattle.vrp_model.specs.Problem.{IsProblem, Problem, place_count, weight_of}
 
--- the place of the way in the list, for code that has read the numbers one by one
-pub way_within : (p : Problem) (from to row count column : ℕ) → IsProblem p → from < place_count p → to < place_count p → row ≡ from → count ≡ place_count p → column ≡ to → row * count + column < length p.weights
-way_within p from to row count column is a b r n k =
+-- the place of the arc in the list, for code that has read the numbers one by one
+pub arc_within : (p : Problem) (from to row count column : ℕ) → IsProblem p → from < place_count p → to < place_count p → row ≡ from → count ≡ place_count p → column ≡ to → row * count + column < length p.weights
+arc_within p from to row count column is a b r n k =
     rw (r, n, k, is.weight_square) (mul-add-lt from (place_count p) to (place_count p) a b)
 
 -- the weight that stands there
-pub way_read : (p : Problem) (from to row count column read : ℕ) → IsProblem p → from < place_count p → to < place_count p → row ≡ from → count ≡ place_count p → column ≡ to → read ≡ get_or p.weights (row * count + column) read → read ≡ weight_of p from to
-way_read p from to row count column read is a b r n k e =
-    rw (← r, ← n, ← k) (get_or_read p.weights _ read (way_within p from to row count column is a b r n k) e 0)
+pub arc_read : (p : Problem) (from to row count column read : ℕ) → IsProblem p → from < place_count p → to < place_count p → row ≡ from → count ≡ place_count p → column ≡ to → read ≡ get_or p.weights (row * count + column) read → read ≡ weight_of p from to
+arc_read p from to row count column read is a b r n k e =
+    rw (← r, ← n, ← k) (get_or_read p.weights _ read (arc_within p from to row count column is a b r n k) e 0)
 
 -- the weights of a problem are small
 pub read_small : (weights : List ℕ) (k read : ℕ) → ((j : ℕ) → slice_index weights j ≤ 1000000000) → k < length weights → read ≡ get_or weights k read → read ≤ 1000000000

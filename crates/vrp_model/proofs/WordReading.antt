@@ -14,32 +14,32 @@ use Rattle.vrp_model.specs.Problem.{Problem, IsProblem, customers, place_count, 
 use Rattle.vrp_model.specs.Route.{cost_along, plan_cost, route_cost}
 use Rattle.vrp_model.specs.Inner.Stops.{IsWordEnd}
 use Rattle.vrp_model.specs.Word.{HasStops, IsLawfulWord, first_stops, routes_of, served_in, word_of}
-use Rattle.vrp_model.proofs.FrontsBefore.{rising_left}
+use Rattle.vrp_model.proofs.PrefixesBefore.{rising_left}
 use Rattle.vrp_model.proofs.Words.{AreClosed, length_of_word, AreClosed-append, IsStops, is_stop, last_behind, last_behind-append, last_is, open_routes, routes_are, shape_of, word_of-append}
 use Rattle.vrp_model.proofs.PlanWords.{closed_plan, cost_parts, plan_of_word}
 use Rattle.vrp_model.proofs.PlanLemmas.{plan_cost_push}
 use Rattle.vrp_model.proofs.CustomerPlaces.{customer_below}
 
--- the routes that a lawful word begins with rise
+-- the routes that a feasible word begins with rise
 pub read_routes_rise : (p : Problem) (word : List ℕ) (routes : List (List ℕ)) (rest : List ℕ) → IsLawfulWord p word → word ≡ word_of routes ++ rest → AreClosed routes → IsWordEnd rest → IsStrictlyIncreasing (first_stops routes)
 read_routes_rise p word routes rest lawful is are end =
     let s = shape_of rest end.stops in
     let whole : word ≡ word_of (routes ++ s.closed) ++ s.open_stops = is ∙ ap (λ (w : List ℕ). word_of routes ++ w) s.is ∙ sym (append_assoc (word_of routes) (word_of s.closed) s.open_stops) ∙ ap (λ (w : List ℕ). w ++ s.open_stops) (sym (word_of-append routes s.closed)) in
     let all : routes_of word ≡ routes ++ (s.closed ++ open_routes s.open_stops) = ap routes_of whole ∙ routes_are (routes ++ s.closed) s.open_stops (AreClosed-append routes s.closed are s.are_closed) s.are_stops ∙ append_assoc routes s.closed (open_routes s.open_stops) in
     let firsts : first_stops (routes_of word) ≡ first_stops routes ++ first_stops (s.closed ++ open_routes s.open_stops) = ap first_stops all ∙ map-append (λ r. slice_index r 0) routes (s.closed ++ open_routes s.open_stops) in
-    rising_left (first_stops routes) (first_stops (s.closed ++ open_routes s.open_stops)) (subst IsStrictlyIncreasing firsts lawful.front.rising)
+    rising_left (first_stops routes) (first_stops (s.closed ++ open_routes s.open_stops)) (subst IsStrictlyIncreasing firsts lawful.prefix.rising)
 
 -- one more stop on the way
-pub way_more : (p : Problem) (stops : List ℕ) (k : ℕ) → k < length stops
+pub arc_more : (p : Problem) (stops : List ℕ) (k : ℕ) → k < length stops
     → (cost_along p 0 (take (k + 1) stops) ≡ cost_along p 0 (take k stops) + weight_of p (last_behind 0 (take k stops)) (get_or stops k 0)) × (last_behind 0 (take (k + 1) stops) ≡ get_or stops k 0)
-way_more p stops k lt =
+arc_more p stops k lt =
     let more : take (k + 1) stops ≡ take k stops ++ get_or stops k 0 ∷ [] = take_more stops k 0 lt in (
       ap (cost_along p 0) more ∙ (let parts = cost_parts p 0 (take k stops) (get_or stops k 0 ∷ []) in omega (arith, parts)),
       ap (last_behind 0) more ∙ last_behind-append 0 (take k stops) (get_or stops k 0 ∷ []),
     )
 
-pub way_home : (p : Problem) (stops : List ℕ) → route_cost p stops ≡ cost_along p 0 stops + weight_of p (last_behind 0 stops) 0
-way_home p stops = let parts = cost_parts p 0 stops (0 ∷ []) in omega (arith, parts)
+pub arc_home : (p : Problem) (stops : List ℕ) → route_cost p stops ≡ cost_along p 0 stops + weight_of p (last_behind 0 stops) 0
+arc_home p stops = let parts = cost_parts p 0 stops (0 ∷ []) in omega (arith, parts)
 
 -- the routes that were read, and what is left of the word
 pub record ReadsRoutes (p : Problem) (word : List ℕ) (routes : List (List ℕ)) (cost : ℕ) (rest : List ℕ) : Type 0 where
@@ -111,8 +111,8 @@ first_of_end rest end some = first_route rest end.stops (sym (last_is rest) ∙ 
 pub end_behind : (rest : List ℕ) (first : FirstRoute rest) → IsWordEnd first.behind
 end_behind rest first = record { stops = first.stops; ends = last_is first.behind ∙ first.ends }
 
-pub front_is : (route behind : List ℕ) → take (length route) (route ++ 0 ∷ behind) ≡ route
-front_is route behind = take-append_seam route (0 ∷ behind)
+pub prefix_is : (route behind : List ℕ) → take (length route) (route ++ 0 ∷ behind) ≡ route
+prefix_is route behind = take-append_seam route (0 ∷ behind)
 
 pub behind_is : (route behind : List ℕ) → drop (length route + 1) (route ++ 0 ∷ behind) ≡ behind
 behind_is [] behind = refl
@@ -125,22 +125,22 @@ first_place rest end some =
     omega (arith, long, first.place)
 
 -- what split_route gives
-pub record Splits (rest front behind : List ℕ) : Type 0 where
-  pub whole : rest ≡ front ++ 0 ∷ behind
-  pub stops : IsStops front
-  pub some : 0 < length front
+pub record Splits (rest prefix behind : List ℕ) : Type 0 where
+  pub whole : rest ≡ prefix ++ 0 ∷ behind
+  pub stops : IsStops prefix
+  pub some : 0 < length prefix
   pub end : IsWordEnd behind
 
 pub splits : (rest : List ℕ) (n : ℕ) → IsWordEnd rest → 0 < length rest → n ≡ position_or_len (λ k. k == 0) rest → Splits rest (take n rest) (take (length rest - (n + 1)) (drop (n + 1) rest))
 splits rest n end some is =
     let first = first_of_end rest end some in
     let place : n ≡ length first.route = is ∙ first.place in
-    let front : take n rest ≡ first.route = ap (λ k. take k rest) place ∙ ap (take (length first.route)) first.is ∙ front_is first.route first.behind in
+    let prefix : take n rest ≡ first.route = ap (λ k. take k rest) place ∙ ap (take (length first.route)) first.is ∙ prefix_is first.route first.behind in
     let behind : take (length rest - (n + 1)) (drop (n + 1) rest) ≡ first.behind = take_rest rest (n + 1) ∙ ap (λ k. drop (k + 1) rest) place ∙ ap (drop (length first.route + 1)) first.is ∙ behind_is first.route first.behind in
     record {
-      whole = first.is ∙ ap (λ (xs : List ℕ). xs ++ 0 ∷ first.behind) (sym front) ∙ ap (λ (xs : List ℕ). take n rest ++ 0 ∷ xs) (sym behind);
-      stops = subst IsStops (sym front) first.are_stops;
-      some = rw front first.some;
+      whole = first.is ∙ ap (λ (xs : List ℕ). xs ++ 0 ∷ first.behind) (sym prefix) ∙ ap (λ (xs : List ℕ). take n rest ++ 0 ∷ xs) (sym behind);
+      stops = subst IsStops (sym prefix) first.are_stops;
+      some = rw prefix first.some;
       end = subst IsWordEnd (sym behind) (end_behind rest first);
     }
 
@@ -165,10 +165,10 @@ none_read p word lawful some =
     record {
       is = refl;
       are_closed = tt;
-      end = record { stops = lawful.front.stops; ends = lawful.closed };
+      end = record { stops = lawful.prefix.stops; ends = lawful.closed };
       priced = refl;
       small = omega arith;
-      places = symbol_places p word some lawful.front.known;
+      places = symbol_places p word some lawful.prefix.known;
     }
 
 pub one_route_more : (p : Problem) (word : List ℕ) (routes : List (List ℕ)) (cost : ℕ) (rest route behind : List ℕ) (more : ℕ) → ReadsRoutes p word routes cost rest
@@ -197,7 +197,7 @@ no_more_routes (route ∷ routes) are =
 pub concat_length : (routes : List (List ℕ)) → AreClosed routes → (length (word_of routes) ≡ length (concat routes) + length routes) × (length routes ≤ length (concat routes))
 concat_length routes are = (length_of_word routes, no_more_routes routes are)
 
--- a lawful word has at most two symbols for each customer
+-- a feasible word has at most two symbols for each customer
 pub word_is_short : (p : Problem) (word : List ℕ) → IsProblem p → IsLawfulWord p word → length word ≤ 2400
 word_is_short p word problem lawful =
     let plan = plan_of_word p word lawful in

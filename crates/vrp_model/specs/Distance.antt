@@ -38,7 +38,7 @@ manhattan a b = unsigned_abs (a.0 -ℤ b.0) + unsigned_abs (a.1 -ℤ b.1)
 abbrev pub maximum : ℤ × ℤ → ℤ × ℤ → ℕ
 maximum a b = max (unsigned_abs (a.0 -ℤ b.0)) (unsigned_abs (a.1 -ℤ b.1))
 
--- the weight that a metric gives to the way between two points
+-- the weight that a metric gives to the arc between two points
 abbrev pub IsDistance : Metric → ℤ × ℤ → ℤ × ℤ → ℕ → Type 0
 IsDistance Euc2d a b weight = IsEuclidean (square_between a b) weight
 IsDistance Ceil2d a b weight = IsCeiling (square_between a b) weight

@@ -1,6 +1,6 @@
 -- What inner contracts alone cite: nobody has to believe it.
 pub mod Kept
-pub mod LeastWays
+pub mod LeastArcs
 pub mod Listing
 pub mod Marks
 pub mod Places

@@ -47,7 +47,7 @@ abbrev pub is_full : Layout → Bool
 is_full FullMatrix = true
 is_full layout = false
 
--- The k-th entry is the weight of the k-th cell, and, but for a full matrix, of the way back too. A cell on the diagonal that
+-- The k-th entry is the weight of the k-th cell, and, but for a full matrix, of the reverse arc too. A cell on the diagonal that
 -- the layout doesn't list has the weight 0.
 pub record HasEntries (layout : Layout) (entries : List ℕ) (grid : Grid) : Type 0 where
   pub there : (k row column : ℕ) → slice_get (cells layout grid.nodes) k ≡ Some (row, column) → entry_at grid row column ≡ slice_index entries k

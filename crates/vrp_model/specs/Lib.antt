@@ -1,10 +1,10 @@
 pub mod Cheapest
 pub mod Distance
-pub mod Front
+pub mod Prefix
 pub mod Grid
 pub mod Inner
 pub mod Layout
-pub mod LeastWay
+pub mod LeastArc
 pub mod Order
 pub mod Problem
 pub mod Refusal

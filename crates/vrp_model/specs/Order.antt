@@ -19,7 +19,7 @@ ComesBefore cost word other_cost other = (cost < other_cost) ⊎ ((cost ≡ othe
 abbrev pub IsBefore : PricedPlan → PricedPlan → Type 0
 IsBefore plan other = ComesBefore plan.cost (word_of plan.routes) other.cost (word_of other.routes)
 
--- a lawful plan with its true cost, and no lawful plan is before it
-pub record IsFirst (p : Problem) (plan : PricedPlan) : Type 0 where
+-- a feasible plan with its true cost, and no feasible plan is before it
+pub record IsCanonical (p : Problem) (plan : PricedPlan) : Type 0 where
   pub plan_of : IsPlanOf p plan
   pub none_before : (other : PricedPlan) → IsPlanOf p other → IsBefore other plan → ⊥

@@ -38,7 +38,7 @@ pub record PricedPlan : Type 0 where
   pub routes : List (List ℕ)
   pub cost : ℕ
 
--- a lawful plan of the problem, with its true cost
+-- a feasible plan of the problem, with its true cost
 pub record IsPlanOf (p : Problem) (plan : PricedPlan) : Type 0 where
   pub lawful : IsLawful p plan.routes
   pub priced : plan.cost ≡ plan_cost p plan.routes

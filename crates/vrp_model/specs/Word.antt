@@ -1,4 +1,4 @@
--- A plan as one list, its word: its routes by rising first customer, each followed by 0, the depot. A front is what a word
+-- A plan as one list, its word: its routes by rising first customer, each followed by 0, the depot. A prefix is what a word
 -- may begin with: a partial plan.
 use Rattle.std.specs.Prelude.{◌≡◌, ◌≢◌, ◌⊎◌, ℕ, ◌+◌, ◌-◌, ◌≤◌, ◌<◌, ◌==◌, Bool, not, List, [], ◌∷◌, ◌++◌, count_by, length, map, slice_index, slice_index_or, take}
 use Rattle.std.specs.List.{All, AllPairs, Contains, filter, flat_map, list_any, slice_split}
@@ -45,7 +45,7 @@ abbrev pub HasStops : ℕ → List ℕ → Type 0
 HasStops before [] = Unit {0}
 HasStops before (symbol ∷ word) = (symbol ≡ 0 → 0 < before) × HasStops symbol word
 
-pub record IsFront (p : Problem) (word : List ℕ) : Type 0 where
+pub record IsPrefix (p : Problem) (word : List ℕ) : Type 0 where
   pub known : All (Contains (customers p)) (served_in word)
   pub once : AllPairs (λ a b. a ≢ b) (served_in word)
   -- no route is empty
@@ -56,9 +56,9 @@ pub record IsFront (p : Problem) (word : List ℕ) : Type 0 where
   pub few : HasTrucks p (length (routes_of word))
   pub forward : AllRunForward p (closed_routes word)
 
--- a front that has every customer and no open route
+-- a prefix that has every customer and no open route
 pub record IsLawfulWord (p : Problem) (word : List ℕ) : Type 0 where
-  pub front : IsFront p word
+  pub prefix : IsPrefix p word
   pub every : All (Contains (served_in word)) (customers p)
   pub closed : last_symbol word ≡ 0
 
@@ -70,26 +70,26 @@ abbrev pub word_cost : Problem → List ℕ → ℕ
 word_cost p word = cost_along p 0 word
 
 abbrev pub BeginsWith : List ℕ → List ℕ → Type 0
-BeginsWith word front = (rest : List ℕ) × (word ≡ front ++ rest)
+BeginsWith word prefix = (rest : List ℕ) × (word ≡ prefix ++ rest)
 
--- no plan under the front costs less
+-- no plan under the prefix costs less
 abbrev pub NoneCheaperUnder : Problem → List ℕ → ℕ → Type 0
-NoneCheaperUnder p front cost = (word : List ℕ) → IsLawfulWord p word → BeginsWith word front → cost ≤ word_cost p word
+NoneCheaperUnder p prefix cost = (word : List ℕ) → IsLawfulWord p word → BeginsWith word prefix → cost ≤ word_cost p word
 
--- the tree of a front has at least this many fronts: those that begin with it, itself among them
+-- the tree of a prefix has at least this many prefixes: those that begin with it, itself among them
 abbrev pub TreeHasAtLeast : Problem → List ℕ → ℕ → Type 0
-TreeHasAtLeast p front n =
-    (fronts : List (List ℕ)) × AllPairs (λ a b. a ≢ b) fronts × All (λ w. IsFront p w × BeginsWith w front) fronts × (n ≤ length fronts)
+TreeHasAtLeast p prefix n =
+    (prefixes : List (List ℕ)) × AllPairs (λ a b. a ≢ b) prefixes × All (λ w. IsPrefix p w × BeginsWith w prefix) prefixes × (n ≤ length prefixes)
 
--- the tree of a front: all fronts that begin with it, itself among them, each once
-pub record IsTree (p : Problem) (front : List ℕ) (fronts : List (List ℕ)) : Type 0 where
-  pub once : AllPairs (λ a b. a ≢ b) fronts
-  pub each : All (λ w. IsFront p w × BeginsWith w front) fronts
-  pub every : (w : List ℕ) → IsFront p w → BeginsWith w front → Contains fronts w
+-- the tree of a prefix: all prefixes that begin with it, itself among them, each once
+pub record IsTree (p : Problem) (prefix : List ℕ) (prefixes : List (List ℕ)) : Type 0 where
+  pub once : AllPairs (λ a b. a ≢ b) prefixes
+  pub each : All (λ w. IsPrefix p w × BeginsWith w prefix) prefixes
+  pub every : (w : List ℕ) → IsPrefix p w → BeginsWith w prefix → Contains prefixes w
 
--- this many fronts are in it
+-- this many prefixes are in it
 abbrev pub TreeHas : Problem → List ℕ → ℕ → Type 0
-TreeHas p front n = (fronts : List (List ℕ)) × IsTree p front fronts × (length fronts ≡ n)
+TreeHas p prefix n = (prefixes : List (List ℕ)) × IsTree p prefix prefixes × (length prefixes ≡ n)
 
 -- the route that stands last, and nothing where there is none
 abbrev pub last_route : List ℕ → List ℕ
@@ -103,7 +103,7 @@ stands_in word k = list_any (λ symbol. symbol == k) word
 abbrev pub unserved_in : Problem → List ℕ → List ℕ
 unserved_in p word = filter (λ k. not (stands_in word k)) (customers p)
 
--- the symbols that make a child of a front, in three cases: the depot, where a route is open that may be closed as it runs; an
+-- the symbols that make a child of a prefix, in three cases: the depot, where a route is open that may be closed as it runs; an
 -- unserved customer, where a route is open that can still carry its demand; an unserved customer, where no route is open and the
 -- customer is above the first one of the last route, or there is no route yet, and there is a truck for one more
 abbrev pub MakesChild : Problem → List ℕ → ℕ → Type 0
@@ -112,9 +112,9 @@ MakesChild p word k =
     ⊎ (Contains (unserved_in p word) k × IsOpen word × (load_of p (last_route word) + demand_of p k ≤ p.capacity))
     ⊎ (Contains (unserved_in p word) k × (last_symbol word ≡ 0) × (slice_index (last_route word) 0 < k) × HasTrucks p (length (routes_of word) + 1))
 
--- No plan is under the front, where both directions of a route cost the same: every unserved customer is below the first one of
+-- No plan is under the prefix, where both directions of a route cost the same: every unserved customer is below the first one of
 -- the last route, so no route can be opened any more, and the last one would end with one of them, or ends below its first
-pub record IsDead (p : Problem) (front : List ℕ) : Type 0 where
+pub record HasNoCompletion (p : Problem) (prefix : List ℕ) : Type 0 where
   pub symmetric : IsSymmetric p
-  pub below : All (λ k. k < slice_index (last_route front) 0) (unserved_in p front)
-  pub ends : (0 < length (unserved_in p front)) ⊎ (IsOpen front × (last_symbol front < slice_index (last_route front) 0))
+  pub below : All (λ k. k < slice_index (last_route prefix) 0) (unserved_in p prefix)
+  pub ends : (0 < length (unserved_in p prefix)) ⊎ (IsOpen prefix × (last_symbol prefix < slice_index (last_route prefix) 0))

@@ -1,13 +1,13 @@
 //! An instance of the problem: the depot is place 0, and the customers are places 1 to m by rising node number.
 ghost use Rattle.std.specs.Prelude.{◌≡◌, ◌↔◌, ℕ, ◌+◌, ◌*◌, ◌-◌, ◌≤◌, ◌<◌, IsTrue, Option, Some, EachIndex, IfOk, IfErr, OnOk, not, length, slice_index, vec_len};
 ghost use Rattle.std.specs.Option.{ForSome};
-ghost use Rattle.vrp_model.specs.LeastWay.{IsLeastHome, IsLeastIn};
+ghost use Rattle.vrp_model.specs.LeastArc.{IsLeastHome, IsLeastIn};
 ghost use Rattle.vrp_model.specs.Problem.{place_count, customers, node_of, demand_of, weight_of, with_amounts, IsProblem, IsSymmetric};
 ghost use Rattle.vrp_model.specs.Route.{load_of};
 ghost use Rattle.vrp_model.specs.Request.{IsAcceptable, problem_of};
 
 use crate::depots::Depots;
-use crate::least::least_ways;
+use crate::least::least_arcs;
 use crate::limits::{MAX_CAPACITY, MAX_NODES, MAX_WEIGHT, MAX_WHOLE_DEMAND};
 use crate::memory::NoMemory;
 use crate::places::{demands_of, places, weights_between};
@@ -127,7 +127,7 @@ impl Instance {
         let nodes = places(alloc, weights.nodes(), depots, depot)?;
         let weights = weights_between(alloc, weights, &nodes)?;
         let demands = demands_of(alloc, &nodes, demands)?;
-        let least_in = least_ways(alloc, &weights, nodes.len())?;
+        let least_in = least_arcs(alloc, &weights, nodes.len())?;
         let symmetric = is_symmetric(&weights, nodes.len());
         Ok(Instance {
             nodes,
@@ -140,7 +140,7 @@ impl Instance {
         })
     }
 
-    /// The same instance with this many trucks: no lawful plan of it has more routes.
+    /// The same instance with this many trucks: no feasible plan of it has more routes.
     pub fn with_trucks(self, trucks: u16) -> Instance
         requires some { 1 ≤ trucks }
         requires few { trucks ≤ MAX_NODES }
@@ -185,7 +185,7 @@ impl Instance {
             made ≡ with_amounts self.now weights.items demands.items capacity) }
     {
         let nodes = Vec::from_slice(alloc, &self.nodes)?;
-        let least_in = least_ways(alloc, &weights, nodes.len())?;
+        let least_in = least_arcs(alloc, &weights, nodes.len())?;
         let symmetric = is_symmetric(&weights, nodes.len());
         Ok(Instance {
             nodes,
@@ -256,7 +256,7 @@ impl Instance {
         self.capacity
     }
 
-    /// The weight of the way from one place to another.
+    /// The weight of the arc from one place to another.
     pub fn weight(&self, from: u16, to: u16) -> u64
         requires from_within { from < place_count self.now }
         requires to_within { to < place_count self.now }
@@ -274,7 +274,7 @@ impl Instance {
         self.symmetric
     }
 
-    /// The least weight of a way into a customer from any other place.
+    /// The least weight of an arc into a customer from any other place.
     pub fn least_in(&self, customer: u16) -> u64
         requires some { 0 < customer }
         requires within { customer < place_count self.now }
@@ -284,7 +284,7 @@ impl Instance {
         u64::from(self.least_in[usize::from(customer)])
     }
 
-    /// The least weight of a way home from a customer; 0 where there is none.
+    /// The least weight of an arc home from a customer; 0 where there is none.
     pub fn least_home(&self) -> u64
         ensures least { IsLeastHome self.now result }
         ensures small { result ≤ MAX_WEIGHT }

@@ -4,10 +4,10 @@ ghost use Rattle.std.specs.List.{All, Contains, sum_by};
 ghost use Rattle.std.specs.List.Sorted.{IsPermutation, IsStrictlyIncreasing};
 ghost use Rattle.vrp_model.specs.Distance.{IsDistance};
 ghost use Rattle.vrp_model.specs.Cheapest.{NoneCheaper};
-ghost use Rattle.vrp_model.specs.Order.{IsBefore, IsEarlier, IsFirst};
+ghost use Rattle.vrp_model.specs.Order.{IsBefore, IsEarlier, IsCanonical};
 ghost use Rattle.vrp_model.specs.Problem.{IsProblem, Problem};
 ghost use Rattle.vrp_model.specs.Route.{AreTurned, IsLawful, PricedPlan, plan_cost};
-ghost use Rattle.vrp_model.specs.Word.{AllRunForward, BeginsWith, IsDead, IsFront, IsLawfulWord, MakesChild, TreeHas, TreeHasAtLeast, first_stops, word_cost, word_of};
+ghost use Rattle.vrp_model.specs.Word.{AllRunForward, BeginsWith, HasNoCompletion, IsPrefix, IsLawfulWord, MakesChild, TreeHas, TreeHasAtLeast, first_stops, word_cost, word_of};
 ghost use Rattle.vrp_model.specs.declared.limits.TheConstants.{NO_COST};
 ghost use Rattle.vrp_model.specs.declared.metric.Metric.{Metric};
 
@@ -17,7 +17,7 @@ pub fn one_distance()
         → IsDistance metric a b j → IsDistance metric a b k → j ≡ k }
 {}
 
-/// A lawful word is the word of a lawful plan whose routes rise by first customer and, in a symmetric problem, run forward. It
+/// A feasible word is the word of a feasible plan whose routes rise by first customer and, in a symmetric problem, run forward. It
 /// costs what the plan costs.
 pub fn words_are_plans()
     ensures { (p : Problem) (word : List ℕ) → IsLawfulWord p word
@@ -26,82 +26,82 @@ pub fn words_are_plans()
         × (plan_cost p routes ≡ word_cost p word) }
 {}
 
-/// The word of a lawful plan whose routes rise by first customer and, in a symmetric problem, run forward is a lawful word of the
-/// same cost.
+/// The word of a feasible plan whose routes rise by first customer and, in a symmetric problem, run forward is a feasible word of
+/// the same cost.
 pub fn plans_are_words()
     ensures { (p : Problem) (routes : List (List ℕ))
         → IsLawful p routes → IsStrictlyIncreasing (first_stops routes) → AllRunForward p routes
         → IsLawfulWord p (word_of routes) × (word_cost p (word_of routes) ≡ plan_cost p routes) }
 {}
 
-/// The routes of a lawful plan can be put in the order of their first customers, which is a lawful plan of the same cost.
+/// The routes of a feasible plan can be put in the order of their first customers, which is a feasible plan of the same cost.
 pub fn plans_can_rise()
     ensures { (p : Problem) (routes : List (List ℕ)) → IsLawful p routes
         → (others : List (List ℕ)) × IsPermutation routes others × IsLawful p others
         × IsStrictlyIncreasing (first_stops others) × (plan_cost p others ≡ plan_cost p routes) }
 {}
 
-/// The routes of a lawful plan can be turned round so that they run forward in a symmetric problem, which is a lawful plan of the
-/// same cost.
+/// The routes of a feasible plan can be turned round so that they run forward in a symmetric problem, which is a feasible plan of
+/// the same cost.
 pub fn plans_can_turn()
     ensures { (p : Problem) (routes : List (List ℕ)) → IsLawful p routes
         → (others : List (List ℕ)) × AreTurned routes others × IsLawful p others
         × AllRunForward p others × (plan_cost p others ≡ plan_cost p routes) }
 {}
 
-/// So every lawful plan has a lawful word of the same cost, which is no later than its own.
+/// So every feasible plan has a feasible word of the same cost, which is no later than its own.
 pub fn plans_have_words()
     ensures { (p : Problem) (routes : List (List ℕ)) → IsLawful p routes
         → (word : List ℕ) × IsLawfulWord p word × (word_cost p word ≡ plan_cost p routes)
         × (IsEarlier (word_of routes) word → ⊥) }
 {}
 
-/// No lawful plan costs as much as `NO_COST`.
+/// No feasible plan costs as much as `NO_COST`.
 pub fn plans_cost_less()
     ensures { (p : Problem) (routes : List (List ℕ))
         → IsProblem p → IsLawful p routes → plan_cost p routes < NO_COST }
 {}
 
-/// A symbol makes a child of a front in three cases, and in no other.
+/// A symbol makes a child of a partial plan in three cases, and in no other.
 pub fn child_cases()
-    ensures { (p : Problem) (front : List ℕ) (k : ℕ)
-        → IsProblem p → IsFront p front → (IsFront p (front ++ k ∷ []) ↔ MakesChild p front k) }
+    ensures { (p : Problem) (prefix : List ℕ) (k : ℕ)
+        → IsProblem p → IsPrefix p prefix → (IsPrefix p (prefix ++ k ∷ []) ↔ MakesChild p prefix k) }
 {}
 
-/// A lawful word that goes on behind a front is under one of its children, and under no other.
+/// A feasible word that goes on behind a partial plan is under one of its children, and under no other.
 pub fn one_child()
-    ensures { (p : Problem) (front word : List ℕ)
-        → IsFront p front → IsLawfulWord p word → BeginsWith word front → word ≢ front
-        → (k : ℕ) × IsFront p (front ++ k ∷ []) × BeginsWith word (front ++ k ∷ [])
-        × ((j : ℕ) → BeginsWith word (front ++ j ∷ []) → j ≡ k) }
+    ensures { (p : Problem) (prefix word : List ℕ)
+        → IsPrefix p prefix → IsLawfulWord p word → BeginsWith word prefix → word ≢ prefix
+        → (k : ℕ) × IsPrefix p (prefix ++ k ∷ []) × BeginsWith word (prefix ++ k ∷ [])
+        × ((j : ℕ) → BeginsWith word (prefix ++ j ∷ []) → j ≡ k) }
 {}
 
-/// The tree of a front is the front itself and the trees of its children, so its size can be counted by hand. Symbols are those
-/// of the children, and each child's tree has its size.
+/// The tree of a partial plan is the partial plan itself and the trees of its children, so its size can be counted by hand. Symbols
+/// are those of the children, and each child's tree has its size.
 pub fn trees_of_children()
-    ensures { (p : Problem) (front symbols : List ℕ) (size : ℕ → ℕ)
-        → IsFront p front → IsStrictlyIncreasing symbols
-        → ((k : ℕ) → Contains symbols k ↔ IsFront p (front ++ k ∷ []))
-        → All (λ k. TreeHas p (front ++ k ∷ []) (size k)) symbols
-        → TreeHas p front (1 + sum_by size symbols) }
+    ensures { (p : Problem) (prefix symbols : List ℕ) (size : ℕ → ℕ)
+        → IsPrefix p prefix → IsStrictlyIncreasing symbols
+        → ((k : ℕ) → Contains symbols k ↔ IsPrefix p (prefix ++ k ∷ []))
+        → All (λ k. TreeHas p (prefix ++ k ∷ []) (size k)) symbols
+        → TreeHas p prefix (1 + sum_by size symbols) }
 {}
 
-/// A tree has at least this many fronts exactly where they are no more than its size.
+/// A tree has at least this many partial plans exactly where they are no more than its size.
 pub fn tree_sizes()
-    ensures { (p : Problem) (front : List ℕ) (size n : ℕ)
-        → TreeHas p front size → (TreeHasAtLeast p front n ↔ (n ≤ size)) }
+    ensures { (p : Problem) (prefix : List ℕ) (size n : ℕ)
+        → TreeHas p prefix size → (TreeHasAtLeast p prefix n ↔ (n ≤ size)) }
 {}
 
-/// The tree of a front is no smaller than that of a longer one.
+/// The tree of a partial plan is no smaller than that of a longer one.
 pub fn longer_trees()
-    ensures { (p : Problem) (front longer : List ℕ) (n : ℕ)
-        → BeginsWith longer front → TreeHasAtLeast p longer n → TreeHasAtLeast p front n }
+    ensures { (p : Problem) (prefix longer : List ℕ) (n : ℕ)
+        → BeginsWith longer prefix → TreeHasAtLeast p longer n → TreeHasAtLeast p prefix n }
 {}
 
-/// No lawful word begins with a dead front.
-pub fn dead_fronts()
-    ensures { (p : Problem) (front word : List ℕ)
-        → IsProblem p → IsDead p front → IsLawfulWord p word → BeginsWith word front → ⊥ }
+/// No feasible word begins with a partial plan without completion.
+pub fn prefixes_without_completion()
+    ensures { (p : Problem) (prefix word : List ℕ)
+        → IsProblem p → HasNoCompletion p prefix → IsLawfulWord p word → BeginsWith word prefix → ⊥ }
 {}
 
 /// Of two plans one is before the other, or they have the same cost and the same word.
@@ -118,26 +118,26 @@ pub fn order_is_strict()
         → IsBefore plan other → IsBefore other third → IsBefore plan third }
 {}
 
-/// Lawful plans with the same word have the same routes.
+/// Feasible plans with the same word have the same routes.
 pub fn equal_words_equal_plans()
     ensures { (p : Problem) (routes others : List (List ℕ))
         → IsLawful p routes → IsLawful p others → word_of routes ≡ word_of others
         → routes ≡ others }
 {}
 
-/// A problem has one first plan at most.
-pub fn one_first()
+/// A problem has one canonical plan at most.
+pub fn one_canonical()
     ensures { (p : Problem) (plan other : PricedPlan)
-        → IsFirst p plan → IsFirst p other → plan ≡ other }
+        → IsCanonical p plan → IsCanonical p other → plan ≡ other }
 {}
 
-/// No lawful plan costs less than the first one.
-pub fn first_is_cheapest()
-    ensures { (p : Problem) (plan : PricedPlan) → IsFirst p plan → NoneCheaper p plan.cost }
+/// No feasible plan costs less than the canonical one.
+pub fn canonical_is_cheapest()
+    ensures { (p : Problem) (plan : PricedPlan) → IsCanonical p plan → NoneCheaper p plan.cost }
 {}
 
-/// A problem that has a lawful plan has a first one.
-pub fn some_first()
+/// A problem that has a feasible plan has a canonical one.
+pub fn some_canonical()
     ensures { (p : Problem) (routes : List (List ℕ))
-        → IsProblem p → IsLawful p routes → (plan : PricedPlan) × IsFirst p plan }
+        → IsProblem p → IsLawful p routes → (plan : PricedPlan) × IsCanonical p plan }
 {}

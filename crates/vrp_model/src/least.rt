@@ -1,12 +1,12 @@
-//! The least weight of a way into each place.
+//! The least weight of an arc into each place.
 ghost use Rattle.std.specs.Prelude.{◌≡◌, ◌*◌, ◌≤◌, ◌<◌, IfOk, length, vec_len};
-ghost use Rattle.vrp_model.specs.Inner.LeastWays.{AreLeastIn, IsLeastWay};
+ghost use Rattle.vrp_model.specs.Inner.LeastArcs.{AreLeastIn, IsLeastArc};
 
 use crate::limits::MAX_NODES;
 use std::alloc::{AllocError, Global};
 
-/// For each place the least weight of a way into it from another one, 0 where there is no other.
-pub(crate) fn least_ways(
+/// For each place the least weight of an arc into it from another one, 0 where there is no other.
+pub(crate) fn least_arcs(
     alloc: Global,
     weights: &[u32],
     places: usize,
@@ -18,17 +18,17 @@ pub(crate) fn least_ways(
 {
     let mut least = Vec::with_capacity(alloc, places)?;
     for to in 0..places {
-        least.push(least_way(weights, places, to))?;
+        least.push(least_arc(weights, places, to))?;
     }
     Ok(least)
 }
 
-// The least weight of a way into a place from another one, 0 where there is no other.
-fn least_way(weights: &[u32], places: usize, to: usize) -> u32
+// The least weight of an arc into a place from another one, 0 where there is no other.
+fn least_arc(weights: &[u32], places: usize, to: usize) -> u32
     requires square { length weights.now ≡ places * places }
     requires within { to < places }
     requires few { places ≤ MAX_NODES }
-    ensures { IsLeastWay weights.now places to result }
+    ensures { IsLeastArc weights.now places to result }
 {
     let mut least = None;
     for from in 0..places {

@@ -19,14 +19,14 @@ mod weights;
 
 pub use instance::{Instance, InstanceError};
 pub use law::{
-    child_cases, dead_fronts, equal_words_equal_plans, first_is_cheapest, longer_trees, one_child,
-    one_distance, one_first, order_is_strict, order_is_total, plans_are_words, plans_can_rise,
-    plans_can_turn, plans_cost_less, plans_have_words, some_first, tree_sizes, trees_of_children,
-    words_are_plans,
+    canonical_is_cheapest, child_cases, equal_words_equal_plans, longer_trees, one_canonical,
+    one_child, one_distance, order_is_strict, order_is_total, plans_are_words, plans_can_rise,
+    plans_can_turn, plans_cost_less, plans_have_words, prefixes_without_completion, some_canonical,
+    tree_sizes, trees_of_children, words_are_plans,
 };
 pub use layout::Layout;
 pub use limits::{
-    MAX_CAPACITY, MAX_COORDINATE, MAX_NODES, MAX_WAYS, MAX_WEIGHT, MAX_WHOLE_DEMAND, NO_COST,
+    MAX_ARCS, MAX_CAPACITY, MAX_COORDINATE, MAX_NODES, MAX_WEIGHT, MAX_WHOLE_DEMAND, NO_COST,
 };
 pub use memory::NoMemory;
 pub use metric::Metric;

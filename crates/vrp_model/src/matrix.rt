@@ -61,7 +61,7 @@ fn fill_line(
     next
 }
 
-// Enters the weight of a cell, and the same for the way back unless the weights hold one way only.
+// Enters the weight of a cell, and the same for the reverse arc unless the weights hold one way only.
 fn write(square: &mut [u32], layout: Layout, nodes: u16, row: u16, column: u16, weight: u32)
     requires room { length square.old ≡ nodes * nodes }
     requires listed { IsListed layout nodes row column }

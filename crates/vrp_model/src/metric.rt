@@ -23,7 +23,7 @@ pub enum Metric {
 impl Metric {
     ghost use Rattle.vrp_model.specs.Distance.{IsDistance};
 
-    /// The weight of the way between two points, whose coordinates are at most 100,000,000 from 0.
+    /// The weight of the arc between two points, whose coordinates are at most 100,000,000 from 0.
     pub fn distance(self, from: (i64, i64), to: (i64, i64)) -> u64
         requires from_east { IsCoordinate from.0 }
         requires from_north { IsCoordinate from.1 }

@@ -76,7 +76,7 @@ impl Plan {
         Ok(plan)
     }
 
-    /// The plan of a lawful word of the instance.
+    /// The plan of a feasible word of the instance.
     pub fn of_word(alloc: Global, instance: &Instance, word: &[u16]) -> Result<Plan, NoMemory>
         requires { IsLawfulWord instance.now word.now }
         ensures word { IfOk result (λ plan. word_of plan.routes ≡ word.now) }
@@ -144,8 +144,8 @@ impl Plan {
         })
     }
 
-    /// The plan as one list: the stops of all routes, one route after the other, each followed by 0. Where the plan is lawful for
-    /// an instance, and its routes run forward if that is symmetric, this is a lawful word of it, of the plan's cost.
+    /// The plan as one list: the stops of all routes, one route after the other, each followed by 0. Where the plan is feasible for
+    /// an instance, and its routes run forward if that is symmetric, this is a feasible word of it, of the plan's cost.
     pub fn word(&self) -> &[u16]
         ensures value { result.now ≡ word_of self.now.routes }
         // What is known of every plan.

@@ -82,7 +82,7 @@ impl Weights {
         self.nodes
     }
 
-    /// The weight of the way from one node to another.
+    /// The weight of the arc from one node to another.
     pub fn at(&self, from: u16, to: u16) -> u64
         requires from_one { 1 ≤ from }
         requires from_within { from ≤ self.now.nodes }
@@ -116,7 +116,7 @@ fn push_row(entries: &mut Vec<u32>, metric: Metric, points: &[(i64, i64)], row: 
     }
 }
 
-// The weight whose entry comes next. Left of the diagonal it is that of the way back, which is entered already.
+// The weight whose entry comes next. Left of the diagonal it is that of the reverse arc, which is entered already.
 fn next_weight(
     entries: &[u32],
     metric: Metric,

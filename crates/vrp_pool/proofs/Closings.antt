@@ -6,16 +6,16 @@ use Rattle.std.proofs.lemmas.Bool.{cases_Bool}
 use Rattle.std.proofs.lemmas.List.{get_or-map, length-map}
 use Rattle.std.proofs.lemmas.List.Elements.{All-contains, All-head, All-tail, Contains-get_or}
 use Rattle.vrp_model.specs.Cheapest.{cost_of}
-use Rattle.vrp_register.specs.Caller.{CallerState, RegisterState}
-use Rattle.vrp_register.specs.Costs.{IsHistoryOf, IsKnown, least_of}
-use Rattle.vrp_register.specs.declared.view.Known.{Known}
-use Rattle.vrp_register.specs.declared.view.Offer.{Offer}
-use Rattle.vrp_register.proofs.LeastCosts.{falls}
+use Rattle.vrp_pool_register.specs.Caller.{CallerState, RegisterState}
+use Rattle.vrp_pool_register.specs.Costs.{IsHistoryOf, IsKnown, least_of}
+use Rattle.vrp_pool_register.specs.declared.view.Known.{Known}
+use Rattle.vrp_pool_register.specs.declared.view.Offer.{Offer}
+use Rattle.vrp_pool_register.proofs.LeastCosts.{falls}
 use Rattle.vrp_pool.specs.SeatBoard.{least_seen}
-use Rattle.vrp_answer.specs.Outcomes.{IsSearched, Search}
+use Rattle.vrp_pool_answer.specs.Outcomes.{IsSearched, Search}
 use Rattle.vrp_pool.specs.Inner.Workers.{AreBack, CostsNoLess}
 use Rattle.vrp_pool.proofs.Teams.{offered_lower}
-use Rattle.vrp_answer.specs.declared.outcome.Searched.{Searched}
+use Rattle.vrp_pool_answer.specs.declared.outcome.Searched.{Searched}
 
 -- no caller has seen less than the least of all costs
 none_saw_less : (opening : ℕ) (callers : List CallerState) (history : List Offer) → IsHistoryOf opening (map (λ c. c.known) callers) history → All (λ caller. least_of opening history ≤ least_seen caller) callers

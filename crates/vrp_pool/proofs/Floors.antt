@@ -2,10 +2,10 @@
 use Rattle.std.proofs.Common.{◌∙◌, ℕ, ◌≤◌, min, List, [], ◌∷◌, ◌++◌, refl, arith}
 use Rattle.std.specs.List.{All}
 use Rattle.std.proofs.lemmas.List.{append_assoc}
-use Rattle.vrp_register.specs.Costs.{IsOffered, IsSeen, StartsWith, least_of}
-use Rattle.vrp_register.specs.declared.view.Known.{Known}
-use Rattle.vrp_register.specs.declared.view.Offer.{Offer}
-use Rattle.vrp_register.proofs.LeastCosts.{falls}
+use Rattle.vrp_pool_register.specs.Costs.{IsOffered, IsSeen, StartsWith, least_of}
+use Rattle.vrp_pool_register.specs.declared.view.Known.{Known}
+use Rattle.vrp_pool_register.specs.declared.view.Offer.{Offer}
+use Rattle.vrp_pool_register.proofs.LeastCosts.{falls}
 use Rattle.vrp_pool.specs.SeatBoard.{IsLater, SeatBoardState}
 
 pub seen_falls : (known after : Known) (answer : ℕ) → IsSeen known answer after → least_of after.opening after.seen ≤ least_of known.opening known.seen

@@ -2,25 +2,25 @@
 use Rattle.std.proofs.Common.{◌≡◌, ◌∙◌, ℕ, ◌+◌, ◌≤◌, ◌<◌, false, List, [], ◌∷◌, ◌++◌, length, length-append, refl, sym, subst, ap, arith}
 use Rattle.std.specs.List.{All}
 use Rattle.std.proofs.lemmas.List.Elements.{All-append, All-cons, All-head, All-nil, All-tail}
-use Rattle.vrp_model.proofs.FrontWithSymbol.{All-last, All-left}
+use Rattle.vrp_model.proofs.PrefixWithSymbol.{All-last, All-left}
 use Rattle.vrp_model.specs.Cheapest.{cost_of}
-use Rattle.vrp_pile.specs.Pile.{AreShared, DrawerState, IsNewThief, PileId}
-use Rattle.vrp_pile.specs.declared.limits.TheConstants.{MAX_DRAWERS}
-use Rattle.vrp_register.specs.Caller.{CallerState, IsCallerOf, RegisterState}
-use Rattle.vrp_tree.specs.Cutting.{NumberedWord}
+use Rattle.vrp_pool_pile.specs.Pile.{AreShared, DrawerState, IsNewThief, PileId}
+use Rattle.vrp_pool_pile.specs.declared.limits.TheConstants.{MAX_DRAWERS}
+use Rattle.vrp_pool_register.specs.Caller.{CallerState, IsCallerOf, RegisterState}
+use Rattle.vrp_search_tree.specs.Cutting.{NumberedWord}
 use Rattle.vrp_pool.specs.SeatBoard.{floor_of, least_seen}
-use Rattle.vrp_answer.specs.Outcomes.{AreOutcomes, Search}
-use Rattle.vrp_pool.specs.Inner.Workers.{AreBack, AreFronts, CostsNoLess, HasOutcomes, HasSearched, HaveHelped, IsPartly, IsTakenOver, IsTeam, IsWorked, IsWorker, WorkerState, new_worker}
-use Rattle.vrp_answer.specs.declared.outcome.Searched.{Searched}
+use Rattle.vrp_pool_answer.specs.Outcomes.{AreOutcomes, Search}
+use Rattle.vrp_pool.specs.Inner.Workers.{AreBack, ArePrefixes, CostsNoLess, HasOutcomes, HasSearched, HaveHelped, IsPartly, IsTakenOver, IsTeam, IsWorked, IsWorker, WorkerState, new_worker}
+use Rattle.vrp_pool_answer.specs.declared.outcome.Searched.{Searched}
 use Rattle.vrp_pool.proofs.KeptOutcomes.{kept_lower, kept_together, none_kept}
 use Rattle.vrp_pool.proofs.Works.{can_still, still_has}
 
 -- ---- new workers
 
 -- a worker who has done nothing yet
-is_new : (s : Search) (register : RegisterState) (caller : CallerState) (drawer : DrawerState) → AreFronts s drawer.put → IsWorker s register drawer.pile (new_worker s register caller drawer)
-is_new s register caller drawer fronts = record {
-  can = record { fronts = fronts; serves = λ plan is. absurd (cc); may_stop = refl };
+is_new : (s : Search) (register : RegisterState) (caller : CallerState) (drawer : DrawerState) → ArePrefixes s drawer.put → IsWorker s register drawer.pile (new_worker s register caller drawer)
+is_new s register caller drawer prefixes = record {
+  can = record { prefixes = prefixes; serves = λ plan is. absurd (cc); may_stop = refl };
   of_pile = refl;
   of_register = refl;
 }
@@ -34,11 +34,11 @@ pub record AreNewHelpers (s : Search) (register : RegisterState) (owner : Drawer
   pub fine : All (λ helper. helper.refused ≡ false) helpers
 
 -- one more helper
-pub one_more_helper : (s : Search) (register : RegisterState) (owner thief : DrawerState) (caller : CallerState) (helper : WorkerState) (helpers more : List WorkerState) → AreFronts s owner.put → IsNewThief owner thief
+pub one_more_helper : (s : Search) (register : RegisterState) (owner thief : DrawerState) (caller : CallerState) (helper : WorkerState) (helpers more : List WorkerState) → ArePrefixes s owner.put → IsNewThief owner thief
     → helper ≡ new_worker s register caller thief → AreNewHelpers s register owner helpers → more ≡ helpers ++ helper ∷ [] → AreNewHelpers s register owner more
-one_more_helper s register owner thief caller helper helpers more fronts new made so_far is =
+one_more_helper s register owner thief caller helper helpers more prefixes new made so_far is =
     let same : thief.pile ≡ owner.pile = ap (λ (t : DrawerState). t.pile) new in
-    let on_pile : AreFronts s thief.put = subst (λ (t : DrawerState). AreFronts s t.put) (sym new) fronts in
+    let on_pile : ArePrefixes s thief.put = subst (λ (t : DrawerState). ArePrefixes s t.put) (sym new) prefixes in
     let nothing : thief.drawn ≡ [] = ap (λ (t : DrawerState). t.drawn) new in
     let one : IsWorker s register owner.pile helper = rw made (subst (λ (pile : PileId). IsWorker s register pile (new_worker s register caller thief)) same (is_new s register caller thief on_pile)) in
     let has : HasOutcomes s helper = rw made (new_has s register caller thief nothing) in
@@ -49,10 +49,10 @@ one_more_helper s register owner thief caller helper helpers more fronts new mad
       fine = All-append (λ h. h.refused ≡ false) helpers (helper ∷ []) so_far.fine (All-cons (λ h. h.refused ≡ false) helper [] (rw made refl) (All-nil (λ h. h.refused ≡ false)));
     })
 
-pub new_team : (s : Search) (register : RegisterState) (owner : DrawerState) (caller : CallerState) (lead : WorkerState) (helpers : List WorkerState) → AreFronts s owner.put → owner.drawn ≡ [] → owner.parts + length helpers ≡ MAX_DRAWERS
+pub new_team : (s : Search) (register : RegisterState) (owner : DrawerState) (caller : CallerState) (lead : WorkerState) (helpers : List WorkerState) → ArePrefixes s owner.put → owner.drawn ≡ [] → owner.parts + length helpers ≡ MAX_DRAWERS
     → length helpers + 1 ≡ register.callers → lead ≡ new_worker s register caller owner → AreNewHelpers s register owner helpers → IsTeam s register lead helpers
-new_team s register owner caller lead helpers fronts nothing parts callers made new = rw made (record {
-  lead_is = is_new s register caller owner fronts;
+new_team s register owner caller lead helpers prefixes nothing parts callers made new = rw made (record {
+  lead_is = is_new s register caller owner prefixes;
   lead_has = new_has s register caller owner nothing;
   helpers_are = new.are;
   helpers_have = new.have;
@@ -125,7 +125,7 @@ one_taken_over s register put callers caller helper rest lead later so_far over 
     let mine : IsCallerOf register caller = subst (λ (r : RegisterState). IsCallerOf r caller) is.of_register over.one_of in
     record {
       lead_is = record {
-        can = record { fronts = subst (AreFronts s) (sym over.drawer.put) so_far.lead_is.can.fronts; serves = over.serves; may_stop = over.later.may_stop ∙ so_far.lead_is.can.may_stop };
+        can = record { prefixes = subst (ArePrefixes s) (sym over.drawer.put) so_far.lead_is.can.prefixes; serves = over.serves; may_stop = over.later.may_stop ∙ so_far.lead_is.can.may_stop };
         of_pile = refl;
         of_register = over.later.register ∙ so_far.lead_is.of_register;
       };

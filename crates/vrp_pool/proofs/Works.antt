@@ -3,12 +3,12 @@ use Rattle.std.proofs.Common.{◌≡◌, ◌∙◌, ◌≤◌, Bool, [], ◌∷�
 use Rattle.std.specs.Option.{ForSome}
 use Rattle.std.proofs.lemmas.List.{append-nil, append_assoc}
 use Rattle.vrp_model.specs.Route.{IsPlanOf}
-use Rattle.vrp_pile.specs.Pile.{IsDrawn}
-use Rattle.vrp_tree.specs.Cutting.{NumberedWord}
+use Rattle.vrp_pool_pile.specs.Pile.{IsDrawn}
+use Rattle.vrp_search_tree.specs.Cutting.{NumberedWord}
 use Rattle.vrp_pool.specs.SeatBoard.{IsLater, floor_of}
-use Rattle.vrp_answer.specs.Outcomes.{IsOutcome, Search}
-use Rattle.vrp_pool.specs.Inner.Workers.{AreFronts, CanWork, HasOutcomes, HasSearched, IsWorked, WorkerState}
-use Rattle.vrp_answer.specs.declared.outcome.Outcome.{Outcome}
+use Rattle.vrp_pool_answer.specs.Outcomes.{IsOutcome, Search}
+use Rattle.vrp_pool.specs.Inner.Workers.{ArePrefixes, CanWork, HasOutcomes, HasSearched, IsWorked, WorkerState}
+use Rattle.vrp_pool_answer.specs.declared.outcome.PieceOutcome.{PieceOutcome}
 use Rattle.vrp_pool.proofs.Floors.{later_itself, later_still}
 use Rattle.vrp_pool.proofs.KeptOutcomes.{kept_lower, kept_together, none_kept, one_kept}
 
@@ -29,7 +29,7 @@ none_searched s old new drawn outcomes = record {
 -- ---- a worker that works on
 
 pub can_still : (s : Search) (old new : WorkerState) → CanWork s old → IsWorked s old new → CanWork s new
-can_still s old new can worked = record { fronts = subst (AreFronts s) (sym worked.put) can.fronts; serves = worked.serves; may_stop = worked.later.may_stop ∙ can.may_stop }
+can_still s old new can worked = record { prefixes = subst (ArePrefixes s) (sym worked.put) can.prefixes; serves = worked.serves; may_stop = worked.later.may_stop ∙ can.may_stop }
 
 pub works_on : (s : Search) (first old new : WorkerState) → IsWorked s first old → IsWorked s old new → IsWorked s first new
 works_on s first old new before now = record {
@@ -68,7 +68,7 @@ searches_as_well s old new refused has = record { pieces = has.pieces; outcomes 
 pub has_drawn : (s : Search) (old new : WorkerState) (piece : NumberedWord) → IsDrawn old.drawer piece new.drawer → ForSome new.board.best (IsPlanOf s.problem) → IsLater old.board new.board → floor_of new.board ≤ floor_of old.board → IsWorked s old new
 has_drawn s old new piece drawn serves later falls = record { pile = drawn.pile; parts = drawn.parts; put = drawn.put; serves = serves; later = later; falls = falls }
 
-pub one_searched : (s : Search) (old new : WorkerState) (piece : NumberedWord) (one : Outcome) → IsDrawn old.drawer piece new.drawer → new.outcomes ≡ old.outcomes ++ one ∷ [] → IsOutcome s (floor_of new.board) piece one → HasSearched s old new
+pub one_searched : (s : Search) (old new : WorkerState) (piece : NumberedWord) (one : PieceOutcome) → IsDrawn old.drawer piece new.drawer → new.outcomes ≡ old.outcomes ++ one ∷ [] → IsOutcome s (floor_of new.board) piece one → HasSearched s old new
 one_searched s old new piece one drawn more kept = record {
   pieces = piece ∷ [];
   outcomes = one ∷ [];

@@ -1,4 +1,4 @@
-pub use Rattle.vrp_answer.specs.Answer
-pub use Rattle.vrp_answer.specs.Gatherer
+pub use Rattle.vrp_pool_answer.specs.Answer
+pub use Rattle.vrp_pool_answer.specs.Gatherer
 pub mod Inner
 pub mod SeatBoard

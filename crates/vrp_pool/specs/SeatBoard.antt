@@ -2,8 +2,8 @@
 use Rattle.std.specs.Prelude.{◌≡◌, ℕ, ◌≤◌, Bool, Option}
 use Rattle.vrp_model.specs.Cheapest.{cost_of}
 use Rattle.vrp_model.specs.Route.{PricedPlan}
-use Rattle.vrp_register.specs.Caller.{CallerState, RegisterState}
-use Rattle.vrp_register.specs.Costs.{least_of}
+use Rattle.vrp_pool_register.specs.Caller.{CallerState, RegisterState}
+use Rattle.vrp_pool_register.specs.Costs.{least_of}
 
 pub record SeatBoardState : Type 0 where
   pub register : RegisterState

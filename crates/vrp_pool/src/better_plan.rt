@@ -5,9 +5,9 @@ ghost use Rattle.vrp_model.specs.Route.{IsPlanOf};
 use crate::preparation::LEAST_PREPARED_BUDGET;
 use crate::timed_gate::TimedGate;
 use std::thread::Threads;
-use vrp_answer::{Gate, News, Shared};
-use vrp_first::{Crew, improved_plan};
+use vrp_heuristic::{Crew, improved_plan};
 use vrp_model::{NoMemory, Plan};
+use vrp_pool_answer::{Event, Gate, Shared};
 
 // The part of the time that is left for the pieces.
 const PART_FOR_PIECES: u64 = 4;
@@ -22,7 +22,7 @@ pub(crate) fn better_plan<R: Threads + Sync, G: Gate + Sync>(
     requires few_workers { workers ≤ 64 }
     ensures { IfOk result (λ plan. IfSome plan (IsPlanOf shared.now.problem)) }
 {
-    let Some(known) = shared.first else {
+    let Some(known) = shared.start_plan else {
         return Ok(None);
     };
     let Some(left) = shared.gate.milliseconds_left() else {
@@ -31,7 +31,7 @@ pub(crate) fn better_plan<R: Threads + Sync, G: Gate + Sync>(
     if shared.budget < LEAST_PREPARED_BUDGET {
         return Ok(None);
     }
-    shared.gate.hears(News::BetterPlans);
+    shared.gate.on_event(Event::BetterPlans);
     let watch = TimedGate {
         gate: shared.gate,
         kept: left / PART_FOR_PIECES,
@@ -44,6 +44,6 @@ pub(crate) fn better_plan<R: Threads + Sync, G: Gate + Sync>(
         watch: &watch,
     };
     let better = improved_plan(&crew, known)?;
-    shared.gate.hears(News::Plan(better.cost()));
+    shared.gate.on_event(Event::Plan(better.cost()));
     Ok(Some(better))
 }

@@ -1,90 +1,90 @@
-//! The first plan as a choice among useful routes, where an instance has few customers: the routes that can stand in it are listed, and
-//! the first of the cheapest choices among them is that plan.
+//! The canonical plan as a choice among useful routes, where an instance has few customers: the routes that can stand in it are
+//! listed, and the first of the cheapest choices among them is that plan.
 ghost use Rattle.std.specs.Prelude.{◌≡◌, ◌≤◌, IfOk, IfSome};
 ghost use Rattle.vrp_model.specs.Cheapest.{NoneCheaper, cost_of};
-ghost use Rattle.vrp_model.specs.Order.{IsFirst};
+ghost use Rattle.vrp_model.specs.Order.{IsCanonical};
 ghost use Rattle.vrp_model.specs.Problem.{place_count};
 ghost use Rattle.vrp_routes.specs.Listing.{IfPool};
 ghost use Rattle.vrp_routes.specs.Pool.{IsPool};
 ghost use Rattle.vrp_model.specs.Route.{IsPlanOf};
 ghost use Rattle.vrp_model.specs.declared.limits.TheConstants.{NO_COST};
-ghost use Rattle.vrp_answer.specs.Answer.{AnswersAll, known_plan};
+ghost use Rattle.vrp_pool_answer.specs.Answer.{AnswersAll, known_plan};
 
 use crate::timed_gate::TimedGate;
 use std::alloc::Global;
 use std::thread::Threads;
-use vrp_answer::{Answer, Gate, News, Shared};
-use vrp_bound::MemoryTables;
+use vrp_bound::NgTables;
+use vrp_bound_ng::{MOST_NEAR, NgSets};
+use vrp_bound_prices::Relaxation;
 use vrp_canonical::{PlanSearch, canonical_plan, fleet};
-use vrp_first::Watch;
-use vrp_memory::{MOST_NEAR, Memory};
-use vrp_model::{Instance, NoMemory, Plan, first_is_cheapest, plans_cost_less};
+use vrp_heuristic::Watch;
+use vrp_model::{Instance, NoMemory, Plan, canonical_is_cheapest, plans_cost_less};
 use vrp_partition::{Ask, Fleet, MOST_CUSTOMERS, Tally, Team};
-use vrp_prices::Relaxation;
+use vrp_pool_answer::{Answer, Event, Gate, Shared};
 use vrp_routes::{Listed, RoutePool, can_list, list_routes};
+use vrp_search_tree::lawful_plan;
 use vrp_simplex::ProgramGuide;
-use vrp_tree::lawful_plan;
 
 // How many labels may be made, whatever the budget: so many take less than three gigabytes.
 const MOST_LABELS: u64 = 40_000_000;
 
-/// What useful routes came to: the answer, if the first plan was found; else a plan that was found meanwhile, if any, and a bound on all
-/// lawful plans.
+/// What useful routes came to: the answer, if the canonical plan was found; else a plan that was found meanwhile, if any, and a
+/// bound on all feasible plans.
 #[derive(Drop)]
 pub(crate) struct RoutesAnswer {
     pub(crate) answer: Option<Answer>,
     pub(crate) better: Option<Plan>,
-    /// No lawful plan costs less; 0 where nothing is known.
+    /// No feasible plan costs less; 0 where nothing is known.
     pub(crate) lower_bound: u64,
 }
 
-// The first plan, if it was found; else a plan that was found meanwhile, if any, and a bound on all lawful plans.
+// The canonical plan, if it was found; else a plan that was found meanwhile, if any, and a bound on all feasible plans.
 #[derive(Drop)]
 pub(crate) struct RoutesPlan {
-    first: Option<Plan>,
+    canonical: Option<Plan>,
     better: Option<Plan>,
     lower_bound: u64,
 }
 
-/// The proven plan by useful routes. There is no answer without a memory, and where a limit is met before it is found: there are too
+/// The proven plan by useful routes. There is no answer without ng-sets, and where a limit is met before it is found: there are too
 /// many customers or labels, or the budget is spent, or the gate stops the search. A label that is made, and a reduced cost that is
 /// looked at, count as a partial plan.
 pub(crate) fn answer_by_routes<R: Threads + Sync, G: Gate + Sync>(
     shared: &Shared<'_, R, G>,
     relaxation: &Relaxation<'_>,
-    memory: Option<Memory>,
+    ng_sets: Option<NgSets>,
     workers: u32,
 ) -> Result<RoutesAnswer, NoMemory>
     requires problem { relaxation.now.problem ≡ shared.now.problem }
-    requires places { IfSome memory (λ memory. memory.places ≡ place_count shared.now.problem) }
+    requires places { IfSome ng_sets (λ ng_sets. ng_sets.places ≡ place_count shared.now.problem) }
     requires some_worker { 1 ≤ workers }
     requires few_workers { workers ≤ 64 }
     ensures answer { IfOk result (λ found. IfSome found.answer (AnswersAll shared.now.problem)) }
-    ensures no_dearer { IfOk result (λ found. IfSome found.answer (λ answer. cost_of (known_plan answer) ≤ cost_of shared.now.first)) }
+    ensures no_costlier { IfOk result (λ found. IfSome found.answer (λ answer. cost_of (known_plan answer) ≤ cost_of shared.now.start_plan)) }
     ensures better { IfOk result (λ found. IfSome found.better (IsPlanOf shared.now.problem)) }
     ensures bound { IfOk result (λ found. NoneCheaper shared.now.problem found.lower_bound) }
 {
-    let Some(known) = shared.first else {
+    let Some(known) = shared.start_plan else {
         return Ok(RoutesAnswer {
             answer: None,
             better: None,
             lower_bound: 0,
         });
     };
-    let Some(memory) = memory else {
+    let Some(ng_sets) = ng_sets else {
         return Ok(RoutesAnswer {
             answer: None,
             better: None,
             lower_bound: 0,
         });
     };
-    first_is_cheapest();
+    canonical_is_cheapest();
     let RoutesPlan {
-        first,
+        canonical,
         better,
         lower_bound,
-    } = plan_by_routes(shared, relaxation, memory, workers, known)?;
-    match first {
+    } = plan_by_routes(shared, relaxation, ng_sets, workers, known)?;
+    match canonical {
         Some(plan) => Ok(RoutesAnswer {
             answer: Some(Answer::Proven(plan)),
             better,
@@ -98,25 +98,25 @@ pub(crate) fn answer_by_routes<R: Threads + Sync, G: Gate + Sync>(
     }
 }
 
-// The first plan, with a plan that is known.
+// The canonical plan, with a plan that is known.
 fn plan_by_routes<R: Threads + Sync, G: Gate + Sync>(
     shared: &Shared<'_, R, G>,
     relaxation: &Relaxation<'_>,
-    memory: Memory,
+    ng_sets: NgSets,
     workers: u32,
     known: &Plan,
 ) -> Result<RoutesPlan, NoMemory>
     requires problem { relaxation.now.problem ≡ shared.now.problem }
-    requires places { memory.places ≡ place_count shared.now.problem }
+    requires places { ng_sets.places ≡ place_count shared.now.problem }
     requires some_worker { 1 ≤ workers }
     requires few_workers { workers ≤ 64 }
     requires known { IsPlanOf shared.now.problem known.now }
-    ensures first { IfOk result (λ found. IfSome found.first (IsFirst shared.now.problem)) }
+    ensures canonical { IfOk result (λ found. IfSome found.canonical (IsCanonical shared.now.problem)) }
     ensures better { IfOk result (λ found. IfSome found.better (IsPlanOf shared.now.problem)) }
     ensures bound { IfOk result (λ found. NoneCheaper shared.now.problem found.lower_bound) }
 {
     let none = RoutesPlan {
-        first: None,
+        canonical: None,
         better: None,
         lower_bound: 0,
     };
@@ -130,7 +130,7 @@ fn plan_by_routes<R: Threads + Sync, G: Gate + Sync>(
     match listed(
         shared,
         relaxation,
-        memory,
+        ng_sets,
         workers,
         known.cost(),
         budget.min(MOST_LABELS) as u32,
@@ -143,17 +143,17 @@ fn plan_by_routes<R: Threads + Sync, G: Gate + Sync>(
     }
 }
 
-// The useful routes where the first plan costs no more than this, from no more labels than this.
+// The useful routes where the canonical plan costs no more than this, from no more labels than this.
 fn listed<R: Threads + Sync, G: Gate + Sync>(
     shared: &Shared<'_, R, G>,
     relaxation: &Relaxation<'_>,
-    memory: Memory,
+    ng_sets: NgSets,
     workers: u32,
     limit: u64,
     most_labels: u32,
 ) -> Result<Listed, NoMemory>
     requires problem { relaxation.now.problem ≡ shared.now.problem }
-    requires places { memory.places ≡ place_count shared.now.problem }
+    requires places { ng_sets.places ≡ place_count shared.now.problem }
     requires few { place_count shared.now.problem ≤ 128 }
     requires limit { limit ≤ NO_COST }
     requires some_worker { 1 ≤ workers }
@@ -161,8 +161,8 @@ fn listed<R: Threads + Sync, G: Gate + Sync>(
     ensures { IfOk result (λ listed. IfPool listed (IsPool shared.now.problem limit)) }
 {
     let gate = shared.gate;
-    gate.hears(News::Routes);
-    let tables = MemoryTables::new(shared.alloc, relaxation.relaxed(), memory)?;
+    gate.on_event(Event::Routes);
+    let tables = NgTables::new(shared.alloc, relaxation.relaxed(), ng_sets)?;
     let timed = TimedGate {
         gate,
         kept: gate.milliseconds_left().unwrap_or(0) / 2,
@@ -176,7 +176,7 @@ fn listed<R: Threads + Sync, G: Gate + Sync>(
         workers as u16,
         most_labels,
         &|labels| {
-            gate.hears(News::Labels(labels));
+            gate.on_event(Event::Labels(labels));
             timed.should_continue()
         },
     )
@@ -194,11 +194,11 @@ fn chosen_plan<R: Threads + Sync, G: Gate + Sync>(
     requires some_worker { 1 ≤ workers }
     requires pool { IsPool shared.now.problem known.now.cost pool.now }
     requires known { IsPlanOf shared.now.problem known.now }
-    ensures first { IfOk result (λ found. IfSome found.first (IsFirst shared.now.problem)) }
+    ensures canonical { IfOk result (λ found. IfSome found.canonical (IsCanonical shared.now.problem)) }
     ensures better { IfOk result (λ found. IfSome found.better (IsPlanOf shared.now.problem)) }
     ensures bound { IfOk result (λ found. NoneCheaper shared.now.problem found.lower_bound) }
 {
-    shared.gate.hears(News::Choice(pool.len() as u64));
+    shared.gate.on_event(Event::Choice(pool.len() as u64));
     let demands = demands_of(shared.alloc, shared.instance)?;
     let fleet = Fleet {
         demands: demands.as_slice(),
@@ -218,13 +218,13 @@ fn chosen_plan<R: Threads + Sync, G: Gate + Sync>(
     let guide = ProgramGuide::new(shared.alloc, fleet, sets_of(shared.alloc, known)?, &ask);
     let mut budget = budget;
     match canonical_plan(&team, shared.instance, pool, known, &guide, &mut budget)? {
-        PlanSearch::First(plan) => Ok(RoutesPlan {
-            first: Some(plan),
+        PlanSearch::Canonical(plan) => Ok(RoutesPlan {
+            canonical: Some(plan),
             better: None,
             lower_bound: 0,
         }),
         PlanSearch::Unfinished { word, lower_bound } => Ok(RoutesPlan {
-            first: None,
+            canonical: None,
             better: lawful_plan(shared.alloc, shared.instance, word.as_slice())?,
             lower_bound,
         }),
@@ -241,7 +241,7 @@ struct AskedGate<'a, G: Gate> {
 
 impl<G: Gate> Ask for AskedGate<'_, G> {
     fn should_continue(&self) -> bool {
-        self.gate.goes_on()
+        self.gate.should_continue()
     }
 
     fn on_round(&self, tally: Tally) {
@@ -251,11 +251,12 @@ impl<G: Gate> Ask for AskedGate<'_, G> {
             incumbent,
             lower_bound,
         } = tally;
-        self.gate.hears(News::Nodes { done, open });
-        // The pool has each route of a first plan that costs no more than the known one.
-        self.gate.hears(News::Bound(lower_bound.min(self.known)));
+        self.gate.on_event(Event::Nodes { done, open });
+        // The pool has each route of a canonical plan that costs no more than the known one.
+        self.gate
+            .on_event(Event::Bound(lower_bound.min(self.known)));
         if incumbent < self.known {
-            self.gate.hears(News::Plan(incumbent));
+            self.gate.on_event(Event::Plan(incumbent));
         }
     }
 }
@@ -288,19 +289,19 @@ fn sets_of(alloc: Global, plan: &Plan) -> Result<Vec<u128>, NoMemory> {
     Ok(sets)
 }
 
-/// The same memory once more. `None` where it is out of range, which no memory is.
-pub(crate) fn copied_memory(
+/// The same ng-sets once more. `None` where it is out of range, which no ng-sets is.
+pub(crate) fn copied_ng_sets(
     alloc: Global,
     instance: &Instance,
-    memory: &Memory,
-) -> Result<Option<Memory>, NoMemory>
-    ensures { IfOk result (λ copy. IfSome copy (λ memory. memory.places ≡ place_count instance.now)) }
+    ng_sets: &NgSets,
+) -> Result<Option<NgSets>, NoMemory>
+    ensures { IfOk result (λ copy. IfSome copy (λ ng_sets. ng_sets.places ≡ place_count instance.now)) }
 {
     let places = usize::from(instance.customers()) + 1;
-    let size = memory.size();
-    let near = Vec::from_slice(alloc, memory.near())?;
+    let size = ng_sets.size();
+    let near = Vec::from_slice(alloc, ng_sets.near())?;
     if size <= MOST_NEAR && near.len() == places * size {
-        Ok(Some(Memory::new(alloc, places, size, near)?))
+        Ok(Some(NgSets::new(alloc, places, size, near)?))
     } else {
         Ok(None)
     }

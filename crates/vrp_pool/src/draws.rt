@@ -1,10 +1,10 @@
 //! How a worker draws from the pile: as its owner, or as a thief.
 ghost use Rattle.std.specs.Prelude.{◌≡◌, [], ⊤};
-ghost use Rattle.vrp_pile.specs.Drawn.{MatchDrawn};
-ghost use Rattle.vrp_pile.specs.Pile.{AreShared, DrawerState, IsDrawn};
-ghost use Rattle.vrp_pile.specs.declared.limits.TheConstants.{MAX_DRAWERS};
+ghost use Rattle.vrp_pool_pile.specs.Drawn.{MatchDrawn};
+ghost use Rattle.vrp_pool_pile.specs.Pile.{AreShared, DrawerState, IsDrawn};
+ghost use Rattle.vrp_pool_pile.specs.declared.limits.TheConstants.{MAX_DRAWERS};
 
-use vrp_pile::{Drawn, Owner, Thief};
+use vrp_pool_pile::{Drawn, Owner, Thief};
 
 /// Draws from a pile.
 pub(crate) trait Draws: Drop {

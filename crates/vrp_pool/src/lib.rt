@@ -14,7 +14,7 @@ mod worker;
 pub use preparation::LEAST_PREPARED_BUDGET;
 pub use seat_board::SeatBoard;
 pub use solver::{MAX_WORKERS, solve, solve_from};
-pub use vrp_answer::{
-    Answer, Finished, Gate, GatherError, Gatherer, News, NoGate, SolveError, Solved,
+pub use vrp_pool_answer::{
+    Answer, Event, Finished, Gate, GatherError, Gatherer, NoGate, SolveError, Solved,
 };
-pub use vrp_pile::{Drawn, Owner, Pile, Thief, settle};
+pub use vrp_pool_pile::{Drawn, Owner, Pile, Thief, settle};

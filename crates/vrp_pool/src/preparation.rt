@@ -1,24 +1,25 @@
 //! What is made before the pieces are searched: a plan to begin with, and prices to prune by.
 ghost use Rattle.std.specs.Prelude.{◌≡◌, ◌<◌, ◌≤◌, None, IfOk, IfSome};
-ghost use Rattle.vrp_memory.specs.declared.memory.TheConstants.{MOST_NEAR};
+ghost use Rattle.vrp_bound_ng.specs.declared.ng_sets.TheConstants.{MOST_NEAR};
 ghost use Rattle.vrp_model.specs.Problem.{place_count};
 ghost use Rattle.vrp_model.specs.Route.{IsPlanOf};
 ghost use Rattle.vrp_pool.specs.declared.preparation.TheConstants.{LEAST_PREPARED_BUDGET};
 
 use crate::timed_gate::TimedGate;
 use std::thread::Threads;
-use vrp_answer::{Gate, News, Shared};
-use vrp_ascent::{FoundPrices, MOST_SEARCHED, find_prices, find_prices_for_routes};
-use vrp_first::{Crew, ENOUGH_MOVES, Watch};
+use vrp_bound_ascent::{FoundPrices, MOST_SEARCHED, find_prices, find_prices_for_routes};
+use vrp_heuristic::{Crew, ENOUGH_MOVES, Watch};
 use vrp_model::{NoMemory, Plan};
+use vrp_pool_answer::{Event, Gate, Shared};
 
 /// The least budget of a piece with which anything is made before. With a lesser one a run is a look at the tree.
 pub const LEAST_PREPARED_BUDGET: u64 = 1_000;
 
-// With fewer partial plans in all, ruin and recreate would take longer than the search: savings alone make the first plan.
+// With fewer partial plans in all, ruin and recreate would take longer than the search: savings alone make the heuristic plan.
 const LEAST_FOR_MOVES: u64 = 100_000;
 
-// From so many customers on a run makes more moves: each unit of cost by which the first plan misses the best adds useful routes.
+// From so many customers on a run makes more moves: each unit of cost by which the heuristic plan misses the best adds useful
+// routes.
 const MANY_CUSTOMERS: u16 = 50;
 
 const MORE_MOVES: u32 = 3 * ENOUGH_MOVES;
@@ -42,7 +43,7 @@ const STEPS_A_MILLISECOND: u64 = 2_000_000;
 
 /// A plan near the best, if one is found: by savings, and where many partial plans may be looked at in all, by ruin and recreate
 /// too, by all workers.
-pub(crate) fn first_plan<R: Threads + Sync, G: Gate + Sync>(
+pub(crate) fn heuristic_plan<R: Threads + Sync, G: Gate + Sync>(
     shared: &Shared<'_, R, G>,
     workers: u32,
 ) -> Result<Option<Plan>, NoMemory>
@@ -56,15 +57,15 @@ pub(crate) fn first_plan<R: Threads + Sync, G: Gate + Sync>(
     }
     let customers = shared.instance.customers();
     // Where no routes are listed, and a time is set, all workers look for better plans later.
-    let goes_on_later = customers > MOST_SEARCHED && shared.gate.milliseconds_left().is_some();
+    let continues_later = customers > MOST_SEARCHED && shared.gate.milliseconds_left().is_some();
     let moves = if shared.budget_in_all() < LEAST_FOR_MOVES {
         0
-    } else if customers < MANY_CUSTOMERS || goes_on_later {
+    } else if customers < MANY_CUSTOMERS || continues_later {
         ENOUGH_MOVES
     } else {
         MORE_MOVES
     };
-    shared.gate.hears(News::FirstPlan);
+    shared.gate.on_event(Event::StartPlan);
     let watch = TimedGate {
         gate: shared.gate,
         kept: 0,
@@ -76,26 +77,26 @@ pub(crate) fn first_plan<R: Threads + Sync, G: Gate + Sync>(
         workers: workers as u16,
         watch: &watch,
     };
-    let plan = vrp_first::first_plan(&crew, moves)?;
+    let plan = vrp_heuristic::heuristic_plan(&crew, moves)?;
     if let Some(plan) = &plan {
-        shared.gate.hears(News::Plan(plan.cost()));
+        shared.gate.on_event(Event::Plan(plan.cost()));
     }
     Ok(plan)
 }
 
-/// Prices, with the first plan's cost to aim at, if there is such a plan and prices are found. Of many customers, where a time is set,
-/// they may take a part of what is left of it; else as many steps as the budget allows.
+/// Prices, with the heuristic plan's cost to aim at, if there is such a plan and prices are found. Of many customers, where a time
+/// is set, they may take a part of what is left of it; else as many steps as the budget allows.
 pub(crate) fn prices_found<'a, R, G: Gate>(
     shared: &Shared<'a, R, G>,
 ) -> Result<Option<FoundPrices<'a>>, NoMemory>
     ensures relaxation { IfOk result (λ found. IfSome found (λ prices. prices.relaxation.problem ≡ shared.now.problem)) }
-    ensures memory { IfOk result (λ found. IfSome found (λ prices. prices.memory.places ≡ place_count shared.now.problem)) }
+    ensures ng_sets { IfOk result (λ found. IfSome found (λ prices. prices.ng_sets.places ≡ place_count shared.now.problem)) }
 {
-    let Some(plan) = shared.first else {
+    let Some(plan) = shared.start_plan else {
         return Ok(None);
     };
     let gate = shared.gate;
-    gate.hears(News::Prices);
+    gate.on_event(Event::Prices);
     match gate.milliseconds_left() {
         Some(left) if shared.instance.customers() > MOST_SEARCHED => {
             prices_in_time(shared, plan.cost(), left)
@@ -111,7 +112,7 @@ fn prices_in_time<'a, R, G: Gate>(
     left: u64,
 ) -> Result<Option<FoundPrices<'a>>, NoMemory>
     ensures relaxation { IfOk result (λ found. IfSome found (λ prices. prices.relaxation.problem ≡ shared.now.problem)) }
-    ensures memory { IfOk result (λ found. IfSome found (λ prices. prices.memory.places ≡ place_count shared.now.problem)) }
+    ensures ng_sets { IfOk result (λ found. IfSome found (λ prices. prices.ng_sets.places ≡ place_count shared.now.problem)) }
 {
     let part = left / PARTS_OF_TIME;
     let timed = TimedGate {
@@ -135,34 +136,34 @@ fn prices_by_budget<'a, R, G: Gate>(
     cost: u64,
 ) -> Result<Option<FoundPrices<'a>>, NoMemory>
     ensures relaxation { IfOk result (λ found. IfSome found (λ prices. prices.relaxation.problem ≡ shared.now.problem)) }
-    ensures memory { IfOk result (λ found. IfSome found (λ prices. prices.memory.places ≡ place_count shared.now.problem)) }
+    ensures ng_sets { IfOk result (λ found. IfSome found (λ prices. prices.ng_sets.places ≡ place_count shared.now.problem)) }
 {
     let instance = shared.instance;
     let (near, steps) = steps_by_budget(shared);
     let timed = half_of_the_time(shared.gate);
-    let goes_on = || timed.should_continue();
+    let should_continue = || timed.should_continue();
     if instance.customers() > MOST_SEARCHED {
-        find_prices(shared.alloc, instance, cost, near, steps, &goes_on)
+        find_prices(shared.alloc, instance, cost, near, steps, &should_continue)
     } else {
-        find_prices_for_routes(shared.alloc, instance, cost, near, steps, &goes_on)
+        find_prices_for_routes(shared.alloc, instance, cost, near, steps, &should_continue)
     }
 }
 
-/// Prices to search pieces by, in units so coarse that there can be a table of the ways home, of an instance of at most 127 customers.
+/// Prices to search pieces by, in units so coarse that there can be a completion table, of an instance of at most 127 customers.
 pub(crate) fn prices_for_pieces<'a, R, G: Gate>(
     shared: &Shared<'a, R, G>,
 ) -> Result<Option<FoundPrices<'a>>, NoMemory>
     ensures relaxation { IfOk result (λ found. IfSome found (λ prices. prices.relaxation.problem ≡ shared.now.problem)) }
-    ensures memory { IfOk result (λ found. IfSome found (λ prices. prices.memory.places ≡ place_count shared.now.problem)) }
+    ensures ng_sets { IfOk result (λ found. IfSome found (λ prices. prices.ng_sets.places ≡ place_count shared.now.problem)) }
 {
     let instance = shared.instance;
-    let Some(plan) = shared.first else {
+    let Some(plan) = shared.start_plan else {
         return Ok(None);
     };
     if instance.customers() > MOST_SEARCHED {
         return Ok(None);
     }
-    shared.gate.hears(News::Prices);
+    shared.gate.on_event(Event::Prices);
     let (near, steps) = steps_by_budget(shared);
     let timed = half_of_the_time(shared.gate);
     find_prices(

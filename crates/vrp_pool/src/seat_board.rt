@@ -5,16 +5,16 @@ ghost use Rattle.std.specs.Option.{ForSome};
 ghost use Rattle.vrp_model.specs.Cheapest.{cost_of};
 ghost use Rattle.vrp_model.specs.Problem.{Problem};
 ghost use Rattle.vrp_model.specs.Route.{IsPlanOf};
-ghost use Rattle.vrp_register.specs.Caller.{IsCallerOf};
+ghost use Rattle.vrp_pool_register.specs.Caller.{IsCallerOf};
 ghost use Rattle.vrp_pool.specs.SeatBoard.{IsLater, SeatBoardState, floor_of};
 
 use std::alloc::Global;
 use std::marker::Model;
 use std::sync::Wait;
 use std::sync::ledger::Ledger;
-use vrp_answer::{Gate, News};
 use vrp_model::{NoMemory, Plan};
-use vrp_register::{Caller, Register};
+use vrp_pool_answer::{Event, Gate};
+use vrp_pool_register::{Caller, Register};
 use vrp_search::{Board, LOOKS_BEFORE_ASKING, Local};
 
 /// A board that offers plans to a register, as one of its callers, and keeps the first of them: the cheapest, and of those the one
@@ -33,7 +33,7 @@ impl<'a, R: Wait, L: Ledger, G: Gate> Model for SeatBoard<'a, R, L, G> {
     ghost use Rattle.std.specs.Prelude.{◌≤◌};
     ghost use Rattle.std.specs.List.{All};
     ghost use Rattle.vrp_model.specs.Cheapest.{cost_of};
-    ghost use Rattle.vrp_register.specs.Caller.{IsCallerOf};
+    ghost use Rattle.vrp_pool_register.specs.Caller.{IsCallerOf};
     ghost use Rattle.vrp_pool.specs.SeatBoard.{SeatBoardState};
 
     ghost Value = { SeatBoardState };
@@ -96,7 +96,7 @@ impl<'a, R: Wait, L: Ledger, G: Gate> SeatBoard<'a, R, L, G> {
         ensures taken { OnOk result (floor_of self.new ≤ plan.now.cost) }
     {
         self.register.offer(self.rt, alloc, &mut self.caller, plan)?;
-        self.gate.hears(News::Plan(plan.cost()));
+        self.gate.on_event(Event::Plan(plan.cost()));
         Ok(())
     }
 }
@@ -127,11 +127,11 @@ impl<'a, R: Wait, L: Ledger, G: Gate> Board for SeatBoard<'a, R, L, G> {
         self.tell(alloc, plan)
     }
 
-    fn goes_on(&self) -> bool {
-        let goes_on = self.gate.goes_on();
-        if goes_on {
-            self.gate.hears(News::Looked(LOOKS_BEFORE_ASKING));
+    fn should_continue(&self) -> bool {
+        let should_continue = self.gate.should_continue();
+        if should_continue {
+            self.gate.on_event(Event::Looked(LOOKS_BEFORE_ASKING));
         }
-        goes_on
+        should_continue
     }
 }

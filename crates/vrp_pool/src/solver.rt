@@ -4,31 +4,31 @@ ghost use Rattle.std.specs.Option.{ForSome, option_map};
 ghost use Rattle.vrp_model.specs.Cheapest.{NoneCheaper, cost_of};
 ghost use Rattle.vrp_model.specs.Problem.{place_count};
 ghost use Rattle.vrp_model.specs.Route.{IsPlanOf};
-ghost use Rattle.vrp_pile.specs.Pile.{IsNewPile};
-ghost use Rattle.vrp_tree.specs.Cutting.{IsCutting};
-ghost use Rattle.vrp_tree.specs.declared.cutting.TheConstants.{MAX_REFINED};
+ghost use Rattle.vrp_pool_pile.specs.Pile.{IsNewPile};
+ghost use Rattle.vrp_search_tree.specs.Cutting.{IsCutting};
+ghost use Rattle.vrp_search_tree.specs.declared.cutting.TheConstants.{MAX_REFINED};
 ghost use Rattle.vrp_pool.specs.declared.solver.TheConstants.{MAX_WORKERS};
-ghost use Rattle.vrp_answer.specs.Answer.{AnswersAll, IsAnswer, known_plan};
-ghost use Rattle.vrp_answer.specs.Outcomes.{words_of};
+ghost use Rattle.vrp_pool_answer.specs.Answer.{AnswersAll, IsAnswer, known_plan};
+ghost use Rattle.vrp_pool_answer.specs.Outcomes.{words_of};
 
 use crate::better_plan::better_plan;
-use crate::choice::{RoutesAnswer, answer_by_routes, copied_memory};
-use crate::preparation::{LEAST_PREPARED_BUDGET, first_plan, prices_for_pieces, prices_found};
+use crate::choice::{RoutesAnswer, answer_by_routes, copied_ng_sets};
+use crate::preparation::{LEAST_PREPARED_BUDGET, heuristic_plan, prices_for_pieces, prices_found};
 use crate::team::searched_by_all;
 use std::alloc::Global;
 use std::marker::Brand;
 use std::sync::Wait;
 use std::sync::ledger::{Blank, Ledger};
 use std::thread::Threads;
-use vrp_answer::{Answer, Gate, News, NoGate, Shared, SolveError, Solved, conclude};
-use vrp_ascent::FoundPrices;
 use vrp_bound::Tables;
-use vrp_memory::Memory;
+use vrp_bound_ascent::FoundPrices;
+use vrp_bound_ng::NgSets;
+use vrp_bound_prices::Relaxation;
 use vrp_model::{Instance, NoMemory, Plan, plans_have_words};
-use vrp_pile::{Owner, Pile, Thief};
-use vrp_prices::Relaxation;
-use vrp_register::{Closed, Register};
-use vrp_tree::{Cutting, Prices};
+use vrp_pool_answer::{Answer, Event, Gate, NoGate, Shared, SolveError, Solved, conclude};
+use vrp_pool_pile::{Owner, Pile, Thief};
+use vrp_pool_register::{Closed, Register};
+use vrp_search_tree::{Cutting, Prices};
 
 /// The most workers that may be asked for.
 pub const MAX_WORKERS: u32 = 64;
@@ -65,17 +65,17 @@ pub fn solve<'a, R: Threads + Wait + Sync, G: Gate + Sync>(
 /// and then whether to go on. The cutting is given up.
 ///
 /// Where the budget is no less than 1,000, there is more before. One worker looks at the whole tree, at no more than 20,000 partial
-/// plans and no more than the budget: where that is enough, nothing else is done, and the gate hears of the plan alone. Else a first
-/// plan is looked for: by savings, and with no less than 100,000 partial plans for all pieces also by ruin and recreate. And prices
-/// are made, if there is a plan and prices are found: then the search of a piece prunes by them.
+/// plans and no more than the budget: where that is enough, nothing else is done, and the gate hears of the plan alone. Else a
+/// heuristic plan is looked for: by savings, and with no less than 100,000 partial plans for all pieces also by ruin and recreate.
+/// And prices are made, if there is a plan and prices are found: then the search of a piece prunes by them.
 ///
-/// Where there are prices and at most 127 customers, the routes that can stand in the first plan are listed next, and that plan is
-/// chosen among them: if this ends, no piece is searched. If it doesn't, the pieces begin with a better plan that it found. Where the gate
-/// has a time, better plans are looked for before, for most of what is left of it.
+/// Where there are prices and at most 127 customers, the routes that can stand in the canonical plan are listed next, and that plan
+/// is chosen among them: if this ends, no piece is searched. If it doesn't, the pieces begin with a better plan that it found.
+/// Where the gate has a time, better plans are looked for before, for most of what is left of it.
 ///
-/// Before the pieces are searched the plan to begin with is offered, if one is given, or the first plan where that is before it. The
-/// answer's plan costs no more than the plan to begin with. No lawful plan costs less than the lower bound, the higher of those by prices
-/// and by the choice among routes.
+/// Before the pieces are searched the plan to begin with is offered, if one is given, or the heuristic plan where that is before
+/// it. The answer's plan costs no more than the plan to begin with. No feasible plan costs less than the lower bound, the higher of
+/// those by prices and by the choice among routes.
 pub fn solve_from<'a, R: Threads + Wait + Sync, G: Gate + Sync>(
     rt: &'a R,
     alloc: Global,
@@ -93,7 +93,7 @@ pub fn solve_from<'a, R: Threads + Wait + Sync, G: Gate + Sync>(
     requires few_workers { workers ≤ MAX_WORKERS }
     requires budget { 1 ≤ budget }
     ensures answer { IfOk result (λ solved. IsAnswer instance.now cutting budget (G.may_stop gate.now) solved.answer) }
-    ensures no_dearer { IfOk result (λ solved. cost_of (known_plan solved.answer)
+    ensures no_costlier { IfOk result (λ solved. cost_of (known_plan solved.answer)
         ≤ cost_of (option_map (λ plan. plan.now) start.entry)) }
     ensures bound { IfOk result (λ solved. NoneCheaper instance.now solved.lower_bound) }
 {
@@ -106,7 +106,7 @@ pub fn solve_from<'a, R: Threads + Wait + Sync, G: Gate + Sync>(
     Ok(solved?)
 }
 
-// Answers by a look at the whole tree where that is enough, else by the pieces, with a first plan and prices.
+// Answers by a look at the whole tree where that is enough, else by the pieces, with a heuristic plan and prices.
 fn solve_shared<R: Threads + Wait + Sync, G: Gate + Sync>(
     shared: &Shared<'_, R, G>,
     cutting: Cutting,
@@ -119,18 +119,18 @@ fn solve_shared<R: Threads + Wait + Sync, G: Gate + Sync>(
     requires few_workers { workers ≤ MAX_WORKERS }
     ensures answer { IfOk result (λ solved.
         IsAnswer shared.now.problem cutting shared.now.budget shared.now.may_stop solved.answer) }
-    ensures no_dearer { IfOk result (λ solved. cost_of (known_plan solved.answer) ≤ cost_of shared.now.first) }
+    ensures no_costlier { IfOk result (λ solved. cost_of (known_plan solved.answer) ≤ cost_of shared.now.start_plan) }
     ensures bound { IfOk result (λ solved. NoneCheaper shared.now.problem solved.lower_bound) }
 {
-    hear_plan(shared.gate, shared.first);
+    report_plan(shared.gate, shared.start_plan);
     if let Some(answer) = looked_at(shared)? {
-        hear_plan(shared.gate, answer.plan());
+        report_plan(shared.gate, answer.plan());
         return Ok(Solved {
             answer,
             lower_bound: 0,
         });
     }
-    let made = first_plan(shared, workers)?;
+    let made = heuristic_plan(shared, workers)?;
     let solved = solve_prepared(&shared.with_plan(made.as_ref()), cutting, workers);
     drop(made);
     solved
@@ -149,12 +149,17 @@ fn solve_prepared<R: Threads + Wait + Sync, G: Gate + Sync>(
     requires few_workers { workers ≤ MAX_WORKERS }
     ensures answer { IfOk result (λ solved.
         IsAnswer shared.now.problem cutting shared.now.budget shared.now.may_stop solved.answer) }
-    ensures no_dearer { IfOk result (λ solved. cost_of (known_plan solved.answer) ≤ cost_of shared.now.first) }
+    ensures no_costlier { IfOk result (λ solved. cost_of (known_plan solved.answer) ≤ cost_of shared.now.start_plan) }
     ensures bound { IfOk result (λ solved. NoneCheaper shared.now.problem solved.lower_bound) }
 {
     match prices_found(shared)? {
-        Some(FoundPrices { relaxation, memory }) => {
-            let solved = solve_by_prices(shared, &relaxation, memory, cutting, workers);
+        Some(
+            FoundPrices {
+                relaxation,
+                ng_sets,
+            },
+        ) => {
+            let solved = solve_by_prices(shared, &relaxation, ng_sets, cutting, workers);
             drop(relaxation);
             solved
         }
@@ -170,7 +175,7 @@ fn looked_at<R: Threads + Wait + Sync, G: Gate>(
     shared: &Shared<'_, R, G>,
 ) -> Result<Option<Answer>, NoMemory>
     ensures answer { IfOk result (λ found. IfSome found (AnswersAll shared.now.problem)) }
-    ensures no_dearer { IfOk result (λ found. IfSome found (λ answer. cost_of (known_plan answer) ≤ cost_of shared.now.first)) }
+    ensures no_costlier { IfOk result (λ found. IfSome found (λ answer. cost_of (known_plan answer) ≤ cost_of shared.now.start_plan)) }
 {
     if shared.budget < LEAST_PREPARED_BUDGET {
         return Ok(None);
@@ -181,7 +186,7 @@ fn looked_at<R: Threads + Wait + Sync, G: Gate>(
         shared.alloc,
         shared.instance,
         shared.tables,
-        shared.first,
+        shared.start_plan,
         whole.pieces().len() as u32,
         shared.budget.min(FIRST_LOOK),
         &NoGate,
@@ -193,16 +198,16 @@ fn looked_at<R: Threads + Wait + Sync, G: Gate>(
     }
 }
 
-// Searches all pieces of a cutting by the prices of a relaxation, whose walks have this memory.
+// Searches all pieces of a cutting by the prices of a relaxation, whose walks have these ng-sets.
 fn solve_by_prices<R: Threads + Wait + Sync, G: Gate + Sync>(
     shared: &Shared<'_, R, G>,
     relaxation: &Relaxation<'_>,
-    memory: Memory,
+    ng_sets: NgSets,
     cutting: Cutting,
     workers: u32,
 ) -> Result<Solved, NoMemory>
     requires problem { relaxation.now.problem ≡ shared.now.problem }
-    requires places { memory.places ≡ place_count shared.now.problem }
+    requires places { ng_sets.places ≡ place_count shared.now.problem }
     requires cutting { IsCutting shared.now.problem cutting }
     requires few { length cutting ≤ 2 * MAX_REFINED }
     requires pieces { shared.now.pieces ≡ length cutting }
@@ -210,15 +215,15 @@ fn solve_by_prices<R: Threads + Wait + Sync, G: Gate + Sync>(
     requires few_workers { workers ≤ MAX_WORKERS }
     ensures answer { IfOk result (λ solved.
         IsAnswer shared.now.problem cutting shared.now.budget shared.now.may_stop solved.answer) }
-    ensures no_dearer { IfOk result (λ solved. cost_of (known_plan solved.answer) ≤ cost_of shared.now.first) }
+    ensures no_costlier { IfOk result (λ solved. cost_of (known_plan solved.answer) ≤ cost_of shared.now.start_plan) }
     ensures bound { IfOk result (λ solved. NoneCheaper shared.now.problem solved.lower_bound) }
 {
-    let copy = copied_memory(shared.alloc, shared.instance, &memory)?;
-    let prices = Prices::new(shared.alloc, relaxation, memory)?;
+    let copy = copied_ng_sets(shared.alloc, shared.instance, &ng_sets)?;
+    let prices = Prices::new(shared.alloc, relaxation, ng_sets)?;
     // What holds of all words holds of all plans.
     plans_have_words();
     let by_prices = prices.lower_bound();
-    shared.gate.hears(News::Bound(by_prices));
+    shared.gate.on_event(Event::Bound(by_prices));
     let solved = solve_by_routes(shared, relaxation, &prices, copy, cutting, workers);
     drop(prices);
     let Solved {
@@ -236,13 +241,13 @@ fn solve_by_routes<R: Threads + Wait + Sync, G: Gate + Sync>(
     shared: &Shared<'_, R, G>,
     relaxation: &Relaxation<'_>,
     prices: &Prices<'_>,
-    memory: Option<Memory>,
+    ng_sets: Option<NgSets>,
     cutting: Cutting,
     workers: u32,
 ) -> Result<Solved, NoMemory>
     requires problem { relaxation.now.problem ≡ shared.now.problem }
     requires prices { prices.now.problem ≡ shared.now.problem }
-    requires places { IfSome memory (λ memory. memory.places ≡ place_count shared.now.problem) }
+    requires places { IfSome ng_sets (λ ng_sets. ng_sets.places ≡ place_count shared.now.problem) }
     requires cutting { IsCutting shared.now.problem cutting }
     requires few { length cutting ≤ 2 * MAX_REFINED }
     requires pieces { shared.now.pieces ≡ length cutting }
@@ -250,23 +255,23 @@ fn solve_by_routes<R: Threads + Wait + Sync, G: Gate + Sync>(
     requires few_workers { workers ≤ MAX_WORKERS }
     ensures answer { IfOk result (λ solved.
         IsAnswer shared.now.problem cutting shared.now.budget shared.now.may_stop solved.answer) }
-    ensures no_dearer { IfOk result (λ solved. cost_of (known_plan solved.answer) ≤ cost_of shared.now.first) }
+    ensures no_costlier { IfOk result (λ solved. cost_of (known_plan solved.answer) ≤ cost_of shared.now.start_plan) }
     ensures bound { IfOk result (λ solved. NoneCheaper shared.now.problem solved.lower_bound) }
 {
     let RoutesAnswer {
         answer,
         better,
         lower_bound,
-    } = answer_by_routes(shared, relaxation, memory, workers)?;
+    } = answer_by_routes(shared, relaxation, ng_sets, workers)?;
     if let Some(answer) = answer {
-        hear_plan(shared.gate, answer.plan());
+        report_plan(shared.gate, answer.plan());
         return Ok(Solved {
             answer,
             lower_bound,
         });
     }
     let begun = shared.with_plan(better.as_ref());
-    // Without a table of the ways home each bound would take long.
+    // Without a completion table each bound would take long.
     let answer = if prices.has_completion_table() {
         solve_improved(&begun.by_prices(prices), cutting, workers)
     } else {
@@ -280,7 +285,7 @@ fn solve_by_routes<R: Threads + Wait + Sync, G: Gate + Sync>(
     })
 }
 
-// Answers by the pieces, by these prices if there is a table of the ways home by them.
+// Answers by the pieces, by these prices if there is a completion table by them.
 fn solve_by_coarse_prices<R: Threads + Wait + Sync, G: Gate + Sync>(
     shared: &Shared<'_, R, G>,
     found: Option<FoundPrices<'_>>,
@@ -288,19 +293,25 @@ fn solve_by_coarse_prices<R: Threads + Wait + Sync, G: Gate + Sync>(
     workers: u32,
 ) -> Result<Answer, NoMemory>
     requires relaxation { IfSome found (λ prices. prices.relaxation.problem ≡ shared.now.problem) }
-    requires memory { IfSome found (λ prices. prices.memory.places ≡ place_count shared.now.problem) }
+    requires ng_sets { IfSome found (λ prices. prices.ng_sets.places ≡ place_count shared.now.problem) }
     requires cutting { IsCutting shared.now.problem cutting }
     requires few { length cutting ≤ 2 * MAX_REFINED }
     requires pieces { shared.now.pieces ≡ length cutting }
     requires some_worker { 1 ≤ workers }
     requires few_workers { workers ≤ MAX_WORKERS }
     ensures answer { IfOk result (IsAnswer shared.now.problem cutting shared.now.budget shared.now.may_stop) }
-    ensures no_dearer { IfOk result (λ answer. cost_of (known_plan answer) ≤ cost_of shared.now.first) }
+    ensures no_costlier { IfOk result (λ answer. cost_of (known_plan answer) ≤ cost_of shared.now.start_plan) }
 {
-    let Some(FoundPrices { relaxation, memory }) = found else {
+    let Some(
+        FoundPrices {
+            relaxation,
+            ng_sets,
+        },
+    ) = found
+    else {
         return solve_improved(shared, cutting, workers);
     };
-    let prices = Prices::new(shared.alloc, &relaxation, memory)?;
+    let prices = Prices::new(shared.alloc, &relaxation, ng_sets)?;
     let answer = if prices.has_completion_table() {
         solve_improved(&shared.by_prices(&prices), cutting, workers)
     } else {
@@ -323,7 +334,7 @@ fn solve_improved<R: Threads + Wait + Sync, G: Gate + Sync>(
     requires some_worker { 1 ≤ workers }
     requires few_workers { workers ≤ MAX_WORKERS }
     ensures answer { IfOk result (IsAnswer shared.now.problem cutting shared.now.budget shared.now.may_stop) }
-    ensures no_dearer { IfOk result (λ answer. cost_of (known_plan answer) ≤ cost_of shared.now.first) }
+    ensures no_costlier { IfOk result (λ answer. cost_of (known_plan answer) ≤ cost_of shared.now.start_plan) }
 {
     let better = better_plan(shared, workers)?;
     let answer = solve_pieces(&shared.with_plan(better.as_ref()), cutting, workers);
@@ -343,9 +354,9 @@ fn solve_pieces<R: Threads + Wait + Sync, G: Gate + Sync>(
     requires some_worker { 1 ≤ workers }
     requires few_workers { workers ≤ MAX_WORKERS }
     ensures answer { IfOk result (IsAnswer shared.now.problem cutting shared.now.budget shared.now.may_stop) }
-    ensures no_dearer { IfOk result (λ answer. cost_of (known_plan answer) ≤ cost_of shared.now.first) }
+    ensures no_costlier { IfOk result (λ answer. cost_of (known_plan answer) ≤ cost_of shared.now.start_plan) }
 {
-    shared.gate.hears(News::Pieces(shared.pieces));
+    shared.gate.on_event(Event::Pieces(shared.pieces));
     let (owner, thieves) = Pile::new(shared.alloc, cutting, workers - 1)?;
     let blank = Blank::new(u64::from(workers));
     solve_pile::<Brand, R, G>(shared, owner, thieves, blank)
@@ -365,11 +376,11 @@ fn solve_pile<L: Ledger + Send + Sync, R: Threads + Wait + Sync, G: Gate + Sync>
     requires parts { blank.parts ≡ L.parts }
     requires as_many { blank.parts ≡ vec_len thieves + 1 }
     ensures answer { IfOk result (IsAnswer shared.now.problem (words_of owner.put) shared.now.budget shared.now.may_stop) }
-    ensures no_dearer { IfOk result (λ answer. cost_of (known_plan answer) ≤ cost_of shared.now.first) }
+    ensures no_costlier { IfOk result (λ answer. cost_of (known_plan answer) ≤ cost_of shared.now.start_plan) }
 {
     let singles = Plan::singles(shared.alloc, shared.instance)?;
     let opening = copied(shared.alloc, singles.as_ref())?;
-    hear_plan(shared.gate, opening.as_ref());
+    report_plan(shared.gate, opening.as_ref());
     let workers = thieves.len() as u32 + 1;
     let (register, callers) = Register::<L>::new(shared.alloc, opening, blank, workers)?;
     let (callers, searched) = searched_by_all(shared, &register, owner, thieves, callers)?;
@@ -380,9 +391,9 @@ fn solve_pile<L: Ledger + Send + Sync, R: Threads + Wait + Sync, G: Gate + Sync>
 }
 
 // The gate hears what a plan costs, if there is one.
-fn hear_plan<G: Gate>(gate: &G, plan: Option<&Plan>) {
+fn report_plan<G: Gate>(gate: &G, plan: Option<&Plan>) {
     if let Some(plan) = plan {
-        gate.hears(News::Plan(plan.cost()));
+        gate.on_event(Event::Plan(plan.cost()));
     }
 }
 

@@ -1,20 +1,20 @@
 //! All workers: how they are made, work in threads of their own, and are brought together.
 ghost use Rattle.std.specs.Prelude.{◌≡◌, ◌+◌, IfOk, [], false, vec_len};
 ghost use Rattle.std.specs.List.{All};
-ghost use Rattle.vrp_pile.specs.Pile.{IsNewPile};
-ghost use Rattle.vrp_answer.specs.Outcomes.{words_of};
-ghost use Rattle.vrp_pool.specs.Inner.Workers.{AreBack, AreFronts, AreNewCallers, CanWork, HasHelped, HasWorked, HaveHelped, IsPartly, IsTeam};
+ghost use Rattle.vrp_pool_pile.specs.Pile.{IsNewPile};
+ghost use Rattle.vrp_pool_answer.specs.Outcomes.{words_of};
+ghost use Rattle.vrp_pool.specs.Inner.Workers.{AreBack, ArePrefixes, AreNewCallers, CanWork, HasHelped, HasWorked, HaveHelped, IsPartly, IsTeam};
 
 use crate::worker::Worker;
 use std::sync::Wait;
 use std::sync::ledger::Ledger;
 use std::thread::{Threads, for_each_mut, join};
-use vrp_answer::{Gate, Searched, Shared};
 use vrp_model::NoMemory;
-use vrp_pile::{Owner, Thief};
-use vrp_register::{Caller, Register};
+use vrp_pool_answer::{Gate, Searched, Shared};
+use vrp_pool_pile::{Owner, Thief};
+use vrp_pool_register::{Caller, Register};
 
-/// The register's callers, after each has worked, and what they leave of the pieces. The lead offers the first plan before they
+/// The register's callers, after each has worked, and what they leave of the pieces. The lead offers the heuristic plan before they
 /// search, if there is one.
 pub(crate) fn searched_by_all<
     'a,
@@ -29,7 +29,7 @@ pub(crate) fn searched_by_all<
     callers: Vec<Caller<L>>,
 ) -> Result<(Vec<Caller<L>>, Searched), NoMemory>
     requires pile { IsNewPile (words_of owner.put) (vec_len thieves) owner thieves.items }
-    requires fronts { AreFronts shared.now owner.put }
+    requires prefixes { ArePrefixes shared.now owner.put }
     requires callers { AreNewCallers register.now callers.items }
     requires as_many { vec_len callers ≡ vec_len thieves + 1 }
     requires all { register.now.callers ≡ vec_len callers }
@@ -49,7 +49,7 @@ fn new_team<'a, R: Wait, L: Ledger, G: Gate>(
     mut callers: Vec<Caller<L>>,
 ) -> Result<(Worker<'a, Owner, R, L, G>, Vec<Worker<'a, Thief, R, L, G>>), NoMemory>
     requires pile { IsNewPile (words_of owner.put) (vec_len thieves) owner thieves.items }
-    requires fronts { AreFronts shared.now owner.put }
+    requires prefixes { ArePrefixes shared.now owner.put }
     requires callers { AreNewCallers register.now callers.items }
     requires as_many { vec_len callers ≡ vec_len thieves + 1 }
     requires all { register.now.callers ≡ vec_len callers }
@@ -71,7 +71,7 @@ fn new_team<'a, R: Wait, L: Ledger, G: Gate>(
 }
 
 // The lead and the helpers, after each worked in a thread of its own, where one can be made.
-fn worked<'a, 'b, R: Threads + Wait + Sync, L: Ledger + Send + Sync, G: Gate + Sync>(
+fn run_workers<'a, 'b, R: Threads + Wait + Sync, L: Ledger + Send + Sync, G: Gate + Sync>(
     shared: &Shared<'_, R, G>,
     lead: Worker<'a, Owner, R, L, G>,
     helpers: Vec<Worker<'b, Thief, R, L, G>>,
@@ -131,10 +131,10 @@ fn all_searched<R: Threads + Wait + Sync, L: Ledger + Send + Sync, G: Gate + Syn
     ensures back { IfOk result (λ found. AreBack shared.now lead.entry.board.register found.0.items found.1) }
     ensures put { IfOk result (λ found. found.1.pile.put ≡ lead.entry.drawer.put) }
 {
-    lead.offer(shared, shared.first)?;
-    let (mut lead, helpers) = worked(shared, lead, helpers)?;
+    lead.offer(shared, shared.start_plan)?;
+    let (mut lead, helpers) = run_workers(shared, lead, helpers)?;
     let callers = taken_over(shared, &mut lead, helpers)?;
-    left_drawn(shared, lead, callers)
+    drain_pile(shared, lead, callers)
 }
 
 // The helpers' callers, once the lead has taken all helpers over.
@@ -155,7 +155,7 @@ fn taken_over<R: Wait, L: Ledger, G: Gate>(
 }
 
 // All callers and what they leave, once the lead, who has taken all helpers over, has drawn what is left.
-fn left_drawn<R: Wait, L: Ledger, G: Gate>(
+fn drain_pile<R: Wait, L: Ledger, G: Gate>(
     shared: &Shared<'_, R, G>,
     mut lead: Worker<'_, Owner, R, L, G>,
     mut callers: Vec<Caller<L>>,

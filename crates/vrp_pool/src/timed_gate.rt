@@ -1,8 +1,8 @@
 //! A gate of which a part of the time is kept for what comes after.
 
-use vrp_answer::{Gate, News};
-use vrp_first::Watch;
+use vrp_heuristic::Watch;
 use vrp_model::NO_COST;
+use vrp_pool_answer::{Event, Gate};
 
 /// A gate that stops what is done now when no more than so many milliseconds are left: they are kept for what comes after. Where the
 /// gate has no time it goes on as the gate does.
@@ -14,7 +14,7 @@ pub(crate) struct TimedGate<'a, G: Gate> {
 
 impl<G: Gate> Watch for TimedGate<'_, G> {
     fn should_continue(&self) -> bool {
-        self.gate.goes_on()
+        self.gate.should_continue()
             && match self.gate.milliseconds_left() {
                 Some(left) => left > self.kept,
                 None => true,
@@ -23,7 +23,7 @@ impl<G: Gate> Watch for TimedGate<'_, G> {
 
     fn on_cost(&self, cost: u64) {
         if cost < NO_COST {
-            self.gate.hears(News::Cheaper(cost));
+            self.gate.on_event(Event::Cheaper(cost));
         }
     }
 

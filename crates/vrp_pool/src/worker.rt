@@ -3,10 +3,10 @@ ghost use Rattle.std.specs.Prelude.{◌≡◌, ◌≤◌, IfOk, OnOk};
 ghost use Rattle.std.specs.Option.{ForSome, option_map};
 ghost use Rattle.vrp_model.specs.Cheapest.{cost_of};
 ghost use Rattle.vrp_model.specs.Route.{IsPlanOf};
-ghost use Rattle.vrp_model.specs.Word.{IsFront};
-ghost use Rattle.vrp_register.specs.Caller.{IsCallerOf};
+ghost use Rattle.vrp_model.specs.Word.{IsPrefix};
+ghost use Rattle.vrp_pool_register.specs.Caller.{IsCallerOf};
 ghost use Rattle.vrp_pool.specs.SeatBoard.{IsLater, floor_of};
-ghost use Rattle.vrp_answer.specs.Outcomes.{EndsPiece, IsOutcome};
+ghost use Rattle.vrp_pool_answer.specs.Outcomes.{EndsPiece, IsOutcome};
 ghost use Rattle.vrp_pool.specs.Inner.Workers.{CanWork, CostsNoLess, HasHelped, HasSearched, IsNewCaller, IsTakenOver, IsWorked, IsWorker, new_worker};
 
 use crate::draws::Draws;
@@ -14,12 +14,12 @@ use crate::seat_board::SeatBoard;
 use std::marker::Model;
 use std::sync::Wait;
 use std::sync::ledger::Ledger;
-use vrp_answer::{Finished, Gate, Left, News, Outcome, Searched, Shared};
 use vrp_model::{NoMemory, Plan, plans_cost_less};
-use vrp_pile::{Drawn, Owner, Thief};
-use vrp_register::{Caller, Register};
+use vrp_pool_answer::{Event, Finished, Gate, OpenPiece, PieceOutcome, Searched, Shared};
+use vrp_pool_pile::{Drawn, Owner, Thief};
+use vrp_pool_register::{Caller, Register};
 use vrp_search::{Board, Ended, LOOKS_BEFORE_ASKING, search, search_by_prices};
-use vrp_tree::Piece;
+use vrp_search_tree::Piece;
 
 // How often in a row a worker may be told that others were drawing, before it draws no more.
 const MAX_BUSY: u32 = 1_000;
@@ -30,7 +30,7 @@ pub(crate) struct Worker<'a, D: Draws, R: Wait, L: Ledger, G: Gate> {
     number: u32,
     pub(crate) drawer: D,
     pub(crate) board: SeatBoard<'a, R, L, G>,
-    pub(crate) outcomes: Vec<Outcome>,
+    pub(crate) outcomes: Vec<PieceOutcome>,
     // The refusal of memory that it met as a helper, if any.
     refused: Option<NoMemory>,
 }
@@ -64,7 +64,7 @@ impl<'a, D: Draws, R: Wait, L: Ledger, G: Gate> Worker<'a, D, R, L, G> {
         }
     }
 
-    /// Offers a lawful plan to its board, if there is one.
+    /// Offers a feasible plan to its board, if there is one.
     pub(crate) fn offer(
         &mut self,
         shared: &Shared<'_, R, G>,
@@ -135,7 +135,7 @@ impl<'a, D: Draws, R: Wait, L: Ledger, G: Gate> Worker<'a, D, R, L, G> {
             match self.drawer.draw() {
                 Drawn::Piece(piece) => {
                     shared.gate.begins(self.number, piece.number());
-                    let outcome = searched(shared, piece, &mut self.board)?;
+                    let outcome = search_piece(shared, piece, &mut self.board)?;
                     self.outcomes.push(outcome)?;
                     busy = 0;
                 }
@@ -207,12 +207,12 @@ impl<'a, R: Wait, L: Ledger, G: Gate> Worker<'a, Owner, R, L, G> {
 }
 
 // How the search of a piece ends.
-fn searched<R: Wait, L: Ledger, G: Gate>(
+fn search_piece<R: Wait, L: Ledger, G: Gate>(
     shared: &Shared<'_, R, G>,
     piece: Piece,
     board: &mut SeatBoard<'_, R, L, G>,
-) -> Result<Outcome, NoMemory>
-    requires front { IsFront shared.now.problem piece.word }
+) -> Result<PieceOutcome, NoMemory>
+    requires prefix { IsPrefix shared.now.problem piece.word }
     requires serves { ForSome board.old.best (IsPlanOf shared.now.problem) }
     requires gate { board.old.may_stop ≡ shared.now.may_stop }
     ensures serves { ForSome board.new.best (IsPlanOf shared.now.problem) }
@@ -223,12 +223,12 @@ fn searched<R: Wait, L: Ledger, G: Gate>(
     let ended = end_of_search(shared, &piece, board)?;
     tell_ended(shared.gate, &ended);
     match ended {
-        Ended::Finished { first, .. } => Ok(Outcome::Finished(Finished {
+        Ended::Finished { first, .. } => Ok(PieceOutcome::Finished(Finished {
             number: piece.number(),
             floor: board.least(),
-            first,
+            last_offer: first,
         })),
-        Ended::Unfinished { low, .. } => Ok(Outcome::Unfinished(Left { piece, low })),
+        Ended::Unfinished { low, .. } => Ok(PieceOutcome::Unfinished(OpenPiece { piece, low })),
     }
 }
 
@@ -238,7 +238,7 @@ fn end_of_search<R: Wait, L: Ledger, G: Gate>(
     piece: &Piece,
     board: &mut SeatBoard<'_, R, L, G>,
 ) -> Result<Ended, NoMemory>
-    requires front { IsFront shared.now.problem piece.now.word }
+    requires prefix { IsPrefix shared.now.problem piece.now.word }
     requires serves { ForSome board.old.best (IsPlanOf shared.now.problem) }
     requires gate { board.old.may_stop ≡ shared.now.may_stop }
     ensures serves { ForSome board.new.best (IsPlanOf shared.now.problem) }
@@ -257,13 +257,13 @@ fn end_of_search<R: Wait, L: Ledger, G: Gate>(
 // Tells the gate how the search of a piece ended, and of the partial plans of it that the board has not told.
 fn tell_ended<G: Gate>(gate: &G, ended: &Ended) {
     let (spent, news) = match ended {
-        Ended::Finished { spent, .. } => (*spent, News::Done),
-        Ended::Unfinished { spent, .. } => (*spent, News::LeftOpen),
+        Ended::Finished { spent, .. } => (*spent, Event::Done),
+        Ended::Unfinished { spent, .. } => (*spent, Event::LeftOpen),
     };
     let untold = match spent % LOOKS_BEFORE_ASKING {
         0 => spent.min(LOOKS_BEFORE_ASKING),
         rest => rest,
     };
-    gate.hears(News::Looked(untold));
-    gate.hears(news);
+    gate.on_event(Event::Looked(untold));
+    gate.on_event(news);
 }

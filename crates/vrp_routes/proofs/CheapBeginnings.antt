@@ -13,24 +13,24 @@ use Rattle.vrp_model.proofs.CustomerPlaces.{customer_is_some}
 use Rattle.vrp_model.proofs.DistinctLists.{AreDistinct, AreDistinct-permutation, customers_distinct, head_differs, tail_distinct}
 use Rattle.vrp_model.proofs.PlanWords.{closed_plan, cost_of_word, lawful_of_closed}
 use Rattle.vrp_model.proofs.Words.{last_behind, last_is}
-use Rattle.vrp_memory.specs.Remembering.{NoneRemembered}
-use Rattle.vrp_memory.proofs.RememberedStops.{none_twice}
-use Rattle.vrp_bound.specs.Remembering.{IsRememberingBound, IsRememberingRelaxed, IsRememberingTour}
+use Rattle.vrp_bound_ng.specs.NgWalks.{NoneRemembered}
+use Rattle.vrp_bound_ng.proofs.RememberedStops.{none_twice}
+use Rattle.vrp_bound.specs.NgWalks.{IsNgBound, IsNgRelaxed, IsNgTour}
 use Rattle.vrp_bound.specs.Walk.{home_cost, relaxed_cost, walk_cost}
-use Rattle.vrp_bound.proofs.RememberingCompletions.{distinct_behind}
+use Rattle.vrp_bound.proofs.NgCompletions.{distinct_behind}
 use Rattle.vrp_bound.proofs.ServedBehind.{cost_behind}
-use Rattle.vrp_prices.proofs.BoundByRelaxation.{remembering_below}
-use Rattle.vrp_prices.specs.Relaxation.{Bounds, RelaxationOf}
+use Rattle.vrp_bound_prices.proofs.BoundByRelaxation.{ng_below}
+use Rattle.vrp_bound_prices.specs.Relaxation.{Bounds, RelaxationOf}
 use Rattle.vrp_routes.specs.Label.{IsBeginning}
 use Rattle.vrp_routes.specs.Useful.{BeginsUseful, IsUseful}
-use Rattle.vrp_routes.proofs.FirstPlanRoutes.{first_has_word}
+use Rattle.vrp_routes.proofs.CanonicalPlanRoutes.{canonical_has_word}
 use Rattle.vrp_routes.proofs.Replaced.{first_part, holds_of_middle, second_part, split_at, sum_around}
 
 distinct_first : (xs ys : List ℕ) → AreDistinct (xs ++ ys) → AreDistinct xs
 distinct_first xs ys distinct i j d less within same =
     distinct i j d less (omega (arith, within, length-append xs ys)) (get_or-append xs ys d i (omega (arith, less, within)) ∙ same ∙ sym (get_or-append xs ys d j within))
 
--- a route of a lawful plan
+-- a route of a feasible plan
 pub record IsRoute (p : Problem) (route : List ℕ) : Type 0 where
   pub known : All (Contains (customers p)) route
   pub once : AreDistinct route
@@ -60,7 +60,7 @@ load_of_all : (f : ℕ → ℕ) (routes : List (List ℕ)) → sum_by f (concat 
 load_of_all f [] = refl
 load_of_all f (route ∷ routes) = omega (arith, sum_by-append f route (concat routes), load_of_all f routes, sum_by-cons (sum_by f) route routes)
 
-is_tour : (p : Problem) (near : ℕ → List ℕ) (route : List ℕ) → IsRoute p route → IsRememberingTour p near (customers p) route
+is_tour : (p : Problem) (near : ℕ → List ℕ) (route : List ℕ) → IsRoute p route → IsNgTour p near (customers p) route
 is_tour p near route is = record {
   leaves = is.some;
   walks = record {
@@ -72,25 +72,25 @@ is_tour p near route is = record {
 
 -- the last of some stops
 pub record EndsAt (stops : List ℕ) : Type 0 where
-  pub front : List ℕ
+  pub prefix : List ℕ
   pub last : ℕ
-  pub is : stops ≡ front ++ last ∷ []
+  pub is : stops ≡ prefix ++ last ∷ []
   pub ends : last_behind 0 stops ≡ last
 
 pub ends_at : (stops : List ℕ) → stops ≢ [] → EndsAt stops
 ends_at [] some = absurd (some refl)
-ends_at (k ∷ []) some = record { front = []; last = k; is = refl; ends = refl }
+ends_at (k ∷ []) some = record { prefix = []; last = k; is = refl; ends = refl }
 ends_at (k ∷ j ∷ stops) some =
     let rest = ends_at (j ∷ stops) (λ none. (cc)) in
-    record { front = k ∷ rest.front; last = rest.last; is = ap (λ (xs : List ℕ). k ∷ xs) rest.is; ends = rest.ends }
+    record { prefix = k ∷ rest.prefix; last = rest.last; is = ap (λ (xs : List ℕ). k ∷ xs) rest.is; ends = rest.ends }
 
 home_from_customer : (p : Problem) (at : ℕ) (home : List ℕ) → 0 < at → home_cost p at home ≡ walk_cost p at home
 home_from_customer p zero home above = absurd (omega (arith, above))
 home_from_customer p (suc k) home above = refl
 
--- the rest of the route is a way home, and the other routes are tours
+-- the rest of the route is a walk home, and the other routes are tours
 completed : (p : Problem) (near : ℕ → List ℕ) (before after : List (List ℕ)) (stops more : List ℕ) (rest : ℕ) → IsLawful p (before ++ (stops ++ more) ∷ after) → stops ≢ [] → load_of p stops + rest ≡ load_of p (customers p)
-    → IsRememberingRelaxed p near (customers p) (last_symbol stops) (load_of p stops) rest more (before ++ after)
+    → IsNgRelaxed p near (customers p) (last_symbol stops) (load_of p stops) rest more (before ++ after)
     × (word_cost p stops + relaxed_cost p (last_symbol stops) more (before ++ after) ≡ plan_cost p (before ++ (stops ++ more) ∷ after))
 completed p near before after stops more rest lawful some whole =
     let routes = before ++ (stops ++ more) ∷ after in
@@ -100,9 +100,9 @@ completed p near before after stops more rest lawful some whole =
     let others : All (IsRoute p) (before ++ after) = All-append (IsRoute p) before after (first_part (IsRoute p) before ((stops ++ more) ∷ after) are) (All-tail (IsRoute p) (stops ++ more) after (second_part (IsRoute p) before ((stops ++ more) ∷ after) are)) in
     let e = ends_at stops some in
     let ends : last_symbol stops ≡ e.last = last_is stops ∙ e.ends in
-    let behind : stops ++ more ≡ e.front ++ e.last ∷ more = ap (λ (xs : List ℕ). xs ++ more) e.is ∙ append_assoc e.front (e.last ∷ []) more in
-    let above : 0 < at = subst (λ n. 0 < n) (sym ends) (customer_is_some p e.last (holds_of_middle (Contains (customers p)) e.front more e.last (subst (All (Contains (customers p))) behind route.known))) in
-    let once : AreDistinct (e.last ∷ more) = distinct_behind e.front (e.last ∷ more) (subst AreDistinct behind route.once) in
+    let behind : stops ++ more ≡ e.prefix ++ e.last ∷ more = ap (λ (xs : List ℕ). xs ++ more) e.is ∙ append_assoc e.prefix (e.last ∷ []) more in
+    let above : 0 < at = subst (λ n. 0 < n) (sym ends) (customer_is_some p e.last (holds_of_middle (Contains (customers p)) e.prefix more e.last (subst (All (Contains (customers p))) behind route.known))) in
+    let once : AreDistinct (e.last ∷ more) = distinct_behind e.prefix (e.last ∷ more) (subst AreDistinct behind route.once) in
     let parts = sum_by-append (demand_of p) stops more in
     let around = sum_around (load_of p) before after (stops ++ more) in
     let all = load_of_all (demand_of p) routes in
@@ -121,9 +121,9 @@ completed p near before after stops more rest lawful some whole =
           omega (arith, split, home_from_customer p at more above, sum_around (route_cost p) before after (stops ++ more))),
     )
 
-within_limit : (answer : Option ℕ) (relaxed_cost more whole rewards dear : ℕ) → MatchOption answer ⊥ (λ least. least ≤ more) → relaxed_cost + more ≡ whole → whole + rewards ≤ dear → MatchOption answer ⊥ (λ least. relaxed_cost + least + rewards ≤ dear)
-within_limit None relaxed_cost more whole rewards dear below costs cheap = below
-within_limit (Some least) relaxed_cost more whole rewards dear below costs cheap = omega (arith, below, costs, cheap)
+within_limit : (answer : Option ℕ) (relaxed_cost more whole rewards costly : ℕ) → MatchOption answer ⊥ (λ least. least ≤ more) → relaxed_cost + more ≡ whole → whole + rewards ≤ costly → MatchOption answer ⊥ (λ least. relaxed_cost + least + rewards ≤ costly)
+within_limit None relaxed_cost more whole rewards costly below costs cheap = below
+within_limit (Some least) relaxed_cost more whole rewards costly below costs cheap = omega (arith, below, costs, cheap)
 
 -- a useful route in the relaxation, between the others of its plan
 pub record InRelaxation (r : RelaxationOf) (limit : ℕ) (route : List ℕ) : Type 0 where
@@ -137,10 +137,10 @@ in_relaxation r limit route bounds useful =
     let p = r.problem in
     let q = r.relaxed in
     let routes = useful.plan.routes in
-    let plan_of = useful.first.plan_of in
+    let plan_of = useful.canonical.plan_of in
     let split = split_at routes route useful.among in
     let around = split.before ++ route ∷ split.after in
-    let word : IsLawfulWord p (word_of routes) = first_has_word p useful.plan useful.first in
+    let word : IsLawfulWord p (word_of routes) = canonical_has_word p useful.plan useful.canonical in
     let cheaper : plan_cost q around + r.rewards ≤ r.scale * plan_cost p routes + r.charges = subst (λ (n : ℕ). n + r.rewards ≤ r.scale * plan_cost p routes + r.charges) (cost_of_word q routes ∙ ap (plan_cost q) split.is) (subst (λ (n : ℕ). word_cost q (word_of routes) + r.rewards ≤ r.scale * n + r.charges) (cost_of_word p routes) (bounds.cheaper (word_of routes) word)) in
     let cheap : plan_cost p routes ≤ limit = subst (λ (n : ℕ). n ≤ limit) plan_of.priced useful.cheap in
     record {
@@ -152,14 +152,14 @@ in_relaxation r limit route bounds useful =
 
 pub cheap_beginning : (r : RelaxationOf) (limit : ℕ) (near : ℕ → List ℕ) (stops : List ℕ) (rest : ℕ) (answer : Option ℕ) → Bounds r → BeginsUseful r.problem limit stops → stops ≢ []
     → load_of r.relaxed stops + rest ≡ load_of r.relaxed (customers r.relaxed)
-    → IsRememberingBound r.relaxed near (customers r.relaxed) (last_symbol stops) (load_of r.relaxed stops) rest answer
+    → IsNgBound r.relaxed near (customers r.relaxed) (last_symbol stops) (load_of r.relaxed stops) rest answer
     → MatchOption answer ⊥ (λ least. word_cost r.relaxed stops + least + r.rewards ≤ r.scale * limit + r.charges)
 cheap_beginning r limit near stops rest answer bounds (more, useful) some whole bound =
     let q = r.relaxed in
     let i = in_relaxation r limit (stops ++ more) bounds useful in
     let (relaxed, costs) = completed q near i.before i.after stops more rest i.lawful some whole in
     within_limit answer (word_cost q stops) (relaxed_cost q (last_symbol stops) more (i.before ++ i.after)) (plan_cost q (i.before ++ (stops ++ more) ∷ i.after)) r.rewards (r.scale * limit + r.charges)
-    (remembering_below q near (customers q) (last_symbol stops) (load_of q stops) rest answer more (i.before ++ i.after) bound relaxed)
+    (ng_below q near (customers q) (last_symbol stops) (load_of q stops) rest answer more (i.before ++ i.after) bound relaxed)
     costs
     i.cheap
 
@@ -172,7 +172,7 @@ begins_route p stops more route = record {
 
 -- what begins a useful route may begin one, in the problem and in the relaxation
 pub useful_begins : (p : Problem) (limit : ℕ) (stops : List ℕ) → BeginsUseful p limit stops → IsBeginning p stops
-useful_begins p limit stops (more, useful) = begins_route p stops more (All-contains (IsRoute p) useful.plan.routes (stops ++ more) (are_routes p useful.plan.routes useful.first.plan_of.lawful) useful.among)
+useful_begins p limit stops (more, useful) = begins_route p stops more (All-contains (IsRoute p) useful.plan.routes (stops ++ more) (are_routes p useful.plan.routes useful.canonical.plan_of.lawful) useful.among)
 
 pub useful_begins_relaxed : (r : RelaxationOf) (limit : ℕ) (stops : List ℕ) → Bounds r → BeginsUseful r.problem limit stops → IsBeginning r.relaxed stops
 useful_begins_relaxed r limit stops bounds (more, useful) =
@@ -187,7 +187,7 @@ none_useful r limit stops bounds none (more, useful) =
 
 -- nothing is out, and the other routes are tours
 others_completed : (p : Problem) (near : ℕ → List ℕ) (before after : List (List ℕ)) (route : List ℕ) (rest : ℕ) → IsLawful p (before ++ route ∷ after) → load_of p route + rest ≡ load_of p (customers p)
-    → IsRememberingRelaxed p near (customers p) 0 0 rest [] (before ++ after)
+    → IsNgRelaxed p near (customers p) 0 0 rest [] (before ++ after)
     × (route_cost p route + relaxed_cost p 0 [] (before ++ after) ≡ plan_cost p (before ++ route ∷ after))
 others_completed p near before after route rest lawful whole =
     let routes = before ++ route ∷ after in
@@ -207,13 +207,13 @@ others_completed p near before after route rest lawful whole =
     )
 
 pub cheap_route : (r : RelaxationOf) (limit : ℕ) (near : ℕ → List ℕ) (route : List ℕ) (rest : ℕ) (answer : Option ℕ) → Bounds r → IsUseful r.problem limit route
-    → load_of r.relaxed route + rest ≡ load_of r.relaxed (customers r.relaxed) → IsRememberingBound r.relaxed near (customers r.relaxed) 0 0 rest answer
+    → load_of r.relaxed route + rest ≡ load_of r.relaxed (customers r.relaxed) → IsNgBound r.relaxed near (customers r.relaxed) 0 0 rest answer
     → MatchOption answer ⊥ (λ least. route_cost r.relaxed route + least + r.rewards ≤ r.scale * limit + r.charges)
 cheap_route r limit near route rest answer bounds useful whole bound =
     let q = r.relaxed in
     let i = in_relaxation r limit route bounds useful in
     let (relaxed, costs) = others_completed q near i.before i.after route rest i.lawful whole in
     within_limit answer (route_cost q route) (relaxed_cost q 0 [] (i.before ++ i.after)) (plan_cost q (i.before ++ route ∷ i.after)) r.rewards (r.scale * limit + r.charges)
-    (remembering_below q near (customers q) 0 0 rest answer [] (i.before ++ i.after) bound relaxed)
+    (ng_below q near (customers q) 0 0 rest answer [] (i.before ++ i.after) bound relaxed)
     costs
     i.cheap

@@ -143,7 +143,7 @@ left_out_route s mine start stops at old new route some has one left_out =
     no_route_rival s stops (closed_at old left_out.at) route (start + other.from) (start + at) other.listed one.listed other.label one.label of_set useful
     (elim (cases_lt (closed_at old left_out.at).cost route.cost) [
       | inl less ↦ inl less
-      | inr more ↦ inr (omega (arith, left_out.no_dearer, more), earlier)
+      | inr more ↦ inr (omega (arith, left_out.no_costlier, more), earlier)
     ])))
 
 replaced_route : (s : SettingOf) (mine : ℕ → Bool) (start : ℕ) (stops : List (List ℕ)) (at : ℕ) (old new : Closed) (route : ClosedRoute) → ClosesSome s mine start stops at old → HasPlaces old → ClosesOne s start stops at route → IsReplaced old route new → ClosesSome s mine start stops (at + 1) new

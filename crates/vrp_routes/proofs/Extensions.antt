@@ -285,10 +285,10 @@ refused_extension s k stops old new child has keyed lt is refused =
     let (within, of_key) = keyed (key_of child) refused.at refused.kept in
     let other = label_at old refused.at in
     let earlier : IsEarlier (stops_of stops other) (stops_of stops child) = extensions_rise k stops other.parent other.last child.parent child.last has.size has.rising (has.are.parents refused.at no_label within) lt (has.before refused.at no_label within) in
-    no_rival s (stops_of stops other) (stops_of stops child) other child (has.are.each refused.at no_label within) is of_key useful (no_dearer_before other.cost child.cost (stops_of stops other) (stops_of stops child) refused.no_dearer earlier)))
+    no_rival s (stops_of stops other) (stops_of stops child) other child (has.are.each refused.at no_label within) is of_key useful (no_costlier_before other.cost child.cost (stops_of stops other) (stops_of stops child) refused.no_costlier earlier)))
   where
-    no_dearer_before : (cost other : ℕ) (xs ys : List ℕ) → cost ≤ other → IsEarlier xs ys → ComesBefore cost xs other ys
-    no_dearer_before cost other xs ys no_more earlier = elim (cases_lt cost other) [
+    no_costlier_before : (cost other : ℕ) (xs ys : List ℕ) → cost ≤ other → IsEarlier xs ys → ComesBefore cost xs other ys
+    no_costlier_before cost other xs ys no_more earlier = elim (cases_lt cost other) [
       | inl less ↦ inl less
       | inr more ↦ inr (omega (arith, no_more, more), earlier)
     ]
@@ -327,14 +327,14 @@ all_grown s k stops labels next i is all has = record {
   are = has.are;
   every = λ xs long mine useful.
       let e = ends_at xs (λ none. (let short = ap length none in omega (arith, long, short))) in
-      let whole : BeginsUseful s.relaxation.problem s.limit (e.front ++ e.last ∷ []) = subst (BeginsUseful s.relaxation.problem s.limit) e.is useful in
-      let size : length e.front ≡ k = omega (arith, ap length e.is, length-append e.front (e.last ∷ []), long) in
-      let (at, within, there) = is.every e.front size (shorter s.relaxation.problem s.limit e.front e.last whole) in
-      let front : get_or stops at [] ≡ e.front = get_or_default stops at [] e.front within ∙ there in
-      let same : get_or stops at [] ++ e.last ∷ [] ≡ xs = ap (λ (ys : List ℕ). ys ++ e.last ∷ []) front ∙ sym e.is in
-      let last : last_symbol xs ≡ e.last = ap last_symbol e.is ∙ last_symbol_with e.front e.last in
-      let goes_on : IsKept (sequences stops next.labels.items) next (get_or stops at [] ++ e.last ∷ []) = (has.every at e.last (inl (omega (arith, within, all))) within (subst (λ n. is_in next.share n ≡ true) last mine) (subst (BeginsUseful s.relaxation.problem s.limit) (sym same) useful)) in
-      subst (IsKept (sequences stops next.labels.items) next) same goes_on;
+      let whole : BeginsUseful s.relaxation.problem s.limit (e.prefix ++ e.last ∷ []) = subst (BeginsUseful s.relaxation.problem s.limit) e.is useful in
+      let size : length e.prefix ≡ k = omega (arith, ap length e.is, length-append e.prefix (e.last ∷ []), long) in
+      let (at, within, there) = is.every e.prefix size (shorter s.relaxation.problem s.limit e.prefix e.last whole) in
+      let prefix : get_or stops at [] ≡ e.prefix = get_or_default stops at [] e.prefix within ∙ there in
+      let same : get_or stops at [] ++ e.last ∷ [] ≡ xs = ap (λ (ys : List ℕ). ys ++ e.last ∷ []) prefix ∙ sym e.is in
+      let last : last_symbol xs ≡ e.last = ap last_symbol e.is ∙ last_symbol_with e.prefix e.last in
+      let should_continue : IsKept (sequences stops next.labels.items) next (get_or stops at [] ++ e.last ∷ []) = (has.every at e.last (inl (omega (arith, within, all))) within (subst (λ n. is_in next.share n ≡ true) last mine) (subst (BeginsUseful s.relaxation.problem s.limit) (sym same) useful)) in
+      subst (IsKept (sequences stops next.labels.items) next) same should_continue;
 }
 
 -- the labels of all shares together are a level

@@ -18,16 +18,16 @@ use Rattle.vrp_model.proofs.DistinctWithin.{length_among, sum_among}
 use Rattle.vrp_model.proofs.LastRoute.{last_symbol_with}
 use Rattle.vrp_model.proofs.PlanWords.{cost_parts}
 use Rattle.vrp_model.proofs.Words.{last_is}
-use Rattle.vrp_memory.proofs.Recalled.{contained_stands, stands_contained}
-use Rattle.vrp_prices.specs.Relaxation.{Bounds, IsLimit, RelaxationOf}
-use Rattle.vrp_memory.specs.Near.{near_in}
-use Rattle.vrp_bound.specs.Remembering.{IsMemoryBound, IsRememberingBound}
-use Rattle.vrp_bound.specs.Tables.{MemoryTablesOf}
+use Rattle.vrp_bound_ng.proofs.Recalled.{contained_stands, stands_contained}
+use Rattle.vrp_bound_prices.specs.Relaxation.{Bounds, IsLimit, RelaxationOf}
+use Rattle.vrp_bound_ng.specs.Near.{near_in}
+use Rattle.vrp_bound.specs.NgWalks.{IsNgTablesBound, IsNgBound}
+use Rattle.vrp_bound.specs.Tables.{NgTablesOf}
 use Rattle.vrp_routes.specs.Label.{IsBeginning, IsLabel, IsSetting, SettingOf, set_of}
 use Rattle.vrp_routes.specs.Useful.{BeginsUseful, IsUseful}
 use Rattle.vrp_routes.specs.declared.label.Label.{Label}
 use Rattle.vrp_routes.proofs.CheapBeginnings.{cheap_beginning, cheap_route, useful_begins, useful_begins_relaxed}
-use Rattle.vrp_routes.proofs.FirstPlanRoutes.{useful_runs_forward}
+use Rattle.vrp_routes.proofs.CanonicalPlanRoutes.{useful_runs_forward}
 use Rattle.vrp_routes.proofs.Sets.{set_with, stands_if_tested, stands_not_if_tested}
 
 pub cost_with : (p : Problem) (stops : List ℕ) (k : ℕ) → word_cost p (stops ++ k ∷ []) ≡ word_cost p stops + weight_of p (last_symbol stops) k
@@ -63,24 +63,24 @@ not_too_heavy_relaxed r limit stops k load bounds is heavy useful = omega (arith
 some_with : (stops : List ℕ) (k : ℕ) → stops ++ k ∷ [] ≢ []
 some_with stops k none = let long = ap length none in omega (arith, long, length-append stops (k ∷ []))
 
--- no useful route is dearer than the limit
-pub not_too_dear : (r : RelaxationOf) (limit most : ℕ) (near : ℕ → List ℕ) (stops : List ℕ) (k load relaxed_cost rest : ℕ) (answer : Option ℕ) → Bounds r → IsLimit r limit (Some most)
+-- no useful route is costlier than the limit
+pub not_too_costly : (r : RelaxationOf) (limit most : ℕ) (near : ℕ → List ℕ) (stops : List ℕ) (k load relaxed_cost rest : ℕ) (answer : Option ℕ) → Bounds r → IsLimit r limit (Some most)
     → load ≡ load_of r.relaxed (stops ++ k ∷ []) → relaxed_cost ≡ word_cost r.relaxed (stops ++ k ∷ []) → load + rest ≡ load_of r.relaxed (customers r.relaxed)
-    → IsRememberingBound r.relaxed near (customers r.relaxed) k load rest answer
+    → IsNgBound r.relaxed near (customers r.relaxed) k load rest answer
     → MatchOption answer Unit (λ least. most < relaxed_cost + least) → BeginsUseful r.problem limit (stops ++ k ∷ []) → ⊥
-not_too_dear r limit most near stops k load relaxed_cost rest answer bounds is_limit loads pays whole bound dear useful =
+not_too_costly r limit most near stops k load relaxed_cost rest answer bounds is_limit loads pays whole bound costly useful =
     let longer = stops ++ k ∷ [] in
-    let there : IsRememberingBound r.relaxed near (customers r.relaxed) (last_symbol longer) (load_of r.relaxed longer) rest answer =
-    subst (λ at. IsRememberingBound r.relaxed near (customers r.relaxed) at (load_of r.relaxed longer) rest answer) (sym (last_symbol_with stops k))
-    (subst (λ n. IsRememberingBound r.relaxed near (customers r.relaxed) k n rest answer) loads bound) in
-    by_answer answer dear (cheap_beginning r limit near longer rest answer bounds useful (some_with stops k) (omega (arith, loads, whole)) there)
+    let there : IsNgBound r.relaxed near (customers r.relaxed) (last_symbol longer) (load_of r.relaxed longer) rest answer =
+    subst (λ at. IsNgBound r.relaxed near (customers r.relaxed) at (load_of r.relaxed longer) rest answer) (sym (last_symbol_with stops k))
+    (subst (λ n. IsNgBound r.relaxed near (customers r.relaxed) k n rest answer) loads bound) in
+    by_answer answer costly (cheap_beginning r limit near longer rest answer bounds useful (some_with stops k) (omega (arith, loads, whole)) there)
   where
     by_answer : (told : Option ℕ) → MatchOption told Unit (λ least. most < relaxed_cost + least) → MatchOption told ⊥ (λ least. word_cost r.relaxed (stops ++ k ∷ []) + least + r.rewards ≤ r.scale * limit + r.charges) → ⊥
-    by_answer None dear below = below
-    by_answer (Some least) dear below = omega (arith, dear, below, pays, is_limit)
+    by_answer None costly below = below
+    by_answer (Some least) costly below = omega (arith, costly, below, pays, is_limit)
 
 -- what a label says of the beginning with one more stop
-pub record GoesOn (r : RelaxationOf) (label : Label) (stop first load relaxed_load cost relaxed_cost set : ℕ) : Type 0 where
+pub record Continues (r : RelaxationOf) (label : Label) (stop first load relaxed_load cost relaxed_cost set : ℕ) : Type 0 where
   pub problem : IsProblem r.problem
   pub relaxed : IsProblem r.relaxed
   pub bounds : Bounds r
@@ -113,12 +113,12 @@ first_with p (stop ∷ stops) k first begins is =
     let other : (first == 0) ≡ false = grind (arith, nat_tests, some, is) in
     ap (λ b. if b then k else first) other ∙ is
 
-pub longer_label : (s : SettingOf) (stops : List ℕ) (label : Label) (stop parent first load relaxed_load cost relaxed_cost set : ℕ) → IsLabel s stops label → GoesOn s.relaxation label stop first load relaxed_load cost relaxed_cost set
+pub longer_label : (s : SettingOf) (stops : List ℕ) (label : Label) (stop parent first load relaxed_load cost relaxed_cost set : ℕ) → IsLabel s stops label → Continues s.relaxation label stop first load relaxed_load cost relaxed_cost set
     → IsLabel s (stops ++ stop ∷ []) (record { first = first; last = stop; parent = parent; set = set; load = load; cost = cost; relaxed_load = relaxed_load; relaxed_cost = relaxed_cost })
 longer_label s stops label stop parent first load relaxed_load cost relaxed_cost set is on =
     let p = s.relaxation.problem in
     let q = s.relaxation.relaxed in
-    let way : cost ≡ label.cost + weight_of p (last_symbol stops) stop = on.cost_is ∙ ap (λ at. label.cost + weight_of p at stop) is.last in
+    let arc : cost ≡ label.cost + weight_of p (last_symbol stops) stop = on.cost_is ∙ ap (λ at. label.cost + weight_of p at stop) is.last in
     let priced : relaxed_cost ≡ label.relaxed_cost + weight_of q (last_symbol stops) stop = on.relaxed_cost_is ∙ ap (λ at. label.relaxed_cost + weight_of q at stop) is.last in
     let fresh : stands_in stops stop ≡ false = stands_not_if_tested stops stop (subst (λ n. bit_and (n / 2 ^ stop) 1 ≡ 1 → ⊥) is.set on.fresh) in
     record {
@@ -127,11 +127,11 @@ longer_label s stops label stop parent first load relaxed_load cost relaxed_cost
       last = sym (last_symbol_with stops stop);
       set = on.set_is ∙ ap (λ n. bit_or n (2 ^ stop)) is.set ∙ sym (set_with stops stop);
       load = omega (arith, on.load_is, is.load, load_with p stops stop);
-      cost = omega (arith, way, is.cost, cost_with p stops stop);
+      cost = omega (arith, arc, is.cost, cost_with p stops stop);
       relaxed_load = omega (arith, on.relaxed_load_is, is.relaxed_load, load_with q stops stop);
       relaxed_cost = omega (arith, priced, is.relaxed_cost, cost_with q stops stop);
       light = on.light_relaxed;
-      small_cost = small_with p stops stop cost label.cost 0 on.problem is.small_cost way;
+      small_cost = small_with p stops stop cost label.cost 0 on.problem is.small_cost arc;
       small_relaxed_cost = small_with q stops stop relaxed_cost label.relaxed_cost 0 on.relaxed is.small_relaxed_cost priced;
     }
 
@@ -173,19 +173,19 @@ pub label_small : (s : SettingOf) (tabled : Problem) (most whole : ℕ) (label :
 label_small s tabled most whole label known (stops, is) = small_label s stops label known.problem is
 
 -- where tables answer that nothing completes, or too much does, no useful route begins so
-pub dear_child : (s : SettingOf) (tables : MemoryTablesOf) (most whole : ℕ) (label : Label) (stop relaxed_load relaxed_cost rest : ℕ) (answer : Option ℕ) → IsSetting s tables.problem most whole
+pub costly_child : (s : SettingOf) (tables : NgTablesOf) (most whole : ℕ) (label : Label) (stop relaxed_load relaxed_cost rest : ℕ) (answer : Option ℕ) → IsSetting s tables.problem most whole
     → relaxed_load ≡ label.relaxed_load + demand_of s.relaxation.relaxed stop → relaxed_cost ≡ label.relaxed_cost + weight_of s.relaxation.relaxed label.last stop → relaxed_load + rest ≡ whole
-    → IsMemoryBound tables stop relaxed_load rest answer → MatchOption answer Unit (λ least. most < relaxed_cost + least)
+    → IsNgTablesBound tables stop relaxed_load rest answer → MatchOption answer Unit (λ least. most < relaxed_cost + least)
     → (stops : List ℕ) → IsLabel s stops label → BeginsUseful s.relaxation.problem s.limit (stops ++ stop ∷ []) → ⊥
-dear_child s tables most whole label stop relaxed_load relaxed_cost rest answer known relaxed_load_is relaxed_cost_is whole_is bound dear stops is =
+costly_child s tables most whole label stop relaxed_load relaxed_cost rest answer known relaxed_load_is relaxed_cost_is whole_is bound costly stops is =
     let q = s.relaxation.relaxed in
     let priced : relaxed_cost ≡ label.relaxed_cost + weight_of q (last_symbol stops) stop = relaxed_cost_is ∙ ap (λ at. label.relaxed_cost + weight_of q at stop) is.last in
-    not_too_dear s.relaxation s.limit most (near_in tables.near) stops stop relaxed_load relaxed_cost rest answer known.bounds known.is_limit
+    not_too_costly s.relaxation s.limit most (near_in tables.near) stops stop relaxed_load relaxed_cost rest answer known.bounds known.is_limit
     (omega (arith, relaxed_load_is, is.relaxed_load, load_with q stops stop))
     (omega (arith, priced, is.relaxed_cost, cost_with q stops stop))
     (omega (arith, whole_is, known.whole_is))
-    (subst (λ (p : Problem). IsRememberingBound p (near_in tables.near) (customers p) stop relaxed_load rest answer) known.tables bound)
-    dear
+    (subst (λ (p : Problem). IsNgBound p (near_in tables.near) (customers p) stop relaxed_load rest answer) known.tables bound)
+    costly
 
 -- ---- closed
 
@@ -197,25 +197,25 @@ label_whole r stops bounds begins =
 pub closed_within : (s : SettingOf) (tabled : Problem) (most whole : ℕ) (label : Label) → IsSetting s tabled most whole → (stops : List ℕ) × IsLabel s stops label × (stops ≢ []) → label.relaxed_load ≤ whole
 closed_within s tabled most whole label known (stops, is, some) = omega (arith, is.relaxed_load, known.whole_is, label_whole s.relaxation stops known.bounds is.begins)
 
-pub dear_closed : (s : SettingOf) (tables : MemoryTablesOf) (most whole : ℕ) (label : Label) (relaxed_cost rest : ℕ) (answer : Option ℕ) → IsSetting s tables.problem most whole
+pub costly_closed : (s : SettingOf) (tables : NgTablesOf) (most whole : ℕ) (label : Label) (relaxed_cost rest : ℕ) (answer : Option ℕ) → IsSetting s tables.problem most whole
     → relaxed_cost ≡ label.relaxed_cost + weight_of s.relaxation.relaxed label.last 0 → label.relaxed_load + rest ≡ whole
-    → IsMemoryBound tables 0 0 rest answer → MatchOption answer Unit (λ least. most < relaxed_cost + least)
+    → IsNgTablesBound tables 0 0 rest answer → MatchOption answer Unit (λ least. most < relaxed_cost + least)
     → (stops : List ℕ) → IsLabel s stops label → IsUseful s.relaxation.problem s.limit stops → ⊥
-dear_closed s tables most whole label relaxed_cost rest answer known relaxed_cost_is whole_is bound dear stops is useful =
+costly_closed s tables most whole label relaxed_cost rest answer known relaxed_cost_is whole_is bound costly stops is useful =
     let q = s.relaxation.relaxed in
     let priced : relaxed_cost ≡ label.relaxed_cost + weight_of q (last_symbol stops) 0 = relaxed_cost_is ∙ ap (λ at. label.relaxed_cost + weight_of q at 0) is.last in
-    let there = subst (λ (p : Problem). IsRememberingBound p (near_in tables.near) (customers p) 0 0 rest answer) known.tables bound in
-    by_answer answer dear (omega (arith, priced, is.relaxed_cost, cost_with q stops 0)) (cheap_route s.relaxation s.limit (near_in tables.near) stops rest answer known.bounds useful (omega (arith, whole_is, known.whole_is, is.relaxed_load)) there)
+    let there = subst (λ (p : Problem). IsNgBound p (near_in tables.near) (customers p) 0 0 rest answer) known.tables bound in
+    by_answer answer costly (omega (arith, priced, is.relaxed_cost, cost_with q stops 0)) (cheap_route s.relaxation s.limit (near_in tables.near) stops rest answer known.bounds useful (omega (arith, whole_is, known.whole_is, is.relaxed_load)) there)
   where
     by_answer : (told : Option ℕ) → MatchOption told Unit (λ least. most < relaxed_cost + least) → relaxed_cost ≡ route_cost s.relaxation.relaxed stops
         → MatchOption told ⊥ (λ least. route_cost s.relaxation.relaxed stops + least + s.relaxation.rewards ≤ s.relaxation.scale * s.limit + s.relaxation.charges) → ⊥
-    by_answer None dear pays below = below
-    by_answer (Some least) dear pays below = omega (arith, dear, below, pays, known.is_limit)
+    by_answer None costly pays below = below
+    by_answer (Some least) costly pays below = omega (arith, costly, below, pays, known.is_limit)
 
 pub backward : (s : SettingOf) (label : Label) → label.last < label.first → IsSymmetric s.relaxation.problem → (stops : List ℕ) → IsLabel s stops label → IsUseful s.relaxation.problem s.limit stops → ⊥
 backward s label turned symmetric stops is useful = let forward = useful_runs_forward s.relaxation.problem s.limit stops useful symmetric in omega (arith, forward, turned, is.first, is.last)
 
 pub closed_cost : (s : SettingOf) (stops : List ℕ) (label : Label) (cost : ℕ) → IsLabel s stops label → cost ≡ label.cost + weight_of s.relaxation.problem label.last 0 → cost ≡ route_cost s.relaxation.problem stops
 closed_cost s stops label cost is cost_is =
-    let way : cost ≡ label.cost + weight_of s.relaxation.problem (last_symbol stops) 0 = cost_is ∙ ap (λ at. label.cost + weight_of s.relaxation.problem at 0) is.last in
-    omega (arith, way, is.cost, cost_with s.relaxation.problem stops 0)
+    let arc : cost ≡ label.cost + weight_of s.relaxation.problem (last_symbol stops) 0 = cost_is ∙ ap (λ at. label.cost + weight_of s.relaxation.problem at 0) is.last in
+    omega (arith, arc, is.cost, cost_with s.relaxation.problem stops 0)

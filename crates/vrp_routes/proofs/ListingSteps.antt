@@ -22,7 +22,7 @@ use Rattle.vrp_routes.proofs.Extensions.{root_level}
 use Rattle.vrp_routes.proofs.Labels.{short_beginning}
 
 useful_has_stops : (p : Problem) (limit : ℕ) (xs : List ℕ) → IsUseful p limit xs → 1 ≤ length xs
-useful_has_stops p limit [] useful = absurd ((All-contains (IsRoute p) useful.plan.routes [] (are_routes p useful.plan.routes useful.first.plan_of.lawful) useful.among).some refl)
+useful_has_stops p limit [] useful = absurd ((All-contains (IsRoute p) useful.plan.routes [] (are_routes p useful.plan.routes useful.canonical.plan_of.lawful) useful.among).some refl)
 useful_has_stops p limit (x ∷ xs) useful = omega arith
 
 -- what is known of a listed route

@@ -6,7 +6,7 @@ use Rattle.std.proofs.lemmas.List.Elements.{All-append, All-cons, All-tail}
 use Rattle.std.proofs.lemmas.List.Folds.{concat-append}
 use Rattle.std.proofs.lemmas.List.Sorted.{IsPermutation-append_left, IsPermutation-append_right, IsPermutation-sym, IsPermutation-trans, length_permutation, sum_by-IsPermutation}
 use Rattle.std.proofs.lemmas.List.Sums.{sum_by-append, sum_by-cons}
-use Rattle.vrp_model.specs.Order.{ComesBefore, IsEarlier, IsFirst}
+use Rattle.vrp_model.specs.Order.{ComesBefore, IsEarlier, IsCanonical}
 use Rattle.vrp_model.specs.Problem.{HasTrucks, Problem, demand_of}
 use Rattle.vrp_model.specs.Route.{IsLawful, PricedPlan, load_of, plan_cost, route_cost}
 use Rattle.vrp_model.specs.Word.{last_symbol, word_cost, word_of}
@@ -97,16 +97,16 @@ word_in_place before after stops others more long earlier =
     rw (shape others, shape stops) (earlier_behind (word_of before) (others ++ rest) (stops ++ rest) (earlier_longer others stops rest rest long earlier))
 
 -- the plan with the rearrangement in the place of the beginning costs as much more or less as that does
-no_better_in_place : (p : Problem) (plan : PricedPlan) (before after : List (List ℕ)) (stops others more : List ℕ) (old new : ℕ) → IsFirst p plan → plan.routes ≡ before ++ (stops ++ more) ∷ after
+no_better_in_place : (p : Problem) (plan : PricedPlan) (before after : List (List ℕ)) (stops others more : List ℕ) (old new : ℕ) → IsCanonical p plan → plan.routes ≡ before ++ (stops ++ more) ∷ after
     → IsPermutation stops others → route_cost p (others ++ more) + old ≡ route_cost p (stops ++ more) + new → ComesBefore new others old stops → ⊥
-no_better_in_place p plan before after stops others more old new first is moved costs better =
+no_better_in_place p plan before after stops others more old new canonical is moved costs better =
     let routes = before ++ (others ++ more) ∷ after in
     let former = before ++ (stops ++ more) ∷ after in
     let other : PricedPlan = record { routes = routes; cost = plan_cost p routes } in
-    let lawful = lawful_in_place p before after stops others more moved (subst (IsLawful p) is first.plan_of.lawful) in
-    let price : plan.cost ≡ plan_cost p former = first.plan_of.priced ∙ ap (plan_cost p) is in
+    let lawful = lawful_in_place p before after stops others more moved (subst (IsLawful p) is canonical.plan_of.lawful) in
+    let price : plan.cost ≡ plan_cost p former = canonical.plan_of.priced ∙ ap (plan_cost p) is in
     let sums : plan_cost p routes + old ≡ plan_cost p former + new = omega (arith, sum_around (route_cost p) before after (others ++ more), sum_around (route_cost p) before after (stops ++ more), costs) in
-    let none = first.none_before other (record { lawful = lawful; priced = refl }) in
+    let none = canonical.none_before other (record { lawful = lawful; priced = refl }) in
     let go : ComesBefore new others old stops → ⊥ = elim [
       | inl less ↦ none (inl (omega (arith, price, sums, less)))
       | inr (same, earlier) ↦ none (inr (omega (arith, price, sums, same), subst (λ (rs : List (List ℕ)). IsEarlier (word_of routes) (word_of rs)) (sym is) (word_in_place before after stops others more (length_permutation stops others moved) earlier)))
@@ -117,11 +117,11 @@ pub no_better_beginning : (p : Problem) (limit : ℕ) (stops others : List ℕ) 
     → IsPermutation stops others → last_symbol others ≡ last_symbol stops → ComesBefore (word_cost p others) others (word_cost p stops) stops → ⊥
 no_better_beginning p limit stops others (more, useful) moved ends better =
     let split = split_at useful.plan.routes (stops ++ more) useful.among in
-    no_better_in_place p useful.plan split.before split.after stops others more (word_cost p stops) (word_cost p others) useful.first split.is moved (cost_of_beginning p stops others more ends) better
+    no_better_in_place p useful.plan split.before split.after stops others more (word_cost p stops) (word_cost p others) useful.canonical split.is moved (cost_of_beginning p stops others more ends) better
 
 pub no_better_route : (p : Problem) (limit : ℕ) (stops others : List ℕ) → IsUseful p limit stops → IsPermutation stops others → ComesBefore (route_cost p others) others (route_cost p stops) stops → ⊥
 no_better_route p limit stops others useful moved better =
     let split = split_at useful.plan.routes stops useful.among in
     let is : useful.plan.routes ≡ split.before ++ (stops ++ []) ∷ split.after = split.is ∙ ap (λ (xs : List ℕ). split.before ++ xs ∷ split.after) (sym (append-nil stops)) in
     let costs : route_cost p (others ++ []) + route_cost p stops ≡ route_cost p (stops ++ []) + route_cost p others = omega (arith, ap (route_cost p) (append-nil others), ap (route_cost p) (append-nil stops)) in
-    no_better_in_place p useful.plan split.before split.after stops others [] (route_cost p stops) (route_cost p others) useful.first is moved costs better
+    no_better_in_place p useful.plan split.before split.after stops others [] (route_cost p stops) (route_cost p others) useful.canonical is moved costs better

@@ -62,9 +62,9 @@ pub parent_within : (steps : List Step) (number : ℕ) (step : Step) → GoOn st
 parent_within steps number step on some within is = subst (λ (t : Step). t.parent ≤ number - 1) (sym is) (on (number - 1) step (omega (arith, some, within)))
 
 -- what is left of a sequence before the stops that were read, and one stop more
-pub read_more : (all front before stops more : List ℕ) (last : ℕ) → all ≡ front ++ reverse stops → front ≡ before ++ last ∷ [] → more ≡ stops ++ last ∷ [] → all ≡ before ++ reverse more
-read_more all front before stops more last is front_is longer =
-    is ∙ ap (λ (xs : List ℕ). xs ++ reverse stops) front_is ∙ append_assoc before (last ∷ []) (reverse stops)
+pub read_more : (all prefix before stops more : List ℕ) (last : ℕ) → all ≡ prefix ++ reverse stops → prefix ≡ before ++ last ∷ [] → more ≡ stops ++ last ∷ [] → all ≡ before ++ reverse more
+read_more all prefix before stops more last is prefix_is longer =
+    is ∙ ap (λ (xs : List ℕ). xs ++ reverse stops) prefix_is ∙ append_assoc before (last ∷ []) (reverse stops)
     ∙ ap (λ (xs : List ℕ). before ++ xs) (sym (ap reverse longer ∙ reverse-append stops (last ∷ [])))
 
 pub go_on_with : (steps : List Step) (step : Step) → GoOn steps → step.parent ≤ length steps → GoOn (steps ++ step ∷ [])

@@ -41,7 +41,7 @@ pub record IsRefused (old : Candidates) (label : Label) (new : Candidates) : Typ
   pub same : new ≡ old
   pub at : ℕ
   pub kept : kept_for old (key_of label) ≡ Some at
-  pub no_dearer : (label_at old at).cost ≤ label.cost
+  pub no_costlier : (label_at old at).cost ≤ label.cost
 
 pub record IsTaken (old : Candidates) (label : Label) (new : Candidates) : Type 0 where
   pub share : new.share ≡ old.share

@@ -32,7 +32,7 @@ pub record IsLeftOut (old : Closed) (route : ClosedRoute) (new : Closed) : Type 
   pub same : new ≡ old
   pub at : ℕ
   pub there : place_of old route.set ≡ Some at
-  pub no_dearer : (closed_at old at).cost ≤ route.cost
+  pub no_costlier : (closed_at old at).cost ≤ route.cost
 
 pub record IsReplaced (old : Closed) (route : ClosedRoute) (new : Closed) : Type 0 where
   pub at : ℕ

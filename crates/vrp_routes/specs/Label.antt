@@ -6,7 +6,7 @@ use Rattle.vrp_model.specs.Problem.{IsProblem, Problem, customers, place_count}
 use Rattle.vrp_model.specs.Route.{load_of}
 use Rattle.vrp_model.specs.Word.{last_symbol, word_cost}
 use Rattle.vrp_model.specs.declared.limits.TheConstants.{MAX_WEIGHT}
-use Rattle.vrp_prices.specs.Relaxation.{Bounds, IsLimit, RelaxationOf}
+use Rattle.vrp_bound_prices.specs.Relaxation.{Bounds, IsLimit, RelaxationOf}
 use Rattle.vrp_routes.specs.declared.label.Label.{Label}
 
 -- the stops as bits
@@ -20,7 +20,7 @@ pub record IsBeginning (p : Problem) (stops : List ℕ) : Type 0 where
   pub once : AllPairs (λ a b. a ≢ b) stops
   pub light : load_of p stops ≤ p.capacity
 
--- a relaxation, and what a first plan costs at most
+-- a relaxation, and what a canonical plan costs at most
 pub record SettingOf : Type 0 where
   pub relaxation : RelaxationOf
   pub limit : ℕ

@@ -15,9 +15,9 @@ use crate::setting::Setting;
 use crate::tally::Tally;
 use std::alloc::Global;
 use std::thread::Threads;
-use vrp_bound::MemoryTables;
+use vrp_bound::NgTables;
+use vrp_bound_prices::Relaxation;
 use vrp_model::{Instance, NoMemory};
-use vrp_prices::Relaxation;
 
 /// So many customers an instance may have, since a set has a bit for each place.
 pub const MOST_CUSTOMERS: u16 = 127;
@@ -36,27 +36,28 @@ pub fn can_list(instance: &Instance) -> bool
     instance.customers() <= MOST_CUSTOMERS
 }
 
-/// The routes that may stand in the first plan of the relaxation's instance, where that costs no more than the limit. The tables are of
-/// the relaxed instance, whoever is near which place. Beginnings of routes are extended customer by customer; one is dropped where it
-/// and its least completion by the tables are above the limit, or where another with the same customers and the same last one costs
-/// less, or as much and is earlier. At most `most_labels` beginnings are made, the one of no customers and those of the next length that
-/// are dropped later counted. Now and then it is asked whether to go on, and told how many beginnings were made so far; what number that
-/// is, is left open. Which limit is met, and when, is left open, and so is that the pool is the same for every number of workers.
+/// The routes that may stand in the canonical plan of the relaxation's instance, where that costs no more than the limit. The
+/// tables are of the relaxed instance, whoever is near which place. Beginnings of routes are extended customer by customer; one is
+/// dropped where it and its least completion by the tables are above the limit, or where another with the same customers and the
+/// same last one costs less, or as much and is earlier. At most `most_labels` beginnings are made, the one of no customers and
+/// those of the next length that are dropped later counted. Now and then it is asked whether to go on, and told how many beginnings
+/// were made so far; what number that is, is left open. Which limit is met, and when, is left open, and so is that the pool is the
+/// same for every number of workers.
 pub fn list_routes<R: Threads + Sync, F: Fn(u64) -> bool>(
     rt: &R,
     alloc: Global,
     relaxation: &Relaxation<'_>,
-    tables: &MemoryTables<'_>,
+    tables: &NgTables<'_>,
     limit: u64,
     workers: u16,
     most_labels: u32,
-    goes_on: &F,
+    should_continue: &F,
 ) -> Result<Listed, NoMemory>
     requires workers { 0 < workers }
     requires tables { tables.now.problem ≡ relaxation.now.relaxed }
     requires few { place_count relaxation.now.problem ≤ MOST_CUSTOMERS + 1 }
     requires limit { limit ≤ NO_COST }
-    requires goes_on { F.IsAlwaysCallable goes_on.now }
+    requires should_continue { F.IsAlwaysCallable should_continue.now }
     ensures { IfOk result (λ listed. IfPool listed (IsPool relaxation.now.problem limit)) }
 {
     let Some(setting) = Setting::new(relaxation, tables, limit) else {
@@ -64,7 +65,14 @@ pub fn list_routes<R: Threads + Sync, F: Fn(u64) -> bool>(
     };
     let mut listing = Listing::new(alloc)?;
     for _level in 1..setting.places() {
-        if let Some(limit) = listing.step(rt, alloc, &setting, workers, most_labels, goes_on)? {
+        if let Some(limit) = listing.step(
+            rt,
+            alloc,
+            &setting,
+            workers,
+            most_labels,
+            should_continue,
+        )? {
             return Ok(Listed::Met(limit));
         }
     }
@@ -104,11 +112,11 @@ impl Listing {
         setting: &Setting<'_>,
         workers: u16,
         most_labels: u32,
-        goes_on: &F,
+        should_continue: &F,
     ) -> Result<Option<Limit>, NoMemory>
         requires workers { 0 < workers }
         requires listing { (k : ℕ) × IsListing setting.now k self.old }
-        requires goes_on { F.IsAlwaysCallable goes_on.now }
+        requires should_continue { F.IsAlwaysCallable should_continue.now }
         ensures { IfOk result (λ met. IfNone met ((k : ℕ)
             → IsListing setting.now k self.old → IsListing setting.now (k + 1) self.new)) }
     {
@@ -117,7 +125,15 @@ impl Listing {
             made: u64::from(start),
             room: most_labels.saturating_sub(start) as usize,
         };
-        let extended = extend_level(rt, alloc, setting, &self.labels, workers, tally, goes_on)?;
+        let extended = extend_level(
+            rt,
+            alloc,
+            setting,
+            &self.labels,
+            workers,
+            tally,
+            should_continue,
+        )?;
         let labels = match extended {
             Extended::Labels(labels) => labels,
             Extended::Met(limit) => return Ok(Some(limit)),

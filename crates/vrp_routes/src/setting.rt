@@ -3,22 +3,22 @@ ghost use Rattle.std.specs.Prelude.{◌≡◌, ◌≢◌, ◌≤◌, ◌<◌, Li
 ghost use Rattle.vrp_model.specs.Problem.{IsProblem, place_count};
 ghost use Rattle.vrp_model.specs.Route.{route_cost};
 ghost use Rattle.vrp_model.specs.declared.limits.TheConstants.{NO_COST};
-ghost use Rattle.vrp_prices.specs.Relaxation.{RelaxationOf};
+ghost use Rattle.vrp_bound_prices.specs.Relaxation.{RelaxationOf};
 ghost use Rattle.vrp_routes.specs.Label.{IsLabel, SettingOf};
 ghost use Rattle.vrp_routes.specs.Useful.{BeginsUseful, IsUseful};
 
 use crate::label::Label;
 use std::marker::Model;
-use vrp_bound::MemoryTables;
-use vrp_prices::Relaxation;
+use vrp_bound::NgTables;
+use vrp_bound_prices::Relaxation;
 
-/// A relaxation of an instance, tables of walks that remember in it, and what a first plan costs at most.
+/// A relaxation of an instance, tables of ng-walks in it, and what a canonical plan costs at most.
 #[derive(Drop)]
 pub struct Setting<'a> {
     relaxation: &'a Relaxation<'a>,
-    tables: &'a MemoryTables<'a>,
+    tables: &'a NgTables<'a>,
     limit: u64,
-    // What a lawful word costs in the relaxation at most.
+    // What a feasible word costs in the relaxation at most.
     relaxed_limit: u64,
     // What all customers demand in the relaxation.
     whole_demand: u64,
@@ -40,7 +40,7 @@ impl<'a> Setting<'a> {
     /// The setting of a relaxation. `None` where no plan costs so little.
     pub fn new(
         relaxation: &'a Relaxation<'a>,
-        tables: &'a MemoryTables<'a>,
+        tables: &'a NgTables<'a>,
         limit: u64,
     ) -> Option<Setting<'a>>
         requires tables { tables.now.problem ≡ relaxation.now.relaxed }

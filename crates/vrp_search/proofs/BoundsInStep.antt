@@ -2,8 +2,8 @@
 use Rattle.std.proofs.Common.{◌≡◌, ◌∙◌, ℕ, List, sym, subst}
 use Rattle.vrp_model.specs.Problem.{Problem}
 use Rattle.vrp_model.specs.Word.{BeginsWith}
-use Rattle.vrp_tree.specs.Partial.{PartialPlan}
-use Rattle.vrp_tree.specs.Low.{AreCovered}
+use Rattle.vrp_search_tree.specs.Partial.{PartialPlan}
+use Rattle.vrp_search_tree.specs.Low.{AreCovered}
 use Rattle.vrp_search.specs.Inner.Bounded.{AreBoundsUnder}
 
 pub still_bounds : (tabled : Problem) (among : List ℕ) (treed : Problem) (root : List ℕ) (old new : PartialPlan) → new.problem ≡ old.problem → BeginsWith new.word root → AreBoundsUnder tabled among treed root old

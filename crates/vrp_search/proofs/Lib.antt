@@ -1,5 +1,5 @@
 pub mod BoundsInStep
-pub mod PaidInStep
+pub mod PricedTallyInStep
 pub mod SearchProgress
 pub mod TreePruned
 pub mod WordOrder

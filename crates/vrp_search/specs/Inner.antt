@@ -1,5 +1,5 @@
 -- What inner contracts alone cite: nobody has to believe it.
 pub mod Bounded
 pub mod Found
-pub mod Paid
+pub mod PricedTally
 pub mod Under

@@ -29,7 +29,7 @@ pub trait Board {
         ensures falls { floor self.new ≤ floor self.old }
         ensures answered { floor self.new ≤ result };
 
-    /// Takes note of a lawful plan. Where memory is refused the floor has not risen.
+    /// Takes note of a feasible plan. Where memory is refused the floor has not risen.
     fn offer(&mut self, alloc: Global, plan: &Plan) -> Result<(), NoMemory>
         requires { (p : Problem) × serves self.old p × IsPlanOf p plan.now }
         ensures serves { (p : Problem) →
@@ -40,7 +40,7 @@ pub trait Board {
 
     /// Whether a search goes on that has looked at another `LOOKS_BEFORE_ASKING` partial plans. Where it doesn't, it is left
     /// unfinished.
-    fn goes_on(&self) -> bool
+    fn should_continue(&self) -> bool
         ensures { result ≡ false → IsTrue (may_stop self.now) }
     {
         true

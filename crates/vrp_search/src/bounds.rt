@@ -1,19 +1,19 @@
 //! Pruning by the bounds on what is still to pay.
 ghost use Rattle.std.specs.Prelude.{◌≡◌, ◌↔◌, List, ℕ, [], ◌∷◌, ◌++◌, IfOk, IsTrue, MatchOption, is_some};
-ghost use Rattle.vrp_model.specs.Word.{IsFront};
+ghost use Rattle.vrp_model.specs.Word.{IsPrefix};
 ghost use Rattle.vrp_search.specs.Inner.Bounded.{AreBoundsUnder};
-ghost use Rattle.vrp_tree.specs.Pruned.{MayBeOfUse, NoneOfUse, with_symbol};
-ghost use Rattle.vrp_tree.specs.Tally.{IsTally};
+ghost use Rattle.vrp_search_tree.specs.Pruned.{MayBeOfUse, NoneOfUse, with_symbol};
+ghost use Rattle.vrp_search_tree.specs.Tally.{IsTally};
 
 use crate::pruning::Pruning;
 use crate::tree_pruning::TreePruning;
 use std::alloc::Global;
 use vrp_bound::Tables;
 use vrp_model::{Instance, NoMemory};
-use vrp_tree::{Partial, Tally};
+use vrp_search_tree::{Partial, Tally};
 
 /// The bounds on what is still to pay: that of the tables and the capacity, and behind a push the tree bound, where it pays. They
-/// prune dead partial plans too.
+/// prune partial plans without completion too.
 #[derive(Drop)]
 pub(crate) struct Bounds<'a> {
     tables: &'a Tables<'a>,
@@ -45,17 +45,23 @@ impl<'a> Pruning for Bounds<'a> {
     ghost is_counted = { λ _ at tally. IsTally at.problem at.word tally };
 
     #[inline(always)]
-    fn promising(&self, partial: &Partial<'_>, symbol: u16, least: u64, own: u64) -> Option<Tally>
+    fn promising(
+        &self,
+        partial: &Partial<'_>,
+        symbol: u16,
+        incumbent: u64,
+        own_best: u64,
+    ) -> Option<Tally>
         requires step { let tables = self.now.tables.now
             in (root : List ℕ) × AreBoundsUnder tables.problem tables.among self.now.trees.instance.now root partial.now }
-        requires child { IsFront partial.now.problem (partial.now.word ++ symbol ∷ []) }
+        requires child { IsPrefix partial.now.problem (partial.now.word ++ symbol ∷ []) }
         ensures of_use { let child = with_symbol partial.now symbol
-            in MatchOption result (NoneOfUse child.problem child.word least own) (IsTally child.problem child.word) }
+            in MatchOption result (NoneOfUse child.problem child.word incumbent own_best) (IsTally child.problem child.word) }
         ensures exact { let child = with_symbol partial.now symbol
             in IsTrue (is_some result)
-            ↔ MayBeOfUse child.problem self.now.tables.now.among child.word least own }
+            ↔ MayBeOfUse child.problem self.now.tables.now.among child.word incumbent own_best }
     {
-        partial.promising(self.tables, symbol, least, own)
+        partial.promising(self.tables, symbol, incumbent, own_best)
     }
 
     #[inline(always)]
@@ -64,8 +70,8 @@ impl<'a> Pruning for Bounds<'a> {
     }
 
     #[inline(always)]
-    fn prunes(&mut self, partial: &Partial<'_>, least: u64, own: u64) -> bool {
-        self.trees.prunes(partial, least, own)
+    fn prunes(&mut self, partial: &Partial<'_>, incumbent: u64, own_best: u64) -> bool {
+        self.trees.prunes(partial, incumbent, own_best)
     }
 
     #[inline(always)]

@@ -1,9 +1,9 @@
 //! The search of a piece, depth first: it goes below a partial plan only where a plan under it may be of use.
 ghost use Rattle.std.specs.Prelude.{◌≡◌, ◌≤◌, Some, IfNone, IfOk, IfSome};
-ghost use Rattle.vrp_model.specs.Word.{IsFront, NoneCheaperUnder};
-ghost use Rattle.vrp_tree.specs.Low.{AreCovered, IsLow};
+ghost use Rattle.vrp_model.specs.Word.{IsPrefix, NoneCheaperUnder};
+ghost use Rattle.vrp_search_tree.specs.Low.{AreCovered, IsLow};
 ghost use Rattle.vrp_search.specs.Search.{EndsSearch};
-ghost use Rattle.vrp_tree.specs.Pruned.{AllCostMore};
+ghost use Rattle.vrp_search_tree.specs.Pruned.{AllCostMore};
 ghost use Rattle.vrp_search.specs.Inner.Under.{EndsUnder};
 
 use crate::board::Board;
@@ -14,8 +14,10 @@ use crate::pruning::Pruning;
 use crate::spending::Spending;
 use std::alloc::Global;
 use vrp_bound::{Tables, bounds_hold};
-use vrp_model::{Instance, NoMemory, Plan, dead_fronts, plans_cost_less, words_are_plans};
-use vrp_tree::{Partial, Piece, Prices};
+use vrp_model::{
+    Instance, NoMemory, Plan, plans_cost_less, prefixes_without_completion, words_are_plans,
+};
+use vrp_search_tree::{Partial, Piece, Prices};
 
 /// How the search of a piece ended.
 #[derive(Debug, Drop)]
@@ -33,9 +35,9 @@ pub enum Ended {
 /// Searches the plans under a piece, and offers those to the board that may be before all that it knows. It looks at no more
 /// partial plans than the budget says, at each at most once, at the piece's own word first, and at children by rising symbol. It
 /// doesn't go below one whose cost and bound together are above what the board answers, or not under the cost of the last plan that
-/// it offered, or whose bound says that no plan is under it, or that is dead, or of which the tree bound says the same. It asks the
-/// board now and then whether to go on. The tables are over all customers that the piece leaves unserved, and may be over more.
-/// Where memory is refused the board has the offers that were made before.
+/// it offered, or whose bound says that no plan is under it, or that is without completion, or of which the tree bound says the
+/// same. It asks the board now and then whether to go on. The tables are over all customers that the piece leaves unserved, and may
+/// be over more. Where memory is refused the board has the offers that were made before.
 pub fn search<B: Board>(
     alloc: Global,
     instance: &Instance,
@@ -46,7 +48,7 @@ pub fn search<B: Board>(
 ) -> Result<Ended, NoMemory>
     requires tables { tables.now.problem ≡ instance.now }
     requires covered { AreCovered instance.now tables.now.among piece.now.word }
-    requires piece { IsFront instance.now piece.now.word }
+    requires piece { IsPrefix instance.now piece.now.word }
     requires board { B.serves board.old instance.now }
     requires budget { 1 ≤ budget }
     ensures serves { B.serves board.new instance.now }
@@ -55,7 +57,7 @@ pub fn search<B: Board>(
     ensures ended { IfOk result (EndsSearch instance.now tables.now.among piece.now.word
         budget (B.may_stop board.new) (B.floor board.new)) }
 {
-    let Some(Root { mut partial, low }) = opened(alloc, instance, tables, piece, board)? else {
+    let Some(Root { mut partial, low }) = open_root(alloc, instance, tables, piece, board)? else {
         return Ok(Ended::Finished {
             spent: 1,
             first: None,
@@ -65,9 +67,9 @@ pub fn search<B: Board>(
     search_under(alloc, &mut partial, &mut bounds, low, budget, board)
 }
 
-/// Searches the plans under a piece as `search` does, and prunes by prices: it doesn't go below a partial plan where the prices tell
-/// that each plan under it costs more than the board answers, or no less than the last plan that the search offered, or that is
-/// dead, or for which too few trucks are left. The tables bound the piece as a whole, and give its `low`.
+/// Searches the plans under a piece as `search` does, and prunes by prices: it doesn't go below a partial plan where the prices
+/// tell that each plan under it costs more than the board answers, or no less than the last plan that the search offered, or that
+/// is without completion, or for which too few trucks are left. The tables bound the piece as a whole, and give its `low`.
 pub fn search_by_prices<B: Board>(
     alloc: Global,
     instance: &Instance,
@@ -80,7 +82,7 @@ pub fn search_by_prices<B: Board>(
     requires tables { tables.now.problem ≡ instance.now }
     requires prices { prices.now.problem ≡ instance.now }
     requires covered { AreCovered instance.now tables.now.among piece.now.word }
-    requires piece { IsFront instance.now piece.now.word }
+    requires piece { IsPrefix instance.now piece.now.word }
     requires board { B.serves board.old instance.now }
     requires budget { 1 ≤ budget }
     ensures serves { B.serves board.new instance.now }
@@ -89,7 +91,7 @@ pub fn search_by_prices<B: Board>(
     ensures ended { IfOk result (EndsSearch instance.now tables.now.among piece.now.word
         budget (B.may_stop board.new) (B.floor board.new)) }
 {
-    let Some(Root { mut partial, low }) = opened(alloc, instance, tables, piece, board)? else {
+    let Some(Root { mut partial, low }) = open_root(alloc, instance, tables, piece, board)? else {
         return Ok(Ended::Finished {
             spent: 1,
             first: None,
@@ -99,15 +101,15 @@ pub fn search_by_prices<B: Board>(
     search_under(alloc, &mut partial, &mut by_prices, low, budget, board)
 }
 
-// A partial plan at a piece's front, and what each plan under it costs at least.
+// A partial plan at a piece's word, and what each plan under it costs at least.
 #[derive(Drop)]
 struct Root<'a> {
     partial: Partial<'a>,
     low: u64,
 }
 
-// Comes to a piece's front. `None` where no plan under it costs as little as the board answers.
-fn opened<'a, B: Board>(
+// Comes to a piece's word. `None` where no plan under it costs as little as the board answers.
+fn open_root<'a, B: Board>(
     alloc: Global,
     instance: &'a Instance,
     tables: &Tables<'_>,
@@ -116,7 +118,7 @@ fn opened<'a, B: Board>(
 ) -> Result<Option<Root<'a>>, NoMemory>
     requires tables { tables.now.problem ≡ instance.now }
     requires covered { AreCovered instance.now tables.now.among piece.now.word }
-    requires piece { IsFront instance.now piece.now.word }
+    requires piece { IsPrefix instance.now piece.now.word }
     requires board { B.serves board.old instance.now }
     ensures serves { B.serves board.new instance.now }
     ensures keeps { (earlier : B) → B.keeps earlier board.old → B.keeps earlier board.new }
@@ -130,11 +132,11 @@ fn opened<'a, B: Board>(
     ensures none_cheaper { IfOk result (λ root. IfSome root (λ root.
         NoneCheaperUnder instance.now piece.now.word root.low)) }
 {
-    let partial = Partial::at_front(alloc, instance, piece.word())?;
-    // Below no front is anything cheaper than its cost and bound, and below a dead one there is nothing.
+    let partial = Partial::at_prefix(alloc, instance, piece.word())?;
+    // Below no partial plan is anything cheaper than its cost and bound, and below one without completion there is nothing.
     bounds_hold();
-    dead_fronts();
-    if partial.is_dead() {
+    prefixes_without_completion();
+    if partial.has_no_completion() {
         return Ok(None);
     }
     let Some(low) = partial.low(tables) else {
@@ -146,7 +148,7 @@ fn opened<'a, B: Board>(
     Ok(Some(Root { partial, low }))
 }
 
-/// Searches the plans under the front that a partial plan has come to, its root, as `search` does, and prunes by what it is given.
+/// Searches the plans under the word that a partial plan has come to, its root, as `search` does, and prunes by what it is given.
 /// No plan under the root costs less than `low`, which is told where the search is left unfinished.
 pub(crate) fn search_under<B: Board, P: Pruning>(
     alloc: Global,
@@ -182,10 +184,10 @@ pub(crate) fn search_under<B: Board, P: Pruning>(
             }
             Some(symbol) => {
                 spending.look();
-                let least = board.least();
-                if let Some(counted) = pruning.promising(partial, symbol, least, found.cost()) {
+                let incumbent = board.least();
+                if let Some(counted) = pruning.promising(partial, symbol, incumbent, found.cost()) {
                     pruning.push(partial, symbol, counted);
-                    if pruning.prunes(partial, least, found.cost()) {
+                    if pruning.prunes(partial, incumbent, found.cost()) {
                         next = pruning.pop(partial) + 1;
                     } else {
                         found.offer_complete(alloc, partial, board)?;

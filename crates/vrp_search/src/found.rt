@@ -6,7 +6,7 @@ ghost use Rattle.vrp_search.specs.Inner.Found.{IsLastOffer};
 use crate::board::Board;
 use std::alloc::Global;
 use vrp_model::{NO_COST, NoMemory, Plan};
-use vrp_tree::Partial;
+use vrp_search_tree::Partial;
 
 /// The last plan that a search offered, if any. It costs less than those that were offered before.
 #[derive(Drop)]

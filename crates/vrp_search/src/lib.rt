@@ -14,7 +14,7 @@ mod tree_pruning;
 pub use board::{Board, LOOKS_BEFORE_ASKING};
 pub use depth_first::{Ended, search, search_by_prices};
 pub use local::Local;
-pub use vrp_tree::{
-    Cutting, MAX_PIECES, MAX_REFINED, Partial, Piece, Prices, Room, one_low, one_piece,
+pub use vrp_search_tree::{
+    Cutting, MAX_PIECES, MAX_REFINED, Partial, Piece, Prices, Reserved, one_low, one_piece,
     own_low_no_lower,
 };

@@ -12,7 +12,7 @@ use std::marker::Model;
 use vrp_model::{NO_COST, NoMemory, Plan};
 
 /// The first plan so far, by cost and then by word, or none. Its floor is what the plan costs, `NO_COST` where there is none, and
-/// it serves the problems whose lawful plan it is.
+/// it serves the problems whose feasible plan it is.
 #[derive(Debug, Drop)]
 pub struct Local {
     plan: Option<Plan>,

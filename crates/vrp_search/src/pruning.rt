@@ -1,16 +1,16 @@
 //! What a search prunes by.
 ghost use Rattle.std.specs.Prelude.{◌≡◌, ◌<◌, ℕ, List, [], ◌∷◌, ◌++◌, length, IsTrue, MatchOption};
-ghost use Rattle.vrp_model.specs.Word.{BeginsWith, IsFront};
+ghost use Rattle.vrp_model.specs.Word.{BeginsWith, IsPrefix};
 ghost use Rattle.vrp_model.specs.declared.limits.TheConstants.{MAX_NODES};
-ghost use Rattle.vrp_tree.specs.Pruned.{NoneOfUse, with_symbol};
-ghost use Rattle.vrp_tree.specs.Partial.{PartialPlan};
+ghost use Rattle.vrp_search_tree.specs.Pruned.{NoneOfUse, with_symbol};
+ghost use Rattle.vrp_search_tree.specs.Partial.{PartialPlan};
 
-use vrp_tree::Partial;
+use vrp_search_tree::Partial;
 
-/// Prunes the tree of a problem below one front, the root, and keeps in step with a partial plan under it, whose symbols it pushes
-/// and pops. It may keep numbers of its own beside the word, as what is paid along it in another problem. Where it prunes, each plan
-/// under the child costs more than `least`, which the board answered, or no less than `own`, the cost of the last plan that the
-/// search offered. What it doesn't prune is left open.
+/// Prunes the tree of a problem below one partial plan, the root, and keeps in step with a partial plan under it, whose symbols it
+/// pushes and pops. It may keep numbers of its own beside the word, as what is paid along it in another problem. Where it prunes,
+/// each plan under the child costs more than `incumbent`, which the board answered, or no less than `own_best`, the cost of the
+/// last plan that the search offered. What it doesn't prune is left open.
 pub(crate) trait Pruning {
     /// What is counted along a child's word before it is pushed.
     type Counted: Copy;
@@ -25,27 +25,27 @@ pub(crate) trait Pruning {
         &self,
         partial: &Partial<'_>,
         symbol: u16,
-        least: u64,
-        own: u64,
+        incumbent: u64,
+        own_best: u64,
     ) -> Option<Self::Counted>
         requires step { (root : List ℕ) × in_step self.now root partial.now }
-        requires child { IsFront partial.now.problem (partial.now.word ++ symbol ∷ []) }
+        requires child { IsPrefix partial.now.problem (partial.now.word ++ symbol ∷ []) }
         ensures of_use { let child = with_symbol partial.now symbol
-            in MatchOption result (NoneOfUse child.problem child.word least own) (is_counted self.now child) };
+            in MatchOption result (NoneOfUse child.problem child.word incumbent own_best) (is_counted self.now child) };
 
     /// Adds a symbol at the partial plan's end, where what is counted along the longer word is known.
     fn push(&mut self, partial: &mut Partial<'_>, symbol: u16, counted: Self::Counted)
         requires step { (root : List ℕ) × in_step self.old root partial.old }
-        requires child { IsFront partial.old.problem (partial.old.word ++ symbol ∷ []) }
+        requires child { IsPrefix partial.old.problem (partial.old.word ++ symbol ∷ []) }
         requires counted { is_counted self.old (with_symbol partial.old symbol) counted }
         ensures partial { partial.new ≡ with_symbol partial.old symbol }
         ensures step { (root : List ℕ)
             → in_step self.old root partial.old → in_step self.new root partial.new };
 
     /// Whether a child is pruned that was pushed: a second look, which may take longer.
-    fn prunes(&mut self, partial: &Partial<'_>, least: u64, own: u64) -> bool
+    fn prunes(&mut self, partial: &Partial<'_>, incumbent: u64, own_best: u64) -> bool
         requires step { (root : List ℕ) × in_step self.old root partial.now }
-        ensures none { IsTrue result → NoneOfUse partial.now.problem partial.now.word least own }
+        ensures none { IsTrue result → NoneOfUse partial.now.problem partial.now.word incumbent own_best }
         ensures step { (root : List ℕ)
             → in_step self.old root partial.now → in_step self.new root partial.now };
 

@@ -42,7 +42,7 @@ impl Spending {
         if self.spent < self.pause {
             return false;
         }
-        if self.spent == self.budget || !board.goes_on() {
+        if self.spent == self.budget || !board.should_continue() {
             return true;
         }
         self.pause = self

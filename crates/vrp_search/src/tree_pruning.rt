@@ -1,12 +1,12 @@
 //! Pruning by the tree bound: it takes longer than the other bounds, and is tried where it pays.
 ghost use Rattle.std.specs.Prelude.{◌≡◌, ◌+◌, ◌≤◌, IfOk, IsTrue, vec_capacity};
 ghost use Rattle.vrp_model.specs.Problem.{place_count};
-ghost use Rattle.vrp_tree.specs.Pruned.{NoneOfUse};
+ghost use Rattle.vrp_search_tree.specs.Pruned.{NoneOfUse};
 
 use std::alloc::Global;
-use vrp_bound::{TreeRoom, tree_bounds};
+use vrp_bound::{TreeScratch, tree_bounds};
 use vrp_model::{Instance, NoMemory};
-use vrp_tree::Partial;
+use vrp_search_tree::Partial;
 
 // With fewer unserved customers there is little left to prune below.
 const LEAST_CLOSED: u16 = 5;
@@ -25,7 +25,7 @@ const LONG_ROUTE: u64 = 4;
 #[derive(Drop)]
 pub(crate) struct TreePruning<'a> {
     instance: &'a Instance,
-    room: TreeRoom,
+    room: TreeScratch,
     // Reserved for all customers.
     unserved: Vec<u16>,
     // Whether the bound is tried where no route is open, and where one is.
@@ -41,7 +41,7 @@ impl<'a> TreePruning<'a> {
         ensures { IfOk result (λ pruning. pruning.instance.now ≡ instance.now) }
     {
         let customers = instance.customers();
-        let room = TreeRoom::new(alloc, instance)?;
+        let room = TreeScratch::new(alloc, instance)?;
         let unserved = Vec::with_capacity(alloc, usize::from(customers))?;
         let demand = instance.whole_demand();
         let filled = u64::from(customers) * instance.capacity();
@@ -54,13 +54,13 @@ impl<'a> TreePruning<'a> {
         })
     }
 
-    /// Whether the bound is tried, and tells that each plan under a partial plan costs more than `least`, or `own` or more. Where
+    /// Whether the bound is tried, and tells that each plan under a partial plan costs more than `incumbent`, or `own_best` or more. Where
     /// it doesn't, nothing is said.
     // Kept out of the loop that calls it: there it would take the registers that the other bounds need.
     #[inline(never)]
-    pub(crate) fn prunes(&mut self, partial: &Partial<'_>, least: u64, own: u64) -> bool
+    pub(crate) fn prunes(&mut self, partial: &Partial<'_>, incumbent: u64, own_best: u64) -> bool
         requires { partial.now.problem ≡ self.old.instance.now }
-        ensures none { IsTrue result → NoneOfUse partial.now.problem partial.now.word least own }
+        ensures none { IsTrue result → NoneOfUse partial.now.problem partial.now.word incumbent own_best }
         ensures instance { self.new.instance.now ≡ self.old.instance.now }
     {
         let at = partial.at();
@@ -74,7 +74,7 @@ impl<'a> TreePruning<'a> {
             .room
             .tree_bound(self.instance, at, load, &self.unserved, rest);
         let low = partial.cost() + more;
-        low > least || low >= own
+        low > incumbent || low >= own_best
     }
 
     // Whether the bound is likely to pay at this place, with this many customers unserved.

@@ -34,8 +34,8 @@ write_there layout n row column weight old full here room =
       };
     }
 
-write_both_ways : (layout : Layout) (n row column weight : ℕ) (old : List ℕ) → is_full layout ≡ false → IsListed layout n row column → length old ≡ n * n → Written layout n row column weight old
-write_both_ways layout n row column weight old triangle here room =
+write_both_directions : (layout : Layout) (n row column weight : ℕ) (old : List ℕ) → is_full layout ≡ false → IsListed layout n row column → length old ≡ n * n → Written layout n row column weight old
+write_both_directions layout n row column weight old triangle here room =
     let there : ℕ = (row - 1) * n + (column - 1) in
     let back : ℕ = (column - 1) * n + (row - 1) in
     let inside = cell_inside n row column here.row_from_one here.row_within here.column_from_one here.column_within in
@@ -59,7 +59,7 @@ write_both_ways layout n row column weight old triangle here room =
 write_cell : (layout : Layout) (n row column weight : ℕ) (old : List ℕ) → IsListed layout n row column → length old ≡ n * n → Written layout n row column weight old
 write_cell layout n row column weight old here room = elim (cases_Bool (is_full layout)) [
   | inl full ↦ write_there layout n row column weight old full here room
-  | inr triangle ↦ write_both_ways layout n row column weight old triangle here room
+  | inr triangle ↦ write_both_directions layout n row column weight old triangle here room
 ]
 
 -- ---- the whole walk

@@ -9,10 +9,10 @@ use Rattle.vrp_model.specs.Grid.{Grid, entry_at}
 use Rattle.vrp_model.specs.Problem.{Problem}
 use Rattle.vrp_model.specs.Request.{problem_of, is_listed, node_demand}
 use Rattle.vrp_text.specs.Complete.{Complete, complete_of, count_fault, is_node, listed_depots, no_node, node_fault, nodes_fault}
-use Rattle.vrp_lexer.specs.Line.{lines_of}
-use Rattle.vrp_text.specs.Meaning.{MeansProblem, HasWeights, all_stated, checked, line_fault, or_fault, reading_of, request_from}
-use Rattle.vrp_lexer.specs.Part.{before_end}
-use Rattle.vrp_lexer.specs.declared.key.Key.{Key}
+use Rattle.vrp_text_lexer.specs.Line.{lines_of}
+use Rattle.vrp_text.specs.Meaning.{MeansProblem, HasWeights, all_stated, checked, file_line_fault, or_fault, reading_of, request_from}
+use Rattle.vrp_text_lexer.specs.Part.{before_end}
+use Rattle.vrp_text_lexer.specs.declared.key.Key.{Key}
 use Rattle.vrp_text.specs.declared.error.TextError.{TextError}
 use Rattle.vrp_text.specs.declared.error.TextError.TheVariants as error
 use Rattle.vrp_text.proofs.ListedCells.{IsNode}
@@ -48,7 +48,7 @@ no_fault key (Some number) e = absurd cc
 -- each depot of a complete file is a node
 good_depots : (bytes : List ℕ) (complete : Complete) → reading_of bytes ≡ Ok complete → no_node complete.nodes (listed_depots complete.depots) ≡ None
 good_depots bytes complete e =
-    let good = good_answer (nat_lt 16777216 (length bytes)) (line_fault (before_end (lines_of bytes))) (complete_of (all_stated (before_end (lines_of bytes)))) complete e in
+    let good = good_answer (nat_lt 16777216 (length bytes)) (file_line_fault (before_end (lines_of bytes))) (complete_of (all_stated (before_end (lines_of bytes)))) complete e in
     no_fault _ _ (both_none _ _ (both_none _ _ good).1).1
 
 number_within : (nodes : ℕ) (number : ℤ) → is_node nodes number ≡ true → IsNode nodes (unsigned_abs number)

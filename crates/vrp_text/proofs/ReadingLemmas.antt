@@ -6,19 +6,19 @@ use Rattle.std.specs.Prelude.{option_map}
 use Rattle.std.specs.Result.{result_ok}
 use Rattle.std.proofs.lemmas.List.Folds.{find-append, list_any-append}
 use Rattle.vrp_text.specs.Inner.MarkedKeys.{is_marked}
-use Rattle.vrp_lexer.specs.Part.{Part}
+use Rattle.vrp_text_lexer.specs.Part.{Part}
 use Rattle.vrp_text.specs.Section.{content_of, content_fault, content_numbers, on_line}
 use Rattle.vrp_text.specs.Stated.{Stated, bears, is_borne, is_same_key, part_of, keyword_fault, part_fault, parts_fault, stated_by, value_fault}
 use Rattle.vrp_text.specs.Inner.StatedSoFar.{fault_of_part, nothing_stated, with_part}
-use Rattle.vrp_lexer.specs.Value.{value_of, problem_type, dimension, capacity, weight_kind, weight_format}
+use Rattle.vrp_text_lexer.specs.Value.{value_of, problem_type, dimension, capacity, weight_kind, weight_format}
 use Rattle.vrp_text.proofs.SectionLemmas.{both_none, on_line_none}
-use Rattle.vrp_lexer.specs.declared.key.Key.{Key}
-use Rattle.vrp_lexer.specs.declared.key.Key.TheVariants as key
+use Rattle.vrp_text_lexer.specs.declared.key.Key.{Key}
+use Rattle.vrp_text_lexer.specs.declared.key.Key.TheVariants as key
 use Rattle.vrp_text.specs.declared.error.TextError.{TextError}
-use Rattle.vrp_lexer.specs.declared.fault.FaultyLine.{FaultyLine}
-use Rattle.vrp_lexer.specs.declared.fault.FaultyLine.TheVariants.{Repeated}
-use Rattle.vrp_lexer.specs.declared.keyword.Keyword.{Keyword}
-use Rattle.vrp_lexer.specs.declared.keyword.Keyword.TheVariants as keyword
+use Rattle.vrp_text_lexer.specs.declared.fault.FileLineFault.{FileLineFault}
+use Rattle.vrp_text_lexer.specs.declared.fault.FileLineFault.TheVariants.{Repeated}
+use Rattle.vrp_text_lexer.specs.declared.keyword.Keyword.{Keyword}
+use Rattle.vrp_text_lexer.specs.declared.keyword.Keyword.TheVariants as keyword
 
 -- Some parts are read, and these are left.
 pub record HasRead (explicit : Bool) (all : List Part) (marks : List Bool) (stated : Stated) (left : List Part) : Type 0 where
@@ -51,7 +51,7 @@ or_false : (a : Bool) → (a || false) ≡ a
 or_false true = refl
 or_false false = refl
 
-untrue : (borne : Bool) (fault : Option FaultyLine) → cond borne (Some Repeated) fault ≡ None → borne ≡ false
+untrue : (borne : Bool) (fault : Option FileLineFault) → cond borne (Some Repeated) fault ≡ None → borne ≡ false
 untrue true fault e = absurd cc
 untrue false fault e = refl
 

@@ -4,17 +4,17 @@ use Rattle.std.specs.Prelude.{Result, Ok, Err}
 use Rattle.std.specs.Int.Signed.{◌≤ℤ◌, le_z, le_z_yes}
 use Rattle.std.proofs.lemmas.Bool.{and_parts}
 use Rattle.std.proofs.lemmas.Float.{T_from_true}
-use Rattle.vrp_lexer.specs.Numeral.{Numeral, in_range, value_in_range, numeral_of, whole_value}
-use Rattle.vrp_lexer.specs.declared.fault.FaultyLine.TheVariants.{BadNumber}
+use Rattle.vrp_text_lexer.specs.Numeral.{Numeral, in_range, value_in_range, numeral_of, whole_value}
+use Rattle.vrp_text_lexer.specs.declared.fault.FileLineFault.TheVariants.{BadNumber}
 use Rattle.std.specs.Option.{option_or}
 use Rattle.vrp_text.specs.Section.{AreWithin, lowest, highest, tokens_fault, numbers_from, data_fault, data_numbers, token_number, fault_of, number_or_zero, on_line, outside_fault}
 use Rattle.std.proofs.lemmas.Bool.Decides.{nat_tests}
-use Rattle.vrp_lexer.specs.Line.{Line, Data}
-use Rattle.vrp_lexer.specs.Part.{leading_data, parts_from}
-use Rattle.vrp_lexer.specs.Inner.LinesLeft.{LinesLeft, data_left, parts_left}
+use Rattle.vrp_text_lexer.specs.Line.{Line, Data}
+use Rattle.vrp_text_lexer.specs.Part.{leading_data, parts_from}
+use Rattle.vrp_text_lexer.specs.Inner.LinesLeft.{LinesLeft, data_left, parts_left}
 use Rattle.vrp_text.specs.declared.error.TextError.{TextError}
 use Rattle.vrp_text.specs.declared.error.TextError.TheVariants.{DataOutside}
-use Rattle.vrp_lexer.specs.declared.fault.FaultyLine.{FaultyLine}
+use Rattle.vrp_text_lexer.specs.declared.fault.FileLineFault.{FileLineFault}
 use Rattle.vrp_text.specs.declared.section.Section.{Section}
 
 -- the tokens of a line that are left, and the numbers that were read
@@ -33,7 +33,7 @@ one_more section all old numbers left token rest value so_far is good =
     }
 
 -- a fault of a token is the line's, where the tokens before it have none
-fault_first : (number : ℕ) (read : Result ℤ FaultyLine) (later : Option FaultyLine) (error : TextError) → on_line number (fault_of read) ≡ Some error → on_line number (option_or (fault_of read) later) ≡ Some error
+fault_first : (number : ℕ) (read : Result ℤ FileLineFault) (later : Option FileLineFault) (error : TextError) → on_line number (fault_of read) ≡ Some error → on_line number (option_or (fault_of read) later) ≡ Some error
 fault_first number (Ok value) later error e = absurd cc
 fault_first number (Err fault) later error e = e
 
@@ -155,11 +155,11 @@ both_none None b e = (refl, e)
 both_none (Some x) b e = absurd cc
 
 -- no fault on a line is no fault
-pub on_line_none : (line : ℕ) (fault : Option FaultyLine) → on_line line fault ≡ None → fault ≡ None
+pub on_line_none : (line : ℕ) (fault : Option FileLineFault) → on_line line fault ≡ None → fault ≡ None
 on_line_none line None e = refl
 on_line_none line (Some fault) e = absurd cc
 
-good_token : (number : Result ℤ FaultyLine) → fault_of number ≡ None → number ≡ Ok (number_or_zero number)
+good_token : (number : Result ℤ FileLineFault) → fault_of number ≡ None → number ≡ Ok (number_or_zero number)
 good_token (Ok number) e = refl
 good_token (Err fault) e = absurd cc
 

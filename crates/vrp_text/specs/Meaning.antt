@@ -9,17 +9,17 @@ use Rattle.vrp_model.specs.Request.{Request, request_of, problem_of, IsAcceptabl
 use Rattle.vrp_model.specs.declared.instance.InstanceError.{InstanceError}
 use Rattle.vrp_model.specs.declared.instance.InstanceError.TheVariants as refusal
 use Rattle.vrp_text.specs.Complete.{Complete, Source, Points, Matrix, complete_of, count_fault, nodes_fault, listed_depots, points_of, demands_of}
-use Rattle.vrp_lexer.specs.Line.{Line, lines_of}
-use Rattle.vrp_lexer.specs.Part.{before_end, leading_data, parts_from}
+use Rattle.vrp_text_lexer.specs.Line.{Line, lines_of}
+use Rattle.vrp_text_lexer.specs.Part.{before_end, leading_data, parts_from}
 use Rattle.vrp_text.specs.Section.{outside_fault}
 use Rattle.vrp_text.specs.Stated.{Stated, is_explicit, parts_fault, stated_by}
 use Rattle.vrp_text.specs.declared.error.TextError.{TextError}
 use Rattle.vrp_text.specs.declared.error.TextError.TheVariants as error
-use Rattle.vrp_lexer.specs.declared.limits.TheConstants.{MAX_BYTES}
+use Rattle.vrp_text_lexer.specs.declared.limits.TheConstants.{MAX_BYTES}
 
 -- the fault of the first line that has one
-abbrev pub line_fault : List Line → Option TextError
-line_fault lines = option_or (outside_fault 1 (leading_data lines)) (parts_fault (is_explicit (parts_from 1 lines)) [] (parts_from 1 lines))
+abbrev pub file_line_fault : List Line → Option TextError
+file_line_fault lines = option_or (outside_fault 1 (leading_data lines)) (parts_fault (is_explicit (parts_from 1 lines)) [] (parts_from 1 lines))
 
 abbrev pub or_fault : {X : Type 0} → Option TextError → Result X TextError → Result X TextError
 or_fault None answer = answer
@@ -36,7 +36,7 @@ all_stated lines = stated_by (is_explicit (parts_from 1 lines)) (parts_from 1 li
 
 -- What lines state, or the first of: a line's fault, a key that is missing, a wrong count, a bad node.
 abbrev pub reading_of_lines : List Line → Result Complete TextError
-reading_of_lines lines = or_fault (line_fault lines) (checked (complete_of (all_stated lines)))
+reading_of_lines lines = or_fault (file_line_fault lines) (checked (complete_of (all_stated lines)))
 
 -- A file has at most `MAX_BYTES` bytes, and its lines are those before EOF.
 abbrev pub reading_of : List ℕ → Result Complete TextError

@@ -2,23 +2,23 @@
 use Rattle.std.specs.Int.Signed.{◌≤ℤ◌}
 use Rattle.std.specs.Prelude.{◌≡◌, ◌<◌, get_or, ℕ, ◌+◌, ◌%◌, ℤ, pos, neg_ℤ, Bool, ◌==◌, nat_lt, if◌then◌else◌, Option, Some, None, Result, Ok, Err, List, [], ◌∷◌, ◌++◌, length}
 use Rattle.std.specs.Option.{option_or}
-use Rattle.vrp_lexer.specs.Numeral.{number_of}
-use Rattle.vrp_lexer.specs.declared.fault.FaultyLine.{FaultyLine}
-use Rattle.vrp_lexer.specs.declared.key.Key.TheVariants as key
+use Rattle.vrp_text_lexer.specs.Numeral.{number_of}
+use Rattle.vrp_text_lexer.specs.declared.fault.FileLineFault.{FileLineFault}
+use Rattle.vrp_text_lexer.specs.declared.key.Key.TheVariants as key
 use Rattle.vrp_text.specs.declared.error.TextError.{TextError}
 use Rattle.vrp_text.specs.declared.error.TextError.TheVariants as error
-use Rattle.vrp_lexer.specs.declared.fault.FaultyLine.TheVariants as fault
-use Rattle.vrp_lexer.specs.declared.keyword.Keyword.{Keyword}
-use Rattle.vrp_lexer.specs.declared.keyword.Keyword.TheVariants as keyword
+use Rattle.vrp_text_lexer.specs.declared.fault.FileLineFault.TheVariants as fault
+use Rattle.vrp_text_lexer.specs.declared.keyword.Keyword.{Keyword}
+use Rattle.vrp_text_lexer.specs.declared.keyword.Keyword.TheVariants as keyword
 use Rattle.vrp_text.specs.declared.section.Content.{Content}
 use Rattle.vrp_text.specs.declared.section.Content.TheVariants.{Nothing, Anything, Numbers}
 use Rattle.vrp_text.specs.declared.section.Section.{Section}
 use Rattle.vrp_text.specs.declared.section.Section.TheVariants as section
-use Rattle.vrp_lexer.specs.declared.limits.TheConstants.{MAX_DEMAND, MAX_NODE}
+use Rattle.vrp_text_lexer.specs.declared.limits.TheConstants.{MAX_DEMAND, MAX_NODE}
 use Rattle.vrp_model.specs.declared.limits.TheConstants.{MAX_COORDINATE, MAX_WEIGHT}
 
 -- a fault on this line
-abbrev pub at_line : ℕ → FaultyLine → TextError
+abbrev pub at_line : ℕ → FileLineFault → TextError
 at_line line fault.DataOutside = error.DataOutside line
 at_line line fault.UnknownKeyword = error.UnknownKeyword line
 at_line line fault.Repeated = error.Repeated line
@@ -40,19 +40,19 @@ highest section.Weights place = pos MAX_WEIGHT
 highest section.Demands place = if place % 2 == 0 then MAX_NODE else pos MAX_DEMAND
 highest section.Depots place = MAX_NODE
 
-abbrev pub token_number : Section → ℕ → List ℕ → Result ℤ FaultyLine
+abbrev pub token_number : Section → ℕ → List ℕ → Result ℤ FileLineFault
 token_number section place token = number_of (lowest section place) (highest section place) token
 
-abbrev pub fault_of : Result ℤ FaultyLine → Option FaultyLine
+abbrev pub fault_of : Result ℤ FileLineFault → Option FileLineFault
 fault_of (Ok number) = None
 fault_of (Err fault) = Some fault
 
 -- the fault of the first faulty token, where the first of these tokens stands at this place of the section
-abbrev pub tokens_fault : Section → ℕ → List (List ℕ) → Option FaultyLine
+abbrev pub tokens_fault : Section → ℕ → List (List ℕ) → Option FileLineFault
 tokens_fault section place [] = None
 tokens_fault section place (token ∷ tokens) = option_or (fault_of (token_number section place token)) (tokens_fault section (place + 1) tokens)
 
-abbrev pub on_line : ℕ → Option FaultyLine → Option TextError
+abbrev pub on_line : ℕ → Option FileLineFault → Option TextError
 on_line line None = None
 on_line line (Some fault) = Some (at_line line fault)
 
@@ -68,7 +68,7 @@ outside_fault line [] = None
 outside_fault line (tokens ∷ lines) = if nat_lt 0 (length tokens) then Some (error.DataOutside line) else outside_fault (line + 1) lines
 
 -- the number of a token that is no fault
-abbrev pub number_or_zero : Result ℤ FaultyLine → ℤ
+abbrev pub number_or_zero : Result ℤ FileLineFault → ℤ
 number_or_zero (Ok number) = number
 number_or_zero (Err fault) = pos 0
 

@@ -4,19 +4,19 @@ use Rattle.std.specs.List.{find, list_any}
 use Rattle.std.specs.Option.{option_or, option_and_then}
 use Rattle.std.specs.Result.{result_ok}
 use Rattle.std.specs.Str.{bytes_eq}
-use Rattle.vrp_lexer.specs.Keyword.{rank}
-use Rattle.vrp_lexer.specs.Part.{Part}
+use Rattle.vrp_text_lexer.specs.Keyword.{rank}
+use Rattle.vrp_text_lexer.specs.Part.{Part}
 use Rattle.vrp_text.specs.Section.{content_of, content_fault, content_numbers, on_line}
-use Rattle.vrp_lexer.specs.Value.{value_of, problem_type, dimension, capacity, weight_kind, weight_format, no_value}
-use Rattle.vrp_lexer.specs.declared.key.Key.{Key}
-use Rattle.vrp_lexer.specs.declared.key.Key.TheVariants as key
+use Rattle.vrp_text_lexer.specs.Value.{value_of, problem_type, dimension, capacity, weight_kind, weight_format, no_value}
+use Rattle.vrp_text_lexer.specs.declared.key.Key.{Key}
+use Rattle.vrp_text_lexer.specs.declared.key.Key.TheVariants as key
 use Rattle.vrp_text.specs.declared.error.TextError.{TextError}
-use Rattle.vrp_lexer.specs.declared.fault.FaultyLine.{FaultyLine}
-use Rattle.vrp_lexer.specs.declared.fault.FaultyLine.TheVariants.{UnknownKeyword, Unsupported, Repeated}
-use Rattle.vrp_lexer.specs.declared.keyword.Keyword.{Keyword}
-use Rattle.vrp_lexer.specs.declared.keyword.Keyword.TheVariants as keyword
-use Rattle.vrp_lexer.specs.declared.value.WeightKind.{WeightKind}
-use Rattle.vrp_lexer.specs.declared.value.WeightFormat.{WeightFormat}
+use Rattle.vrp_text_lexer.specs.declared.fault.FileLineFault.{FileLineFault}
+use Rattle.vrp_text_lexer.specs.declared.fault.FileLineFault.TheVariants.{UnknownKeyword, Unsupported, Repeated}
+use Rattle.vrp_text_lexer.specs.declared.keyword.Keyword.{Keyword}
+use Rattle.vrp_text_lexer.specs.declared.keyword.Keyword.TheVariants as keyword
+use Rattle.vrp_text_lexer.specs.declared.value.WeightKind.{WeightKind}
+use Rattle.vrp_text_lexer.specs.declared.value.WeightFormat.{WeightFormat}
 
 abbrev pub is_same_key : Key → Option Keyword → Bool
 is_same_key key None = false
@@ -38,12 +38,12 @@ part_of key parts = find (bears key) parts
 abbrev pub is_explicit : List Part → Bool
 is_explicit parts = is_some (option_and_then (λ part. if bytes_eq (value_of part.behind) (codes "EXPLICIT") then Some part else None) (part_of key.WeightKind parts))
 
-abbrev pub fault_in : {X : Type 0} → Result X FaultyLine → Option FaultyLine
+abbrev pub fault_in : {X : Type 0} → Result X FileLineFault → Option FileLineFault
 fault_in (Ok x) = None
 fault_in (Err fault) = Some fault
 
 -- what is wrong with the tokens behind the keyword of a key
-abbrev pub value_fault : Bool → Key → List (List ℕ) → Option FaultyLine
+abbrev pub value_fault : Bool → Key → List (List ℕ) → Option FileLineFault
 value_fault explicit key.Problem tokens = fault_in (problem_type (value_of tokens))
 value_fault explicit key.Dimension tokens = fault_in (dimension (value_of tokens))
 value_fault explicit key.Capacity tokens = fault_in (capacity (value_of tokens))
@@ -55,7 +55,7 @@ value_fault explicit key.Demand tokens = fault_in (no_value tokens)
 value_fault explicit key.Depot tokens = fault_in (no_value tokens)
 
 -- What is wrong with a line that begins with this keyword, where some keys are borne by earlier lines: a key is borne once.
-abbrev pub keyword_fault : Bool → (Key → Bool) → Option Keyword → List (List ℕ) → Option FaultyLine
+abbrev pub keyword_fault : Bool → (Key → Bool) → Option Keyword → List (List ℕ) → Option FileLineFault
 keyword_fault explicit borne None tokens = Some UnknownKeyword
 keyword_fault explicit borne (Some keyword.Unsupported) tokens = Some Unsupported
 keyword_fault explicit borne (Some keyword.Remark) tokens = None
@@ -92,7 +92,7 @@ pub record Stated : Type 0 where
   pub depots : Option (List ℤ)
 
 -- the value of the part that bears a key
-abbrev pub value_in : {X : Type 0} → (List ℕ → Result X FaultyLine) → Key → List Part → Option X
+abbrev pub value_in : {X : Type 0} → (List ℕ → Result X FileLineFault) → Key → List Part → Option X
 value_in read key parts = option_and_then (λ part. result_ok (read (value_of part.behind))) (part_of key parts)
 
 -- the numbers of the part that bears a key

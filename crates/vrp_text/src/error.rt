@@ -5,8 +5,8 @@ ghost use Rattle.vrp_text.specs.declared.error.TextError.TheVariants.{OutOfMemor
 
 use std::alloc::{AllocError, AllocFailed};
 use thiserror::Error;
-use vrp_lexer::Key;
 use vrp_model::{InstanceError, NoMemory};
+use vrp_text_lexer::Key;
 
 /// Why a file is refused. Lines are numbered from 1.
 #[derive(Clone, Copy, Debug, PartialEq, Eq, Error)]

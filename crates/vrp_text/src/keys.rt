@@ -1,9 +1,9 @@
 //! The keys that the lines of a file bear.
 ghost use Rattle.std.specs.Prelude.{◌≡◌, ◌<◌};
-ghost use Rattle.vrp_lexer.specs.Keyword.{rank};
+ghost use Rattle.vrp_text_lexer.specs.Keyword.{rank};
 
 use std::marker::Model;
-use vrp_lexer::Key;
+use vrp_text_lexer::Key;
 
 // How many keys there are.
 const KEYS: usize = 9;
@@ -25,9 +25,9 @@ impl Model for Keys {
 
 impl Keys {
     ghost use Rattle.std.specs.Prelude.{◌≡◌, false, not};
-    ghost use Rattle.vrp_lexer.specs.Keyword.{rank};
+    ghost use Rattle.vrp_text_lexer.specs.Keyword.{rank};
     ghost use Rattle.vrp_text.specs.Inner.MarkedKeys.{AddsKey, is_marked};
-    ghost use Rattle.vrp_lexer.specs.declared.key.Key.{Key};
+    ghost use Rattle.vrp_text_lexer.specs.declared.key.Key.{Key};
 
     /// No key.
     pub(crate) fn new() -> Self

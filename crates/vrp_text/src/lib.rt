@@ -16,4 +16,4 @@ pub use error::TextError;
 pub use instance::read;
 pub use law::{one_meaning, some_meaning};
 pub use section::Section;
-pub use vrp_lexer::{Key, MAX_BYTES};
+pub use vrp_text_lexer::{Key, MAX_BYTES};

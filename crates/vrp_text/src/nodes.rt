@@ -11,8 +11,8 @@ ghost use Rattle.vrp_text.specs.declared.section.Section.TheVariants.{Coordinate
 use crate::error::TextError;
 use std::alloc::{AllocError, Global};
 use std::marker::Model;
-use vrp_lexer::Key;
 use vrp_model::MAX_NODES;
+use vrp_text_lexer::Key;
 
 // The nodes that were given so far.
 #[derive(Debug, Drop)]

@@ -3,12 +3,12 @@ ghost use Rattle.std.specs.Prelude.{◌≡◌, ◌≤◌, IfOk, IfErr, OnOk, Err
 ghost use Rattle.vrp_text.specs.Inner.Answered.{FailsWith, RefusesFor};
 ghost use Rattle.vrp_text.specs.Inner.MarkedKeys.{AddsKeyOf};
 ghost use Rattle.vrp_text.specs.Inner.OpenPart.{heading_error, heading_fault, keyword_line_fault, open_part_fault, with_heading, with_open_part};
-ghost use Rattle.vrp_lexer.specs.Line.{lines_of, tokens_of};
-ghost use Rattle.vrp_text.specs.Meaning.{all_stated, line_fault, reading_of};
-ghost use Rattle.vrp_lexer.specs.Part.{before_end};
+ghost use Rattle.vrp_text_lexer.specs.Line.{lines_of, tokens_of};
+ghost use Rattle.vrp_text.specs.Meaning.{all_stated, file_line_fault, reading_of};
+ghost use Rattle.vrp_text_lexer.specs.Part.{before_end};
 ghost use Rattle.vrp_text.specs.Stated.{is_explicit, parts_fault, stated_by};
 ghost use Rattle.vrp_text.specs.Inner.StatedSoFar.{with_keyword};
-ghost use Rattle.vrp_lexer.specs.Inner.LinesLeft.{parts_left};
+ghost use Rattle.vrp_text_lexer.specs.Inner.LinesLeft.{parts_left};
 ghost use Rattle.vrp_text.specs.Refusal.{Refuses};
 
 use crate::error::TextError;
@@ -17,7 +17,7 @@ use crate::keys::Keys;
 use crate::section::{content_of, pass_no_data, read_content};
 use crate::statements::{Statements, no_value, value};
 use std::alloc::Global;
-use vrp_lexer::{FaultyLine, Heading, Key, Keyword, Lines, MAX_BYTES};
+use vrp_text_lexer::{FileLineFault, Heading, Key, Keyword, Lines, MAX_BYTES};
 
 // Whether the first EDGE_WEIGHT_TYPE of the lines is EXPLICIT.
 fn is_explicit(lines: &mut Lines<'_>) -> bool
@@ -38,7 +38,7 @@ fn read_keyword(
     behind: &[u8],
     keys: &mut Keys,
     statements: &mut Statements,
-) -> Result<(), FaultyLine>
+) -> Result<(), FileLineFault>
     ensures sound { OnOk result (keyword_line_fault explicit keys.old keyword behind.now ≡ None) }
     ensures marked { OnOk result (AddsKeyOf keys.old keyword keys.new) }
     ensures read { OnOk result
@@ -46,14 +46,14 @@ fn read_keyword(
     ensures refused { FailsWith result (keyword_line_fault explicit keys.old keyword behind.now) }
 {
     match keyword {
-        None => Err(FaultyLine::UnknownKeyword),
-        Some(Keyword::Unsupported) => Err(FaultyLine::Unsupported),
+        None => Err(FileLineFault::UnknownKeyword),
+        Some(Keyword::Unsupported) => Err(FileLineFault::Unsupported),
         Some(Keyword::Remark) => Ok(()),
         Some(Keyword::End) => Ok(()),
         Some(Keyword::Display) => no_value(behind),
         Some(Keyword::Key(key)) => {
             if !keys.insert(key) {
-                return Err(FaultyLine::Repeated);
+                return Err(FileLineFault::Repeated);
             }
             statements.read_value(explicit, key, behind)
         }
@@ -130,7 +130,7 @@ fn check_length(bytes: &[u8]) -> Result<(), TextError>
 /// Reads what the lines of a file state.
 pub(crate) fn read_statements(alloc: Global, bytes: &[u8]) -> Result<Statements, TextError>
     ensures short { OnOk result (length bytes.now ≤ MAX_BYTES) }
-    ensures sound { OnOk result (line_fault (before_end (lines_of bytes.now)) ≡ None) }
+    ensures sound { OnOk result (file_line_fault (before_end (lines_of bytes.now)) ≡ None) }
     ensures read { IfOk result (λ stated. stated ≡ all_stated (before_end (lines_of bytes.now))) }
     ensures refused { Refuses result (λ error. reading_of bytes.now ≡ Err error) }
 {

@@ -1,15 +1,15 @@
 //! The sections whose numbers are used.
 ghost use Rattle.std.specs.Prelude.{◌≡◌, IfOk, OnOk, Ok, None};
 ghost use Rattle.vrp_text.specs.Section.{lowest, highest, token_number, content_of, AreWithin, FitContent};
-ghost use Rattle.vrp_lexer.specs.Inner.LinesLeft.{parts_left};
+ghost use Rattle.vrp_text_lexer.specs.Inner.LinesLeft.{parts_left};
 ghost use Rattle.vrp_text.specs.Inner.Answered.{FailsWith, RefusesFor};
 ghost use Rattle.vrp_text.specs.Inner.NextLines.{next_content_fault, next_data_fault, next_numbers, next_outside_fault, next_used_numbers, text_error, text_fault, token_error, with_text};
 
 use crate::error::TextError;
 use crate::fault::at_line;
 use std::alloc::Global;
-use vrp_lexer::{FaultyLine, Key, Keyword, Lines, MAX_DEMAND, MAX_NODE, Tokens, number};
 use vrp_model::{MAX_COORDINATE, MAX_WEIGHT};
+use vrp_text_lexer::{FileLineFault, Key, Keyword, Lines, MAX_DEMAND, MAX_NODE, Tokens, number};
 
 /// A section whose tokens are numbers that are used.
 #[derive(Clone, Copy, Debug, PartialEq, Eq)]
@@ -81,7 +81,7 @@ impl Section {
     }
 
     // The number that a token writes at this place, from 0.
-    fn number(self, place: usize, token: &[u8]) -> Result<i64, FaultyLine>
+    fn number(self, place: usize, token: &[u8]) -> Result<i64, FileLineFault>
         ensures { result ≡ token_number self place token.now }
     {
         number(token, self.lowest(place), self.highest(place))

@@ -1,8 +1,8 @@
 //! What the keywords and sections of a file have stated so far.
 ghost use Rattle.std.specs.Prelude.{◌≡◌, Ok, Err, IfOk, IfErr, OnOk, OnErr, Some, None, option_map};
-ghost use Rattle.vrp_lexer.specs.Line.{tokens_of};
+ghost use Rattle.vrp_text_lexer.specs.Line.{tokens_of};
 ghost use Rattle.vrp_text.specs.Stated.{value_fault};
-ghost use Rattle.vrp_lexer.specs.Value.{value_of, no_value};
+ghost use Rattle.vrp_text_lexer.specs.Value.{value_of, no_value};
 ghost use Rattle.vrp_text.specs.Complete.{complete_of};
 ghost use Rattle.vrp_text.specs.Inner.InMemory.{complete_in, matrix_in, source_in};
 ghost use Rattle.vrp_text.specs.Inner.Answered.{FailsWith};
@@ -11,8 +11,8 @@ ghost use Rattle.vrp_text.specs.Inner.StatedSoFar.{IsInRange, nothing_stated, wi
 use crate::complete::{Complete, Source};
 use crate::error::TextError;
 use std::marker::Model;
-use vrp_lexer::{
-    FaultyLine, Key, Tokens, WeightFormat, WeightKind, capacity, dimension, problem_type,
+use vrp_text_lexer::{
+    FileLineFault, Key, Tokens, WeightFormat, WeightKind, capacity, dimension, problem_type,
     weight_format, weight_kind,
 };
 
@@ -89,7 +89,7 @@ impl Statements {
         explicit: bool,
         key: Key,
         behind: &[u8],
-    ) -> Result<(), FaultyLine>
+    ) -> Result<(), FileLineFault>
         ensures sound { OnOk result (value_fault explicit key (tokens_of behind.now) ≡ None) }
         ensures read { OnOk result
             (self.new ≡ with_value explicit key (tokens_of behind.now) self.old) }
@@ -197,11 +197,11 @@ pub(crate) fn value<'a>(behind: &'a [u8]) -> &'a [u8]
 }
 
 /// Behind the keyword of a section nothing stands.
-pub(crate) fn no_value(behind: &[u8]) -> Result<(), FaultyLine>
+pub(crate) fn no_value(behind: &[u8]) -> Result<(), FileLineFault>
     ensures { result ≡ no_value (tokens_of behind.now) }
 {
     if !Tokens::of(behind).is_empty() {
-        return Err(FaultyLine::BadValue);
+        return Err(FileLineFault::BadValue);
     }
     Ok(())
 }

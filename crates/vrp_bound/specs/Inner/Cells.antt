@@ -5,7 +5,7 @@ use Rattle.vrp_model.specs.Problem.{Problem, place_count}
 use Rattle.vrp_model.specs.Route.{load_of}
 use Rattle.vrp_bound.specs.Tables.{room_of}
 use Rattle.vrp_bound.specs.Walk.{relaxed_cost, walk_cost}
-use Rattle.vrp_bound.specs.Remembering.{IsRememberingRelaxed, IsRememberingTour, IsRememberingWalk}
+use Rattle.vrp_bound.specs.NgWalks.{IsNgRelaxed, IsNgTour, IsNgWalk}
 
 -- what stands where there is no cost
 abbrev pub mark : ℕ
@@ -19,14 +19,14 @@ pub record IsLeastCell (IsCost : ℕ → Type 0) (cell : ℕ) : Type 0 where
 -- a walk from the place that takes up this load costs this
 pub record HasWalk (p : Problem) (near : ℕ → List ℕ) (among : List ℕ) (at load cost : ℕ) : Type 0 where
   pub stops : List ℕ
-  pub walks : IsRememberingWalk p near among at stops
+  pub walks : IsNgWalk p near among at stops
   pub loaded : load_of p stops ≡ load
   pub costs : walk_cost p at stops ≡ cost
 
 -- tours that carry the rest cost this
 pub record HasTours (p : Problem) (near : ℕ → List ℕ) (among : List ℕ) (rest cost : ℕ) : Type 0 where
   pub tours : List (List ℕ)
-  pub each : All (IsRememberingTour p near among) tours
+  pub each : All (IsNgTour p near among) tours
   pub whole : sum_by (load_of p) tours ≡ rest
   pub costs : sum_by (walk_cost p 0) tours ≡ cost
 
@@ -34,7 +34,7 @@ pub record HasTours (p : Problem) (near : ℕ → List ℕ) (among : List ℕ) (
 pub record HasRelaxed (p : Problem) (near : ℕ → List ℕ) (among : List ℕ) (at load rest cost : ℕ) : Type 0 where
   pub home : List ℕ
   pub tours : List (List ℕ)
-  pub relaxed : IsRememberingRelaxed p near among at load rest home tours
+  pub relaxed : IsNgRelaxed p near among at load rest home tours
   pub costs : relaxed_cost p at home tours ≡ cost
 
 -- the cells of the walks so far: by load, and of each load by place
@@ -66,7 +66,7 @@ pub record IsSmallLeastCell (IsCost : ℕ → Type 0) (cell : ℕ) : Type 0 wher
   pub none : small_mark ≤ cell → (cost : ℕ) → IsCost cost → ⊥
 
 -- a walk home that takes up no more than the room, and tours, carry the rest and cost this
-pub record HasWayHome (p : Problem) (near : ℕ → List ℕ) (among : List ℕ) (at room rest cost : ℕ) : Type 0 where
+pub record HasCompletion (p : Problem) (near : ℕ → List ℕ) (among : List ℕ) (at room rest cost : ℕ) : Type 0 where
   pub home : ℕ
   pub carried : home ≤ room
   pub fits : home ≤ rest
@@ -76,14 +76,14 @@ pub record HasWayHome (p : Problem) (near : ℕ → List ℕ) (among : List ℕ)
   pub has_tours : HasTours p near among (rest - home) tours
   pub whole : cost ≡ walk + tours
 
--- the cells of the ways home so far: by place, of each place by room, and of each room by rest
-pub record AreHomesSoFar (p : Problem) (near : ℕ → List ℕ) (among cells : List ℕ) : Type 0 where
+-- the cells of the completion table so far: by place, of each place by room, and of each room by rest
+pub record IsCompletionTableSoFar (p : Problem) (near : ℕ → List ℕ) (among cells : List ℕ) : Type 0 where
   pub each : (k : ℕ) → k < length cells →
       let rests = load_of p among + 1 in
       let rooms = room_of p among + 1 in
-      IsSmallLeastCell (HasWayHome p near among (k / rests / rooms) (k / rests % rooms) (k % rests)) (slice_index cells k)
+      IsSmallLeastCell (HasCompletion p near among (k / rests / rooms) (k / rests % rooms) (k % rests)) (slice_index cells k)
 
-pub record AreHomes (p : Problem) (near : ℕ → List ℕ) (among cells : List ℕ) : Type 0 where
-  pub so_far : AreHomesSoFar p near among cells
+pub record IsCompletionTable (p : Problem) (near : ℕ → List ℕ) (among cells : List ℕ) : Type 0 where
+  pub so_far : IsCompletionTableSoFar p near among cells
   pub all : length cells ≡ place_count p * (room_of p among + 1) * (load_of p among + 1)
   pub few : length cells ≤ 64000000

@@ -6,10 +6,10 @@ use Rattle.vrp_model.specs.Problem.{Problem, customers}
 use Rattle.vrp_bound.specs.declared.completions.Cells.{Cells}
 use Rattle.vrp_bound.specs.declared.completions.Completions.{Completions}
 use Rattle.vrp_bound.specs.declared.scope.Scope.{Scope}
-use Rattle.vrp_bound.specs.Inner.Cells.{AreHomes, AreTours, AreWalks, HasRelaxed, IsLeastCell}
+use Rattle.vrp_bound.specs.Inner.Cells.{IsCompletionTable, AreTours, AreWalks, HasRelaxed, IsLeastCell}
 use Rattle.vrp_bound.specs.Inner.Scope.{IsScope}
 use Rattle.vrp_bound.specs.Inner.Units.{IsUnit, in_units}
-use Rattle.vrp_bound.specs.Remembering.{IsRememberingBound}
+use Rattle.vrp_bound.specs.NgWalks.{IsNgBound}
 use Rattle.vrp_bound.specs.Tables.{AreMade, TablesOf, room_of, tables_over}
 
 pub record AreCells (p : Problem) (near : ℕ → List ℕ) (among : List ℕ) (cells : Cells) : Type 0 where
@@ -21,7 +21,7 @@ pub record AreCells (p : Problem) (near : ℕ → List ℕ) (among : List ℕ) (
   pub walks : AreWalks (in_units cells.unit p) near among cells.walks.items
   pub tours : AreTours (in_units cells.unit p) near among cells.tours.items
   pub room : cells.room ≡ room_of (in_units cells.unit p) among
-  pub homes : IfSome cells.homes (λ homes. AreHomes (in_units cells.unit p) near among homes.items)
+  pub completion_table : IfSome cells.completion_table (λ completion_table. IsCompletionTable (in_units cells.unit p) near among completion_table.items)
 
 -- the cells over the customers of a scope
 abbrev pub AreCellsOver : Scope → (ℕ → List ℕ) → Cells → Type 0
@@ -45,7 +45,7 @@ AreHeld near held = AreFilled held.instance.now near held.customers.items held.c
 -- what completions answer
 abbrev pub IsHeldBound : (ℕ → List ℕ) → Completions → ℕ → ℕ → ℕ → Option ℕ → Type 0
 IsHeldBound near held at load rest answer =
-    IsRememberingBound held.instance.now near held.customers.items at load rest answer
+    IsNgBound held.instance.now near held.customers.items at load rest answer
 
 -- the tables that completions are, where nobody is near any place
 abbrev pub tables_held : Completions → TablesOf

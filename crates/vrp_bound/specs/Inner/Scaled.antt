@@ -2,32 +2,32 @@
 use Rattle.std.specs.Prelude.{◌≡◌, ℕ, ◌-◌, List, Option, None, Some}
 use Rattle.std.specs.Borrow.{Bor}
 use Rattle.std.specs.Option.{ForSome, option_map}
-use Rattle.vrp_memory.specs.Near.{NearOf, near_in}
+use Rattle.vrp_bound_ng.specs.Near.{NearOf, near_in}
 use Rattle.vrp_model.specs.Problem.{Problem}
 use Rattle.vrp_bound.specs.declared.units.UnitScope.{UnitScope}
-use Rattle.vrp_bound.specs.Inner.Cells.{AreHomes, AreHomesSoFar, AreTours, AreToursSoFar, AreWalks, AreWalksSoFar, HasRelaxed, HasTours, HasWalk, IsLeastCell}
+use Rattle.vrp_bound.specs.Inner.Cells.{IsCompletionTable, IsCompletionTableSoFar, AreTours, AreToursSoFar, AreWalks, AreWalksSoFar, HasRelaxed, HasTours, HasWalk, IsLeastCell}
 use Rattle.vrp_bound.specs.Inner.Units.{in_units}
-use Rattle.vrp_bound.specs.Remembering.{nothing_near}
+use Rattle.vrp_bound.specs.NgWalks.{nothing_near}
 use Rattle.vrp_bound.specs.Tables.{room_of}
 
 -- with its demands counted in the unit
 abbrev pub scaled : UnitScope → Problem
 scaled scope = in_units scope.unit scope.instance.now
 
--- the customers near each place; none are where walks have no memory
+-- the customers near each place; none are where walks have no ng-sets
 abbrev pub near_of : Option NearOf → ℕ → List ℕ
 near_of None = nothing_near
 near_of (Some near) = near_in near
 
 abbrev pub near_with : Option (Bor NearOf) → ℕ → List ℕ
-near_with memory = near_of (option_map (λ m. m.now) memory)
+near_with ng_sets = near_of (option_map (λ m. m.now) ng_sets)
 
--- the memory of walks, where they have one, is of this many places
+-- the ng-sets of walks, where they have one, is of this many places
 abbrev pub IsOfPlaces : Option (Bor NearOf) → ℕ → Type 0
-IsOfPlaces memory places = ForSome memory (λ memory. memory.now.places ≡ places)
+IsOfPlaces ng_sets places = ForSome ng_sets (λ ng_sets. ng_sets.now.places ≡ places)
 
 abbrev pub near_by : UnitScope → ℕ → List ℕ
-near_by scope = near_with scope.memory
+near_by scope = near_with scope.ng_sets
 
 -- how much of what they demand one truck can carry
 abbrev pub room_over : UnitScope → ℕ
@@ -59,15 +59,15 @@ AreToursOverSoFar scope cells = AreToursSoFar (scaled scope) (near_by scope) sco
 abbrev pub IsLeastTours : UnitScope → ℕ → ℕ → Type 0
 IsLeastTours scope rest cell = IsLeastCell (HasTours (scaled scope) (near_by scope) scope.customers.now rest) cell
 
--- the cells of the ways home
-abbrev pub AreHomesOver : UnitScope → List ℕ → Type 0
-AreHomesOver scope cells = AreHomes (scaled scope) (near_by scope) scope.customers.now cells
+-- the cells of the completion table
+abbrev pub IsCompletionTableOver : UnitScope → List ℕ → Type 0
+IsCompletionTableOver scope cells = IsCompletionTable (scaled scope) (near_by scope) scope.customers.now cells
 
-abbrev pub AreHomesOverSoFar : UnitScope → List ℕ → Type 0
-AreHomesOverSoFar scope cells = AreHomesSoFar (scaled scope) (near_by scope) scope.customers.now cells
+abbrev pub IsCompletionTableOverSoFar : UnitScope → List ℕ → Type 0
+IsCompletionTableOverSoFar scope cells = IsCompletionTableSoFar (scaled scope) (near_by scope) scope.customers.now cells
 
 -- the least of what carries the rest from a place, where the open truck can still take up as much as is free
-abbrev pub IsLeastWayHome : UnitScope → ℕ → ℕ → ℕ → ℕ → Type 0
-IsLeastWayHome scope at free rest cell =
+abbrev pub IsLeastCompletion : UnitScope → ℕ → ℕ → ℕ → ℕ → Type 0
+IsLeastCompletion scope at free rest cell =
     let p = scaled scope in
     IsLeastCell (HasRelaxed p (near_by scope) scope.customers.now at (p.capacity - free) rest) cell

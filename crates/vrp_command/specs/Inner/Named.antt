@@ -1,11 +1,11 @@
 -- A problem that is read together with what its file calls itself.
 use Rattle.std.specs.Prelude.{◌≡◌, ℕ, Option, List}
 use Rattle.vrp_command.specs.Run.{ReadsProblem}
-use Rattle.vrp_export.specs.Name.{name_of}
+use Rattle.vrp_plan_write.specs.Name.{name_of}
 use Rattle.vrp_model.specs.Problem.{Problem}
-use Rattle.vrp_request.specs.declared.options.Format.{Format}
-use Rattle.vrp_request.specs.declared.options.Format.TheVariants as format
-use Rattle.vrp_request.specs.declared.options.Options.{Options}
+use Rattle.vrp_command_request.specs.declared.options.Format.{Format}
+use Rattle.vrp_command_request.specs.declared.options.Format.TheVariants as format
+use Rattle.vrp_command_request.specs.declared.options.Options.{Options}
 
 -- what was read means this problem, and for JSON this is what it calls itself
 pub record ReadsNamed (options : Options) (asked : Format) (unread_old unread_new : Option (List ℕ)) (problem : Problem) (name : Option (List ℕ)) : Type 0 where

@@ -2,16 +2,16 @@
 use Rattle.std.specs.Option.{option_and_then, option_map}
 use Rattle.std.specs.Prelude.{◌≡◌, ℕ, ◌<◌, Option, List, length, ⊤}
 use Rattle.vrp_command.specs.Program.{BeginsWith, IsFile, start_cost}
-use Rattle.vrp_solution.specs.Solution.{GivesPlan, stated_cost}
-use Rattle.vrp_solution.specs.declared.solution.Solution.{Solution}
+use Rattle.vrp_plan_read.specs.Solution.{GivesPlan, stated_cost}
+use Rattle.vrp_plan_read.specs.declared.solution.Solution.{Solution}
 use Rattle.vrp_command.specs.declared.start.StartError.{StartError}
 use Rattle.vrp_command.specs.declared.start.StartError.TheVariants as start_fault
 use Rattle.vrp_command.specs.declared.start.StartFile.{StartFile}
-use Rattle.vrp_lexer.specs.declared.limits.TheConstants.{MAX_BYTES}
+use Rattle.vrp_text_lexer.specs.declared.limits.TheConstants.{MAX_BYTES}
 use Rattle.vrp_model.specs.Problem.{Problem}
-use Rattle.vrp_solution.specs.declared.error.SolutionError.{SolutionError}
-use Rattle.vrp_solution.specs.declared.error.SolutionError.TheVariants as solution
-use Rattle.vrp_streams.specs.Input.{IsInput}
+use Rattle.vrp_plan_read.specs.declared.error.SolutionError.{SolutionError}
+use Rattle.vrp_plan_read.specs.declared.error.SolutionError.TheVariants as solution
+use Rattle.vrp_command_streams.specs.Input.{IsInput}
 
 -- the whole of a file gives the plan of this solution, and states its cost
 pub record GivesFilePlan (p : Problem) (unread : Option (List ℕ)) (solution : Solution) : Type 0 where

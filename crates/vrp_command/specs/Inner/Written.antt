@@ -1,6 +1,6 @@
 -- What is written once a problem is read.
 use Rattle.std.specs.Prelude.{◌≡◌, ◌⊎◌, ℕ, Bool, Option, List}
-use Rattle.vrp_answer.specs.declared.status.Status.{Status}
+use Rattle.vrp_pool_answer.specs.declared.status.Status.{Status}
 use Rattle.vrp_command.specs.Found.{WritesFound, WritesFoundPart}
 use Rattle.vrp_command.specs.Program.{BeginsWith, OnRefusedStart, start_cost}
 use Rattle.vrp_command.specs.Text.{context_of}
@@ -10,8 +10,8 @@ use Rattle.vrp_command.specs.declared.start.StartError.{StartError}
 use Rattle.vrp_command.specs.declared.start.StartFile.{StartFile}
 use Rattle.vrp_model.specs.Problem.{Problem}
 use Rattle.vrp_model.specs.Route.{PricedPlan}
-use Rattle.vrp_request.specs.declared.options.Request.{Request}
-use Rattle.vrp_streams.specs.declared.fault.RunError.TheVariants as fault
+use Rattle.vrp_command_request.specs.declared.options.Request.{Request}
+use Rattle.vrp_command_streams.specs.declared.fault.RunError.TheVariants as fault
 
 -- what a request finds of the problem of this name, with the plan to begin with that its file gives, was written, and nothing else
 pub record WritesOn {S : Type 0} (request : Request) (name : Option (List ℕ)) (may_stop : Bool) (p : Problem) (unread : S → Option (List ℕ)) (file : Option (StartFile S)) (written_old written_new : Option (List ℕ)) (ended : Status) : Type 0 where

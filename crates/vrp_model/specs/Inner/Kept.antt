@@ -1,6 +1,6 @@
--- What an instance keeps: a problem, the least ways into its places, and whether it is symmetric.
+-- What an instance keeps: a problem, the least arcs into its places, and whether it is symmetric.
 use Rattle.std.specs.Prelude.{◌↔◌, ℕ, Bool, IsTrue, Option, List}
-use Rattle.vrp_model.specs.Inner.LeastWays.{AreLeastWays}
+use Rattle.vrp_model.specs.Inner.LeastArcs.{AreLeastArcs}
 use Rattle.vrp_model.specs.Problem.{IsProblem, IsSymmetric, Problem}
 
 -- the problem that an instance is
@@ -10,5 +10,5 @@ problem_with nodes demands weights capacity trucks =
 
 pub record IsKeptProblem (p : Problem) (least_in : List ℕ) (symmetric : Bool) : Type 0 where
   pub problem : IsProblem p
-  pub least : AreLeastWays p least_in
+  pub least : AreLeastArcs p least_in
   pub told : IsTrue symmetric ↔ IsSymmetric p

@@ -1,4 +1,4 @@
-//! Whether a plan is lawful for an instance, and has its true cost there.
+//! Whether a plan is feasible for an instance, and has its true cost there.
 ghost use Rattle.std.specs.Prelude.{◌≡◌, ◌≢◌, ◌≤◌, ◌<◌, IsTrue, ◌↔◌, [], length};
 ghost use Rattle.std.specs.List.{All};
 ghost use Rattle.vrp_model.specs.Problem.{HasTrucks, IsProblem, place_count};
@@ -8,7 +8,7 @@ use super::{Plan, route_cost};
 use crate::instance::Instance;
 
 impl Plan {
-    /// Whether this is a lawful plan of the instance, and costs there what it says. A plan is made for one instance, but nothing
+    /// Whether this is a feasible plan of the instance, and costs there what it says. A plan is made for one instance, but nothing
     /// in it names that one: beside another it may leave customers out, overload a truck or cost something else.
     pub fn fits(&self, instance: &Instance) -> bool
         ensures { IsTrue result ↔ IsPlanOf instance.now self.now }

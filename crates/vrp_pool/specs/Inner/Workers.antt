@@ -4,35 +4,35 @@ use Rattle.std.specs.List.{All}
 use Rattle.std.specs.Option.{ForSome}
 use Rattle.vrp_model.specs.Cheapest.{cost_of}
 use Rattle.vrp_model.specs.Route.{IsPlanOf}
-use Rattle.vrp_model.specs.Word.{IsFront}
-use Rattle.vrp_pile.specs.Pile.{AreShared, DrawerState, IsTakenIn, PileId}
-use Rattle.vrp_pile.specs.declared.limits.TheConstants.{MAX_DRAWERS}
-use Rattle.vrp_register.specs.Caller.{AreCallersOf, CallerState, IsCallerOf, RegisterState}
-use Rattle.vrp_tree.specs.Cutting.{NumberedWord}
-use Rattle.vrp_answer.specs.Outcomes.{AreOutcomes, Search}
-use Rattle.vrp_answer.specs.declared.outcome.Outcome.{Outcome}
-use Rattle.vrp_answer.specs.declared.outcome.Searched.{Searched}
+use Rattle.vrp_model.specs.Word.{IsPrefix}
+use Rattle.vrp_pool_pile.specs.Pile.{AreShared, DrawerState, IsTakenIn, PileId}
+use Rattle.vrp_pool_pile.specs.declared.limits.TheConstants.{MAX_DRAWERS}
+use Rattle.vrp_pool_register.specs.Caller.{AreCallersOf, CallerState, IsCallerOf, RegisterState}
+use Rattle.vrp_search_tree.specs.Cutting.{NumberedWord}
+use Rattle.vrp_pool_answer.specs.Outcomes.{AreOutcomes, Search}
+use Rattle.vrp_pool_answer.specs.declared.outcome.PieceOutcome.{PieceOutcome}
+use Rattle.vrp_pool_answer.specs.declared.outcome.Searched.{Searched}
 use Rattle.vrp_pool.specs.SeatBoard.{IsLater, SeatBoardState, floor_of, least_seen}
 
 pub record WorkerState : Type 0 where
   pub drawer : DrawerState
   pub board : SeatBoardState
-  pub outcomes : List Outcome
+  pub outcomes : List PieceOutcome
   pub refused : Bool
 
--- every piece on the pile is a front of the problem
-abbrev pub AreFronts : Search → List NumberedWord → Type 0
-AreFronts s pieces = All (λ piece. IsFront s.problem piece.word) pieces
+-- every piece on the pile is a prefix of the problem
+abbrev pub ArePrefixes : Search → List NumberedWord → Type 0
+ArePrefixes s pieces = All (λ piece. IsPrefix s.problem piece.word) pieces
 
 -- ---- the work of one worker
 
--- a worker whose plan is lawful, that draws from a pile of fronts, and whose board may stop where the search may
+-- a worker whose plan is feasible, that draws from a pile of prefixes, and whose board may stop where the search may
 pub record CanWork (s : Search) (worker : WorkerState) : Type 0 where
-  pub fronts : AreFronts s worker.drawer.put
+  pub prefixes : ArePrefixes s worker.drawer.put
   pub serves : ForSome worker.board.best (IsPlanOf s.problem)
   pub may_stop : worker.board.may_stop ≡ s.may_stop
 
--- the same worker, later: it draws from the same pile, its plan is lawful, and neither that nor the floor costs more
+-- the same worker, later: it draws from the same pile, its plan is feasible, and neither that nor the floor costs more
 pub record IsWorked (s : Search) (old new : WorkerState) : Type 0 where
   pub pile : new.drawer.pile ≡ old.drawer.pile
   pub parts : new.drawer.parts ≡ old.drawer.parts
@@ -44,7 +44,7 @@ pub record IsWorked (s : Search) (old new : WorkerState) : Type 0 where
 -- each piece that it drew meanwhile has its outcome
 pub record HasSearched (s : Search) (old new : WorkerState) : Type 0 where
   pub pieces : List NumberedWord
-  pub outcomes : List Outcome
+  pub outcomes : List PieceOutcome
   pub drawn : new.drawer.drawn ≡ old.drawer.drawn ++ pieces
   pub more : new.outcomes ≡ old.outcomes ++ outcomes
   pub kept : AreOutcomes s (floor_of new.board) pieces outcomes

@@ -2,8 +2,8 @@
 use Rattle.std.specs.Prelude.{◌≡◌, ℕ, List}
 use Rattle.vrp_model.specs.Problem.{Problem}
 use Rattle.vrp_model.specs.Word.{BeginsWith}
-use Rattle.vrp_tree.specs.Partial.{PartialPlan}
-use Rattle.vrp_tree.specs.Low.{AreCovered}
+use Rattle.vrp_search_tree.specs.Partial.{PartialPlan}
+use Rattle.vrp_search_tree.specs.Low.{AreCovered}
 
 -- The tables and the trees are of the partial plan's problem, each customer that the root leaves unserved is among the tables', and
 -- the word is under the root.

@@ -1,8 +1,8 @@
--- How a search below a front ends.
+-- How a search below a prefix ends.
 use Rattle.std.specs.Prelude.{ℕ, Bool, Some, List}
 use Rattle.vrp_model.specs.Problem.{Problem}
 use Rattle.vrp_search.specs.Search.{EndsSearch}
-use Rattle.vrp_tree.specs.Low.{IsLow}
+use Rattle.vrp_search_tree.specs.Low.{IsLow}
 use Rattle.vrp_search.specs.declared.depth_first.Ended.{Ended}
 
 -- as the search of a piece with this word does, whichever tables give it this low

@@ -1,8 +1,8 @@
 -- What the next data lines write, up to the next keyword, and what is wrong with them.
 use Rattle.std.specs.Prelude.{ℕ, ℤ, Option, List, length, ◌++◌}
-use Rattle.vrp_lexer.specs.Inner.LinesLeft.{LinesLeft, data_left}
-use Rattle.vrp_lexer.specs.Line.{tokens_of}
-use Rattle.vrp_lexer.specs.declared.fault.FaultyLine.{FaultyLine}
+use Rattle.vrp_text_lexer.specs.Inner.LinesLeft.{LinesLeft, data_left}
+use Rattle.vrp_text_lexer.specs.Line.{tokens_of}
+use Rattle.vrp_text_lexer.specs.declared.fault.FileLineFault.{FileLineFault}
 use Rattle.vrp_text.specs.Section.{token_number, fault_of, tokens_fault, on_line, numbers_from, data_fault, data_numbers, outside_fault, content_fault, content_numbers}
 use Rattle.vrp_text.specs.declared.error.TextError.{TextError}
 use Rattle.vrp_text.specs.declared.section.Content.{Content}
@@ -13,7 +13,7 @@ abbrev pub token_error : Section → ℕ → ℕ → List ℕ → Option TextErr
 token_error section line place token = on_line line (fault_of (token_number section place token))
 
 -- the first fault of a line's text, where these numbers of the section stand before it
-abbrev pub text_fault : Section → List ℤ → List ℕ → Option FaultyLine
+abbrev pub text_fault : Section → List ℤ → List ℕ → Option FileLineFault
 text_fault section before text = tokens_fault section (length before) (tokens_of text)
 
 -- the same, with the line's number

@@ -1,6 +1,6 @@
 -- What is wrong with the nodes of a section, and what is known of those that it gives.
 use Rattle.std.specs.Prelude.{ℕ, ◌≤◌, ◌<◌, ℤ, Option, List, [], length, slice_index}
-use Rattle.vrp_lexer.specs.declared.key.Key.TheVariants as key
+use Rattle.vrp_text_lexer.specs.declared.key.Key.TheVariants as key
 use Rattle.vrp_model.specs.Grid.{IsCoordinate}
 use Rattle.vrp_text.specs.Complete.{bad_node, no_node, node_fault, row_nodes}
 use Rattle.vrp_text.specs.declared.error.TextError.{TextError}

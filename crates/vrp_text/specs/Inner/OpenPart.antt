@@ -1,10 +1,10 @@
 -- A part that is read as far as its keyword: what stands behind the keyword and the data lines are the next to be read.
 use Rattle.std.specs.Prelude.{ℕ, Bool, Option, List}
-use Rattle.vrp_lexer.specs.Inner.LinesLeft.{LinesLeft, data_left}
-use Rattle.vrp_lexer.specs.Line.{tokens_of}
-use Rattle.vrp_lexer.specs.declared.fault.FaultyLine.{FaultyLine}
-use Rattle.vrp_lexer.specs.declared.keyword.Keyword.{Keyword}
-use Rattle.vrp_lexer.specs.declared.lines.Heading.{Heading}
+use Rattle.vrp_text_lexer.specs.Inner.LinesLeft.{LinesLeft, data_left}
+use Rattle.vrp_text_lexer.specs.Line.{tokens_of}
+use Rattle.vrp_text_lexer.specs.declared.fault.FileLineFault.{FileLineFault}
+use Rattle.vrp_text_lexer.specs.declared.keyword.Keyword.{Keyword}
+use Rattle.vrp_text_lexer.specs.declared.lines.Heading.{Heading}
 use Rattle.vrp_text.specs.Inner.MarkedKeys.{is_marked}
 use Rattle.vrp_text.specs.Inner.StatedSoFar.{fault_of_part, with_keyword, with_part}
 use Rattle.vrp_text.specs.Section.{content_of, content_numbers, on_line}
@@ -12,11 +12,11 @@ use Rattle.vrp_text.specs.Stated.{Stated, keyword_fault}
 use Rattle.vrp_text.specs.declared.error.TextError.{TextError}
 
 -- what is wrong with a line that has this keyword and these bytes behind it, where these keys are marked as borne
-abbrev pub keyword_line_fault : Bool → List Bool → Option Keyword → List ℕ → Option FaultyLine
+abbrev pub keyword_line_fault : Bool → List Bool → Option Keyword → List ℕ → Option FileLineFault
 keyword_line_fault explicit marks keyword behind = keyword_fault explicit (is_marked marks) keyword (tokens_of behind)
 
 -- what is wrong with the line of a heading, where these keys are marked as borne
-abbrev pub heading_fault : Bool → List Bool → Heading → Option FaultyLine
+abbrev pub heading_fault : Bool → List Bool → Heading → Option FileLineFault
 heading_fault explicit marks heading = keyword_line_fault explicit marks heading.keyword heading.behind.now
 
 -- the same, with the line's number

@@ -1,12 +1,12 @@
 use Rattle.std.proofs.Common.{◌≡◌, ◌∙◌, ◌<◌, List, ℕ, get_or, length, ap, sym, subst, arith}
 use Rattle.std.proofs.lemmas.List.{get_or-map, length-map}
-use Rattle.vrp_model.specs.Word.{IsFront}
-use Rattle.vrp_tree.specs.Cutting.{NumberedWord}
+use Rattle.vrp_model.specs.Word.{IsPrefix}
+use Rattle.vrp_search_tree.specs.Cutting.{NumberedWord}
 use Rattle.bench_search.proofs.pieces.search_pieces.Goals as goal
 
--- the piece is one of the cutting's words, and they are fronts
-pub search_piece-requires-clause-front : goal.search_piece-requires-clause-front
-search_piece-requires-clause-front c =
+-- the piece is one of the cutting's words, and they are prefixes
+pub search_piece-requires-clause-prefix : goal.search_piece-requires-clause-prefix
+search_piece-requires-clause-prefix c =
     let pieces = c.pieces-piece-items.result.now in
     let cutting = c.args.cutting.now in
     let at = c.loop-piece.piece-index in
@@ -15,4 +15,4 @@ search_piece-requires-clause-front c =
     let few : at < length pieces = c.loop-piece-test.true in
     let within : at < length cutting = omega (arith, few, ap length c.pieces-piece-items.ensures.words, length-map pieces word_of_piece) in
     let is : get_or cutting at piece.word ≡ piece.word = ap (λ (words : List (List ℕ)). get_or words at piece.word) (sym c.pieces-piece-items.ensures.words) ∙ get_or-map word_of_piece pieces at piece piece.word few ∙ ap word_of_piece (sym c.piece-item.is) in
-    subst (IsFront c.args.instance.now) is (c.requires.cutting.each at piece.word within)
+    subst (IsPrefix c.args.instance.now) is (c.requires.cutting.each at piece.word within)

@@ -1,4 +1,4 @@
-use Rattle.vrp_bound.proofs.WithoutMemory.{completion}
+use Rattle.vrp_bound.proofs.WithoutNgSets.{completion}
 use Rattle.vrp_bound.proofs.law.relaxed_completions.Goals as goal
 
 pub returns : goal.returns

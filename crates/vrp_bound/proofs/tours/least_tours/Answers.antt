@@ -6,7 +6,7 @@ use Rattle.vrp_bound.specs.Tables.{room_of}
 use Rattle.vrp_bound.proofs.FirstTour.{IsFirstTour}
 use Rattle.vrp_bound.proofs.LeastOfCosts.{least_none}
 use Rattle.vrp_bound.proofs.SmallRows.{row_small}
-use Rattle.vrp_bound.proofs.WaysLookedAt.{row_before, tour_looked, tours_looked}
+use Rattle.vrp_bound.proofs.ArcsLookedAt.{row_before, tour_looked, tours_looked}
 use Rattle.vrp_bound.proofs.tours.least_tours.Goals as goal
 
 pub loop-load-preserved : goal.loop-load-preserved
@@ -38,7 +38,7 @@ overflow_add-load-end c = omega (arith, c.min-load-end.ensures, c.requires.rest,
 
 pub loop-load-init : goal.loop-load-init
 loop-load-init c = record {
-  least = least_none (IsFirstTour (in_units c.args.scope.unit c.args.scope.instance.now) (near_by c.args.scope) c.args.scope.customers.now (length c.args.cells.now)) 1 (λ way cost below has. absurd (omega (arith, below, has.some)));
+  least = least_none (IsFirstTour (in_units c.args.scope.unit c.args.scope.instance.now) (near_by c.args.scope) c.args.scope.customers.now (length c.args.cells.now)) 1 (λ arc cost below has. absurd (omega (arith, below, has.some)));
   within = omega arith;
 }
 

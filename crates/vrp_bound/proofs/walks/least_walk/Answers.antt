@@ -3,10 +3,10 @@ use Rattle.vrp_model.specs.Problem.{Problem, demand_of, place_count}
 use Rattle.vrp_bound.specs.Inner.Cells.{HasWalk, IsLeastCell}
 use Rattle.vrp_bound.specs.Inner.Scope.{IsScope}
 use Rattle.vrp_bound.specs.Inner.Units.{in_units}
-use Rattle.vrp_bound.specs.Remembering.{nothing_near}
+use Rattle.vrp_bound.specs.NgWalks.{nothing_near}
 use Rattle.vrp_bound.proofs.FirstStep.{IsStep, least_at_once}
 use Rattle.vrp_bound.proofs.LeastOfCosts.{IsCostBelow, least_none}
-use Rattle.vrp_bound.proofs.WaysLookedAt.{behind_is_so_far, step_looked, step_skipped, steps_looked}
+use Rattle.vrp_bound.proofs.ArcsLookedAt.{behind_is_so_far, step_looked, step_skipped, steps_looked}
 use Rattle.vrp_bound.proofs.walks.least_walk.Goals.{then-customer-at+then-demand-load, else-customer-at, else-customer-at-via-then-customer-at+else-demand-load, else-customer-at-via-else-customer-at}
 use Rattle.vrp_bound.proofs.walks.least_walk.Goals as goal
 
@@ -69,7 +69,7 @@ returns-then-load-eq0-clause-within c = omega (arith, c.weight.ensures.small)
 
 pub loop-customer-init : goal.loop-customer-init
 loop-customer-init c = record {
-  least = least_none (IsStep (in_units c.args.scope.unit c.args.scope.instance.now) nothing_near c.args.scope.customers.now c.args.at c.args.load) 0 (λ way cost below. absurd (omega (arith, below)));
+  least = least_none (IsStep (in_units c.args.scope.unit c.args.scope.instance.now) nothing_near c.args.scope.customers.now c.args.at c.args.load) 0 (λ arc cost below. absurd (omega (arith, below)));
   within = omega arith;
 }
 

@@ -1,7 +1,7 @@
 use Rattle.std.proofs.Common.{◌≤◌}
 use Rattle.vrp_bound.specs.Inner.Cells.{IsLeastCell, mark}
 use Rattle.vrp_bound.specs.Inner.Units.{in_units}
-use Rattle.vrp_bound.specs.Remembering.{nothing_near}
+use Rattle.vrp_bound.specs.NgWalks.{nothing_near}
 use Rattle.vrp_bound.proofs.FirstStep.{IsStep}
 use Rattle.vrp_bound.proofs.LeastOfCosts.{IsCostBelow}
 use Rattle.vrp_bound.proofs.walks.least_walk.Given as goal

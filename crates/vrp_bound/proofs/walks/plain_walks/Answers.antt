@@ -1,6 +1,6 @@
 use Rattle.std.proofs.Common.{◌≡◌, ℕ, ◌+◌, ◌*◌, List, length, get_or, ap, arith}
 use Rattle.vrp_bound.proofs.SmallRows.{row_small}
-use Rattle.vrp_bound.proofs.WaysLookedAt.{row_before}
+use Rattle.vrp_bound.proofs.ArcsLookedAt.{row_before}
 use Rattle.vrp_bound.proofs.walks.plain_walks.Goals as goal
 
 pub overflow_add-loads : goal.overflow_add-loads

@@ -2,7 +2,7 @@ use Rattle.std.proofs.Common.{◌≡◌, ◌+◌, ◌*◌, length, subst, sym, a
 use Rattle.vrp_model.specs.Problem.{place_count}
 use Rattle.vrp_bound.specs.Inner.Cells.{AreWalksSoFar}
 use Rattle.vrp_bound.specs.Inner.Units.{in_units}
-use Rattle.vrp_bound.specs.Remembering.{nothing_near}
+use Rattle.vrp_bound.specs.NgWalks.{nothing_near}
 use Rattle.vrp_bound.proofs.FilledTables.{more_walks}
 use Rattle.vrp_bound.proofs.walks.push_row.Goals as goal
 

@@ -2,7 +2,7 @@ use Rattle.std.proofs.Common.{◌≡◌, ◌+◌, length}
 use Rattle.std.specs.Vec.{vec_capacity}
 use Rattle.vrp_bound.specs.Inner.Cells.{AreWalksSoFar}
 use Rattle.vrp_bound.specs.Inner.Units.{in_units}
-use Rattle.vrp_bound.specs.Remembering.{nothing_near}
+use Rattle.vrp_bound.specs.NgWalks.{nothing_near}
 use Rattle.vrp_bound.proofs.walks.push_row.Given as goal
 
 abbrev pub invariant-loop-at : goal.invariant-loop-at

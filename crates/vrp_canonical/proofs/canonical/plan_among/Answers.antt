@@ -1,11 +1,11 @@
 use Rattle.std.proofs.Common.{◌≡◌, Vec, ℕ, Global, List, map, sym, ap, subst, ◌∙◌}
 use Rattle.vrp_canonical.specs.Ordering.{stops_of}
 use Rattle.vrp_canonical.specs.Reaching.{IsTask, plan_at, routes_at}
-use Rattle.vrp_canonical.proofs.CanonicalPlans.{GivesFirst, first_by_word, told}
-use Rattle.vrp_model.specs.Order.{IsFirst}
+use Rattle.vrp_canonical.proofs.CanonicalPlans.{GivesCanonical, canonical_by_word, told}
+use Rattle.vrp_model.specs.Order.{IsCanonical}
 use Rattle.vrp_model.specs.Word.{IsLawfulWord, word_of}
 use Rattle.vrp_partition.specs.declared.route.Route.{Route}
-use Rattle.vrp_routes.proofs.FirstPlanRoutes.{first_has_word}
+use Rattle.vrp_routes.proofs.CanonicalPlanRoutes.{canonical_has_word}
 use Rattle.vrp_canonical.proofs.canonical.plan_among.Goals as goal
 
 pub of_word-requires : goal.of_word-requires
@@ -14,9 +14,9 @@ of_word-requires g c =
     let stops = map stops_of c.args.ordered.now in
     let places = c.in-Some.places in
     let task : IsTask p c.args.whole.most stops c.as_slice.result.now c.args.whole = subst (λ (pool : List Route). IsTask p c.args.whole.most stops pool c.args.whole) (sym (c.as_slice.ensures.value ∙ c.in_ok-routes.ensures)) c.requires in
-    let first : IsFirst p (plan_at stops places.items c.args.whole.most) = told c.in_ok-places.field-0 places (λ (v : Vec ℕ Global). GivesFirst c.as_slice.result.now c.args.whole v.items) c.in-Some.is c.in_ok-places.ensures.first p c.args.whole.most stops task in
+    let canonical : IsCanonical p (plan_at stops places.items c.args.whole.most) = told c.in_ok-places.field-0 places (λ (v : Vec ℕ Global). GivesCanonical c.as_slice.result.now c.args.whole v.items) c.in-Some.is c.in_ok-places.ensures.canonical p c.args.whole.most stops task in
     let is : c.as_slice-3.result.now ≡ word_of (routes_at stops places.items) = c.as_slice-3.ensures.value ∙ c.in_ok-word.ensures ∙ ap (λ (xs : List ℕ). word_of (routes_at stops xs)) c.as_slice-2.ensures.value in
-    subst (IsLawfulWord p) (sym is) (first_has_word p (plan_at stops places.items c.args.whole.most) first)
+    subst (IsLawfulWord p) (sym is) (canonical_has_word p (plan_at stops places.items c.args.whole.most) canonical)
 
 pub returns : goal.returns
 returns g c =
@@ -24,6 +24,6 @@ returns g c =
     let stops = map stops_of c.args.ordered.now in
     let places = c.in-Some.places in
     let task : IsTask p c.args.whole.most stops c.as_slice.result.now c.args.whole = subst (λ (pool : List Route). IsTask p c.args.whole.most stops pool c.args.whole) (sym (c.as_slice.ensures.value ∙ c.in_ok-routes.ensures)) c.requires in
-    let first : IsFirst p (plan_at stops places.items c.args.whole.most) = told c.in_ok-places.field-0 places (λ (v : Vec ℕ Global). GivesFirst c.as_slice.result.now c.args.whole v.items) c.in-Some.is c.in_ok-places.ensures.first p c.args.whole.most stops task in
+    let canonical : IsCanonical p (plan_at stops places.items c.args.whole.most) = told c.in_ok-places.field-0 places (λ (v : Vec ℕ Global). GivesCanonical c.as_slice.result.now c.args.whole v.items) c.in-Some.is c.in_ok-places.ensures.canonical p c.args.whole.most stops task in
     let is : c.as_slice-3.result.now ≡ word_of (routes_at stops places.items) = c.as_slice-3.ensures.value ∙ c.in_ok-word.ensures ∙ ap (λ (xs : List ℕ). word_of (routes_at stops xs)) c.as_slice-2.ensures.value in
-    first_by_word p (plan_at stops places.items c.args.whole.most) c.in_ok-plan.plan first c.in_ok-plan.ensures.lawful (c.in_ok-plan.ensures.word ∙ is)
+    canonical_by_word p (plan_at stops places.items c.args.whole.most) c.in_ok-plan.plan canonical c.in_ok-plan.ensures.lawful (c.in_ok-plan.ensures.word ∙ is)

@@ -21,26 +21,26 @@ loop-end-init c =
 pub returns-then-common-set-eq0-clause-unserved : goal.returns-then-common-set-eq0-clause-unserved
 returns-then-common-set-eq0-clause-unserved c =
     let n = count_trailing_zeros 128 c.loop-end.common in
-    let first = lowest_one c.loop-end.common c.loop-end.invariant.some (omega (arith, c.loop-end.auto.common-fits)) in
-    omega (arith, first.1, c.loop-end.invariant.unserved n, bit_at-lt c.args.unserved n)
+    let lowest = lowest_one c.loop-end.common c.loop-end.invariant.some (omega (arith, c.loop-end.auto.common-fits)) in
+    omega (arith, lowest.1, c.loop-end.invariant.unserved n, bit_at-lt c.args.unserved n)
 
 pub returns-then-common-set-eq0-clause-have : goal.returns-then-common-set-eq0-clause-have
 returns-then-common-set-eq0-clause-have c = λ k from below within inside.
     let n = count_trailing_zeros 128 c.loop-end.common in
-    let first = lowest_one c.loop-end.common c.loop-end.invariant.some (omega (arith, c.loop-end.auto.common-fits)) in
-    omega (arith, first.1, c.loop-end.invariant.have k from below within inside n, bit_at-lt (route_in c.args.pool.now k).set n)
+    let lowest = lowest_one c.loop-end.common c.loop-end.invariant.some (omega (arith, c.loop-end.auto.common-fits)) in
+    omega (arith, lowest.1, c.loop-end.invariant.have k from below within inside n, bit_at-lt (route_in c.args.pool.now k).set n)
 
 pub returns-clause-unserved : goal.returns-clause-unserved
 returns-clause-unserved c =
     let n = count_trailing_zeros 128 c.loop-end.common in
-    let first = lowest_one c.loop-end.common c.loop-end.invariant.some (omega (arith, c.loop-end.auto.common-fits)) in
-    omega (arith, first.1, c.loop-end.invariant.unserved n, bit_at-lt c.args.unserved n)
+    let lowest = lowest_one c.loop-end.common c.loop-end.invariant.some (omega (arith, c.loop-end.auto.common-fits)) in
+    omega (arith, lowest.1, c.loop-end.invariant.unserved n, bit_at-lt c.args.unserved n)
 
 pub returns-clause-have : goal.returns-clause-have
 returns-clause-have c = λ k from below within inside.
     let n = count_trailing_zeros 128 c.loop-end.common in
-    let first = lowest_one c.loop-end.common c.loop-end.invariant.some (omega (arith, c.loop-end.auto.common-fits)) in
-    omega (arith, first.1, c.loop-end.invariant.have k from (omega (arith, below, c.loop-end-test.false)) within inside n, bit_at-lt (route_in c.args.pool.now k).set n)
+    let lowest = lowest_one c.loop-end.common c.loop-end.invariant.some (omega (arith, c.loop-end.auto.common-fits)) in
+    omega (arith, lowest.1, c.loop-end.invariant.have k from (omega (arith, below, c.loop-end-test.false)) within inside n, bit_at-lt (route_in c.args.pool.now k).set n)
 
 pub loop-end-preserved : goal.loop-end-preserved
 loop-end-preserved c =

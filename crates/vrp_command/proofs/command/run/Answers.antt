@@ -1,5 +1,5 @@
 use Rattle.std.proofs.Common.{false, subst, sym}
-use Rattle.vrp_answer.specs.Finding.{told_by}
+use Rattle.vrp_pool_answer.specs.Finding.{told_by}
 use Rattle.vrp_command.proofs.LawfulAnswers.{told_lawful}
 use Rattle.vrp_command.proofs.ReadProblems.{prints_answer, prints_part}
 use Rattle.vrp_command.specs.Run.{ReadsProblem}

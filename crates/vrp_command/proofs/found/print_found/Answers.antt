@@ -1,6 +1,6 @@
 use Rattle.std.proofs.Common.{◌∙◌, ap, sym}
 use Rattle.std.specs.Option.{option_map}
-use Rattle.vrp_answer.specs.Finding.{FindingOf, told_by}
+use Rattle.vrp_pool_answer.specs.Finding.{FindingOf, told_by}
 use Rattle.vrp_command.proofs.Requests.{is_checked, writes_found, writes_found_part}
 use Rattle.vrp_command.proofs.found.print_found.Goals as goal
 

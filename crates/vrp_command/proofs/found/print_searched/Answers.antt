@@ -1,5 +1,5 @@
 use Rattle.std.specs.Option.{option_map}
-use Rattle.vrp_answer.specs.Finding.{told_by}
+use Rattle.vrp_pool_answer.specs.Finding.{told_by}
 use Rattle.vrp_command.proofs.LawfulAnswers.{told_of_lawful}
 use Rattle.vrp_command.proofs.Requests.{is_searched, writes_found, writes_found_part}
 use Rattle.vrp_command.proofs.found.print_searched.Goals as goal
@@ -18,7 +18,7 @@ returns-clause-printed g c context is =
     let start = option_map (λ plan. plan.now) c.args.start in
     let solved = c.in_ok-solved.solved in
     let told = told_by c.told-finding.result in
-    let found = is_searched c.args.request may_stop p start solved.answer solved.lower_bound told c.requires.unchecked c.in_ok-solved.ensures.answer c.in_ok-solved.ensures.no_dearer c.in_ok-solved.ensures.bound c.told-finding.ensures in
+    let found = is_searched c.args.request may_stop p start solved.answer solved.lower_bound told c.requires.unchecked c.in_ok-solved.ensures.answer c.in_ok-solved.ensures.no_costlier c.in_ok-solved.ensures.bound c.told-finding.ensures in
     writes_found c.args.request context may_stop p start c.args.form told (held c.args.output.now) (held c.print_told-printed.new.output) is found
     c.print_told-printed.result c.print_told-printed.ensures.printed c.print_told-printed.ensures.status
 
@@ -30,6 +30,6 @@ returns-clause-begun g c context is =
     let start = option_map (λ plan. plan.now) c.args.start in
     let solved = c.in_ok-solved.solved in
     let told = told_by c.told-finding.result in
-    let found = is_searched c.args.request may_stop p start solved.answer solved.lower_bound told c.requires.unchecked c.in_ok-solved.ensures.answer c.in_ok-solved.ensures.no_dearer c.in_ok-solved.ensures.bound c.told-finding.ensures in
+    let found = is_searched c.args.request may_stop p start solved.answer solved.lower_bound told c.requires.unchecked c.in_ok-solved.ensures.answer c.in_ok-solved.ensures.no_costlier c.in_ok-solved.ensures.bound c.told-finding.ensures in
     writes_found_part c.args.request context may_stop p start c.args.form told (held c.args.output.now) (held c.print_told-printed.new.output) is found
     c.print_told-printed.result c.print_told-printed.ensures.begun

@@ -1,4 +1,4 @@
-use Rattle.vrp_model.proofs.FirstPlans.{same_routes}
+use Rattle.vrp_model.proofs.CanonicalPlans.{same_routes}
 use Rattle.vrp_model.proofs.law.equal_words_equal_plans.Goals as goal
 
 pub returns : goal.returns

@@ -1,4 +1,4 @@
-use Rattle.vrp_model.proofs.FrontsBefore.{longer_tree}
+use Rattle.vrp_model.proofs.PrefixesBefore.{longer_tree}
 use Rattle.vrp_model.proofs.law.longer_trees.Goals as goal
 
 pub returns : goal.returns

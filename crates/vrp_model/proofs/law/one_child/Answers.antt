@@ -1,4 +1,4 @@
-use Rattle.vrp_model.proofs.FrontsBefore.{one_child_behind}
+use Rattle.vrp_model.proofs.PrefixesBefore.{one_child_behind}
 use Rattle.vrp_model.proofs.law.one_child.Goals as goal
 
 pub returns : goal.returns

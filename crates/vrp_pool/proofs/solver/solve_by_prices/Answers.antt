@@ -2,7 +2,7 @@ use Rattle.std.proofs.Common.{◌≡◌, ◌≤◌, ◌∙◌, [], ap, refl, sub
 use Rattle.vrp_model.specs.Problem.{Problem}
 use Rattle.vrp_model.specs.Route.{plan_cost}
 use Rattle.vrp_model.specs.Word.{NoneCheaperUnder}
-use Rattle.vrp_prices.specs.Relaxation.{RelaxationOf}
+use Rattle.vrp_bound_prices.specs.Relaxation.{RelaxationOf}
 use Rattle.vrp_pool.proofs.solver.solve_by_prices.Goals as goal
 
 pub returns-clause-bound : goal.returns-clause-bound

@@ -1,7 +1,7 @@
 use Rattle.std.proofs.Common.{Option, subst}
 use Rattle.std.specs.Prelude.{IfSome}
-use Rattle.vrp_answer.specs.Answer.{AnswersAll}
-use Rattle.vrp_answer.specs.declared.answers.Answer.{Answer}
+use Rattle.vrp_pool_answer.specs.Answer.{AnswersAll}
+use Rattle.vrp_pool_answer.specs.declared.answers.Answer.{Answer}
 use Rattle.vrp_pool.proofs.solver.solve_by_routes.Goals as goal
 
 pub returns-in-Some-clause-answer : goal.returns-in-Some-clause-answer

@@ -1,7 +1,7 @@
 use Rattle.std.proofs.Common.{List, ℕ, subst, sym}
 use Rattle.std.specs.Prelude.{IfOk}
-use Rattle.vrp_tree.specs.Cutting.{IsCutting}
-use Rattle.vrp_answer.specs.Answer.{IsAnswer}
+use Rattle.vrp_search_tree.specs.Cutting.{IsCutting}
+use Rattle.vrp_pool_answer.specs.Answer.{IsAnswer}
 use Rattle.vrp_pool.proofs.solver.solve_pieces.Goals as goal
 
 pub solve_pile-requires-clause-cutting : goal.solve_pile-requires-clause-cutting

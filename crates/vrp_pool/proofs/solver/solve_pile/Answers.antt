@@ -2,16 +2,16 @@ use Rattle.std.proofs.Common.{◌≡◌, ◌∙◌, ◌+◌, List, length, ap, s
 use Rattle.std.specs.Prelude.{◌↔◌, IfOk, IsTrue, is_some}
 use Rattle.vrp_model.specs.Cheapest.{cost_of}
 use Rattle.vrp_model.specs.Problem.{HasTrucks, customers}
-use Rattle.vrp_tree.specs.Cutting.{AreNumbered, IsCutting, NumberedWord}
-use Rattle.vrp_answer.specs.Answer.{IsAnswer}
-use Rattle.vrp_answer.specs.Outcomes.{IsSearched, Search, words_of}
+use Rattle.vrp_search_tree.specs.Cutting.{AreNumbered, IsCutting, NumberedWord}
+use Rattle.vrp_pool_answer.specs.Answer.{IsAnswer}
+use Rattle.vrp_pool_answer.specs.Outcomes.{IsSearched, Search, words_of}
 use Rattle.vrp_pool.specs.Inner.Workers.{AreNewCallers}
 use Rattle.vrp_pool.proofs.Closings.{all_searched}
-use Rattle.vrp_pool.proofs.NewCallers.{are_fronts, many_callers, new_callers}
+use Rattle.vrp_pool.proofs.NewCallers.{are_prefixes, many_callers, new_callers}
 use Rattle.vrp_pool.proofs.solver.solve_pile.Goals as goal
 
-pub searched_by_all-requires-clause-fronts : goal.searched_by_all-requires-clause-fronts
-searched_by_all-requires-clause-fronts g c κs within = are_fronts c.args.shared.now c.args.owner.put c.requires.cutting
+pub searched_by_all-requires-clause-prefixes : goal.searched_by_all-requires-clause-prefixes
+searched_by_all-requires-clause-prefixes g c κs within = are_prefixes c.args.shared.now c.args.owner.put c.requires.cutting
 
 pub searched_by_all-requires-clause-callers : goal.searched_by_all-requires-clause-callers
 searched_by_all-requires-clause-callers g c κs within =

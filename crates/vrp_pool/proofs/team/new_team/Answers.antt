@@ -1,10 +1,10 @@
 use Rattle.std.proofs.Common.{◌≡◌, false, [], ◌∷◌, length, ap, subst, sym, rules, arith}
-use Rattle.vrp_model.proofs.FrontWithSymbol.{All-last, All-left}
-use Rattle.vrp_pile.specs.Pile.{DrawerState, IsNewThief}
-use Rattle.vrp_register.specs.Caller.{RegisterState}
+use Rattle.vrp_model.proofs.PrefixWithSymbol.{All-last, All-left}
+use Rattle.vrp_pool_pile.specs.Pile.{DrawerState, IsNewThief}
+use Rattle.vrp_pool_register.specs.Caller.{RegisterState}
 use Rattle.std.specs.List.{All}
 use Rattle.std.proofs.lemmas.List.Elements.{All-nil}
-use Rattle.vrp_answer.specs.Outcomes.{Search}
+use Rattle.vrp_pool_answer.specs.Outcomes.{Search}
 use Rattle.vrp_pool.specs.Inner.Workers.{HasOutcomes, IsNewCaller, IsWorker, WorkerState}
 use Rattle.vrp_pool.proofs.Teams.{AreNewHelpers, new_team, one_more_helper}
 use Rattle.vrp_pool.proofs.team.new_team.Goals as goal
@@ -29,7 +29,7 @@ loop-thief-preserved g c =
       thieves = All-left (IsNewThief owner) c.pop.new.self.items (c.in-Some.thief ∷ []) thieves;
       callers = All-left (IsNewCaller register) c.pop-in-Some.new.self.items (c.in-Some-pop.caller ∷ []) callers;
       as_many = search rules;
-      helpers = one_more_helper s register owner c.in-Some.thief c.in-Some-pop.caller c.new.result c.loop-thief.helpers.items c.push.new.self.items c.requires.fronts new c.new.ensures c.loop-thief.invariant.helpers (search rules);
+      helpers = one_more_helper s register owner c.in-Some.thief c.in-Some-pop.caller c.new.result c.loop-thief.helpers.items c.push.new.self.items c.requires.prefixes new c.new.ensures c.loop-thief.invariant.helpers (search rules);
       many = search rules;
     }
 
@@ -55,7 +55,7 @@ returns-clause-team g c =
     let empty : length c.loop-thief.thieves.items ≡ 0 = search rules in
     let many : length helpers ≡ length c.args.thieves.items = omega (arith, inv.many, empty) in
     new_team c.args.shared.now c.args.register.now c.args.owner c.in-Some-pop-2.caller c.new-2.result helpers
-    c.requires.fronts c.requires.pile.nothing (omega (arith, many, c.requires.pile.many)) (omega (arith, many, c.requires.as_many, c.requires.all)) c.new-2.ensures inv.helpers
+    c.requires.prefixes c.requires.pile.nothing (omega (arith, many, c.requires.pile.many)) (omega (arith, many, c.requires.as_many, c.requires.all)) c.new-2.ensures inv.helpers
 
 pub returns-clause-fine : goal.returns-clause-fine
 returns-clause-fine g c = c.loop-thief.invariant.helpers.fine

@@ -1,6 +1,6 @@
 use Rattle.std.proofs.Common.{◌≡◌, ◌+◌, vec_len}
 use Rattle.std.specs.List.{All}
-use Rattle.vrp_pile.specs.Pile.{IsNewThief}
+use Rattle.vrp_pool_pile.specs.Pile.{IsNewThief}
 use Rattle.vrp_pool.specs.Inner.Workers.{AreNewCallers}
 use Rattle.vrp_pool.proofs.Teams.{AreNewHelpers}
 use Rattle.vrp_pool.proofs.team.new_team.Given as goal

@@ -1,7 +1,7 @@
 use Rattle.std.proofs.Common.{◌≡◌, List, [], ◌∷◌, length, refl, subst, sym, rules, arith}
 use Rattle.std.specs.List.{All}
 use Rattle.std.proofs.lemmas.List.Elements.{All-head}
-use Rattle.vrp_register.specs.Caller.{CallerState, RegisterState}
+use Rattle.vrp_pool_register.specs.Caller.{CallerState, RegisterState}
 use Rattle.vrp_pool.specs.Inner.Workers.{IsPartly, IsWorker, WorkerState}
 use Rattle.vrp_pool.proofs.Teams.{none_taken_over, one_taken_over}
 use Rattle.vrp_pool.proofs.team.taken_over.Goals as goal

@@ -5,12 +5,12 @@ use Rattle.vrp_bound.specs.Tables.{TablesOf}
 use Rattle.vrp_model.specs.Problem.{customers}
 use Rattle.vrp_model.specs.Route.{IsPlanOf}
 use Rattle.vrp_model.proofs.UnservedCustomers.{unserved_are_customers}
-use Rattle.vrp_tree.specs.Low.{AreCovered}
+use Rattle.vrp_search_tree.specs.Low.{AreCovered}
 use Rattle.vrp_search.specs.Search.{EndsSearch}
 use Rattle.vrp_pool.specs.SeatBoard.{floor_of}
-use Rattle.vrp_answer.specs.Outcomes.{EndsPiece, Search}
+use Rattle.vrp_pool_answer.specs.Outcomes.{EndsPiece, Search}
 use Rattle.vrp_pool.proofs.Floors.{later_itself}
-use Rattle.vrp_answer.proofs.Outcomes.{ends_within}
+use Rattle.vrp_pool_answer.proofs.Outcomes.{ends_within}
 use Rattle.vrp_pool.proofs.worker.end_of_search.Goals as goal
 
 pub search_by_prices-requires-clause-prices : goal.search_by_prices-requires-clause-prices
@@ -19,8 +19,8 @@ search_by_prices-requires-clause-prices g c = c.shared.invariant.3 c.in-Some.pri
 pub search_by_prices-requires-clause-covered : goal.search_by_prices-requires-clause-covered
 search_by_prices-requires-clause-covered g c =
     let p = c.shared.inside.instance.now in
-    let front = c.args.piece.now.word in
-    subst (λ (tables : TablesOf). AreCovered p tables.among front) (sym c.shared.invariant.0) (unserved_are_customers p front)
+    let prefix = c.args.piece.now.word in
+    subst (λ (tables : TablesOf). AreCovered p tables.among prefix) (sym c.shared.invariant.0) (unserved_are_customers p prefix)
 
 pub search_by_prices-requires-clause-board : goal.search_by_prices-requires-clause-board
 search_by_prices-requires-clause-board g c = subst (λ (s : Search). ForSome c.args.board.now.best (IsPlanOf s.problem)) (sym c.shared.view_is) c.requires.serves
@@ -28,8 +28,8 @@ search_by_prices-requires-clause-board g c = subst (λ (s : Search). ForSome c.a
 pub search-requires-clause-covered : goal.search-requires-clause-covered
 search-requires-clause-covered g c =
     let p = c.shared.inside.instance.now in
-    let front = c.args.piece.now.word in
-    subst (λ (tables : TablesOf). AreCovered p tables.among front) (sym c.shared.invariant.0) (unserved_are_customers p front)
+    let prefix = c.args.piece.now.word in
+    subst (λ (tables : TablesOf). AreCovered p tables.among prefix) (sym c.shared.invariant.0) (unserved_are_customers p prefix)
 
 pub search-requires-clause-board : goal.search-requires-clause-board
 search-requires-clause-board g c = subst (λ (s : Search). ForSome c.args.board.now.best (IsPlanOf s.problem)) (sym c.shared.view_is) c.requires.serves
@@ -49,7 +49,7 @@ returns-in-None-clause-later g c = c.search.ensures.keeps c.args.board.now (late
 pub returns-in-Some-clause-ended : goal.returns-in-Some-clause-ended
 returns-in-Some-clause-ended g c =
     let p = c.shared.inside.instance.now in
-    let s : Search = record { problem = p; first = option_map (λ plan. plan.now) c.shared.inside.first; pieces = c.shared.inside.pieces; budget = c.shared.inside.budget; may_stop = g.G.Gate.may_stop c.shared.inside.gate.now } in
+    let s : Search = record { problem = p; start_plan = option_map (λ plan. plan.now) c.shared.inside.start_plan; pieces = c.shared.inside.pieces; budget = c.shared.inside.budget; may_stop = g.G.Gate.may_stop c.shared.inside.gate.now } in
     let floor = floor_of c.search_by_prices.new.board in
     let stops = c.search_by_prices.new.board.may_stop in
     let budget = c.piece_budget-budget.result in
@@ -66,7 +66,7 @@ returns-in-Some-clause-ended g c =
 pub returns-in-None-clause-ended : goal.returns-in-None-clause-ended
 returns-in-None-clause-ended g c =
     let p = c.shared.inside.instance.now in
-    let s : Search = record { problem = p; first = option_map (λ plan. plan.now) c.shared.inside.first; pieces = c.shared.inside.pieces; budget = c.shared.inside.budget; may_stop = g.G.Gate.may_stop c.shared.inside.gate.now } in
+    let s : Search = record { problem = p; start_plan = option_map (λ plan. plan.now) c.shared.inside.start_plan; pieces = c.shared.inside.pieces; budget = c.shared.inside.budget; may_stop = g.G.Gate.may_stop c.shared.inside.gate.now } in
     let floor = floor_of c.search.new.board in
     let stops = c.search.new.board.may_stop in
     let budget = c.piece_budget-budget.result in

@@ -2,10 +2,10 @@ use Rattle.std.proofs.Common.{◌≡◌, ◌∙◌, ℕ, Option, Some, List, sym
 use Rattle.std.specs.Prelude.{IfNone, IfSome}
 use Rattle.std.proofs.lemmas.Result.{IfOk-weaker}
 use Rattle.vrp_model.specs.Word.{NoneCheaperUnder}
-use Rattle.vrp_tree.specs.Partial.{PartialPlan}
+use Rattle.vrp_search_tree.specs.Partial.{PartialPlan}
 use Rattle.vrp_search.specs.Search.{EndsSearch}
-use Rattle.vrp_tree.specs.Low.{IsLow}
-use Rattle.vrp_tree.specs.Pruned.{AllCostMore}
+use Rattle.vrp_search_tree.specs.Low.{IsLow}
+use Rattle.vrp_search_tree.specs.Pruned.{AllCostMore}
 use Rattle.vrp_search.specs.Inner.Under.{EndsUnder}
 use Rattle.vrp_search.specs.declared.depth_first.Root.{Root}
 use Rattle.vrp_search.proofs.SearchProgress.{ends_at_root}
@@ -15,7 +15,7 @@ pub returns-in_default-clause-ended : goal.returns-in_default-clause-ended
 returns-in_default-clause-ended g c =
     let p = c.args.instance.now in
     let root = c.args.piece.now.word in
-    let floor = g.B.Board.floor c.opened.new.board in
+    let floor = g.B.Board.floor c.open_root.new.board in
     ends_at_root p root c.args.budget floor c.requires.piece c.requires.budget
     (subst (λ (o : Option Root). IfNone o (AllCostMore p root floor)) c.in_default.is c.in_ok-partial.ensures.none)
 
@@ -42,44 +42,44 @@ returns-clause-ended g c =
     (λ ended ends. subst (λ (v : PartialPlan). (among : List ℕ) → IsLow v.problem among v.word (Some one.low) → EndsSearch v.problem among v.word budget may_stop floor ended) at ends among is_low)
     c.search_under.ensures.ended
 
-pub opened-requires-clause-tables : goal.opened-requires-clause-tables
-opened-requires-clause-tables g c = c.requires.tables
+pub open_root-requires-clause-tables : goal.open_root-requires-clause-tables
+open_root-requires-clause-tables g c = c.requires.tables
 
-pub opened-requires-clause-covered : goal.opened-requires-clause-covered
-opened-requires-clause-covered g c = c.requires.covered
+pub open_root-requires-clause-covered : goal.open_root-requires-clause-covered
+open_root-requires-clause-covered g c = c.requires.covered
 
-pub opened-requires-clause-piece : goal.opened-requires-clause-piece
-opened-requires-clause-piece g c = c.requires.piece
+pub open_root-requires-clause-piece : goal.open_root-requires-clause-piece
+open_root-requires-clause-piece g c = c.requires.piece
 
-pub opened-requires-clause-board : goal.opened-requires-clause-board
-opened-requires-clause-board g c = c.requires.board
+pub open_root-requires-clause-board : goal.open_root-requires-clause-board
+open_root-requires-clause-board g c = c.requires.board
 
 pub returns-in_err-partial-clause-serves : goal.returns-in_err-partial-clause-serves
-returns-in_err-partial-clause-serves g c = c.opened.ensures.serves
+returns-in_err-partial-clause-serves g c = c.open_root.ensures.serves
 
 pub returns-in_err-partial-clause-keeps : goal.returns-in_err-partial-clause-keeps
-returns-in_err-partial-clause-keeps g c = c.opened.ensures.keeps
+returns-in_err-partial-clause-keeps g c = c.open_root.ensures.keeps
 
 pub returns-in_err-partial-clause-falls : goal.returns-in_err-partial-clause-falls
-returns-in_err-partial-clause-falls g c = c.opened.ensures.falls
+returns-in_err-partial-clause-falls g c = c.open_root.ensures.falls
 
 pub returns-in_default-clause-serves : goal.returns-in_default-clause-serves
-returns-in_default-clause-serves g c = c.opened.ensures.serves
+returns-in_default-clause-serves g c = c.open_root.ensures.serves
 
 pub returns-in_default-clause-keeps : goal.returns-in_default-clause-keeps
-returns-in_default-clause-keeps g c = c.opened.ensures.keeps
+returns-in_default-clause-keeps g c = c.open_root.ensures.keeps
 
 pub returns-in_default-clause-falls : goal.returns-in_default-clause-falls
-returns-in_default-clause-falls g c = c.opened.ensures.falls
+returns-in_default-clause-falls g c = c.open_root.ensures.falls
 
 pub returns-in_err-by_prices-clause-serves : goal.returns-in_err-by_prices-clause-serves
-returns-in_err-by_prices-clause-serves g c = c.opened.ensures.serves
+returns-in_err-by_prices-clause-serves g c = c.open_root.ensures.serves
 
 pub returns-in_err-by_prices-clause-keeps : goal.returns-in_err-by_prices-clause-keeps
-returns-in_err-by_prices-clause-keeps g c = c.opened.ensures.keeps
+returns-in_err-by_prices-clause-keeps g c = c.open_root.ensures.keeps
 
 pub returns-in_err-by_prices-clause-falls : goal.returns-in_err-by_prices-clause-falls
-returns-in_err-by_prices-clause-falls g c = c.opened.ensures.falls
+returns-in_err-by_prices-clause-falls g c = c.open_root.ensures.falls
 
 pub at-requires : goal.at-requires
 at-requires g c =
@@ -93,7 +93,7 @@ search_under-requires-clause-board g c =
     let p = c.args.instance.now in
     let root = c.args.piece.now.word in
     let at : c.in-Some.field-0.partial ≡ record { problem = p; word = root } = subst (λ (o : Option Root). IfSome o (λ one. one.partial ≡ record { problem = p; word = root })) c.in-Some.is c.in_ok-partial.ensures.at in
-    subst (λ (v : PartialPlan). g.B.Board.serves c.opened.new.board v.problem) (sym at) c.opened.ensures.serves
+    subst (λ (v : PartialPlan). g.B.Board.serves c.open_root.new.board v.problem) (sym at) c.open_root.ensures.serves
 
 pub search_under-requires-clause-budget : goal.search_under-requires-clause-budget
 search_under-requires-clause-budget g c = c.requires.budget
@@ -106,7 +106,7 @@ returns-clause-serves g c =
     subst (λ (v : PartialPlan). g.B.Board.serves c.search_under.new.board v.problem) at c.search_under.ensures.serves
 
 pub returns-clause-keeps : goal.returns-clause-keeps
-returns-clause-keeps g c = λ earlier kept. c.search_under.ensures.keeps earlier (c.opened.ensures.keeps earlier kept)
+returns-clause-keeps g c = λ earlier kept. c.search_under.ensures.keeps earlier (c.open_root.ensures.keeps earlier kept)
 
 pub returns-clause-falls : goal.returns-clause-falls
-returns-clause-falls g c = omega (arith, c.search_under.ensures.falls, c.opened.ensures.falls)
+returns-clause-falls g c = omega (arith, c.search_under.ensures.falls, c.open_root.ensures.falls)

@@ -2,10 +2,10 @@ use Rattle.std.proofs.Common.{◌≡◌, ◌-◌, ◌*◌, ◌≢◌, ◌⊎◌,
 use Rattle.vrp_model.specs.Problem.{Problem}
 use Rattle.vrp_model.specs.declared.limits.TheConstants.{NO_COST}
 use Rattle.vrp_model.specs.Word.{BeginsWith, TreeHasAtLeast, word_cost}
-use Rattle.vrp_tree.specs.Child.{IsNextChild, NoChildFrom}
+use Rattle.vrp_search_tree.specs.Child.{IsNextChild, NoChildFrom}
 use Rattle.vrp_search.specs.Inner.Found.{IsLastOffer}
-use Rattle.vrp_tree.specs.Pruned.{NoneOfUse}
-use Rattle.vrp_tree.specs.Partial.{PartialPlan}
+use Rattle.vrp_search_tree.specs.Pruned.{NoneOfUse}
+use Rattle.vrp_search_tree.specs.Partial.{PartialPlan}
 use Rattle.vrp_search.specs.Search.{IsFinished}
 use Rattle.vrp_search.proofs.SearchProgress.{Progress, descended, ends_at_last, no_use, opened, pruned, returned, unfinished}
 use Rattle.vrp_search.proofs.WordOrder.{without_last}
@@ -25,7 +25,7 @@ loop-spending-init g c =
     let root = c.args.partial.now.word in
     let floor = g.B.Board.floor c.offer_complete.new.board in
     let kept = subst (λ f. IsLastOffer p root floor f c.offer_complete.new.self.plan) c.nothing-found.ensures c.in_ok-offer_complete.ensures.kept in
-    let progress = opened p root floor c.offer_complete.new.self.plan c.depth-root.ensures.front
+    let progress = opened p root floor c.offer_complete.new.self.plan c.depth-root.ensures.prefix
     (λ w lawful.
     let plan = c.words_are_plans.ensures p w lawful in
     omega (arith, c.plans_cost_less.ensures p plan.0 c.depth-root.ensures.problem plan.2, plan.5)) kept in
@@ -77,30 +77,30 @@ loop-spending-preserved-then-prunes g c =
     let word = c.loop-spending.partial.word in
     let k = c.in-Some.field-0 in
     let old = g.B.Board.floor c.loop-spending.board in
-    let floor = g.B.Board.floor c.least-least.new.self in
-    let first = c.loop-spending.found.plan in
+    let floor = g.B.Board.floor c.least-incumbent.new.self in
+    let last_offer = c.loop-spending.found.plan in
     let child = subst (λ (q : Problem). IsNextChild q word c.loop-spending.next k) c.loop-spending.invariant.problem c.in-Some.ensures.next in
     let problem : c.push.new.partial.problem ≡ p = ap (λ (v : PartialPlan). v.problem) c.push.ensures.partial ∙ c.loop-spending.invariant.problem in
     let longer : c.push.new.partial.word ≡ word ++ k ∷ [] = ap (λ (v : PartialPlan). v.word) c.push.ensures.partial in
-    let none = subst (λ (w : List ℕ). NoneOfUse p w c.least-least.result c.cost-in-Some-promising.result) longer
-    (subst (λ (q : Problem). NoneOfUse q c.push.new.partial.word c.least-least.result c.cost-in-Some-promising.result) problem (c.prunes.ensures.none c.if-prunes.true)) in
+    let none = subst (λ (w : List ℕ). NoneOfUse p w c.least-incumbent.result c.cost-in-Some-promising.result) longer
+    (subst (λ (q : Problem). NoneOfUse q c.push.new.partial.word c.least-incumbent.result c.cost-in-Some-promising.result) problem (c.prunes.ensures.none c.if-prunes.true)) in
     let parts = without_last c.pop-next.new.partial.word word c.pop-next.result k (sym c.pop-next.ensures.word ∙ longer) in
     let under = subst (λ (w : List ℕ). BeginsWith w root) (sym parts.0) c.loop-spending.invariant.progress.under in
-    let progress = pruned p root word c.loop-spending.next k c.loop-spending.spending.spent old floor first c.loop-spending.invariant.progress child c.least-least.ensures.falls
+    let progress = pruned p root word c.loop-spending.next k c.loop-spending.spending.spent old floor last_offer c.loop-spending.invariant.progress child c.least-incumbent.ensures.falls
     (λ w lawful from begins.
     let plan = c.words_are_plans.ensures p w lawful in
     let small : word_cost p w < NO_COST = omega (arith, c.plans_cost_less.ensures p plan.0 c.depth-root.ensures.problem plan.2, plan.5) in
-    no_use p (word ++ c.loop-spending.next ∷ []) floor c.least-least.result c.cost-in-Some-promising.result first w c.least-least.ensures.answered c.cost-in-Some-promising.ensures small c.loop-spending.invariant.progress.behind from (none w lawful begins)) in
+    no_use p (word ++ c.loop-spending.next ∷ []) floor c.least-incumbent.result c.cost-in-Some-promising.result last_offer w c.least-incumbent.ensures.answered c.cost-in-Some-promising.ensures small c.loop-spending.invariant.progress.behind from (none w lawful begins)) in
     let spent = c.look.ensures.spent ∙ ap (λ n. n + 1) c.is_over.ensures.spent in
     record {
       problem = c.pop-next.ensures.problem ∙ problem;
       step = c.pop-next.ensures.step root (c.prunes.ensures.step root (c.push.ensures.step root c.loop-spending.invariant.step)) under;
-      progress = subst (λ (w : List ℕ). Progress p root w (c.pop-next.result + 1) c.look.new.self.spent floor first) (sym parts.0)
-          (subst (λ n. Progress p root word (n + 1) c.look.new.self.spent floor first) (sym parts.1)
-          (subst (λ n. Progress p root word (k + 1) n floor first) (sym spent) progress));
-      serves = c.least-least.ensures.serves p c.loop-spending.invariant.serves;
-      keeps = λ earlier kept. c.least-least.ensures.keeps earlier (c.loop-spending.invariant.keeps earlier kept);
-      falls = omega (arith, c.least-least.ensures.falls, c.loop-spending.invariant.falls);
+      progress = subst (λ (w : List ℕ). Progress p root w (c.pop-next.result + 1) c.look.new.self.spent floor last_offer) (sym parts.0)
+          (subst (λ n. Progress p root word (n + 1) c.look.new.self.spent floor last_offer) (sym parts.1)
+          (subst (λ n. Progress p root word (k + 1) n floor last_offer) (sym spent) progress));
+      serves = c.least-incumbent.ensures.serves p c.loop-spending.invariant.serves;
+      keeps = λ earlier kept. c.least-incumbent.ensures.keeps earlier (c.loop-spending.invariant.keeps earlier kept);
+      falls = omega (arith, c.least-incumbent.ensures.falls, c.loop-spending.invariant.falls);
       some = omega (arith, spent);
       budget = c.look.ensures.budget ∙ c.is_over.ensures.budget ∙ c.loop-spending.invariant.budget;
       within = omega (arith, spent, c.is_over.ensures.more c.if-is_over.false, c.is_over.ensures.spent, c.is_over.new.self.until, c.is_over.new.self.within, c.is_over.ensures.budget, c.loop-spending.invariant.budget);
@@ -109,10 +109,10 @@ loop-spending-preserved-then-prunes g c =
 pub offer_complete-requires-else-prunes : goal.offer_complete-requires-else-prunes
 offer_complete-requires-else-prunes g c =
     let problem : c.push.new.partial.problem ≡ c.args.partial.now.problem = ap (λ (v : PartialPlan). v.problem) c.push.ensures.partial ∙ c.loop-spending.invariant.problem in
-    subst (λ (q : Problem). g.B.Board.serves c.least-least.new.self q) (sym problem) (c.least-least.ensures.serves c.args.partial.now.problem c.loop-spending.invariant.serves)
+    subst (λ (q : Problem). g.B.Board.serves c.least-incumbent.new.self q) (sym problem) (c.least-incumbent.ensures.serves c.args.partial.now.problem c.loop-spending.invariant.serves)
 
 pub returns-in_err-offer_complete-in-Some-2-clause-keeps : goal.returns-in_err-offer_complete-in-Some-2-clause-keeps
-returns-in_err-offer_complete-in-Some-2-clause-keeps g c = λ earlier kept. c.offer_complete-else-prunes.ensures.keeps earlier (c.least-least.ensures.keeps earlier (c.loop-spending.invariant.keeps earlier kept))
+returns-in_err-offer_complete-in-Some-2-clause-keeps g c = λ earlier kept. c.offer_complete-else-prunes.ensures.keeps earlier (c.least-incumbent.ensures.keeps earlier (c.loop-spending.invariant.keeps earlier kept))
 
 pub loop-spending-preserved-else-prunes : goal.loop-spending-preserved-else-prunes
 loop-spending-preserved-else-prunes g c =
@@ -122,15 +122,15 @@ loop-spending-preserved-else-prunes g c =
     let k = c.in-Some.field-0 in
     let old = g.B.Board.floor c.loop-spending.board in
     let floor = g.B.Board.floor c.offer_complete-else-prunes.new.board in
-    let first = c.loop-spending.found.plan in
+    let last_offer = c.loop-spending.found.plan in
     let new = c.offer_complete-else-prunes.new.self.plan in
     let child = subst (λ (q : Problem). IsNextChild q word c.loop-spending.next k) c.loop-spending.invariant.problem c.in-Some.ensures.next in
     let problem : c.push.new.partial.problem ≡ p = ap (λ (v : PartialPlan). v.problem) c.push.ensures.partial ∙ c.loop-spending.invariant.problem in
     let longer : c.push.new.partial.word ≡ word ++ k ∷ [] = ap (λ (v : PartialPlan). v.word) c.push.ensures.partial in
-    let falls : floor ≤ old = omega (arith, c.offer_complete-else-prunes.ensures.falls, c.least-least.ensures.falls) in
-    let kept = subst (λ (w : List ℕ). IsLastOffer p w floor first new) longer (subst (λ (q : Problem). IsLastOffer q c.push.new.partial.word floor first new) problem c.in_ok-offer_complete-in-Some-2.ensures.kept) in
+    let falls : floor ≤ old = omega (arith, c.offer_complete-else-prunes.ensures.falls, c.least-incumbent.ensures.falls) in
+    let kept = subst (λ (w : List ℕ). IsLastOffer p w floor last_offer new) longer (subst (λ (q : Problem). IsLastOffer q c.push.new.partial.word floor last_offer new) problem c.in_ok-offer_complete-in-Some-2.ensures.kept) in
     let spent = c.look.ensures.spent ∙ ap (λ n. n + 1) c.is_over.ensures.spent in
-    let progress = descended p root word c.loop-spending.next k c.loop-spending.spending.spent old floor first new c.loop-spending.invariant.progress child falls
+    let progress = descended p root word c.loop-spending.next k c.loop-spending.spending.spent old floor last_offer new c.loop-spending.invariant.progress child falls
     (λ w lawful.
     let plan = c.words_are_plans.ensures p w lawful in
     omega (arith, c.plans_cost_less.ensures p plan.0 c.depth-root.ensures.problem plan.2, plan.5)) kept in
@@ -140,7 +140,7 @@ loop-spending-preserved-else-prunes g c =
       progress = subst (λ (w : List ℕ). Progress p root w 0 c.look.new.self.spent floor new) (sym longer)
           (subst (λ n. Progress p root (word ++ k ∷ []) 0 n floor new) (sym spent) progress);
       serves = subst (λ (q : Problem). g.B.Board.serves c.offer_complete-else-prunes.new.board q) problem c.offer_complete-else-prunes.ensures.serves;
-      keeps = λ earlier kept. c.offer_complete-else-prunes.ensures.keeps earlier (c.least-least.ensures.keeps earlier (c.loop-spending.invariant.keeps earlier kept));
+      keeps = λ earlier kept. c.offer_complete-else-prunes.ensures.keeps earlier (c.least-incumbent.ensures.keeps earlier (c.loop-spending.invariant.keeps earlier kept));
       falls = omega (arith, falls, c.loop-spending.invariant.falls);
       some = omega (arith, spent);
       budget = c.look.ensures.budget ∙ c.is_over.ensures.budget ∙ c.loop-spending.invariant.budget;
@@ -154,23 +154,23 @@ loop-spending-preserved-in_default g c =
     let word = c.loop-spending.partial.word in
     let k = c.in-Some.field-0 in
     let old = g.B.Board.floor c.loop-spending.board in
-    let floor = g.B.Board.floor c.least-least.new.self in
-    let first = c.loop-spending.found.plan in
+    let floor = g.B.Board.floor c.least-incumbent.new.self in
+    let last_offer = c.loop-spending.found.plan in
     let child = subst (λ (q : Problem). IsNextChild q word c.loop-spending.next k) c.loop-spending.invariant.problem c.in-Some.ensures.next in
-    let none : NoneOfUse p (word ++ k ∷ []) c.least-least.result c.cost.result = subst (λ (q : Problem). NoneOfUse q (word ++ k ∷ []) c.least-least.result c.cost.result) c.loop-spending.invariant.problem c.in_default.ensures.of_use in
+    let none : NoneOfUse p (word ++ k ∷ []) c.least-incumbent.result c.cost.result = subst (λ (q : Problem). NoneOfUse q (word ++ k ∷ []) c.least-incumbent.result c.cost.result) c.loop-spending.invariant.problem c.in_default.ensures.of_use in
     let spent = c.look.ensures.spent ∙ ap (λ n. n + 1) c.is_over.ensures.spent in
-    let progress = pruned p root word c.loop-spending.next k c.loop-spending.spending.spent old floor first c.loop-spending.invariant.progress child c.least-least.ensures.falls
+    let progress = pruned p root word c.loop-spending.next k c.loop-spending.spending.spent old floor last_offer c.loop-spending.invariant.progress child c.least-incumbent.ensures.falls
     (λ w lawful from begins.
     let plan = c.words_are_plans.ensures p w lawful in
     let small : word_cost p w < NO_COST = omega (arith, c.plans_cost_less.ensures p plan.0 c.depth-root.ensures.problem plan.2, plan.5) in
-    no_use p (word ++ c.loop-spending.next ∷ []) floor c.least-least.result c.cost.result first w c.least-least.ensures.answered c.cost.ensures small c.loop-spending.invariant.progress.behind from (none w lawful begins)) in
+    no_use p (word ++ c.loop-spending.next ∷ []) floor c.least-incumbent.result c.cost.result last_offer w c.least-incumbent.ensures.answered c.cost.ensures small c.loop-spending.invariant.progress.behind from (none w lawful begins)) in
     record {
       problem = c.loop-spending.invariant.problem;
       step = c.loop-spending.invariant.step;
-      progress = subst (λ n. Progress p root word (k + 1) n floor first) (sym spent) progress;
-      serves = c.least-least.ensures.serves p c.loop-spending.invariant.serves;
-      keeps = λ earlier kept. c.least-least.ensures.keeps earlier (c.loop-spending.invariant.keeps earlier kept);
-      falls = omega (arith, c.least-least.ensures.falls, c.loop-spending.invariant.falls);
+      progress = subst (λ n. Progress p root word (k + 1) n floor last_offer) (sym spent) progress;
+      serves = c.least-incumbent.ensures.serves p c.loop-spending.invariant.serves;
+      keeps = λ earlier kept. c.least-incumbent.ensures.keeps earlier (c.loop-spending.invariant.keeps earlier kept);
+      falls = omega (arith, c.least-incumbent.ensures.falls, c.loop-spending.invariant.falls);
       some = omega (arith, spent);
       budget = c.look.ensures.budget ∙ c.is_over.ensures.budget ∙ c.loop-spending.invariant.budget;
       within = omega (arith, spent, c.is_over.ensures.more c.if-is_over.false, c.is_over.ensures.spent, c.is_over.new.self.until, c.is_over.new.self.within, c.is_over.ensures.budget, c.loop-spending.invariant.budget);
@@ -202,7 +202,7 @@ loop-spending-preserved g c =
     let p = c.args.partial.now.problem in
     let root = c.args.partial.now.word in
     let floor = g.B.Board.floor c.loop-spending.board in
-    let first = c.loop-spending.found.plan in
+    let last_offer = c.loop-spending.found.plan in
     let none = subst (λ (q : Problem). NoChildFrom q c.loop-spending.partial.word c.loop-spending.next) c.loop-spending.invariant.problem c.in-None.ensures.next in
     let popped = c.pop-next-in-None-2.new.partial.word in
     let last = c.pop-next-in-None-2.result in
@@ -210,8 +210,8 @@ loop-spending-preserved g c =
     let differs : length c.loop-spending.partial.word ≢ length root = λ same. c.if-depth-root.false (c.depth.ensures.value ∙ same ∙ sym c.depth-root.ensures.value) in
     let under = c.loop-spending.invariant.progress.under in
     let longer : length root ≤ length popped = omega (arith, differs, ap length under.1, length-append root under.0, ap length word, length-append popped (last ∷ [])) in
-    let progress = returned p root popped last c.loop-spending.next c.loop-spending.spending.spent floor first
-    (subst (λ (w : List ℕ). Progress p root w c.loop-spending.next c.loop-spending.spending.spent floor first) word c.loop-spending.invariant.progress)
+    let progress = returned p root popped last c.loop-spending.next c.loop-spending.spending.spent floor last_offer
+    (subst (λ (w : List ℕ). Progress p root w c.loop-spending.next c.loop-spending.spending.spent floor last_offer) word c.loop-spending.invariant.progress)
     (subst (λ (w : List ℕ). NoChildFrom p w c.loop-spending.next) word none) longer in
     record {
       problem = c.pop-next-in-None-2.ensures.problem ∙ c.loop-spending.invariant.problem;
@@ -282,7 +282,7 @@ returns-in_err-offer_complete-in-Some-2-clause-serves g c =
     subst (λ (q : Problem). g.B.Board.serves c.offer_complete-else-prunes.new.board q) problem c.offer_complete-else-prunes.ensures.serves
 
 pub returns-in_err-offer_complete-in-Some-2-clause-falls : goal.returns-in_err-offer_complete-in-Some-2-clause-falls
-returns-in_err-offer_complete-in-Some-2-clause-falls g c = omega (arith, c.offer_complete-else-prunes.ensures.falls, c.least-least.ensures.falls, c.loop-spending.invariant.falls)
+returns-in_err-offer_complete-in-Some-2-clause-falls g c = omega (arith, c.offer_complete-else-prunes.ensures.falls, c.least-incumbent.ensures.falls, c.loop-spending.invariant.falls)
 
 pub pop-next-requires-clause-some : goal.pop-next-requires-clause-some
 pop-next-requires-clause-some g c =

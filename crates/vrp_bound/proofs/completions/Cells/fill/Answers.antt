@@ -1,6 +1,6 @@
 use Rattle.std.proofs.Common.{◌≡◌, ◌/◌, ◌∙◌, List, ℕ, IfSome, ap, sym, subst, arith}
 use Rattle.vrp_bound.specs.Inner.Scaled.{near_by, near_with}
-use Rattle.vrp_bound.specs.Inner.Cells.{AreHomes, AreTours, AreWalks}
+use Rattle.vrp_bound.specs.Inner.Cells.{IsCompletionTable, AreTours, AreWalks}
 use Rattle.vrp_bound.specs.Tables.{room_of}
 use Rattle.vrp_bound.specs.Inner.Units.{IsUnit, in_units}
 use Rattle.vrp_bound.proofs.WholeUnits.{demand_units, room_units, same_scope}
@@ -16,8 +16,8 @@ tours-requires-clause-room c =
     room_units c.args.scope.instance.now c.new-units.result.instance.now c.args.scope.customers.now c.new-units.result.customers.now c.unit_of.result c.new-units.result.unit c.whole_units-demand.result c.min-room.result
     c.new-units.ensures.instance c.new-units.ensures.customers c.new-units.ensures.unit c.unit_of.ensures.is_unit (omega (arith, c.whole_units-demand.ensures, ap (λ n. n / c.new-units.result.unit) c.demand_of_all.ensures.value)) (omega (arith, c.min-room.ensures, c.whole_units.ensures, ap (λ n. n / c.new-units.result.unit) c.capacity.ensures.value))
 
-pub homes_for-requires-clause-room : goal.homes_for-requires-clause-room
-homes_for-requires-clause-room c =
+pub completion_table_for-requires-clause-room : goal.completion_table_for-requires-clause-room
+completion_table_for-requires-clause-room c =
     room_units c.args.scope.instance.now c.new-units.result.instance.now c.args.scope.customers.now c.new-units.result.customers.now c.unit_of.result c.new-units.result.unit c.whole_units-demand.result c.min-room.result
     c.new-units.ensures.instance c.new-units.ensures.customers c.new-units.ensures.unit c.unit_of.ensures.is_unit (omega (arith, c.whole_units-demand.ensures, ap (λ n. n / c.new-units.result.unit) c.demand_of_all.ensures.value)) (omega (arith, c.min-room.ensures, c.whole_units.ensures, ap (λ n. n / c.new-units.result.unit) c.capacity.ensures.value))
 
@@ -39,16 +39,16 @@ returns c =
     room_units c.args.scope.instance.now c.new-units.result.instance.now c.args.scope.customers.now c.new-units.result.customers.now c.unit_of.result c.new-units.result.unit c.whole_units-demand.result c.min-room.result
     c.new-units.ensures.instance c.new-units.ensures.customers c.new-units.ensures.unit c.unit_of.ensures.is_unit (omega (arith, c.whole_units-demand.ensures, ap (λ n. n / c.new-units.result.unit) c.demand_of_all.ensures.value)) (omega (arith, c.min-room.ensures, c.whole_units.ensures, ap (λ n. n / c.new-units.result.unit) c.capacity.ensures.value)) in
     let near = near_by c.new-units.result in
-    let memory : near ≡ near_with c.args.memory = ap near_with c.new-units.ensures.memory in
+    let ng_sets : near ≡ near_with c.args.ng_sets = ap near_with c.new-units.ensures.ng_sets in
     record {
       made = c.requires.made;
       scope = c.requires.scope;
       unit = subst (IsUnit p among) (sym c.new-units.ensures.unit) c.unit_of.ensures.is_unit;
       counted = c.in_ok-quotients.ensures;
-      walks = subst (λ n. AreWalks (in_units unit p) n among c.in_ok-walks.walks.items) memory (same_scope (λ b a. AreWalks (in_units unit b) near a c.in_ok-walks.walks.items) p q among others instance customers c.in_ok-walks.ensures);
-      tours = subst (λ n. AreTours (in_units unit p) n among c.in_ok-tours.tours.items) memory (same_scope (λ b a. AreTours (in_units unit b) near a c.in_ok-tours.tours.items) p q among others instance customers c.in_ok-tours.ensures);
+      walks = subst (λ n. AreWalks (in_units unit p) n among c.in_ok-walks.walks.items) ng_sets (same_scope (λ b a. AreWalks (in_units unit b) near a c.in_ok-walks.walks.items) p q among others instance customers c.in_ok-walks.ensures);
+      tours = subst (λ n. AreTours (in_units unit p) n among c.in_ok-tours.tours.items) ng_sets (same_scope (λ b a. AreTours (in_units unit b) near a c.in_ok-tours.tours.items) p q among others instance customers c.in_ok-tours.ensures);
       room = same_scope (λ b a. c.min-room.result ≡ room_of (in_units unit b) a) p q among others instance customers room;
-      homes = subst (λ n. IfSome c.in_ok-homes.homes (λ homes. AreHomes (in_units unit p) n among homes.items)) memory (same_scope (λ b a. IfSome c.in_ok-homes.homes (λ homes. AreHomes (in_units unit b) near a homes.items)) p q among others instance customers c.in_ok-homes.ensures);
+      completion_table = subst (λ n. IfSome c.in_ok-completion_table.completion_table (λ completion_table. IsCompletionTable (in_units unit p) n among completion_table.items)) ng_sets (same_scope (λ b a. IfSome c.in_ok-completion_table.completion_table (λ completion_table. IsCompletionTable (in_units unit b) near a completion_table.items)) p q among others instance customers c.in_ok-completion_table.ensures);
     }
 
 pub new-units-requires-clause-places : goal.new-units-requires-clause-places
@@ -66,11 +66,11 @@ walks-requires-clause-demands c = c.deref.ensures.value ∙ c.in_ok-demands.ensu
 pub tours-requires-clause-walks : goal.tours-requires-clause-walks
 tours-requires-clause-walks c = subst (λ (cells : List ℕ). AreWalks (in_units c.new-units.result.unit c.new-units.result.instance.now) (near_by c.new-units.result) c.new-units.result.customers.now cells) (sym c.deref-2.ensures.value) c.in_ok-walks.ensures
 
-pub homes_for-requires-clause-walks : goal.homes_for-requires-clause-walks
-homes_for-requires-clause-walks c = subst (λ (cells : List ℕ). AreWalks (in_units c.new-units.result.unit c.new-units.result.instance.now) (near_by c.new-units.result) c.new-units.result.customers.now cells) (sym c.deref-3.ensures.value) c.in_ok-walks.ensures
+pub completion_table_for-requires-clause-walks : goal.completion_table_for-requires-clause-walks
+completion_table_for-requires-clause-walks c = subst (λ (cells : List ℕ). AreWalks (in_units c.new-units.result.unit c.new-units.result.instance.now) (near_by c.new-units.result) c.new-units.result.customers.now cells) (sym c.deref-3.ensures.value) c.in_ok-walks.ensures
 
-pub homes_for-requires-clause-tours : goal.homes_for-requires-clause-tours
-homes_for-requires-clause-tours c = subst (λ (cells : List ℕ). AreTours (in_units c.new-units.result.unit c.new-units.result.instance.now) (near_by c.new-units.result) c.new-units.result.customers.now cells) (sym c.deref-4.ensures.value) c.in_ok-tours.ensures
+pub completion_table_for-requires-clause-tours : goal.completion_table_for-requires-clause-tours
+completion_table_for-requires-clause-tours c = subst (λ (cells : List ℕ). AreTours (in_units c.new-units.result.unit c.new-units.result.instance.now) (near_by c.new-units.result) c.new-units.result.customers.now cells) (sym c.deref-4.ensures.value) c.in_ok-tours.ensures
 
 pub up_to-requires-clause-unit : goal.up_to-requires-clause-unit
 up_to-requires-clause-unit c = c.new-units.result.some

@@ -1,7 +1,7 @@
 use Rattle.std.proofs.Common.{◌≡◌, ℕ, ◌-◌, ◌*◌, ◌/◌, ◌≤◌, List, Option, Vec, Global, IfSome, ap, refl, subst, sym, ◌∙◌, arith}
 use Rattle.std.proofs.Math.Nat.{div-mul-le_self}
 use Rattle.vrp_model.specs.Problem.{Problem, place_count}
-use Rattle.vrp_bound.specs.Inner.Cells.{AreHomes, AreTours, AreWalks, HasRelaxed, IsLeastCell}
+use Rattle.vrp_bound.specs.Inner.Cells.{IsCompletionTable, AreTours, AreWalks, HasRelaxed, IsLeastCell}
 use Rattle.vrp_bound.specs.Inner.Scaled.{near_by, near_with, scaled}
 use Rattle.vrp_bound.specs.Inner.Units.{in_units}
 use Rattle.vrp_bound.specs.Tables.{room_of}
@@ -25,7 +25,7 @@ free_within unit counted other capacity had all load free some a b c d is =
 
 pub returns-then-whole-rest : goal.returns-then-whole-rest
 returns-then-whole-rest c =
-    none_carried c.args.scope.instance.now (near_with c.args.memory) c.args.scope.customers.now c.args.self.now c.args.at c.args.load c.args.rest c.new-units.result.unit c.whole_units-carried.result (c.whole_units-carried.result * c.args.self.now.unit)
+    none_carried c.args.scope.instance.now (near_with c.args.ng_sets) c.args.scope.customers.now c.args.self.now c.args.at c.args.load c.args.rest c.new-units.result.unit c.whole_units-carried.result (c.whole_units-carried.result * c.args.self.now.unit)
     c.requires.cells c.requires.load c.new-units.ensures.unit (c.whole_units-carried.ensures ∙ ap (λ n. c.args.rest / n) (c.requires.cells.counted ∙ sym c.new-units.ensures.unit)) refl c.if-whole-rest.true
 
 pub index-requires : goal.index-requires
@@ -37,30 +37,30 @@ index-requires c =
 
 pub returns-then-at-eq0 : goal.returns-then-at-eq0
 returns-then-at-eq0 c =
-    least_from_depot c.args.scope.instance.now (near_with c.args.memory) c.args.scope.customers.now c.args.self.now c.args.at c.args.load c.args.rest c.new-units.result.unit c.whole_units-carried.result (c.whole_units-carried.result * c.args.self.now.unit) c.index.result.now
+    least_from_depot c.args.scope.instance.now (near_with c.args.ng_sets) c.args.scope.customers.now c.args.self.now c.args.at c.args.load c.args.rest c.new-units.result.unit c.whole_units-carried.result (c.whole_units-carried.result * c.args.self.now.unit) c.index.result.now
     c.requires.cells c.if-at-eq0.true (c.requires.depot c.if-at-eq0.true) c.requires.rest c.new-units.ensures.unit (c.whole_units-carried.ensures ∙ ap (λ n. c.args.rest / n) (c.requires.cells.counted ∙ sym c.new-units.ensures.unit)) refl c.if-whole-rest.false c.index.ensures
 
-pub looked_up-requires-clause-rest : goal.looked_up-requires-clause-rest
-looked_up-requires-clause-rest c =
+pub lookup-requires-clause-rest : goal.lookup-requires-clause-rest
+lookup-requires-clause-rest c =
     carried_within_same c.args.scope.instance.now c.new-units.result.instance.now c.args.scope.customers.now c.new-units.result.customers.now c.args.self.now.unit c.new-units.result.unit c.args.rest c.whole_units-carried.result
     c.new-units.ensures.instance c.new-units.ensures.customers c.new-units.ensures.unit c.requires.cells.unit c.requires.rest (c.whole_units-carried.ensures ∙ ap (λ n. c.args.rest / n) (c.requires.cells.counted ∙ sym c.new-units.ensures.unit))
 
-pub least_way_home-requires-clause-rest : goal.least_way_home-requires-clause-rest
-least_way_home-requires-clause-rest c =
+pub least_completion-requires-clause-rest : goal.least_completion-requires-clause-rest
+least_completion-requires-clause-rest c =
     carried_within_same c.args.scope.instance.now c.new-units.result.instance.now c.args.scope.customers.now c.new-units.result.customers.now c.args.self.now.unit c.new-units.result.unit c.args.rest c.whole_units-carried.result
     c.new-units.ensures.instance c.new-units.ensures.customers c.new-units.ensures.unit c.requires.cells.unit c.requires.rest (c.whole_units-carried.ensures ∙ ap (λ n. c.args.rest / n) (c.requires.cells.counted ∙ sym c.new-units.ensures.unit))
 
 pub returns-in-Some : goal.returns-in-Some
 returns-in-Some c =
-    least_from_customer c.args.scope.instance.now c.new-units.result.instance.now (near_with c.args.memory) c.args.scope.customers.now c.new-units.result.customers.now c.args.self.now.unit c.new-units.result.unit c.args.at c.args.load c.whole_units-free.result c.args.rest c.whole_units-carried.result (c.whole_units-carried.result * c.args.self.now.unit) c.looked_up.result
+    least_from_customer c.args.scope.instance.now c.new-units.result.instance.now (near_with c.args.ng_sets) c.args.scope.customers.now c.new-units.result.customers.now c.args.self.now.unit c.new-units.result.unit c.args.at c.args.load c.whole_units-free.result c.args.rest c.whole_units-carried.result (c.whole_units-carried.result * c.args.self.now.unit) c.lookup.result
     c.new-units.ensures.instance c.new-units.ensures.customers c.new-units.ensures.unit c.requires.cells.unit c.requires.load (omega (arith, c.whole_units-free.ensures, ap (λ n. (c.capacity.result - c.args.load) / n) (c.requires.cells.counted ∙ sym c.new-units.ensures.unit), ap (λ n. (n - c.args.load) / c.new-units.result.unit) c.capacity.ensures.value)) (c.whole_units-carried.ensures ∙ ap (λ n. c.args.rest / n) (c.requires.cells.counted ∙ sym c.new-units.ensures.unit)) refl c.if-whole-rest.false
-    (subst (λ near. IsLeastCell (HasRelaxed (scaled c.new-units.result) near c.new-units.result.customers.now c.args.at ((scaled c.new-units.result).capacity - c.whole_units-free.result) c.whole_units-carried.result) c.looked_up.result) (ap near_with c.new-units.ensures.memory) c.looked_up.ensures)
+    (subst (λ near. IsLeastCell (HasRelaxed (scaled c.new-units.result) near c.new-units.result.customers.now c.args.at ((scaled c.new-units.result).capacity - c.whole_units-free.result) c.whole_units-carried.result) c.lookup.result) (ap near_with c.new-units.ensures.ng_sets) c.lookup.ensures)
 
 pub returns-in-None : goal.returns-in-None
 returns-in-None c =
-    least_from_customer c.args.scope.instance.now c.new-units.result.instance.now (near_with c.args.memory) c.args.scope.customers.now c.new-units.result.customers.now c.args.self.now.unit c.new-units.result.unit c.args.at c.args.load c.whole_units-free.result c.args.rest c.whole_units-carried.result (c.whole_units-carried.result * c.args.self.now.unit) c.least_way_home.result
+    least_from_customer c.args.scope.instance.now c.new-units.result.instance.now (near_with c.args.ng_sets) c.args.scope.customers.now c.new-units.result.customers.now c.args.self.now.unit c.new-units.result.unit c.args.at c.args.load c.whole_units-free.result c.args.rest c.whole_units-carried.result (c.whole_units-carried.result * c.args.self.now.unit) c.least_completion.result
     c.new-units.ensures.instance c.new-units.ensures.customers c.new-units.ensures.unit c.requires.cells.unit c.requires.load (omega (arith, c.whole_units-free.ensures, ap (λ n. (c.capacity.result - c.args.load) / n) (c.requires.cells.counted ∙ sym c.new-units.ensures.unit), ap (λ n. (n - c.args.load) / c.new-units.result.unit) c.capacity.ensures.value)) (c.whole_units-carried.ensures ∙ ap (λ n. c.args.rest / n) (c.requires.cells.counted ∙ sym c.new-units.ensures.unit)) refl c.if-whole-rest.false
-    (subst (λ near. IsLeastCell (HasRelaxed (scaled c.new-units.result) near c.new-units.result.customers.now c.args.at ((scaled c.new-units.result).capacity - c.whole_units-free.result) c.whole_units-carried.result) c.least_way_home.result) (ap near_with c.new-units.ensures.memory) c.least_way_home.ensures.least)
+    (subst (λ near. IsLeastCell (HasRelaxed (scaled c.new-units.result) near c.new-units.result.customers.now c.args.at ((scaled c.new-units.result).capacity - c.whole_units-free.result) c.whole_units-carried.result) c.least_completion.result) (ap near_with c.new-units.ensures.ng_sets) c.least_completion.ensures.least)
 
 pub new-units-requires-clause-places : goal.new-units-requires-clause-places
 new-units-requires-clause-places c = c.requires.places
@@ -80,52 +80,52 @@ overflow_mul-whole c =
 pub overflow_sub-capacity : goal.overflow_sub-capacity
 overflow_sub-capacity c = omega (arith, c.requires.load, c.capacity.ensures.value)
 
-pub looked_up-requires-clause-homes : goal.looked_up-requires-clause-homes
-looked_up-requires-clause-homes c =
+pub lookup-requires-clause-completion_table : goal.lookup-requires-clause-completion_table
+lookup-requires-clause-completion_table c =
     let p = c.args.scope.instance.now in
     let among = c.args.scope.customers.now in
-    let homes = subst (λ (o : Option (Vec ℕ Global)). IfSome o (λ homes. AreHomes (in_units c.args.self.now.unit p) (near_with c.args.memory) among homes.items)) c.in-Some.is c.requires.cells.homes in
-    same_cells AreHomes p c.new-units.result.instance.now c.args.self.now.unit c.new-units.result.unit (near_with c.args.memory) (near_by c.new-units.result) among c.new-units.result.customers.now c.in-Some.homes.items c.deref.result.now
-    c.new-units.ensures.instance c.new-units.ensures.unit (ap near_with c.new-units.ensures.memory) c.new-units.ensures.customers c.deref.ensures.value homes
+    let completion_table = subst (λ (o : Option (Vec ℕ Global)). IfSome o (λ completion_table. IsCompletionTable (in_units c.args.self.now.unit p) (near_with c.args.ng_sets) among completion_table.items)) c.in-Some.is c.requires.cells.completion_table in
+    same_cells IsCompletionTable p c.new-units.result.instance.now c.args.self.now.unit c.new-units.result.unit (near_with c.args.ng_sets) (near_by c.new-units.result) among c.new-units.result.customers.now c.in-Some.completion_table.items c.deref.result.now
+    c.new-units.ensures.instance c.new-units.ensures.unit (ap near_with c.new-units.ensures.ng_sets) c.new-units.ensures.customers c.deref.ensures.value completion_table
 
-pub looked_up-requires-clause-tours : goal.looked_up-requires-clause-tours
-looked_up-requires-clause-tours c =
-    same_cells AreTours c.args.scope.instance.now c.new-units.result.instance.now c.args.self.now.unit c.new-units.result.unit (near_with c.args.memory) (near_by c.new-units.result) c.args.scope.customers.now c.new-units.result.customers.now c.args.self.now.tours.items c.deref-in-Some.result.now
-    c.new-units.ensures.instance c.new-units.ensures.unit (ap near_with c.new-units.ensures.memory) c.new-units.ensures.customers c.deref-in-Some.ensures.value c.requires.cells.tours
+pub lookup-requires-clause-tours : goal.lookup-requires-clause-tours
+lookup-requires-clause-tours c =
+    same_cells AreTours c.args.scope.instance.now c.new-units.result.instance.now c.args.self.now.unit c.new-units.result.unit (near_with c.args.ng_sets) (near_by c.new-units.result) c.args.scope.customers.now c.new-units.result.customers.now c.args.self.now.tours.items c.deref-in-Some.result.now
+    c.new-units.ensures.instance c.new-units.ensures.unit (ap near_with c.new-units.ensures.ng_sets) c.new-units.ensures.customers c.deref-in-Some.ensures.value c.requires.cells.tours
 
-pub looked_up-requires-clause-room : goal.looked_up-requires-clause-room
-looked_up-requires-clause-room c =
+pub lookup-requires-clause-room : goal.lookup-requires-clause-room
+lookup-requires-clause-room c =
     same_units (λ b a u. c.args.self.now.room ≡ room_of (in_units u b) a) c.new-units.result.instance.now c.args.scope.instance.now c.new-units.result.customers.now c.args.scope.customers.now c.new-units.result.unit c.args.self.now.unit
     (sym c.new-units.ensures.instance) (sym c.new-units.ensures.customers) (sym c.new-units.ensures.unit) c.requires.cells.room
 
-pub looked_up-requires-clause-customer : goal.looked_up-requires-clause-customer
-looked_up-requires-clause-customer c = c.if-at-eq0.false
+pub lookup-requires-clause-customer : goal.lookup-requires-clause-customer
+lookup-requires-clause-customer c = c.if-at-eq0.false
 
-pub looked_up-requires-clause-place : goal.looked_up-requires-clause-place
-looked_up-requires-clause-place c = omega (arith, c.requires.place, ap place_count c.new-units.ensures.instance)
+pub lookup-requires-clause-place : goal.lookup-requires-clause-place
+lookup-requires-clause-place c = omega (arith, c.requires.place, ap place_count c.new-units.ensures.instance)
 
-pub looked_up-requires-clause-free : goal.looked_up-requires-clause-free
-looked_up-requires-clause-free c =
+pub lookup-requires-clause-free : goal.lookup-requires-clause-free
+lookup-requires-clause-free c =
     free_within c.args.self.now.unit c.args.self.now.quotients.unit c.new-units.result.unit c.args.scope.instance.now.capacity c.capacity.result c.new-units.result.instance.now.capacity c.args.load c.whole_units-free.result
     c.requires.cells.unit.some c.requires.cells.counted c.new-units.ensures.unit c.capacity.ensures.value (ap (λ (p : Problem). p.capacity) c.new-units.ensures.instance) c.whole_units-free.ensures
 
-pub least_way_home-requires-clause-walks : goal.least_way_home-requires-clause-walks
-least_way_home-requires-clause-walks c =
-    same_cells AreWalks c.args.scope.instance.now c.new-units.result.instance.now c.args.self.now.unit c.new-units.result.unit (near_with c.args.memory) (near_by c.new-units.result) c.args.scope.customers.now c.new-units.result.customers.now c.args.self.now.walks.items c.deref-in-None.result.now
-    c.new-units.ensures.instance c.new-units.ensures.unit (ap near_with c.new-units.ensures.memory) c.new-units.ensures.customers c.deref-in-None.ensures.value c.requires.cells.walks
+pub least_completion-requires-clause-walks : goal.least_completion-requires-clause-walks
+least_completion-requires-clause-walks c =
+    same_cells AreWalks c.args.scope.instance.now c.new-units.result.instance.now c.args.self.now.unit c.new-units.result.unit (near_with c.args.ng_sets) (near_by c.new-units.result) c.args.scope.customers.now c.new-units.result.customers.now c.args.self.now.walks.items c.deref-in-None.result.now
+    c.new-units.ensures.instance c.new-units.ensures.unit (ap near_with c.new-units.ensures.ng_sets) c.new-units.ensures.customers c.deref-in-None.ensures.value c.requires.cells.walks
 
-pub least_way_home-requires-clause-tours : goal.least_way_home-requires-clause-tours
-least_way_home-requires-clause-tours c =
-    same_cells AreTours c.args.scope.instance.now c.new-units.result.instance.now c.args.self.now.unit c.new-units.result.unit (near_with c.args.memory) (near_by c.new-units.result) c.args.scope.customers.now c.new-units.result.customers.now c.args.self.now.tours.items c.deref-in-None-2.result.now
-    c.new-units.ensures.instance c.new-units.ensures.unit (ap near_with c.new-units.ensures.memory) c.new-units.ensures.customers c.deref-in-None-2.ensures.value c.requires.cells.tours
+pub least_completion-requires-clause-tours : goal.least_completion-requires-clause-tours
+least_completion-requires-clause-tours c =
+    same_cells AreTours c.args.scope.instance.now c.new-units.result.instance.now c.args.self.now.unit c.new-units.result.unit (near_with c.args.ng_sets) (near_by c.new-units.result) c.args.scope.customers.now c.new-units.result.customers.now c.args.self.now.tours.items c.deref-in-None-2.result.now
+    c.new-units.ensures.instance c.new-units.ensures.unit (ap near_with c.new-units.ensures.ng_sets) c.new-units.ensures.customers c.deref-in-None-2.ensures.value c.requires.cells.tours
 
-pub least_way_home-requires-clause-customer : goal.least_way_home-requires-clause-customer
-least_way_home-requires-clause-customer c = c.if-at-eq0.false
+pub least_completion-requires-clause-customer : goal.least_completion-requires-clause-customer
+least_completion-requires-clause-customer c = c.if-at-eq0.false
 
-pub least_way_home-requires-clause-place : goal.least_way_home-requires-clause-place
-least_way_home-requires-clause-place c = omega (arith, c.requires.place, ap place_count c.new-units.ensures.instance)
+pub least_completion-requires-clause-place : goal.least_completion-requires-clause-place
+least_completion-requires-clause-place c = omega (arith, c.requires.place, ap place_count c.new-units.ensures.instance)
 
-pub least_way_home-requires-clause-free : goal.least_way_home-requires-clause-free
-least_way_home-requires-clause-free c =
+pub least_completion-requires-clause-free : goal.least_completion-requires-clause-free
+least_completion-requires-clause-free c =
     free_within c.args.self.now.unit c.args.self.now.quotients.unit c.new-units.result.unit c.args.scope.instance.now.capacity c.capacity.result c.new-units.result.instance.now.capacity c.args.load c.whole_units-free.result
     c.requires.cells.unit.some c.requires.cells.counted c.new-units.ensures.unit c.capacity.ensures.value (ap (λ (p : Problem). p.capacity) c.new-units.ensures.instance) c.whole_units-free.ensures

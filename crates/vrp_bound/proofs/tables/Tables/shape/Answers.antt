@@ -1,5 +1,5 @@
 use Rattle.std.proofs.Common.{subst, MatchOption}
-use Rattle.vrp_bound.specs.Remembering.{nothing_near}
+use Rattle.vrp_bound.specs.NgWalks.{nothing_near}
 use Rattle.vrp_bound.specs.Tables.{AreMade, TablesOf}
 use Rattle.vrp_bound.proofs.CellAnswers.{shape_made}
 use Rattle.vrp_bound.proofs.tables.Tables.shape.Goals as goal

@@ -1,10 +1,10 @@
 use Rattle.std.proofs.Common.{◌≡◌, ◌*◌, ◌<◌, ℕ, None, List, length, map, ap, sym, ◌∙◌, subst}
 use Rattle.std.specs.Prelude.{◌↔◌, IsTrue, slice_index}
-use Rattle.vrp_model.specs.Inner.LeastWays.{IsLeastWay}
+use Rattle.vrp_model.specs.Inner.LeastArcs.{IsLeastArc}
 use Rattle.vrp_model.specs.Inner.Symmetry.{IsSymmetricSquare}
 use Rattle.vrp_model.specs.Problem.{Problem}
 use Rattle.vrp_model.specs.Request.{node_demand, weights_among}
-use Rattle.vrp_model.proofs.LeastWayLemmas.{least_ways_are}
+use Rattle.vrp_model.proofs.LeastArcLemmas.{least_arcs_are}
 use Rattle.vrp_model.proofs.InstanceLemmas.{IsProblem-made, places_few, places_within, problem_made}
 use Rattle.vrp_model.proofs.instance.Instance.at_depot.Goals as goal
 
@@ -18,12 +18,12 @@ invariant_of-result c =
     let least = c.in_ok-least_in.least_in.items in
     let count : c.len.result ≡ length places = c.len.ensures ∙ c.in_ok-nodes.nodes.ok.0 in
     let one_each : length least ≡ c.len.result = sym c.in_ok-least_in.least_in.ok.0 ∙ c.in_ok-least_in.ensures.all in
-    let each = subst (λ (ws : List ℕ). (to : ℕ) → to < c.len.result → IsLeastWay ws c.len.result to (slice_index least to)) c.deref-3.ensures.value c.in_ok-least_in.ensures.each in
+    let each = subst (λ (ws : List ℕ). (to : ℕ) → to < c.len.result → IsLeastArc ws c.len.result to (slice_index least to)) c.deref-3.ensures.value c.in_ok-least_in.ensures.each in
     let told = subst (λ (ws : List ℕ). IsTrue c.is_symmetric-symmetric.result ↔ IsSymmetricSquare ws (length places)) c.deref-4.ensures.value
     (subst (λ n. IsTrue c.is_symmetric-symmetric.result ↔ IsSymmetricSquare c.deref-4.result.now n) (c.len-2.ensures ∙ c.in_ok-nodes.nodes.ok.0) c.is_symmetric-symmetric.ensures) in
     record {
       problem = rw (c.in_ok-demands.ensures, c.deref-2.ensures.value) problem;
-      least = least_ways_are made least c.len.result count one_each (rw count problem.some_places) each;
+      least = least_arcs_are made least c.len.result count one_each (rw count problem.some_places) each;
       told = told;
     }
 
@@ -48,13 +48,13 @@ pub demands_of-requires-clause-within : goal.demands_of-requires-clause-within
 demands_of-requires-clause-within c =
     rw c.deref-2.ensures.value (places_within c.args.depots.now c.in_ok-nodes.nodes.items c.args.depot c.nodes.result (length c.args.demands.now) c.in_ok-nodes.ensures (c.nodes.ensures.value ∙ sym c.requires.one_demand_each) (rw c.requires.one_demand_each c.requires.within))
 
-pub least_ways-requires-clause-square : goal.least_ways-requires-clause-square
-least_ways-requires-clause-square c =
+pub least_arcs-requires-clause-square : goal.least_arcs-requires-clause-square
+least_arcs-requires-clause-square c =
     let same : length c.deref.result.now ≡ c.len.result = ap length c.deref.ensures.value ∙ sym c.in_ok-nodes.nodes.ok.0 ∙ sym c.len.ensures in
     ap length c.deref-3.ensures.value ∙ sym c.in_ok-weights.weights.ok.0 ∙ c.in_ok-weights.ensures.square ∙ ap (λ k. k * k) same
 
-pub least_ways-requires-clause-few : goal.least_ways-requires-clause-few
-least_ways-requires-clause-few c =
+pub least_arcs-requires-clause-few : goal.least_arcs-requires-clause-few
+least_arcs-requires-clause-few c =
     rw (c.len.ensures, c.in_ok-nodes.nodes.ok.0) (places_few c.args.depots.now c.in_ok-nodes.nodes.items c.args.depot c.nodes.result c.args.weights.now.nodes c.in_ok-nodes.ensures c.nodes.ensures.value c.requires.within c.nodes.ensures.few)
 
 pub is_symmetric-symmetric-requires-clause-square : goal.is_symmetric-symmetric-requires-clause-square

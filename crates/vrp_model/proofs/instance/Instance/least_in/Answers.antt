@@ -1,9 +1,9 @@
 use Rattle.std.proofs.Common.{◌≡◌, ◌∙◌, ◌<◌, get_or, length, ap, subst, sym, arith}
 use Rattle.std.specs.Prelude.{slice_index}
 use Rattle.std.proofs.lemmas.List.{get_or_default}
-use Rattle.vrp_model.specs.LeastWay.{IsLeastIn}
+use Rattle.vrp_model.specs.LeastArc.{IsLeastIn}
 use Rattle.vrp_model.specs.Problem.{Problem, place_count}
-use Rattle.vrp_model.proofs.LeastWayLemmas.{least_in_small}
+use Rattle.vrp_model.proofs.LeastArcLemmas.{least_in_small}
 use Rattle.vrp_model.proofs.instance.Instance.least_in.Goals as goal
 
 pub returns-clause-least : goal.returns-clause-least

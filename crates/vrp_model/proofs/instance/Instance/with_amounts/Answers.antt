@@ -1,10 +1,10 @@
 use Rattle.std.proofs.Common.{◌≡◌, ◌*◌, ◌<◌, ℕ, List, length, sym, subst, ◌∙◌, arith}
 use Rattle.std.specs.Prelude.{◌↔◌, IsTrue, slice_index, vec_len}
 use Rattle.std.proofs.lemmas.Grind.{common_steps}
-use Rattle.vrp_model.specs.Inner.LeastWays.{IsLeastWay}
+use Rattle.vrp_model.specs.Inner.LeastArcs.{IsLeastArc}
 use Rattle.vrp_model.specs.Inner.Symmetry.{IsSymmetricSquare}
 use Rattle.vrp_model.specs.Problem.{Problem}
-use Rattle.vrp_model.proofs.LeastWayLemmas.{least_ways_are}
+use Rattle.vrp_model.proofs.LeastArcLemmas.{least_arcs_are}
 use Rattle.vrp_model.proofs.NewAmounts.{problem_with_amounts, same_with_amounts}
 use Rattle.vrp_model.proofs.instance.Instance.with_amounts.Goals as goal
 
@@ -23,12 +23,12 @@ invariant_of-result c =
     let least = c.in_ok-least_in.least_in.items in
     let count : c.len.result ≡ length places = grind (arith, common_steps) in
     let one_each : length least ≡ c.len.result = grind (arith, common_steps) in
-    let each = subst (λ (ws : List ℕ). (to : ℕ) → to < c.len.result → IsLeastWay ws c.len.result to (slice_index least to)) c.deref-2.ensures.value c.in_ok-least_in.ensures.each in
+    let each = subst (λ (ws : List ℕ). (to : ℕ) → to < c.len.result → IsLeastArc ws c.len.result to (slice_index least to)) c.deref-2.ensures.value c.in_ok-least_in.ensures.each in
     let told = subst (λ (ws : List ℕ). IsTrue c.is_symmetric-symmetric.result ↔ IsSymmetricSquare ws (length places)) c.deref-3.ensures.value
     (subst (λ n. IsTrue c.is_symmetric-symmetric.result ↔ IsSymmetricSquare c.deref-3.result.now n) (omega arith) c.is_symmetric-symmetric.ensures) in
     record {
       problem = problem;
-      least = least_ways_are made least c.len.result count one_each (omega (arith, count, problem.some_places)) each;
+      least = least_arcs_are made least c.len.result count one_each (omega (arith, count, problem.some_places)) each;
       told = told;
     }
 

@@ -1,5 +1,5 @@
 use Rattle.std.proofs.Common.{◌+◌, arith}
-use Rattle.vrp_model.proofs.FittingPlans.{cost_more, cost_of_first, route_among_places}
+use Rattle.vrp_model.proofs.FittingPlans.{cost_more, cost_of_canonical, route_among_places}
 use Rattle.vrp_model.proofs.plan.Plan.has_its_cost.Goals as goal
 
 pub route_cost-cost-requires-clause-places : goal.route_cost-cost-requires-clause-places
@@ -15,7 +15,7 @@ returns-then-left-cost c =
     let p = c.args.instance.now in
     let routes = c.args.self.now.routes in (
       λ never. absurd (cc),
-      λ same. absurd (omega (arith, same, cost_more p routes c.loop-index.index c.route.result.now c.route.ensures, cost_of_first p routes (c.loop-index.index + 1), c.loop-index.invariant, c.route_cost-cost.ensures.value, c.if-left-cost.true)),
+      λ same. absurd (omega (arith, same, cost_more p routes c.loop-index.index c.route.result.now c.route.ensures, cost_of_canonical p routes (c.loop-index.index + 1), c.loop-index.invariant, c.route_cost-cost.ensures.value, c.if-left-cost.true)),
     )
 
 pub loop-index-preserved : goal.loop-index-preserved

@@ -2,9 +2,9 @@ use Rattle.std.proofs.Common.{◌∙◌, ◌≤◌, ap, refl, subst, sym}
 use Rattle.std.specs.Prelude.{is_some}
 use Rattle.vrp_model.specs.Cheapest.{cost_of}
 use Rattle.vrp_model.specs.Problem.{IsProblem}
-use Rattle.vrp_answer.specs.Outcomes.{Search}
+use Rattle.vrp_pool_answer.specs.Outcomes.{Search}
 use Rattle.vrp_pool.specs.Inner.Workers.{CanWork, IsTakenOver, WorkerState}
-use Rattle.vrp_answer.proofs.BestPlan.{at_most_none}
+use Rattle.vrp_pool_answer.proofs.BestPlan.{at_most_none}
 use Rattle.vrp_pool.proofs.Floors.{later_itself, still_no_less}
 use Rattle.vrp_pool.proofs.worker.Worker+Owner+R+L+G.take_over.Goals as goal
 use Rattle.vrp_pool.proofs.worker.Worker+Owner+R+L+G.take_over.Goals.{in-Some-best+in_ok-keep, in_default-best}

@@ -18,7 +18,7 @@ loop-preserved-in-Piece-1 g c =
     let s = c.args.shared.now in
     let inside = c.loop.self-inside in
     let old : WorkerState = record { drawer = g.D.Draws.drawer inside.drawer; board = inside.board; outcomes = inside.outcomes.items; refused = is_some inside.refused } in
-    let new : WorkerState = record { drawer = g.D.Draws.drawer c.draw.new.self; board = c.searched.new.board; outcomes = c.push.new.self.items; refused = is_some inside.refused } in
+    let new : WorkerState = record { drawer = g.D.Draws.drawer c.draw.new.self; board = c.search_piece.new.board; outcomes = c.push.new.self.items; refused = is_some inside.refused } in
     let piece = c.in-Piece.piece in
     let searched = c.in_ok-outcome-in-Piece.ensures in
     let worked = has_drawn s old new piece c.in-Piece.ensures.drawn searched.serves searched.later searched.falls in
@@ -28,19 +28,19 @@ loop-preserved-in-Piece-1 g c =
       searched = searches_on s c.args.self.now old new c.loop.invariant.searched one searched.falls;
     }
 
-pub searched-requires-clause-serves : goal.searched-requires-clause-serves
-searched-requires-clause-serves g c = c.loop.invariant.worked.serves
+pub search_piece-requires-clause-serves : goal.search_piece-requires-clause-serves
+search_piece-requires-clause-serves g c = c.loop.invariant.worked.serves
 
-pub searched-requires-clause-gate : goal.searched-requires-clause-gate
-searched-requires-clause-gate g c = c.loop.invariant.worked.later.may_stop ∙ c.requires.may_stop
+pub search_piece-requires-clause-gate : goal.search_piece-requires-clause-gate
+search_piece-requires-clause-gate g c = c.loop.invariant.worked.later.may_stop ∙ c.requires.may_stop
 
 pub returns-in_err-outcome-in-Piece-clause-worked : goal.returns-in_err-outcome-in-Piece-clause-worked
 returns-in_err-outcome-in-Piece-clause-worked g c =
     let s = c.args.shared.now in
     let inside = c.loop.self-inside in
     let old : WorkerState = record { drawer = g.D.Draws.drawer inside.drawer; board = inside.board; outcomes = inside.outcomes.items; refused = is_some inside.refused } in
-    let new : WorkerState = record { drawer = g.D.Draws.drawer c.draw.new.self; board = c.searched.new.board; outcomes = inside.outcomes.items; refused = is_some inside.refused } in
-    let searched = c.searched.ensures in
+    let new : WorkerState = record { drawer = g.D.Draws.drawer c.draw.new.self; board = c.search_piece.new.board; outcomes = inside.outcomes.items; refused = is_some inside.refused } in
+    let searched = c.search_piece.ensures in
     works_on s c.args.self.now old new c.loop.invariant.worked (has_drawn s old new c.in-Piece.piece c.in-Piece.ensures.drawn searched.serves searched.later searched.falls)
 
 pub returns-in_err-push-in-Piece-clause-worked : goal.returns-in_err-push-in-Piece-clause-worked
@@ -48,6 +48,6 @@ returns-in_err-push-in-Piece-clause-worked g c =
     let s = c.args.shared.now in
     let inside = c.loop.self-inside in
     let old : WorkerState = record { drawer = g.D.Draws.drawer inside.drawer; board = inside.board; outcomes = inside.outcomes.items; refused = is_some inside.refused } in
-    let new : WorkerState = record { drawer = g.D.Draws.drawer c.draw.new.self; board = c.searched.new.board; outcomes = c.push.new.self.items; refused = is_some inside.refused } in
-    let searched = c.searched.ensures in
+    let new : WorkerState = record { drawer = g.D.Draws.drawer c.draw.new.self; board = c.search_piece.new.board; outcomes = c.push.new.self.items; refused = is_some inside.refused } in
+    let searched = c.search_piece.ensures in
     works_on s c.args.self.now old new c.loop.invariant.worked (has_drawn s old new c.in-Piece.piece c.in-Piece.ensures.drawn searched.serves searched.later searched.falls)

@@ -20,7 +20,7 @@ returns-then-index-label-clause-offered c =
       same = refl;
       at = at;
       kept = kept;
-      no_dearer = subst (λ (l : Label). l.cost ≤ c.args.label.cost) (sym read) c.if-index-label.true;
+      no_costlier = subst (λ (l : Label). l.cost ≤ c.args.label.cost) (sym read) c.if-index-label.true;
     })
 
 pub returns-clause-offered : goal.returns-clause-offered

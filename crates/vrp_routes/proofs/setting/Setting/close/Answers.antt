@@ -1,7 +1,7 @@
 use Rattle.std.proofs.Common.{List, ◌≡◌, ◌∙◌, ℕ, ◌+◌, ◌-◌, ◌<◌, None, Some, ap, sym, subst, arith}
 use Rattle.vrp_model.specs.Problem.{IsSymmetric, Problem, place_count, weight_of}
 use Rattle.vrp_routes.specs.Label.{IsLabel, IsSetting, SettingOf}
-use Rattle.vrp_routes.proofs.Labels.{backward, closed_cost, closed_within, dear_closed, label_place, label_small}
+use Rattle.vrp_routes.proofs.Labels.{backward, closed_cost, closed_within, costly_closed, label_place, label_small}
 use Rattle.vrp_routes.proofs.setting.Setting.close.Goals as goal
 
 -- the instances that were read are those of the setting
@@ -51,7 +51,7 @@ returns-in_default-clause-none c =
     let label = c.args.label.now in
     let weight : c.weight.result ≡ weight_of s.relaxation.relaxed label.last 0 = c.weight.ensures.value ∙ ap (λ (q : Problem). weight_of q label.last 0) (the_relaxed s _ c.relaxed-relaxed.result.now c.self.view_is c.relaxed-relaxed.ensures.value) in
     let within = closed_within s tabled c.self.inside.relaxed_limit c.self.inside.whole_demand label k c.requires.label in
-    dear_closed s c.self.inside.tables.now c.self.inside.relaxed_limit c.self.inside.whole_demand label (label.relaxed_cost + c.weight.result) (c.self.inside.whole_demand - label.relaxed_load) None k (ap (λ n. label.relaxed_cost + n) weight) (omega (arith, within)) c.in_default.ensures.bound tt
+    costly_closed s c.self.inside.tables.now c.self.inside.relaxed_limit c.self.inside.whole_demand label (label.relaxed_cost + c.weight.result) (c.self.inside.whole_demand - label.relaxed_load) None k (ap (λ n. label.relaxed_cost + n) weight) (omega (arith, within)) c.in_default.ensures.bound tt
 
 pub overflow_add-relaxed_cost-2 : goal.overflow_add-relaxed_cost-2
 overflow_add-relaxed_cost-2 c =
@@ -70,7 +70,7 @@ returns-then-relaxed_cost-least-clause-none c =
     let label = c.args.label.now in
     let weight : c.weight.result ≡ weight_of s.relaxation.relaxed label.last 0 = c.weight.ensures.value ∙ ap (λ (q : Problem). weight_of q label.last 0) (the_relaxed s _ c.relaxed-relaxed.result.now c.self.view_is c.relaxed-relaxed.ensures.value) in
     let within = closed_within s tabled c.self.inside.relaxed_limit c.self.inside.whole_demand label k c.requires.label in
-    dear_closed s c.self.inside.tables.now c.self.inside.relaxed_limit c.self.inside.whole_demand label (label.relaxed_cost + c.weight.result) (c.self.inside.whole_demand - label.relaxed_load) (Some c.in-Some.least) k (ap (λ n. label.relaxed_cost + n) weight) (omega (arith, within)) c.in-Some.ensures.bound c.if-relaxed_cost-least.true
+    costly_closed s c.self.inside.tables.now c.self.inside.relaxed_limit c.self.inside.whole_demand label (label.relaxed_cost + c.weight.result) (c.self.inside.whole_demand - label.relaxed_load) (Some c.in-Some.least) k (ap (λ n. label.relaxed_cost + n) weight) (omega (arith, within)) c.in-Some.ensures.bound c.if-relaxed_cost-least.true
 
 pub weight-requires-2-clause-from_within : goal.weight-requires-2-clause-from_within
 weight-requires-2-clause-from_within c =

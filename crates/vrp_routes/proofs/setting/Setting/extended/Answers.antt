@@ -3,7 +3,7 @@ use Rattle.std.specs.Int.RustNames.{bit_or}
 use Rattle.std.proofs.lemmas.Nat.{shl_whole}
 use Rattle.vrp_model.specs.Problem.{Problem, demand_of, place_count, weight_of}
 use Rattle.vrp_routes.specs.Label.{IsSetting, SettingOf}
-use Rattle.vrp_routes.proofs.Labels.{dear_child, label_place, label_small, label_within, longer_label, not_too_heavy_relaxed, not_twice}
+use Rattle.vrp_routes.proofs.Labels.{costly_child, label_place, label_small, label_within, longer_label, not_too_heavy_relaxed, not_twice}
 use Rattle.vrp_routes.proofs.setting.Setting.extended.Goals as goal
 
 -- the instances that were read are those of the setting
@@ -60,7 +60,7 @@ returns-in_default-clause-none c =
     let demand : c.demand-2.result ≡ demand_of s.relaxation.relaxed c.args.stop = c.demand-2.ensures.value ∙ ap (λ (q : Problem). demand_of q c.args.stop) e in
     let weight : c.weight.result ≡ weight_of s.relaxation.relaxed label.last c.args.stop = c.weight.ensures.value ∙ ap (λ (q : Problem). weight_of q label.last c.args.stop) e in
     let within = label_within s c.self.inside.tables.now.problem c.self.inside.relaxed_limit c.self.inside.whole_demand label c.args.stop k c.requires.label c.requires.some c.requires.place c.if-label-stop-eq1.false in
-    dear_child s c.self.inside.tables.now c.self.inside.relaxed_limit c.self.inside.whole_demand label c.args.stop relaxed_load (label.relaxed_cost + c.weight.result) (c.self.inside.whole_demand - relaxed_load) None k
+    costly_child s c.self.inside.tables.now c.self.inside.relaxed_limit c.self.inside.whole_demand label c.args.stop relaxed_load (label.relaxed_cost + c.weight.result) (c.self.inside.whole_demand - relaxed_load) None k
     (ap (λ n. label.relaxed_load + n) demand) (ap (λ n. label.relaxed_cost + n) weight) (omega (arith, within, demand)) c.in_default.ensures.bound tt
 
 pub overflow_add-relaxed_cost-2 : goal.overflow_add-relaxed_cost-2
@@ -80,7 +80,7 @@ returns-then-relaxed_cost-least-clause-none c =
     let demand : c.demand-2.result ≡ demand_of s.relaxation.relaxed c.args.stop = c.demand-2.ensures.value ∙ ap (λ (q : Problem). demand_of q c.args.stop) e in
     let weight : c.weight.result ≡ weight_of s.relaxation.relaxed label.last c.args.stop = c.weight.ensures.value ∙ ap (λ (q : Problem). weight_of q label.last c.args.stop) e in
     let within = label_within s c.self.inside.tables.now.problem c.self.inside.relaxed_limit c.self.inside.whole_demand label c.args.stop k c.requires.label c.requires.some c.requires.place c.if-label-stop-eq1.false in
-    dear_child s c.self.inside.tables.now c.self.inside.relaxed_limit c.self.inside.whole_demand label c.args.stop relaxed_load (label.relaxed_cost + c.weight.result) (c.self.inside.whole_demand - relaxed_load) (Some c.in-Some.least) k
+    costly_child s c.self.inside.tables.now c.self.inside.relaxed_limit c.self.inside.whole_demand label c.args.stop relaxed_load (label.relaxed_cost + c.weight.result) (c.self.inside.whole_demand - relaxed_load) (Some c.in-Some.least) k
     (ap (λ n. label.relaxed_load + n) demand) (ap (λ n. label.relaxed_cost + n) weight) (omega (arith, within, demand)) c.in-Some.ensures.bound c.if-relaxed_cost-least.true
 
 pub weight-requires-2-clause-from_within : goal.weight-requires-2-clause-from_within

@@ -1,6 +1,6 @@
 use Rattle.std.proofs.Common.{ap, List, ℕ, sym, subst}
 use Rattle.vrp_model.specs.Word.{BeginsWith}
-use Rattle.vrp_tree.specs.Partial.{PartialPlan}
+use Rattle.vrp_search_tree.specs.Partial.{PartialPlan}
 use Rattle.vrp_search.proofs.BoundsInStep.{still_bounds}
 use Rattle.vrp_search.proofs.SearchProgress.{begins_more}
 use Rattle.vrp_search.proofs.bounds.BoundsPruning.push.Goals as goal

@@ -1,0 +1,230 @@
+//! Bounds by ng-walks: by hand, beside a slow program that tries every walk, and at the limits of an instance.
+ghost use Rattle.std.specs.Prelude.{◌≡◌};
+
+use crate::assertion::assert_same;
+use crate::bound::instances::{at_points, one_each, with_arcs};
+use crate::bound::slow_walks::{Stand, Walkers, every_walk};
+use std::alloc::Global;
+use std::process::Abort;
+use vrp_bound::NgTables;
+use vrp_bound_ng::NgSets;
+use vrp_model::{Instance, MAX_NODES};
+
+// A place, a load, a rest, and what is answered.
+type Asked = (u16, u64, u64, Option<u64>);
+
+fn assert_answers(rt: &impl Abort, tables: &NgTables<'_>, instance: &Instance, asked: &[Asked])
+    requires { tables.now.problem ≡ instance.now }
+{
+    for &asked in asked {
+        assert_answer(rt, tables, instance, asked);
+    }
+}
+
+fn assert_answer(rt: &impl Abort, tables: &NgTables<'_>, instance: &Instance, asked: Asked)
+    requires { tables.now.problem ≡ instance.now }
+{
+    let (at, load, rest, answer) = asked;
+    assert!(rt; at <= instance.customers() && load <= instance.capacity());
+    assert!(rt; (at != 0 || load == 0) && rest <= instance.whole_demand());
+    assert_same(rt, tables.bound(at, load, rest), answer, (at, load, rest));
+}
+
+// The ng-sets of walks through so many places: so many customers are near each place, those near one place listed after another.
+fn ng_sets_of(rt: &impl Abort, alloc: Global, places: usize, size: usize, near: &[u16]) -> NgSets
+    ensures { result.places ≡ places }
+{
+    assert!(rt; places <= 5 && size <= 4);
+    let near = Vec::from_slice(alloc, near).expect(rt, "memory");
+    assert!(rt; near.len() == places * size);
+    NgSets::new(alloc, places, size, near).expect(rt, "memory")
+}
+
+const TO_AND_FRO: &[Asked] = &[
+    (0, 0, 3, Some(40)),
+    (1, 1, 2, Some(30)),
+    (2, 1, 2, Some(40)),
+];
+
+const NEAR_THE_SECOND: &[Asked] = &[
+    (0, 0, 3, Some(60)),
+    (1, 1, 2, Some(50)),
+    (2, 1, 2, Some(40)),
+];
+
+// How many customers are near each place, those near one place after another, and what is asked.
+type Three<'a> = (usize, &'a [u16], &'a [Asked]);
+
+const THREE: &[Three<'_>] = &[
+    (0, &[], TO_AND_FRO),
+    (1, &[0, 2, 3, 2], TO_AND_FRO),
+    (1, &[0, 2, 1, 2], NEAR_THE_SECOND),
+    (2, &[0, 0, 2, 3, 1, 3, 2, 1], NEAR_THE_SECOND),
+];
+
+// Three customers on a line, 10 apart, the first of them 10 from the depot; each has a demand of 1, and a truck takes 3. Who remembers
+// its next stop alone goes to and fro: from the depot to the first, the second and the first again for 40. Where the first is near the
+// second it may not, and a tour of three goes on to the third.
+#[test]
+fn three_on_a_line(rt: HostRuntime) {
+    let points = [(0, 0), (10, 0), (20, 0), (30, 0)];
+    let instance = at_points(&rt, rt.alloc(), &points, &[0, 1, 1, 1], 3);
+    for &three in THREE {
+        assert_three(&rt, rt.alloc(), &instance, three);
+    }
+}
+
+fn assert_three(rt: &impl Abort, alloc: Global, instance: &Instance, three: Three<'_>) {
+    let (size, near, asked) = three;
+    assert!(rt; instance.customers() == 3);
+    let ng_sets = ng_sets_of(rt, alloc, 4, size, near);
+    let tables = NgTables::new(alloc, instance, ng_sets).expect(rt, "memory");
+    assert_answers(rt, &tables, instance, asked);
+}
+
+// What the places demand, and what a truck carries.
+type Loaded = ([u64; 5], u64);
+
+const EVERY_WALK: &[Loaded] = &[
+    ([0, 1, 1, 1, 1], 4),
+    ([0, 1, 2, 1, 3], 6),
+    // counted in units of 2
+    ([0, 2, 4, 2, 2], 7),
+];
+
+// How many customers are near each place, those near one place after another, and a bit for each of them by place. Near a customer are
+// the next ones, round and round, and so is the customer itself where there are too few others.
+type Near<'a> = (usize, &'a [u16], &'a [u32]);
+
+const NEXT_CUSTOMERS: &[Near<'_>] = &[
+    (0, &[], &[0b00000, 0b00000, 0b00000, 0b00000, 0b00000]),
+    (
+        1,
+        &[1, 2, 3, 4, 1],
+        &[0b00010, 0b00100, 0b01000, 0b10000, 0b00010],
+    ),
+    (
+        2,
+        &[1, 2, 2, 3, 3, 4, 4, 1, 1, 2],
+        &[0b00110, 0b01100, 0b11000, 0b10010, 0b00110],
+    ),
+    (
+        3,
+        &[1, 2, 3, 2, 3, 4, 3, 4, 1, 4, 1, 2, 1, 2, 3],
+        &[0b01110, 0b11100, 0b11010, 0b10110, 0b01110],
+    ),
+    (
+        4,
+        &[1, 2, 3, 4, 2, 3, 4, 1, 3, 4, 1, 2, 4, 1, 2, 3, 1, 2, 3, 4],
+        &[0b11110, 0b11110, 0b11110, 0b11110, 0b11110],
+    ),
+];
+
+#[test]
+fn the_same_as_every_walk(rt: HostRuntime) {
+    for &loaded in EVERY_WALK {
+        assert_there_and_back(&rt, rt.alloc(), loaded);
+        assert_one_direction(&rt, rt.alloc(), loaded);
+    }
+}
+
+fn assert_there_and_back(rt: &impl Abort, alloc: Global, (demands, capacity): Loaded) {
+    let points = [(0, 0), (3, 4), (6, 8), (5, -12), (-4, 3)];
+    let instance = at_points(rt, alloc, &points, &demands, capacity);
+    assert_sizes(rt, alloc, &instance);
+}
+
+fn assert_one_direction(rt: &impl Abort, alloc: Global, (demands, capacity): Loaded) {
+    let arcs = one_direction(rt, alloc);
+    let instance = with_arcs(rt, alloc, &arcs, &demands, capacity);
+    assert_sizes(rt, alloc, &instance);
+}
+
+// Weights between five places, where the reverse arc weighs another number.
+fn one_direction(rt: &impl Abort, alloc: Global) -> Vec<u64> {
+    let mut arcs = Vec::new(alloc);
+    for from in 0..5 {
+        for to in 0..5 {
+            arcs.push((5 * from + 3 * to * to) % 13 + 1)
+                .expect(rt, "memory");
+        }
+    }
+    arcs
+}
+
+fn assert_sizes(rt: &impl Abort, alloc: Global, instance: &Instance) {
+    for &near in NEXT_CUSTOMERS {
+        assert_size(rt, alloc, instance, near);
+    }
+}
+
+fn assert_size(rt: &impl Abort, alloc: Global, instance: &Instance, near: Near<'_>) {
+    let (size, listed, bits) = near;
+    assert!(rt; instance.customers() == 4);
+    let ng_sets = ng_sets_of(rt, alloc, 5, size, listed);
+    let tables = NgTables::new(alloc, instance, ng_sets).expect(rt, "memory");
+    let walkers = Walkers {
+        instance,
+        customers: &[1, 2, 3, 4],
+        near: bits,
+    };
+    assert_every_walk(rt, &tables, walkers);
+}
+
+// At every place.
+fn assert_every_walk(rt: &impl Abort, tables: &NgTables<'_>, walkers: Walkers<'_>)
+    requires { tables.now.problem ≡ walkers.instance.now }
+{
+    for at in 0..walkers.instance.customers() + 1 {
+        assert_loads(rt, tables, walkers, at);
+    }
+}
+
+// With each load; at the depot there is none.
+fn assert_loads(rt: &impl Abort, tables: &NgTables<'_>, walkers: Walkers<'_>, at: u16)
+    requires { tables.now.problem ≡ walkers.instance.now }
+{
+    let most = if at == 0 {
+        0
+    } else {
+        walkers.instance.capacity()
+    };
+    for load in 0..most + 1 {
+        assert_rests(rt, tables, walkers, at, load);
+    }
+}
+
+fn assert_rests(rt: &impl Abort, tables: &NgTables<'_>, walkers: Walkers<'_>, at: u16, load: u64)
+    requires { tables.now.problem ≡ walkers.instance.now }
+{
+    for rest in 0..walkers.instance.whole_demand() + 1 {
+        let slow = every_walk(walkers, Stand::begun(at, load, rest), 20);
+        assert_answer(rt, tables, walkers.instance, (at, load, rest, slow));
+    }
+}
+
+const CROWDED: &[Asked] = &[(0, 0, 1_199, Some(8_000)), (1, 1, 1_198, Some(7_990))];
+
+// Customers at one point, 10 from the depot: a truck for three of them each.
+#[test]
+fn as_many_customers_as_there_may_be(rt: HostRuntime) {
+    let instance = crowded(&rt, rt.alloc());
+    assert_crowded(&rt, rt.alloc(), &instance, 0);
+    assert_crowded(&rt, rt.alloc(), &instance, 4);
+}
+
+fn assert_crowded(rt: &impl Abort, alloc: Global, instance: &Instance, size: usize) {
+    assert!(rt; size <= 4);
+    let ng_sets = NgSets::nearest(alloc, instance, size).expect(rt, "memory");
+    let tables = NgTables::new(alloc, instance, ng_sets).expect(rt, "memory");
+    assert!(rt; tables.shape().is_some());
+    assert_answers(rt, &tables, instance, CROWDED);
+}
+
+fn crowded(rt: &impl Abort, alloc: Global) -> Instance {
+    let places = usize::from(MAX_NODES);
+    let mut points = vec![in alloc; (10, 0); places].expect(rt, "memory");
+    points[0] = (0, 0);
+    let demands = one_each(rt, alloc, places);
+    at_points(rt, alloc, &points, &demands, 3)
+}

@@ -1,0 +1,12 @@
+//! Tests of `vrp_command`, `vrp_plan_write` and `vrp_command_hints` by values from outside. They are a crate of their own, since a
+//! crate with tests is proved twice.
+#![tactic(auto)]
+
+#[cfg(test)]
+mod assertion;
+#[cfg(test)]
+mod command;
+#[cfg(test)]
+mod hints;
+#[cfg(test)]
+mod plan_write;

@@ -1,0 +1,6 @@
+//! Tests of `vrp_plan_write` by values from outside.
+
+mod export;
+mod fixture;
+mod names;
+mod pages;

@@ -1,0 +1,12 @@
+//! Tests of `vrp_pool_register`, `vrp_pool_pile`, `vrp_pool_answer` and `vrp_pool` by values from outside. They are a crate of
+//! their own, since a crate with tests is proved twice.
+#![tactic(auto)]
+
+#[cfg(test)]
+mod assertion;
+#[cfg(test)]
+mod pile;
+#[cfg(test)]
+mod pool;
+#[cfg(test)]
+mod register;

@@ -1,0 +1,226 @@
+//! Answers by one worker and by several.
+ghost use Rattle.std.specs.Prelude.{◌*◌, ◌≤◌, length};
+ghost use Rattle.vrp_search_tree.specs.Cutting.{IsCutting};
+ghost use Rattle.vrp_search_tree.specs.declared.cutting.TheConstants.{MAX_REFINED};
+
+use crate::pool::fixture::{cut_into, depot_alone, line, ring, ten_nodes, three_nodes};
+use std::alloc::Global;
+use std::process::Abort;
+use std::sync::Wait;
+use std::thread::Threads;
+use vrp_heuristic::{Crew, Unhurried, heuristic_plan};
+use vrp_model::{Instance, Plan};
+use vrp_pool::{Answer, Gate, MAX_WORKERS, NoGate, solve};
+use vrp_search::{Cutting, MAX_PIECES};
+
+mod by_routes;
+mod choices_with_ties;
+mod gated;
+mod stopped;
+
+const AMPLE: u64 = 1_000_000;
+
+// The largest budget with which nothing comes before the pieces; it is enough for each piece of a small tree.
+const ENOUGH: u64 = 999;
+
+// Workers, pieces, and the budget of each piece.
+type Asked = (u32, u32, u64);
+
+// What workers answer behind a gate, of a cutting into at least so many pieces.
+fn answer_behind<R: Abort + Threads + Wait + Sync, G: Gate + Sync>(
+    rt: &R,
+    alloc: Global,
+    instance: &Instance,
+    (workers, pieces, budget): Asked,
+    gate: &G,
+) -> Answer {
+    let cutting = cut_into(rt, alloc, instance, pieces);
+    answer_of_pieces(rt, alloc, instance, cutting, (workers, budget), gate)
+}
+
+// What this many workers answer of a cutting, each of whose pieces is searched with this budget.
+fn answer_of_pieces<R: Abort + Threads + Wait + Sync, G: Gate + Sync>(
+    rt: &R,
+    alloc: Global,
+    instance: &Instance,
+    cutting: Cutting,
+    crew: (u32, u64),
+    gate: &G,
+) -> Answer
+    requires cutting { IsCutting instance.now cutting }
+    requires few { length cutting ≤ 2 * MAX_REFINED }
+{
+    let (workers, budget) = crew;
+    assert!(rt; 1 <= workers && workers <= MAX_WORKERS && 1 <= budget);
+    let answer = solve(rt, alloc, instance, cutting, workers, budget, gate);
+    answer.expect(rt, "memory")
+}
+
+// What an answer says: a verdict, and what its plan costs, if there is one.
+#[derive(Clone, Copy, Debug, PartialEq, Eq)]
+enum Told {
+    Proven(u64),
+    Open(Option<u64>),
+    NoPlan,
+}
+
+impl Told {
+    fn by(answer: &Answer) -> Told {
+        match answer {
+            Answer::Proven(plan) => Told::Proven(plan.cost()),
+            Answer::Open { plan, .. } => Told::Open(plan.as_ref().map(Plan::cost)),
+            Answer::NoPlan => Told::NoPlan,
+        }
+    }
+}
+
+// Asserts what is answered of an instance where there is no gate.
+fn assert_told<R: Abort + Threads + Wait + Sync>(
+    rt: &R,
+    alloc: Global,
+    instance: &Instance,
+    asked: Asked,
+    wanted: Told,
+) {
+    let told = Told::by(&answer_behind(rt, alloc, instance, asked, &NoGate));
+    assert!(rt; told == wanted, "{told:?} is not {wanted:?}, at {asked:?}");
+}
+
+// Asserts that a search by this many workers of this many pieces proves a plan, its cost and its word: by the pieces, and by a look before
+// them.
+fn assert_proven<R: Abort + Threads + Wait + Sync>(
+    rt: &R,
+    alloc: Global,
+    instance: &Instance,
+    (workers, pieces): (u32, u32),
+    cost: u64,
+    word: &[u16],
+) {
+    for budget in [ENOUGH, AMPLE] {
+        let asked = (workers, pieces, budget);
+        let answer = answer_behind(rt, alloc, instance, asked, &NoGate);
+        let is_proven = Told::by(&answer) == Told::Proven(cost);
+        assert!(rt; is_proven, "{asked:?}");
+        let is_word = answer.plan().is_some_and(|plan| plan.word() == word);
+        assert!(rt; is_word, "another plan at {asked:?}");
+    }
+}
+
+#[test]
+fn small(rt: HostRuntime) {
+    let instance = three_nodes(&rt, rt.alloc(), 2);
+    for workers in [1, 2, 8] {
+        for pieces in [1, 2, 4] {
+            let crew = (workers, pieces);
+            assert_proven(&rt, rt.alloc(), &instance, crew, 20, &[1, 2, 0]);
+        }
+    }
+    assert_proven(&rt, rt.alloc(), &instance, (64, 1), 20, &[1, 2, 0]);
+}
+
+#[test]
+fn no_customers(rt: HostRuntime) {
+    let instance = depot_alone(&rt, rt.alloc());
+    for crew in [(1, 1), (2, 2)] {
+        assert_proven(&rt, rt.alloc(), &instance, crew, 0, &[]);
+    }
+}
+
+#[test]
+fn left_open(rt: HostRuntime) {
+    let instance = three_nodes(&rt, rt.alloc(), 2);
+    for workers in [1, 2, 8] {
+        let answer = answer_behind(&rt, rt.alloc(), &instance, (workers, 1, 1), &NoGate);
+        let is_left = match &answer {
+            Answer::Open {
+                plan: Some(plan),
+                low: 20,
+                piece: 0,
+            } => plan.cost() == 30 && plan.word() == [1, 0, 2, 0].as_slice(),
+            _ => false,
+        };
+        assert!(rt; is_left, "{workers}");
+    }
+}
+
+// The tree is too large for either budget, as one piece and as several, and with any number of trucks.
+#[test]
+fn start_plan_by_savings(rt: HostRuntime) {
+    let free = line(&rt, rt.alloc());
+    let crew = Crew {
+        rt: &rt,
+        alloc: rt.alloc(),
+        instance: &free,
+        workers: 1,
+        watch: &Unhurried,
+    };
+    let savings = heuristic_plan(&crew, 0).expect(&rt, "memory");
+    assert!(rt; savings.is_some_and(|plan| plan.cost() == 400));
+    let limited = line(&rt, rt.alloc()).with_trucks(2);
+    for instance in [&free, &limited] {
+        for (workers, pieces) in [(1, 1), (2, 1), (1, 20), (2, 20)] {
+            let with = (workers, pieces, 1_000);
+            assert_told(&rt, rt.alloc(), instance, with, Told::Open(Some(400)));
+            assert_costlier_without(&rt, rt.alloc(), instance, (workers, pieces));
+        }
+    }
+}
+
+// Asserts that no plan as cheap is found with a budget by which none is made before.
+fn assert_costlier_without<R: Abort + Threads + Wait + Sync>(
+    rt: &R,
+    alloc: Global,
+    instance: &Instance,
+    (workers, pieces): (u32, u32),
+) {
+    let answer = answer_behind(rt, alloc, instance, (workers, pieces, 999), &NoGate);
+    let is_as_cheap = answer.plan().is_some_and(|plan| plan.cost() <= 400);
+    assert!(rt; !is_as_cheap, "{workers} {pieces}");
+}
+
+// From the plan by savings, which is the cheapest, one worker looks at 432 partial plans, and from one truck for each customer at
+// more than 11,000.
+#[test]
+fn start_plan_comes_before_the_search(rt: HostRuntime) {
+    let instance = ten_nodes(&rt, rt.alloc());
+    let without = answer_behind(&rt, rt.alloc(), &instance, (1, 1, 999), &NoGate);
+    assert!(rt; matches!(without, Answer::Open { .. }));
+    assert_told(&rt, rt.alloc(), &instance, (1, 1, 1_000), Told::Proven(322));
+}
+
+// A budget is what a piece may take, no less and no more: the tree of the ring has 621 partial plans that one worker looks at, and
+// that of the line has more than 5,001.
+#[test]
+fn budget_of_a_piece(rt: HostRuntime) {
+    let (ring, line) = (ring(&rt, rt.alloc()), line(&rt, rt.alloc()));
+    for (instance, budget, ends) in [
+        (&ring, 620, false),
+        (&ring, 621, true),
+        (&line, 5_001, false),
+    ] {
+        let answer = answer_behind(&rt, rt.alloc(), instance, (1, 1, budget), &NoGate);
+        assert!(rt; matches!(answer, Answer::Proven(_)) == ends, "{budget}");
+    }
+}
+
+#[test]
+fn too_few_trucks(rt: HostRuntime) {
+    let instance = three_nodes(&rt, rt.alloc(), 1).with_trucks(1);
+    for (workers, pieces) in [(1, 1), (2, 2), (8, 4)] {
+        for budget in [ENOUGH, AMPLE] {
+            let asked = (workers, pieces, budget);
+            assert_told(&rt, rt.alloc(), &instance, asked, Told::NoPlan);
+        }
+    }
+}
+
+#[test]
+fn many_pieces(rt: HostRuntime) {
+    let instance = ring(&rt, rt.alloc());
+    let cutting = cut_into(&rt, rt.alloc(), &instance, MAX_PIECES);
+    assert!(rt; 65_536 <= cutting.pieces().len());
+    let round = [1, 2, 3, 4, 5, 6, 7, 8, 9, 0];
+    for crew in [(1, 1), (8, MAX_PIECES)] {
+        assert_proven(&rt, rt.alloc(), &instance, crew, 100, &round);
+    }
+}

@@ -1,0 +1,4 @@
+//! Tests of `vrp_bound_prices` by values from outside.
+
+mod instances;
+mod relaxation;

@@ -1,0 +1,68 @@
+//! Plans found from the pool that is listed by a known plan.
+
+use std::alloc::Global;
+use std::process::Abort;
+use std::thread::Threads;
+use vrp_bound::NgTables;
+use vrp_bound_ng::NgSets;
+use vrp_bound_prices::Relaxation;
+use vrp_canonical::{PlanSearch, canonical_plan};
+use vrp_model::{Instance, NO_COST, NoMemory, Plan};
+use vrp_partition::{Ask, Guide, Team};
+use vrp_routes::{Listed, can_list, list_routes};
+
+/// Who is asked whether a search goes on.
+#[derive(Clone, Copy, Debug)]
+pub(crate) struct Asks {
+    pub(crate) should_continue: bool,
+}
+
+impl Ask for Asks {
+    fn should_continue(&self) -> bool {
+        self.should_continue
+    }
+}
+
+/// What is found by two workers from a known plan, by a guide and within a budget.
+pub(crate) fn found_plan<R: Abort + Threads + Sync, P: Guide + Send>(
+    rt: &R,
+    alloc: Global,
+    instance: &Instance,
+    known: &Plan,
+    guide: &P,
+    ask: Asks,
+    budget: u64,
+) -> Result<Option<PlanSearch>, NoMemory> {
+    let limit = known.cost();
+    assert!(rt; can_list(instance));
+    assert!(rt; limit <= NO_COST);
+    let prices = vec![in alloc; 0i64; usize::from(instance.customers()) + 1]?;
+    let made = Relaxation::new(alloc, instance, 1, 1, prices.as_slice(), &[])?;
+    let relaxation = made.expect(rt, "prices");
+    let ng_sets = NgSets::nearest(alloc, relaxation.relaxed(), 2)?;
+    let tables = NgTables::new(alloc, relaxation.relaxed(), ng_sets)?;
+    let listed = list_routes(
+        rt,
+        alloc,
+        &relaxation,
+        &tables,
+        limit,
+        2,
+        u32::MAX,
+        &|_labels| true,
+    )?;
+    let mut left = budget;
+    let team = Team {
+        rt,
+        alloc,
+        workers: 2,
+        ask: &ask,
+    };
+    match listed {
+        Listed::Pool(pool) => {
+            let found = canonical_plan(&team, instance, &pool, known, guide, &mut left)?;
+            Ok(Some(found))
+        }
+        Listed::Met(_) => Ok(None),
+    }
+}

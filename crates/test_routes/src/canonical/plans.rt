@@ -1,0 +1,206 @@
+//! Plans found are the canonical ones, as a slow program finds them.
+
+use crate::assertion::assert_same;
+use crate::canonical::found::{Asks, found_plan};
+use crate::canonical::guides::{Habit, Habitual};
+use crate::canonical::instances::{FIVE, SQUARE, at_points, with_arcs};
+use crate::canonical::random::Random;
+use crate::canonical::slow::{Canonical, canonical_plan};
+use std::alloc::Global;
+use std::process::Abort;
+use std::thread::Threads;
+use vrp_canonical::PlanSearch;
+use vrp_model::{Instance, Plan};
+use vrp_search_tree::lawful_plan;
+
+const ONE_DIRECTION: &[u64] = &[
+    0, 3, 9, 4, 5, 8, 0, 2, 7, 6, 5, 6, 0, 1, 4, 9, 3, 8, 0, 2, 4, 4, 7, 3, 0,
+];
+
+// All arcs cost the same, so that the order of symbols decides.
+const LEVEL: &[u64] = &[
+    0, 1, 1, 1, 1, 1, 0, 1, 1, 1, 1, 1, 0, 1, 1, 1, 1, 1, 0, 1, 1, 1, 1, 1, 0,
+];
+
+// Tight and loose, and with demands of 0.
+const DEMANDS: &[([u64; 5], u64)] = &[
+    ([0, 1, 2, 1, 2], 3),
+    ([0, 3, 5, 4, 2], 9),
+    ([0, 3, 5, 4, 2], 20),
+    ([0, 0, 2, 0, 1], 2),
+    ([0, 0, 0, 0, 0], 0),
+    ([0, 7, 9, 1, 3], 10),
+];
+
+#[test]
+fn plans_by_hand(rt: HostRuntime) {
+    let (rt, alloc) = (&rt, rt.alloc());
+    let mut plans = 0u64;
+    for (demands, capacity) in DEMANDS {
+        let instance = at_points(rt, alloc, FIVE, demands, *capacity);
+        plans = plans.saturating_add(plans_of(rt, alloc, &instance));
+        let instance = at_points(rt, alloc, SQUARE, demands, *capacity);
+        plans = plans.saturating_add(plans_of(rt, alloc, &instance));
+        let instance = with_arcs(rt, alloc, LEVEL, demands, *capacity);
+        plans = plans.saturating_add(plans_of(rt, alloc, &instance));
+        let few = instance.with_trucks(2);
+        plans = plans.saturating_add(plans_of(rt, alloc, &few));
+        let instance = with_arcs(rt, alloc, ONE_DIRECTION, demands, *capacity);
+        plans = plans.saturating_add(plans_of(rt, alloc, &instance));
+        let few = instance.with_trucks(1);
+        plans = plans.saturating_add(plans_of(rt, alloc, &few));
+    }
+    assert!(rt; plans >= 150);
+}
+
+// Six customers, with arcs of 1 to 3: many plans cost the same.
+#[test]
+fn plans_by_chance(rt: HostRuntime) {
+    let (rt, alloc) = (&rt, rt.alloc());
+    let mut random = Random(7);
+    let mut plans = 0u64;
+    for round in 0..12u16 {
+        let instance = by_chance(rt, alloc, &mut random);
+        plans = plans.saturating_add(plans_of(rt, alloc, &instance));
+        let few = instance.with_trucks(1 + round % 3);
+        plans = plans.saturating_add(plans_of(rt, alloc, &few));
+    }
+    assert!(rt; plans >= 60);
+}
+
+fn by_chance(rt: &impl Abort, alloc: Global, random: &mut Random) -> Instance {
+    let mut arcs = Vec::new(alloc);
+    for _ in 0..49 {
+        arcs.push(u64::from(1 + random.next() % 3))
+            .expect(rt, "memory");
+    }
+    let mut demands = Vec::new(alloc);
+    demands.push(0u64).expect(rt, "memory");
+    for _ in 0..6 {
+        demands
+            .push(u64::from(random.next() % 3))
+            .expect(rt, "memory");
+    }
+    with_arcs(rt, alloc, arcs.as_slice(), demands.as_slice(), 4)
+}
+
+// How many plans were found and are the canonical one: from it, and from the plan of one truck to each customer, by several guides.
+fn plans_of<R: Abort + Threads + Sync>(rt: &R, alloc: Global, instance: &Instance) -> u64 {
+    let Some(canonical) = canonical_plan(rt, alloc, instance) else {
+        return 0;
+    };
+    let known = lawful_plan(alloc, instance, canonical.word.as_slice()).expect(rt, "memory");
+    let least = known.expect(rt, "the first plan has a lawful word");
+    let mut plans = by_guides(rt, alloc, instance, &least, &canonical);
+    let singles = Plan::singles(alloc, instance).expect(rt, "memory");
+    if let Some(costly) = singles {
+        plans = plans.saturating_add(by_guides(rt, alloc, instance, &costly, &canonical));
+    }
+    plans
+}
+
+// The canonical plan, where it was found.
+fn canonical_of(found: Option<PlanSearch>) -> Option<Plan> {
+    match found {
+        Some(PlanSearch::Canonical(plan)) => Some(plan),
+        _ => None,
+    }
+}
+
+// What the plan costs that a search tells of which ended unfinished, if its word is one.
+fn cost_told(
+    rt: &impl Abort,
+    alloc: Global,
+    instance: &Instance,
+    found: &Option<PlanSearch>,
+) -> Option<u64> {
+    let Some(PlanSearch::Unfinished { word, .. }) = found else {
+        return None;
+    };
+    let plan = lawful_plan(alloc, instance, word.as_slice()).expect(rt, "memory");
+    plan.map(|plan| plan.cost())
+}
+
+// The lower bound of a search that ended unfinished.
+fn bound_told(found: &Option<PlanSearch>) -> Option<u64> {
+    match found {
+        Some(PlanSearch::Unfinished { lower_bound, .. }) => Some(*lower_bound),
+        _ => None,
+    }
+}
+
+const GUIDES: &[(Habit, u64)] = &[(Habit::Zeros, 1), (Habit::Random, 2), (Habit::Random, 3)];
+
+fn by_guides<R: Abort + Threads + Sync>(
+    rt: &R,
+    alloc: Global,
+    instance: &Instance,
+    known: &Plan,
+    canonical: &Canonical,
+) -> u64 {
+    let mut plans = 0u64;
+    for &(habit, seed) in GUIDES {
+        let random = Random(seed);
+        let guide = Habitual {
+            alloc,
+            habit,
+            random,
+        };
+        let ask = Asks {
+            should_continue: true,
+        };
+        let found = found_plan(rt, alloc, instance, known, &guide, ask, 1_000_000);
+        let plan = canonical_of(found.expect(rt, "memory")).expect(rt, "a plan");
+        assert_same(rt, plan.cost(), canonical.cost, "cost");
+        assert!(rt;
+            plan.word() == canonical.word.as_slice(),
+            "{:?}",
+            plan.word()
+        );
+        plans = plans.saturating_add(1);
+    }
+    plans
+}
+
+// A guide, a budget, whether the canonical plan is found, and whether a cheapest one is told of else: then the lower bound is its
+// cost.
+const LIMITS: &[(Habit, u64, bool, bool)] = &[
+    (Habit::Zeros, 1_000, true, false),
+    (Habit::Zeros, 4, true, false),
+    (Habit::Zeros, 3, false, true),
+    (Habit::Zeros, 2, false, true),
+    (Habit::Zeros, 1, false, false),
+    (Habit::Zeros, 0, false, false),
+    (Habit::Stopping, 1_000, false, false),
+];
+
+// One truck carries all, and one round is the cheapest: the pool is narrowed, one search finds it, the pool is narrowed again, and one
+// more search finds that no earlier route will do. Each takes one of the budget.
+#[test]
+fn budgets_and_guides_that_stop(rt: HostRuntime) {
+    let (rt, alloc) = (&rt, rt.alloc());
+    let instance = at_points(rt, alloc, FIVE, &[0, 1, 1, 1, 1], 4);
+    let singles = Plan::singles(alloc, &instance).expect(rt, "memory");
+    let known = singles.expect(rt, "a truck for each");
+    let canonical = canonical_plan(rt, alloc, &instance).expect(rt, "a plan");
+    for &(habit, budget, wanted, told) in LIMITS {
+        let random = Random(5);
+        let guide = Habitual {
+            alloc,
+            habit,
+            random,
+        };
+        let ask = Asks {
+            should_continue: habit != Habit::Stopping,
+        };
+        let found = found_plan(rt, alloc, &instance, &known, &guide, ask, budget);
+        let found = found.expect(rt, "memory");
+        let cost = cost_told(rt, alloc, &instance, &found);
+        assert_same(rt, cost, told.then_some(canonical.cost), (habit, budget));
+        let bound = bound_told(&found);
+        let least = if told { canonical.cost } else { 0 };
+        assert_same(rt, bound, (!wanted).then_some(least), (habit, budget));
+        let plan = canonical_of(found);
+        assert_same(rt, plan.is_some(), wanted, (habit, budget));
+    }
+}

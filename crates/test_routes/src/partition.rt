@@ -1,0 +1,8 @@
+//! Tests of `vrp_partition` by values from outside.
+
+mod choices;
+mod covers;
+mod guides;
+mod prices;
+mod random;
+mod slow;

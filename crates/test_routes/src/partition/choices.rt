@@ -1,0 +1,476 @@
+//! The cheapest choice by hand, and beside every choice of random pools, by guides that know nothing.
+
+use crate::assertion::assert_same;
+use crate::partition::guides::{Asks, HABITS, Habit, Habitual};
+use crate::partition::random::{Random, all_customers};
+use crate::partition::slow::{cost_of_choice, least_cost};
+use std::alloc::{AllocError, Global};
+use std::process::Abort;
+use std::thread::Threads;
+use vrp_partition::{
+    Chosen, Fleet, Found, MOST_CUSTOMERS, Route, Team, all_fit, cheapest_choice, routes_within,
+};
+
+// A route: its customers and its cost.
+type Pair = (u128, u32);
+
+const THREE: &[Pair] = &[
+    (0b0010, 10),
+    (0b0100, 10),
+    (0b1000, 10),
+    (0b0110, 12),
+    (0b1100, 13),
+    (0b1010, 14),
+    (0b1110, 25),
+];
+
+const FOUR: &[Pair] = &[
+    (0b00110, 5),
+    (0b11000, 5),
+    (0b01010, 4),
+    (0b10100, 7),
+    (0b10010, 3),
+    (0b01100, 6),
+];
+
+const MUCH: u64 = 1 << 32;
+
+// A pool, customers, trucks, the incumbent's cost and the least cost.
+const BY_HAND: &[(&[Pair], u128, u8, u64, u64)] = &[
+    (THREE, 0b1110, 128, MUCH, 22),
+    (THREE, 0b1110, 128, 23, 22),
+    (THREE, 0b1110, 128, 22, 22),
+    (THREE, 0b1110, 128, 0, 0),
+    (THREE, 0b1100, 128, MUCH, 13),
+    (THREE, 0, 128, MUCH, 0),
+    (THREE, 0b1_1110, 128, MUCH, MUCH),
+    (FOUR, 0b11110, 128, MUCH, 9),
+    (FOUR, 0b01110, 128, MUCH, MUCH),
+    (&[], 0b0010, 128, MUCH, MUCH),
+    (&[(0b1110, 9)], 0b1110, 1, MUCH, 9),
+    (THREE, 0b1110, 2, MUCH, 22),
+    (THREE, 0b1110, 1, MUCH, 25),
+    (THREE, 0b1110, 0, MUCH, MUCH),
+    (THREE, 0, 0, MUCH, 0),
+    (FOUR, 0b11110, 2, MUCH, 9),
+    (FOUR, 0b11110, 1, MUCH, MUCH),
+    (
+        &[(u128::MAX, u32::MAX)],
+        u128::MAX,
+        u8::MAX,
+        MUCH,
+        u32::MAX as u64,
+    ),
+    (
+        &[(0b0010, 1), (0b0010, 1), (0b0100, 1)],
+        0b0110,
+        128,
+        MUCH,
+        2,
+    ),
+];
+
+#[test]
+fn choices_by_hand(rt: HostRuntime) {
+    let (rt, alloc) = (&rt, rt.alloc());
+    for &(told, customers, trucks, incumbent, cost) in BY_HAND {
+        for &habit in HABITS {
+            let pool = pool_of(rt, alloc, told);
+            let found = choice(
+                rt, alloc, habit, 128, trucks, pool, customers, incumbent, 100,
+            );
+            let found = found.expect(rt, "a budget that suffices");
+            assert_same(rt, found.cost, cost, (customers, incumbent));
+            assert_routes(rt, &found, customers, trucks, incumbent);
+        }
+    }
+}
+
+fn pool_of(rt: &impl Abort, alloc: Global, told: &[Pair]) -> Vec<Route> {
+    let mut pool = Vec::new(alloc);
+    for &(set, cost) in told {
+        pool.push(Route { set, cost }).expect(rt, "memory");
+    }
+    pool
+}
+
+// The cheapest choice, where the search ends, by any number of workers. Each customer demands 1.
+fn choice<R: Abort + Threads + Sync>(
+    rt: &R,
+    alloc: Global,
+    habit: Habit,
+    capacity: u32,
+    trucks: u8,
+    pool: Vec<Route>,
+    customers: u128,
+    incumbent: u64,
+    nodes: u64,
+) -> Option<Chosen> {
+    let asked = Asked {
+        habit,
+        capacity,
+        trucks,
+        customers,
+        incumbent,
+        budget: nodes,
+    };
+    let one = found_by(rt, alloc, 1, asked, &pool);
+    for workers in [2, 3, 8] {
+        let other = found_by(rt, alloc, workers, asked, &pool);
+        assert_same(rt, told_of(&other), told_of(&one), workers);
+    }
+    cheapest(one)
+}
+
+// The choice, where the search ended.
+fn cheapest(found: Found) -> Option<Chosen> {
+    match found {
+        Found::Cheapest(chosen) => Some(chosen),
+        Found::Unfinished { .. } => None,
+    }
+}
+
+// What is asked of a search.
+#[derive(Clone, Copy, Debug)]
+struct Asked {
+    habit: Habit,
+    capacity: u32,
+    trucks: u8,
+    customers: u128,
+    incumbent: u64,
+    budget: u64,
+}
+
+// What so many workers find.
+fn found_by<R: Abort + Threads + Sync>(
+    rt: &R,
+    alloc: Global,
+    workers: usize,
+    asked: Asked,
+    pool: &[Route],
+) -> Found {
+    let mut budget = asked.budget;
+    let found = searched_by(rt, alloc, workers, asked, pool, &mut budget);
+    let found = found.expect(rt, "memory");
+    assert!(rt;
+        told_of(&found).finished || budget == 0,
+        "{budget} are left"
+    );
+    found
+}
+
+// What comes of a search by so many workers.
+fn searched_by<R: Abort + Threads + Sync>(
+    rt: &R,
+    alloc: Global,
+    workers: usize,
+    asked: Asked,
+    pool: &[Route],
+    budget: &mut u64,
+) -> Result<Found, AllocError> {
+    let demands = [1u32; MOST_CUSTOMERS];
+    assert!(rt; all_fit(pool, &demands, asked.capacity));
+    assert!(rt; asked.incumbent <= MUCH && workers > 0);
+    let guide = Habitual {
+        alloc,
+        habit: asked.habit,
+        random: Random(asked.budget),
+    };
+    let ask = Asks {
+        should_continue: asked.habit != Habit::Stopping,
+    };
+    let team = Team {
+        rt,
+        alloc,
+        workers,
+        ask: &ask,
+    };
+    let fleet = Fleet {
+        demands: &demands,
+        capacity: asked.capacity,
+        trucks: asked.trucks,
+    };
+    cheapest_choice(
+        &team,
+        guide,
+        &fleet,
+        Vec::from_slice(alloc, pool).expect(rt, "memory"),
+        asked.customers,
+        asked.incumbent,
+        budget,
+    )
+}
+
+// What is compared of what is found.
+#[derive(Clone, Copy, Debug, PartialEq)]
+struct Told {
+    finished: bool,
+    cost: u64,
+    routes: usize,
+    customers: u128,
+    lower_bound: u64,
+}
+
+fn told_of(found: &Found) -> Told {
+    let (finished, chosen, lower_bound) = match found {
+        Found::Cheapest(chosen) => (true, chosen, chosen.cost),
+        Found::Unfinished { best, lower_bound } => (false, best, *lower_bound),
+    };
+    let customers = chosen.routes.iter().fold(0, |set, route| set | route.set);
+    Told {
+        finished,
+        cost: chosen.cost,
+        routes: chosen.routes.len(),
+        customers,
+        lower_bound,
+    }
+}
+
+// Below the incumbent the routes are a choice of that cost.
+fn assert_routes(rt: &impl Abort, found: &Chosen, customers: u128, trucks: u8, incumbent: u64) {
+    if found.cost < incumbent {
+        let cost = cost_of_choice(&found.routes, customers, trucks);
+        assert_same(rt, cost, Some(found.cost), customers);
+    } else {
+        assert_same(rt, found.cost, incumbent, customers);
+    }
+}
+
+// How many trucks there are, in turn.
+const TRUCKS: &[u8] = &[128, 3, 2];
+
+// Many ties where costs are below 4; often no choice at all.
+#[test]
+fn choices_beside_every_choice(rt: HostRuntime) {
+    let (rt, alloc) = (&rt, rt.alloc());
+    let mut random = Random(2);
+    for round in 0..24u32 {
+        let capacity = 3 + round % 2 * 3;
+        let pool = fitting(
+            rt,
+            alloc,
+            &mut random,
+            4 + round % 9,
+            4 + round % 3 * 50,
+            capacity,
+        );
+        let trucks = TRUCKS[round as usize % TRUCKS.len()];
+        let least = least_cost(rt, &pool, all_customers(), trucks);
+        for &habit in HABITS {
+            for incumbent in [MUCH, 40, 3] {
+                let routes = Vec::from_slice(alloc, &pool).expect(rt, "memory");
+                let found = choice(
+                    rt,
+                    alloc,
+                    habit,
+                    capacity,
+                    trucks,
+                    routes,
+                    all_customers(),
+                    incumbent,
+                    1_000,
+                );
+                let found = found.expect(rt, "a budget that suffices");
+                let wanted = least.unwrap_or(incumbent).min(incumbent);
+                assert_same(rt, found.cost, wanted, (round, habit, incumbent));
+                assert_routes(rt, &found, all_customers(), trucks, incumbent);
+            }
+        }
+    }
+}
+
+// Random routes that a truck can carry.
+fn fitting(
+    rt: &impl Abort,
+    alloc: Global,
+    random: &mut Random,
+    count: u32,
+    costs: u32,
+    capacity: u32,
+) -> Vec<Route> {
+    let mut pool = random.pool(rt, alloc, count, costs);
+    for route in &mut pool {
+        if route.set.count_ones() > capacity {
+            route.set &= route.set - 1;
+        }
+        if route.set.count_ones() > capacity {
+            route.set = 1;
+        }
+    }
+    pool
+}
+
+// More than any choice of cheap routes costs.
+const DEAR: u64 = 600;
+
+// Of each route there are so many costlier ones that a node is branched on before it is searched.
+#[test]
+fn pools_that_are_branched_on(rt: HostRuntime) {
+    let (rt, alloc) = (&rt, rt.alloc());
+    let mut random = Random(3);
+    for round in 0..8u32 {
+        let base = fitting(rt, alloc, &mut random, 8, 10, 3);
+        let least = least_cost(rt, &base, all_customers(), 128).unwrap_or(DEAR);
+        for &habit in HABITS {
+            let pool = repeated(rt, alloc, &base, 400);
+            let found = choice(rt, alloc, habit, 3, 128, pool, all_customers(), DEAR, 1_000);
+            let found = found.expect(rt, "a budget that suffices");
+            assert_same(rt, found.cost, least, (round, habit));
+            assert_routes(rt, &found, all_customers(), 128, DEAR);
+        }
+        for nodes in [0, 1, 9] {
+            let pool = repeated(rt, alloc, &base, 400);
+            let found = choice(
+                rt,
+                alloc,
+                Habit::Idle,
+                3,
+                128,
+                pool,
+                all_customers(),
+                MUCH,
+                nodes,
+            );
+            assert_same(rt, found.is_some(), false, nodes);
+        }
+        let found = choice(
+            rt,
+            alloc,
+            Habit::Stopping,
+            3,
+            128,
+            base,
+            all_customers(),
+            MUCH,
+            9,
+        );
+        assert_same(rt, found.is_some(), false, "it would not go on");
+    }
+}
+
+// A guide that gets no memory ends a search with that error, whoever works.
+#[test]
+fn memory_refused_to_a_guide(rt: HostRuntime) {
+    let (rt, alloc) = (&rt, rt.alloc());
+    let pool = pool_of(rt, alloc, FOUR);
+    for workers in [1, 2] {
+        let asked = Asked {
+            habit: Habit::NoMemory,
+            capacity: 3,
+            trucks: 128,
+            customers: 0b11110,
+            incumbent: MUCH,
+            budget: 9,
+        };
+        let mut budget = asked.budget;
+        let found = searched_by(rt, alloc, workers, asked, &pool, &mut budget);
+        assert_same(rt, found.is_err(), true, workers);
+    }
+}
+
+// Each of the routes, and so many times the same at a higher cost.
+fn repeated(rt: &impl Abort, alloc: Global, base: &[Route], times: u32) -> Vec<Route> {
+    let mut pool = Vec::from_slice(alloc, base).expect(rt, "memory");
+    for _ in 0..times {
+        for route in base {
+            let route = Route {
+                set: route.set,
+                cost: route.cost.saturating_add(590),
+            };
+            pool.push(route).expect(rt, "memory");
+        }
+    }
+    pool
+}
+
+// A route is marked where it stands in a choice within the limit: what costs least with it is found by a slow program.
+#[test]
+fn routes_within_limits(rt: HostRuntime) {
+    let (rt, alloc) = (&rt, rt.alloc());
+    let mut random = Random(5);
+    for round in 0..24u32 {
+        let pool = fitting(rt, alloc, &mut random, 4 + round % 7, 4 + round % 3 * 50, 3);
+        let trucks = TRUCKS[round as usize % TRUCKS.len()];
+        for &habit in HABITS {
+            for limit in [0, 5, 60, u32::MAX] {
+                let mut budget = MUCH;
+                let marks = marks(rt, alloc, habit, trucks, &pool, limit, &mut budget);
+                assert!(rt; budget < MUCH, "nothing is spent, round {round}");
+                assert_same(rt, marks.len(), pool.len(), round);
+                for (at, route) in pool.iter().enumerate() {
+                    let least = least_with(rt, alloc, &pool, at, trucks);
+                    let marked = marks.get(at).copied().unwrap_or(false);
+                    let stands = least.is_some_and(|cost| cost <= u64::from(limit));
+                    assert!(rt;
+                        marked || !stands,
+                        "{route:?} within {limit}, round {round}"
+                    );
+                }
+            }
+        }
+    }
+}
+
+// Without a budget no round is asked for, and each route is marked.
+#[test]
+fn no_budget_marks_all(rt: HostRuntime) {
+    let (rt, alloc) = (&rt, rt.alloc());
+    let pool = fitting(rt, alloc, &mut Random(7), 5, 60, 3);
+    let mut budget = 0;
+    let marks = marks(rt, alloc, Habit::Zeros, 128, &pool, 0, &mut budget);
+    assert_same(rt, marks.len(), pool.len(), 0u32);
+    assert!(rt; marks.iter().all(|mark| *mark), "a route is not marked");
+}
+
+fn marks(
+    rt: &impl Abort,
+    alloc: Global,
+    habit: Habit,
+    trucks: u8,
+    pool: &[Route],
+    limit: u32,
+    budget: &mut u64,
+) -> Vec<bool> {
+    let demands = [1u32; MOST_CUSTOMERS];
+    assert!(rt; all_fit(pool, &demands, 3));
+    let mut guide = Habitual {
+        alloc,
+        habit,
+        random: Random(u64::from(limit)),
+    };
+    let fleet = Fleet {
+        demands: &demands,
+        capacity: 3,
+        trucks,
+    };
+    let ask = Asks {
+        should_continue: true,
+    };
+    let marks = routes_within(
+        alloc,
+        &mut guide,
+        &ask,
+        &fleet,
+        pool,
+        all_customers(),
+        limit,
+        budget,
+    );
+    marks.expect(rt, "memory")
+}
+
+// The least cost of a choice with the route there, if there is one.
+fn least_with(
+    rt: &impl Abort,
+    alloc: Global,
+    pool: &[Route],
+    at: usize,
+    trucks: u8,
+) -> Option<u64> {
+    let mut others = Vec::from_slice(alloc, pool).expect(rt, "memory");
+    assert!(rt; at < others.len(), "no route {at}");
+    let route = others.remove(at);
+    let left = all_customers() ^ route.set;
+    let least = least_cost(rt, &others, left, trucks.saturating_sub(1))?;
+    Some(least.saturating_add(u64::from(route.cost)))
+}

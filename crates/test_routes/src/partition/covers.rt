@@ -1,0 +1,187 @@
+//! The exact cover by hand, and beside every choice of random columns.
+
+use crate::assertion::assert_same;
+use crate::partition::random::{Random, all_customers};
+use crate::partition::slow::{cost_of_choice, least_cost};
+use std::alloc::Global;
+use std::process::Abort;
+use vrp_partition::{Column, Cover, Route, cheapest_cover};
+
+// A column: its customers, its reduced cost and its cost.
+type Told = (u128, u64, u32);
+
+const THREE: &[Told] = &[
+    (0b0010, 10, 10),
+    (0b0100, 10, 10),
+    (0b1000, 10, 10),
+    (0b0110, 12, 12),
+    (0b1100, 13, 13),
+    (0b1010, 14, 14),
+    (0b1110, 25, 25),
+];
+
+// Of the ways to pair four customers the reduced costs favour another than the costs do.
+const FOUR: &[Told] = &[
+    (0b00110, 5, 5),
+    (0b11000, 5, 5),
+    (0b01010, 0, 4),
+    (0b10100, 1, 7),
+    (0b10010, 6, 3),
+    (0b01100, 6, 6),
+];
+
+const MUCH: u64 = 1_000_000;
+
+// Columns, customers, trucks, the incumbent's cost, the gap and the least cost.
+const BY_HAND: &[(&[Told], u128, u8, u64, u64, u64)] = &[
+    (THREE, 0b1110, 128, MUCH, MUCH, 22),
+    (THREE, 0b1110, 128, 23, MUCH, 22),
+    (THREE, 0b1110, 128, 22, MUCH, 22),
+    (THREE, 0b1110, 128, 0, MUCH, 0),
+    (THREE, 0b1110, 128, MUCH, 22, 22),
+    (THREE, 0b1110, 128, MUCH, 21, MUCH),
+    (THREE, 0b1010, 128, MUCH, MUCH, 14),
+    (THREE, 0, 128, MUCH, 0, 0),
+    (THREE, 0b11110, 128, MUCH, MUCH, MUCH),
+    (&[], 0b0010, 128, MUCH, MUCH, MUCH),
+    (&[(0b1110, 7, 9)], 0b1110, 128, MUCH, 7, 9),
+    (FOUR, 0b11110, 128, MUCH, MUCH, 9),
+    (FOUR, 0b11110, 2, MUCH, MUCH, 9),
+    (FOUR, 0b11110, 1, MUCH, MUCH, MUCH),
+    (THREE, 0b1110, 1, MUCH, MUCH, 25),
+    (THREE, 0, 0, MUCH, MUCH, 0),
+    (FOUR, 0b11110, 128, MUCH, 11, 10),
+    (FOUR, 0b11110, 128, MUCH, 9, 11),
+    (FOUR, 0b11110, 128, MUCH, 0, MUCH),
+    (
+        &[(1 << 127, u64::MAX, u32::MAX), (1, 0, u32::MAX)],
+        1 | 1 << 127,
+        2,
+        u64::MAX,
+        u64::MAX,
+        2 * (u32::MAX as u64),
+    ),
+];
+
+#[test]
+fn covers_by_hand(rt: HostRuntime) {
+    let (rt, alloc) = (&rt, rt.alloc());
+    for &(told, customers, trucks, incumbent, gap, cost) in BY_HAND {
+        let columns = columns_of(rt, alloc, told);
+        let found = cover(rt, alloc, &columns, customers, trucks, incumbent, gap);
+        assert_same(rt, found.cost, cost, (customers, incumbent, gap));
+        assert_parts(rt, alloc, &found, customers, trucks, incumbent);
+    }
+}
+
+fn columns_of(rt: &impl Abort, alloc: Global, told: &[Told]) -> Vec<Column> {
+    let mut columns = Vec::new(alloc);
+    for &(set, reduced_cost, cost) in told {
+        let column = Column {
+            set,
+            reduced_cost,
+            cost,
+        };
+        columns.push(column).expect(rt, "memory");
+    }
+    columns
+}
+
+fn cover(
+    rt: &impl Abort,
+    alloc: Global,
+    columns: &[Column],
+    customers: u128,
+    trucks: u8,
+    incumbent: u64,
+    gap: u64,
+) -> Cover {
+    let mut budget = MUCH;
+    let found = cheapest_cover(
+        alloc,
+        columns,
+        customers,
+        trucks,
+        incumbent,
+        gap,
+        &mut budget,
+    );
+    found
+        .expect(rt, "memory")
+        .expect(rt, "a budget that suffices")
+}
+
+// Below the incumbent the parts are a choice of that cost; else there are none.
+fn assert_parts(
+    rt: &impl Abort,
+    alloc: Global,
+    found: &Cover,
+    customers: u128,
+    trucks: u8,
+    incumbent: u64,
+) {
+    let mut routes = Vec::new(alloc);
+    for column in &found.parts {
+        let route = Route {
+            set: column.set,
+            cost: column.cost,
+        };
+        routes.push(route).expect(rt, "memory");
+    }
+    if found.cost < incumbent {
+        let cost = cost_of_choice(&routes, customers, trucks);
+        assert_same(rt, cost, Some(found.cost), customers);
+    } else {
+        assert_same(rt, routes.len(), 0, customers);
+    }
+}
+
+// How much budget there is, whether that suffices, and what is left: the search of two columns looks at three nodes.
+#[test]
+fn budgets_that_are_spent(rt: HostRuntime) {
+    let (rt, alloc) = (&rt, rt.alloc());
+    let columns = columns_of(rt, alloc, &[(0b0010, 1, 1), (0b0100, 1, 1)]);
+    for (budget, suffices, left) in [
+        (0, false, 0),
+        (1, false, 0),
+        (2, false, 0),
+        (3, true, 0),
+        (9, true, 6),
+    ] {
+        let mut nodes = budget;
+        let found = cheapest_cover(alloc, &columns, 0b0110, 128, MUCH, MUCH, &mut nodes);
+        let found = found.expect(rt, "memory");
+        assert_same(rt, found.is_some(), suffices, budget);
+        assert_same(rt, nodes, left, budget);
+    }
+}
+
+// Many ties where costs are below 4; often no choice; routes of nobody, and several of the same customers.
+#[test]
+fn covers_beside_every_choice(rt: HostRuntime) {
+    let (rt, alloc) = (&rt, rt.alloc());
+    let mut random = Random(1);
+    let mut solved = 0u32;
+    for round in 0..60u32 {
+        let pool = random.pool(rt, alloc, 4 + round % 9, 4 + round % 3 * 50);
+        let mut columns = Vec::new(alloc);
+        for route in &pool {
+            let column = Column {
+                set: route.set,
+                reduced_cost: 0,
+                cost: route.cost,
+            };
+            columns.push(column).expect(rt, "memory");
+        }
+        let trucks = if round % 4 == 0 { 2 } else { 128 };
+        let wanted = least_cost(rt, &pool, all_customers(), trucks);
+        let found = cover(rt, alloc, &columns, all_customers(), trucks, MUCH, 0);
+        assert_same(rt, found.cost, wanted.unwrap_or(MUCH), round);
+        assert_parts(rt, alloc, &found, all_customers(), trucks, MUCH);
+        solved = solved.saturating_add(u32::from(wanted.is_some()));
+    }
+    assert!(rt;
+        10 <= solved && solved <= 55,
+        "{solved} pools have a choice"
+    );
+}

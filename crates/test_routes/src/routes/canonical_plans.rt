@@ -1,0 +1,175 @@
+//! The routes of a canonical plan are in each pool for a limit that it doesn't exceed, and each route of a pool is one.
+
+use crate::assertion::assert_same;
+use crate::routes::instances::{FIVE, SQUARE, at_points, with_arcs};
+use crate::routes::listed::{Setup, listed, pool_of};
+use crate::routes::slow::{Canonical, canonical_plan};
+use std::alloc::Global;
+use std::process::Abort;
+use std::thread::Threads;
+use vrp_model::Instance;
+use vrp_routes::RoutePool;
+
+const ONE_DIRECTION: &[u64] = &[
+    0, 3, 9, 4, 5, 8, 0, 2, 7, 6, 5, 6, 0, 1, 4, 9, 3, 8, 0, 2, 4, 4, 7, 3, 0,
+];
+
+// All arcs cost the same, so that the order of symbols decides.
+const LEVEL: &[u64] = &[
+    0, 1, 1, 1, 1, 1, 0, 1, 1, 1, 1, 1, 0, 1, 1, 1, 1, 1, 0, 1, 1, 1, 1, 1, 0,
+];
+
+// Tight and loose, with demands of 0, and with demands that units don't divide.
+const DEMANDS: &[([u64; 5], u64)] = &[
+    ([0, 1, 2, 1, 2], 3),
+    ([0, 3, 5, 4, 2], 9),
+    ([0, 3, 5, 4, 2], 20),
+    ([0, 0, 2, 0, 1], 2),
+    ([0, 0, 0, 0, 0], 0),
+    ([0, 7, 9, 1, 3], 10),
+];
+
+const SETUPS: &[Setup<'_>] = &[
+    Setup {
+        scale: 1,
+        unit: 1,
+        prices: &[0, 0, 0, 0, 0],
+        near: 0,
+        workers: 1,
+    },
+    Setup {
+        scale: 10,
+        unit: 1,
+        prices: &[0, 12, -5, 3, 8],
+        near: 2,
+        workers: 2,
+    },
+    Setup {
+        scale: 10,
+        unit: 2,
+        prices: &[0, 0, 0, 0, 0],
+        near: 3,
+        workers: 3,
+    },
+    Setup {
+        scale: 100,
+        unit: 1,
+        prices: &[-900, -20, 30, 0, 40],
+        near: 1,
+        workers: 1,
+    },
+    Setup {
+        scale: 100,
+        unit: 7,
+        prices: &[7, 100, 200, 300, -50],
+        near: 3,
+        workers: 2,
+    },
+    Setup {
+        scale: 1_000,
+        unit: 1_000_000_000,
+        prices: &[0, 900, 400, -100, 5],
+        near: 2,
+        workers: 4,
+    },
+];
+
+#[test]
+fn canonical_plans_are_in_pools(rt: HostRuntime) {
+    let mut pools = 0u64;
+    for (demands, capacity) in DEMANDS {
+        let instance = at_points(&rt, rt.alloc(), FIVE, demands, *capacity);
+        pools = pools.saturating_add(pools_of(&rt, rt.alloc(), &instance));
+        let instance = at_points(&rt, rt.alloc(), SQUARE, demands, *capacity);
+        pools = pools.saturating_add(pools_of(&rt, rt.alloc(), &instance));
+        let instance = with_arcs(&rt, rt.alloc(), LEVEL, demands, *capacity);
+        pools = pools.saturating_add(pools_of(&rt, rt.alloc(), &instance));
+        let instance = with_arcs(&rt, rt.alloc(), ONE_DIRECTION, demands, *capacity);
+        pools = pools.saturating_add(pools_of(&rt, rt.alloc(), &instance));
+        let few = instance.with_trucks(2);
+        pools = pools.saturating_add(pools_of(&rt, rt.alloc(), &few));
+    }
+    assert!(rt; pools >= 500);
+}
+
+// How many pools there are, by all prices, for limits at the canonical plan's cost, above it and below it.
+fn pools_of<R: Abort + Threads + Sync>(rt: &R, alloc: Global, instance: &Instance) -> u64 {
+    let canonical = canonical_plan(rt, alloc, instance);
+    let cost = canonical
+        .as_ref()
+        .map_or(30, |plan| plan.cost.min(1_000_000));
+    let mut pools = 0u64;
+    for setup in SETUPS {
+        for limit in [cost.saturating_sub(1), cost, cost + 1, cost + 20] {
+            let found = listed(rt, alloc, instance, *setup, limit, 1_000);
+            if let Some(found) = found {
+                let pool = pool_of(rt, found);
+                assert_are_routes(rt, alloc, instance, &pool);
+                if let Some(canonical) = &canonical {
+                    assert_canonical_is_there(rt, alloc, canonical, limit, &pool);
+                }
+                pools = pools.saturating_add(1);
+            }
+        }
+    }
+    pools
+}
+
+// Each route of a pool can be driven, and what is told of it is true; no two have the same customers.
+fn assert_are_routes(rt: &impl Abort, alloc: Global, instance: &Instance, pool: &RoutePool) {
+    for at in 0..pool.len() {
+        let stops = pool.stops(alloc, at).expect(rt, "memory");
+        assert_is_route(
+            rt,
+            instance,
+            &stops,
+            (pool.set(at), pool.load(at), pool.cost(at)),
+        );
+        for other in 0..at {
+            assert!(rt; pool.set(other) != pool.set(at));
+        }
+    }
+}
+
+fn assert_is_route(rt: &impl Abort, instance: &Instance, stops: &[u16], told: (u128, u64, u64)) {
+    let last = instance.customers();
+    let (mut set, mut load, mut cost, mut at) = (0u128, 0u64, 0u64, 0u16);
+    for &stop in stops {
+        assert!(rt; 1 <= stop && stop <= last && stop < 128 && set >> stop & 1 == 0);
+        set |= 1 << stop;
+        load = load.saturating_add(instance.demand(stop));
+        cost = cost.saturating_add(instance.weight(at.min(last), stop));
+        at = stop;
+    }
+    cost = cost.saturating_add(instance.weight(at.min(last), 0));
+    assert!(rt; !stops.is_empty() && load <= instance.capacity());
+    assert_same(rt, told, (set, load, cost), "a route");
+}
+
+// Each route of the canonical plan is in the pool, if the plan costs no more than the limit.
+fn assert_canonical_is_there(
+    rt: &impl Abort,
+    alloc: Global,
+    canonical: &Canonical,
+    limit: u64,
+    pool: &RoutePool,
+) {
+    if canonical.cost > limit {
+        return;
+    }
+    for route in canonical.word.split(|symbol| *symbol == 0) {
+        if !route.is_empty() {
+            assert_same(rt, has_route(rt, alloc, pool, route), true, "a first plan");
+        }
+    }
+}
+
+fn has_route(rt: &impl Abort, alloc: Global, pool: &RoutePool, route: &[u16]) -> bool {
+    for at in 0..pool.len() {
+        let stops = pool.stops(alloc, at).expect(rt, "memory");
+        if stops.as_slice() == route {
+            return true;
+        }
+    }
+    false
+}

@@ -1,0 +1,294 @@
+//! Pools of small instances by hand, and limits that are met.
+ghost use Rattle.std.specs.Prelude.{◌≤◌};
+
+use crate::assertion::assert_same;
+use crate::routes::instances::{FOUR, LINE, at_points, with_arcs};
+use crate::routes::listed::{Setup, by_ng_sets, listed, pool_of};
+use std::alloc::Global;
+use std::process::Abort;
+use std::thread::Threads;
+use vrp_bound_ng::NgSets;
+use vrp_bound_prices::Relaxation;
+use vrp_model::{Instance, NO_COST};
+use vrp_routes::{Limit, Listed, RoutePool, can_list};
+
+// A route: its customers, their set, its load and its cost.
+type Told<'a> = (&'a [u16], u128, u64, u64);
+
+const NO_PRICES: Setup<'_> = Setup {
+    scale: 10,
+    unit: 1,
+    prices: &[0, 0, 0],
+    near: 2,
+    workers: 1,
+};
+
+// The plan of one route costs 20. Of the labels 1, 2, 12 and 21 the last can't be closed, since it runs backward. At 19 no label is
+// left; at 20 a tour to customer 2 and another to customer 1 is too costly.
+const ON_A_LINE: &[(u64, usize, &[Told<'_>])] = &[
+    (19, 0, &[]),
+    (20, 4, &[(&[1], 0b010, 1, 10), (&[1, 2], 0b110, 2, 20)]),
+    (
+        1_000,
+        4,
+        &[
+            (&[1], 0b010, 1, 10),
+            (&[2], 0b100, 1, 20),
+            (&[1, 2], 0b110, 2, 20),
+        ],
+    ),
+];
+
+#[test]
+fn three_nodes(rt: HostRuntime) {
+    let instance = at_points(&rt, rt.alloc(), LINE, &[0, 1, 1], 2);
+    for &(limit, labels, routes) in ON_A_LINE {
+        let pool = pool(&rt, rt.alloc(), &instance, NO_PRICES, limit);
+        assert_pool(&rt, rt.alloc(), &pool, labels, routes);
+    }
+}
+
+// Three labels of one customer, six of two; no truck carries all three.
+const IN_A_PLANE: &[Told<'_>] = &[
+    (&[1], 0b0010, 1, 10),
+    (&[2], 0b0100, 2, 20),
+    (&[3], 0b1000, 1, 26),
+    (&[1, 2], 0b0110, 3, 20),
+    (&[1, 3], 0b1010, 2, 34),
+    (&[2, 3], 0b1100, 3, 43),
+];
+
+#[test]
+fn four_nodes(rt: HostRuntime) {
+    let instance = at_points(&rt, rt.alloc(), FOUR, &[0, 1, 2, 1], 3);
+    let setup = Setup {
+        prices: &[0, 0, 0, 0],
+        ..NO_PRICES
+    };
+    let pool = pool(&rt, rt.alloc(), &instance, setup, 1_000);
+    assert_pool(&rt, rt.alloc(), &pool, 9, IN_A_PLANE);
+}
+
+const LEVEL: &[u64] = &[0, 1, 1, 1, 1, 0, 1, 1, 1, 1, 0, 1, 1, 1, 1, 0];
+
+const ONE_DIRECTION: &[u64] = &[0, 3, 9, 4, 8, 0, 2, 7, 5, 6, 0, 1, 9, 3, 8, 0];
+
+// Three labels of one customer, six of two, and of three customers one for each last: of two the earlier. With arcs that differ the
+// cheapest round is by 3, 1 and then 2, at 14.
+const ROUNDS: &[(&[u64], &[Told<'_>])] = &[
+    (
+        LEVEL,
+        &[
+            (&[1], 0b0010, 1, 2),
+            (&[2], 0b0100, 1, 2),
+            (&[3], 0b1000, 1, 2),
+            (&[1, 2], 0b0110, 2, 3),
+            (&[1, 3], 0b1010, 2, 3),
+            (&[2, 3], 0b1100, 2, 3),
+            (&[1, 2, 3], 0b1110, 3, 4),
+        ],
+    ),
+    (
+        ONE_DIRECTION,
+        &[
+            (&[1], 0b0010, 1, 11),
+            (&[2], 0b0100, 1, 14),
+            (&[3], 0b1000, 1, 13),
+            (&[1, 2], 0b0110, 2, 10),
+            (&[3, 1], 0b1010, 2, 15),
+            (&[3, 2], 0b1100, 2, 17),
+            (&[3, 1, 2], 0b1110, 3, 14),
+        ],
+    ),
+];
+
+#[test]
+fn rounds_of_three(rt: HostRuntime) {
+    let setup = Setup {
+        prices: &[0, 0, 0, 0],
+        ..NO_PRICES
+    };
+    for &(arcs, routes) in ROUNDS {
+        let instance = with_arcs(&rt, rt.alloc(), arcs, &[0, 1, 1, 1], 3);
+        let pool = pool(&rt, rt.alloc(), &instance, setup, 1_000);
+        assert_pool(&rt, rt.alloc(), &pool, 12, routes);
+    }
+}
+
+fn pool<R: Abort + Threads + Sync>(
+    rt: &R,
+    alloc: Global,
+    instance: &Instance,
+    setup: Setup<'_>,
+    limit: u64,
+) -> RoutePool {
+    let found = listed(rt, alloc, instance, setup, limit, u32::MAX);
+    pool_of(rt, found.expect(rt, "prices"))
+}
+
+fn assert_pool(
+    rt: &impl Abort,
+    alloc: Global,
+    pool: &RoutePool,
+    labels: usize,
+    routes: &[Told<'_>],
+) {
+    assert_same(rt, pool.labels(), labels, "labels");
+    assert_same(rt, pool.len(), routes.len(), "routes");
+    assert_same(rt, pool.is_empty(), routes.is_empty(), "no routes");
+    for &(stops, set, load, cost) in routes {
+        let at = place_of(pool, set);
+        assert!(rt; at < pool.len(), "no route of {set}");
+        let found = pool.stops(alloc, at).expect(rt, "memory");
+        assert!(rt; found.as_slice() == stops, "{found:?} at {at}");
+        let told = (pool.set(at), pool.load(at), pool.cost(at));
+        assert_same(rt, told, (set, load, cost), at);
+    }
+}
+
+// Where the first route of this set stands, whose place is left open; the end where there is none.
+fn place_of(pool: &RoutePool, set: u128) -> usize {
+    for at in 0..pool.len() {
+        if pool.set(at) == set {
+            return at;
+        }
+    }
+    pool.len()
+}
+
+// How many labels may be made, that of no customers among them, how many are enough to stop, and which limit is met. There are five
+// labels, three of them of fewer than two customers.
+const LIMITS: &[(u32, u64, Option<Limit>)] = &[
+    (5, u64::MAX, None),
+    (4, u64::MAX, Some(Limit::Labels)),
+    (2, u64::MAX, Some(Limit::Labels)),
+    (0, u64::MAX, Some(Limit::Labels)),
+    (5, 6, None),
+    (5, 5, Some(Limit::Stopped)),
+    (5, 3, Some(Limit::Stopped)),
+    (5, 0, Some(Limit::Stopped)),
+    (0, 0, Some(Limit::Stopped)),
+];
+
+#[test]
+fn limits_that_are_met(rt: HostRuntime) {
+    let (rt, alloc) = (&rt, rt.alloc());
+    let instance = at_points(rt, alloc, LINE, &[0, 1, 1], 2);
+    for &(most, enough, wanted) in LIMITS {
+        let met = met(rt, alloc, &instance, most, enough);
+        assert_same(rt, met, wanted, (most, enough));
+    }
+}
+
+fn met<R: Abort + Threads + Sync>(
+    rt: &R,
+    alloc: Global,
+    instance: &Instance,
+    most_labels: u32,
+    enough: u64,
+) -> Option<Limit> {
+    assert!(rt; can_list(instance) && instance.customers() == 2);
+    let made = Relaxation::new(alloc, instance, 1, 1, &[0, 0, 0], &[]).expect(rt, "memory");
+    let relaxation = made.expect(rt, "prices");
+    let ng_sets = NgSets::nearest(alloc, relaxation.relaxed(), 0).expect(rt, "memory");
+    let found = by_ng_sets(
+        rt,
+        alloc,
+        &relaxation,
+        ng_sets,
+        1_000,
+        2,
+        most_labels,
+        enough,
+    );
+    match found.expect(rt, "memory") {
+        Listed::Pool(_) => None,
+        Listed::Met(limit) => Some(limit),
+    }
+}
+
+// Points of eleven customers; arcs of the same length are among them.
+const ELEVEN: &[(i64, i64)] = &[
+    (0, 0),
+    (3, 4),
+    (-3, 4),
+    (6, 8),
+    (-6, 8),
+    (5, -12),
+    (-5, -12),
+    (9, 0),
+    (-9, 0),
+    (0, 7),
+    (0, -7),
+    (12, 5),
+];
+
+// Whoever works, the pool is the same: as many labels, and the same routes at the same places.
+#[test]
+fn pools_of_several_workers(rt: HostRuntime) {
+    let (rt, alloc) = (&rt, rt.alloc());
+    let demands = [0, 2, 1, 3, 2, 1, 1, 2, 3, 1, 2, 1];
+    let instance = at_points(rt, alloc, ELEVEN, &demands, 7);
+    let alone = Setup {
+        prices: &[0, 30, 20, 50, 10, 70, 60, 40, 45, 25, 35, 55],
+        ..NO_PRICES
+    };
+    let by_one = pool(rt, alloc, &instance, alone, 120);
+    assert!(rt; by_one.labels() > 500);
+    for workers in [2, 3, 8, 11, 40] {
+        let together = Setup { workers, ..alone };
+        let by_all = pool(rt, alloc, &instance, together, 120);
+        assert_same(rt, by_all.labels(), by_one.labels(), workers);
+        assert_same_routes(rt, alloc, &by_all, &by_one);
+    }
+}
+
+fn assert_same_routes(rt: &impl Abort, alloc: Global, pool: &RoutePool, other: &RoutePool) {
+    assert!(rt; pool.len() == other.len());
+    for at in 0..pool.len() {
+        assert_same(rt, pool.set(at), other.set(at), at);
+        assert_same(rt, pool.load(at), other.load(at), at);
+        assert_same(rt, pool.cost(at), other.cost(at), at);
+        let stops = pool.stops(alloc, at).expect(rt, "memory");
+        let others = other.stops(alloc, at).expect(rt, "memory");
+        assert!(rt; stops.as_slice() == others.as_slice(), "at {at}");
+    }
+}
+
+// With 127 customers sets have as many bits as there are; with 128 there is one too many. A truck carries one customer.
+#[test]
+fn customers_at_the_limit(rt: HostRuntime) {
+    let (rt, alloc) = (&rt, rt.alloc());
+    let last = in_a_row(rt, alloc, 128);
+    assert_same(rt, can_list(&last), true, "127 customers");
+    assert_same(
+        rt,
+        can_list(&in_a_row(rt, alloc, 129)),
+        false,
+        "128 customers",
+    );
+    let prices = vec![in alloc; 0i64; 128].expect(rt, "memory");
+    let setup = Setup {
+        prices: &prices,
+        near: 0,
+        ..NO_PRICES
+    };
+    let pool = pool(rt, alloc, &last, setup, NO_COST);
+    assert!(rt; pool.len() == 127);
+    let at = place_of(&pool, 1 << 127);
+    assert!(rt; at < 127, "no route of the last customer");
+    assert_same(rt, pool.cost(at), 254, "the last customer's cost");
+    let stops = pool.stops(alloc, at).expect(rt, "memory");
+    assert!(rt; stops.as_slice() == [127].as_slice());
+}
+
+// So many places on a line, 1 apart, each customer with a demand of 1.
+fn in_a_row(rt: &impl Abort, alloc: Global, places: u16) -> Instance {
+    let mut points = Vec::new(alloc);
+    let mut demands = Vec::new(alloc);
+    for place in 0..places {
+        points.push((i64::from(place), 0)).expect(rt, "memory");
+        demands.push(u64::from(place.min(1))).expect(rt, "memory");
+    }
+    at_points(rt, alloc, &points, &demands, 1)
+}

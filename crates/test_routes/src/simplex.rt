@@ -1,0 +1,6 @@
+//! Tests of `vrp_simplex` by values from outside.
+
+mod choices;
+mod programs;
+mod random;
+mod slow;

@@ -1,0 +1,182 @@
+//! The cheapest choice by the guide, beside every choice of random pools.
+
+use crate::assertion::assert_same;
+use crate::simplex::random::{Random, all_customers};
+use crate::simplex::slow::{cost_of_choice, least_cost};
+use std::alloc::Global;
+use std::process::Abort;
+use std::sync::atomic::{AtomicU64, Ordering};
+use std::thread::Threads;
+use vrp_partition::{
+    Ask, Chosen, Fleet, Found, MOST_CUSTOMERS, Route, Team, all_fit, cheapest_choice,
+};
+use vrp_simplex::ProgramGuide;
+
+/// The search goes on until it has asked so often.
+#[derive(Debug, Drop)]
+pub(crate) struct Until {
+    left: AtomicU64,
+}
+
+impl Until {
+    pub(crate) fn new(count: u64) -> Until {
+        Until {
+            left: AtomicU64::new(count),
+        }
+    }
+}
+
+impl Ask for Until {
+    fn should_continue(&self) -> bool {
+        let left = self.left.load(Ordering::SeqCst);
+        self.left.store(left.saturating_sub(1), Ordering::SeqCst);
+        left > 0
+    }
+}
+
+const MUCH: u64 = 1 << 32;
+
+const ENDLESS: u64 = 1 << 40;
+
+// A search with the guide. Each customer demands 1.
+#[derive(Clone, Copy, Debug)]
+struct Asked {
+    capacity: u32,
+    trucks: u8,
+    customers: u128,
+    incumbent: u64,
+    // How often the search may ask whether to go on, and its budget.
+    asks: u64,
+    budget: u64,
+}
+
+fn choice<R: Abort + Threads + Sync>(
+    rt: &R,
+    alloc: Global,
+    asked: &Asked,
+    pool: &[Route],
+) -> Option<Chosen> {
+    let demands = [1u32; MOST_CUSTOMERS];
+    assert!(rt; all_fit(pool, &demands, asked.capacity));
+    assert!(rt; asked.incumbent <= MUCH);
+    let fleet = Fleet {
+        demands: &demands,
+        capacity: asked.capacity,
+        trucks: asked.trucks,
+    };
+    let mut known = Vec::new(alloc);
+    for route in pool.iter().take(1) {
+        known.push(route.set).expect(rt, "memory");
+    }
+    let ask = Until::new(asked.asks);
+    let team = Team {
+        rt,
+        alloc,
+        workers: 2,
+        ask: &ask,
+    };
+    let guide = ProgramGuide::new(alloc, fleet, known, &ask);
+    let mut budget = asked.budget;
+    let found = cheapest_choice(
+        &team,
+        guide,
+        &fleet,
+        Vec::from_slice(alloc, pool).expect(rt, "memory"),
+        asked.customers,
+        asked.incumbent,
+        &mut budget,
+    );
+    match found.expect(rt, "memory") {
+        Found::Cheapest(chosen) => Some(chosen),
+        Found::Unfinished { .. } => None,
+    }
+}
+
+// Below the incumbent the routes are a choice of that cost.
+fn assert_found(rt: &impl Abort, asked: &Asked, found: Option<Chosen>, least: Option<u64>) {
+    let found = found.expect(rt, "a budget that suffices");
+    let wanted = least.map_or(asked.incumbent, |least| least.min(asked.incumbent));
+    assert_same(rt, found.cost, wanted, *asked);
+    if found.cost < asked.incumbent {
+        let cost = cost_of_choice(&found.routes, asked.customers);
+        assert_same(rt, cost, Some(found.cost), *asked);
+        assert!(rt; found.routes.len() <= usize::from(asked.trucks));
+    }
+}
+
+// Many ties where costs are below 4; often no choice at all, or none by so few trucks; queries about some of the customers.
+#[test]
+fn choices_beside_every_choice(rt: HostRuntime) {
+    let (rt, alloc) = (&rt, rt.alloc());
+    let mut random = Random(2);
+    for round in 0..40u32 {
+        let capacity = 2 + round % 3;
+        let pool = random.pool(rt, alloc, 4 + round % 9, capacity, 4 + round % 3 * 50);
+        let customers = [all_customers(), all_customers() & !1];
+        for customers in customers {
+            for (trucks, incumbent) in [(128, MUCH), (3, MUCH), (2, 40), (128, 3)] {
+                let asked = Asked {
+                    capacity,
+                    trucks,
+                    customers,
+                    incumbent,
+                    asks: ENDLESS,
+                    budget: ENDLESS,
+                };
+                let least = least_cost(rt, &pool, customers, trucks);
+                let found = choice(rt, alloc, &asked, &pool);
+                assert_found(rt, &asked, found, least);
+            }
+        }
+    }
+}
+
+// More than any choice of cheap routes costs.
+const DEAR: u64 = 600;
+
+// Of each route there are so many costlier ones that a node is priced, paused and branched on before it is searched.
+#[test]
+fn pools_that_are_branched_on(rt: HostRuntime) {
+    let (rt, alloc) = (&rt, rt.alloc());
+    let mut random = Random(3);
+    for round in 0..6u32 {
+        let base = random.pool(rt, alloc, 10, 3, 10);
+        let pool = repeated(rt, alloc, &base, 320);
+        let asked = Asked {
+            capacity: 3,
+            trucks: 4,
+            customers: all_customers(),
+            incumbent: DEAR,
+            asks: ENDLESS,
+            budget: ENDLESS,
+        };
+        let least = least_cost(rt, &base, all_customers(), 4);
+        let found = choice(rt, alloc, &asked, &pool);
+        assert_found(rt, &asked, found, least);
+        for (asks, budget) in [(0, ENDLESS), (1, 1), (0, 0)] {
+            let cut_off = Asked {
+                asks,
+                budget,
+                incumbent: MUCH,
+                ..asked
+            };
+            let found = choice(rt, alloc, &cut_off, &pool);
+            assert_same(rt, found.is_some(), false, (round, asks, budget));
+        }
+    }
+}
+
+// Each of the routes, and so many times the same at a higher cost.
+fn repeated(rt: &impl Abort, alloc: Global, base: &[Route], times: u32) -> Vec<Route> {
+    let mut pool = Vec::from_slice(alloc, base).expect(rt, "memory");
+    for time in 0..times {
+        for route in base {
+            let route = Route {
+                set: route.set,
+                cost: route.cost.saturating_add(590 + time % 7),
+            };
+            pool.push(route).expect(rt, "memory");
+        }
+    }
+    pool
+}

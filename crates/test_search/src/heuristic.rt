@@ -1,0 +1,8 @@
+//! The tests of `vrp_heuristic_savings`, `vrp_heuristic_recreate` and `vrp_heuristic`: plans by savings, runs of ruin and recreate,
+//! heuristic plans, and plans that are made better.
+
+mod fixture;
+mod improved;
+mod plans;
+mod runs;
+mod savings;

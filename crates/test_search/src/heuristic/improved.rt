@@ -1,0 +1,132 @@
+//! Plans that are made better while there is time, by one worker and by several.
+use crate::assertion::assert_same;
+use crate::heuristic::fixture::{Told, by_matrix, scattered};
+use std::alloc::Global;
+use std::process::Abort;
+use std::sync::atomic::{AtomicU64, Ordering};
+use std::thread::Threads;
+use vrp_heuristic::{Crew, Unhurried, Watch, improved_plan};
+use vrp_heuristic_savings::savings_plan;
+use vrp_model::{Instance, Plan};
+
+// Who waits for so many moves, and has time until then.
+#[derive(Drop)]
+struct Moves {
+    most: u64,
+    made: AtomicU64,
+    // The least cost that was heard of.
+    heard: AtomicU64,
+}
+
+impl Moves {
+    fn new(most: u64) -> Moves {
+        Moves {
+            most,
+            made: AtomicU64::new(0),
+            heard: AtomicU64::new(u64::MAX),
+        }
+    }
+}
+
+impl Watch for Moves {
+    fn should_continue(&self) -> bool {
+        self.made.fetch_add(1, Ordering::Relaxed) < self.most
+    }
+
+    fn on_cost(&self, cost: u64) {
+        self.heard.fetch_min(cost, Ordering::Relaxed);
+    }
+
+    fn milliseconds_left(&self) -> Option<u64> {
+        if self.made.load(Ordering::Relaxed) < self.most {
+            Some(1_000)
+        } else {
+            Some(0)
+        }
+    }
+}
+
+// What a plan is made to cost by so many workers and moves, and what was heard of that.
+fn improved<R: Threads + Abort + Sync>(
+    rt: &R,
+    alloc: Global,
+    instance: &Instance,
+    plan: &Plan,
+    workers: u16,
+    moves: u64,
+) -> u64 {
+    let watch = Moves::new(moves);
+    assert!(rt; 1 <= workers && plan.fits(instance));
+    let crew = Crew {
+        rt,
+        alloc,
+        instance,
+        workers,
+        watch: &watch,
+    };
+    let better = improved_plan(&crew, plan).expect(rt, "memory");
+    assert!(rt; better.cost() == plan.cost().min(watch.heard.load(Ordering::Relaxed)));
+    better.cost()
+}
+
+// The weights, and what a cheapest plan costs, worked out by hand: customers on a line, on either side of the depot, round a ring, and
+// at one point. A truck carries two.
+const BY_HAND: &[(&[u64], &[u64], u64)] = &[
+    (&[0, 1, 2, 1, 0, 1, 2, 1, 0], &[0, 1, 1], 4),
+    (&[0, 1, 1, 1, 0, 9, 1, 9, 0], &[0, 1, 1], 4),
+    (&[0, 1, 2, 1, 0, 1, 2, 1, 0], &[0, 2, 2], 6),
+    (
+        &[0, 1, 9, 9, 9, 0, 1, 9, 9, 9, 0, 1, 1, 9, 9, 0],
+        &[0, 0, 0, 0],
+        4,
+    ),
+    (&[0, 0, 0, 0, 0, 0, 0, 0, 0], &[0, 1, 1], 0),
+];
+
+// From one truck for each customer the cheapest plan is found.
+#[test]
+fn cheapest_by_hand(rt: HostRuntime) {
+    for &(arcs, demands, cost) in BY_HAND {
+        let told = Told {
+            demands,
+            capacity: 2,
+            trucks: 0,
+        };
+        let instance = by_matrix(&rt, rt.alloc(), arcs, told);
+        let singles = Plan::singles(rt.alloc(), &instance).expect(&rt, "memory");
+        let singles = singles.expect(&rt, "a plan");
+        for workers in 1..4 {
+            let found = improved(&rt, rt.alloc(), &instance, &singles, workers, 300);
+            assert_same(&rt, found, cost, (arcs, workers));
+        }
+    }
+}
+
+// Of many customers the plan becomes cheaper than that by savings, whose cost `compare/savings.py` computed.
+#[test]
+fn many_customers(rt: HostRuntime) {
+    let instance = scattered(&rt, rt.alloc(), 1_200, 1, 0);
+    let savings = savings_plan(rt.alloc(), &instance).expect(&rt, "memory");
+    let savings = savings.expect(&rt, "a plan");
+    assert_same(&rt, savings.cost(), 124_175, "by savings");
+    for workers in [1, 3] {
+        assert!(rt; improved(&rt, rt.alloc(), &instance, &savings, workers, 2_000) < 124_175);
+    }
+}
+
+// Where no time is set the plan stays as it is.
+#[test]
+fn without_a_time(rt: HostRuntime) {
+    let instance = scattered(&rt, rt.alloc(), 60, 0, 0);
+    let singles = Plan::singles(rt.alloc(), &instance).expect(&rt, "memory");
+    let singles = singles.expect(&rt, "a plan");
+    let crew = Crew {
+        rt: &rt,
+        alloc: rt.alloc(),
+        instance: &instance,
+        workers: 2,
+        watch: &Unhurried,
+    };
+    let same = improved_plan(&crew, &singles).expect(&rt, "memory");
+    assert_same(&rt, same.word(), singles.word(), "the word");
+}

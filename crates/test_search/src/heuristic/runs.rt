@@ -1,0 +1,52 @@
+//! Runs, with each plan looked at that they have.
+ghost use Rattle.std.specs.Prelude.{◌≡◌};
+ghost use Rattle.vrp_model.specs.Problem.{place_count};
+
+use crate::assertion::assert_same;
+use crate::heuristic::fixture::scattered;
+use std::alloc::Global;
+use std::process::Abort;
+use vrp_heuristic_recreate::{Random, Routes, Setting, States, Taken};
+use vrp_model::{Instance, Plan};
+use vrp_search_tree::lawful_plan;
+
+// The routes are a feasible plan that costs what they say, unless they say that somebody is unserved.
+fn assert_told(rt: &impl Abort, alloc: Global, instance: &Instance, routes: &Routes)
+    requires { routes.now ≡ place_count instance.now }
+{
+    let word = routes.word(alloc, instance).expect(rt, "memory");
+    let plan = lawful_plan(alloc, instance, &word).expect(rt, "memory");
+    let told = if routes.unserved() == 0 {
+        Some(routes.cost())
+    } else {
+        None
+    };
+    assert_same(rt, plan.as_ref().map(Plan::cost), told, routes.unserved());
+}
+
+// Looks at the routes after each of some thousand moves, from nobody served on.
+fn assert_moves(rt: &impl Abort, alloc: Global, instance: &Instance) {
+    let setting = Setting::new(alloc, instance).expect(rt, "memory");
+    let mut random = Random::new(1);
+    let mut taken = Taken::new(alloc, instance).expect(rt, "memory");
+    let mut states = States::new(alloc, &setting, &[]).expect(rt, "memory");
+    for index in 0..2_000 {
+        states.change(&setting, &mut taken, &mut random, index);
+        assert_told(rt, alloc, instance, states.next());
+        states.settle(20);
+    }
+    assert_told(rt, alloc, instance, states.best());
+}
+
+// A skew of the weights, and how many trucks there are.
+const SCATTERED: &[(u64, u16)] = &[(0, 0), (1, 0), (0, 2), (1, 1)];
+
+// Each plan serves each customer once and carries no more than a truck can. The trucks are as many as are wanted, and few.
+#[test]
+fn plans_of_moves(rt: HostRuntime) {
+    for &(skew, trucks) in SCATTERED {
+        assert!(rt; skew <= 10);
+        let instance = scattered(&rt, rt.alloc(), 40, skew, trucks);
+        assert_moves(&rt, rt.alloc(), &instance);
+    }
+}

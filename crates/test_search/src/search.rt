@@ -1,0 +1,12 @@
+//! Tests of `vrp_search_tree` and `vrp_search` by values from outside.
+
+mod by_prices;
+mod cutting;
+mod depth_first;
+mod fixture;
+mod local;
+mod partial;
+mod piece;
+mod slow;
+mod spending;
+mod walks;

@@ -1,0 +1,246 @@
+//! Searches of small trees, and of a piece at the limits of an instance.
+ghost use Rattle.std.specs.Prelude.{◌≤◌};
+ghost use Rattle.std.specs.Option.{ForSome};
+ghost use Rattle.vrp_model.specs.Route.{IsPlanOf};
+ghost use Rattle.vrp_model.specs.Word.{IsPrefix};
+
+use crate::assertion::assert_same;
+use crate::search::fixture::{
+    at_points, board_with, on_a_line, piece_at, plan_of, singles, singles_prefix, three_on_a_line,
+    two_far_apart,
+};
+use crate::search::piece::own_tables;
+use std::alloc::Global;
+use std::process::Abort;
+use vrp_bound::Tables;
+use vrp_model::{Instance, MAX_NODES, NO_COST, NoMemory, Plan};
+use vrp_search::{Board, Cutting, Ended, Local, Piece, search};
+
+// How a search is to end: how many partial plans it looks at, and then the word of the plan that it found, which is empty where it
+// found none; or, where it is left unfinished, the low.
+#[derive(Clone, Copy, Debug, PartialEq, Eq)]
+pub(crate) enum End<'a> {
+    Finished(u64, &'a [u16]),
+    Unfinished(u64, u64),
+}
+
+// What a truck carries, the budget, how the search ends, and what the plan costs that the board has then.
+const THREE_NODES: &[(u64, u64, End<'_>, u64)] = &[
+    (2, 1, End::Unfinished(1, 20), 30),
+    (2, 6, End::Unfinished(6, 20), 30),
+    (2, 7, End::Unfinished(7, 20), 20),
+    (2, 8, End::Finished(8, &[1, 2, 0]), 20),
+    (2, 1_000, End::Finished(8, &[1, 2, 0]), 20),
+    (1, 5, End::Unfinished(5, 20), 30),
+    (1, 6, End::Finished(6, &[1, 0, 2, 0]), 30),
+];
+
+#[test]
+fn three_nodes_on_a_line(rt: HostRuntime) {
+    for &(capacity, budget, end, cost) in THREE_NODES {
+        let instance = three_on_a_line(&rt, rt.alloc(), capacity);
+        let plan = singles(&rt, rt.alloc(), &instance);
+        assert_search(&rt, rt.alloc(), &instance, plan, budget, (end, cost));
+    }
+}
+
+// What the truck carries, how the search ends, and what the plan costs that the board has then.
+const ONE_TRUCK: &[(u64, End<'_>, u64)] = &[
+    (2, End::Finished(6, &[1, 2, 0]), 20),
+    (1, End::Finished(1, &[]), NO_COST),
+];
+
+// Two customers to a truck, and one truck: the plan is the one that serves both. With a truck for each demand there is none.
+#[test]
+fn one_truck_for_two(rt: HostRuntime) {
+    for &(capacity, end, cost) in ONE_TRUCK {
+        let instance = three_on_a_line(&rt, rt.alloc(), capacity).with_trucks(1);
+        let plan = singles(&rt, rt.alloc(), &instance);
+        assert!(rt; plan.is_none());
+        assert_search(&rt, rt.alloc(), &instance, plan, 1_000, (end, cost));
+    }
+}
+
+// The budget, how the search ends, and what the plan costs that the board has then.
+const DEAR_PLAN: &[(u64, End<'_>, u64)] = &[
+    (1, End::Unfinished(1, 4), 11),
+    (4, End::Unfinished(4, 4), 11),
+    (5, End::Unfinished(5, 4), 4),
+    (6, End::Unfinished(6, 4), 4),
+    (7, End::Finished(7, &[1, 0, 2, 0]), 4),
+];
+
+// Both customers are a step from the depot and nine steps from one another: a truck for both costs 11, and two trucks cost 4.
+// The costly plan stays until a cheaper one is looked at, the fifth.
+#[test]
+fn opened_with_a_costly_plan(rt: HostRuntime) {
+    let instance = two_far_apart(&rt, rt.alloc());
+    for &(budget, end, cost) in DEAR_PLAN {
+        let plan = plan_of(&rt, rt.alloc(), &instance, &[1, 2, 0]);
+        assert_same(&rt, plan.cost(), 11, "the plan");
+        assert_search(&rt, rt.alloc(), &instance, Some(plan), budget, (end, cost));
+    }
+}
+
+// A truck that goes round the circle is the cheapest, and no other plan is of use. The count is that of the plain kernel of bench/,
+// which needs more than 200,000 without the tree bound, or where that is tried below 20 unserved customers alone.
+#[test]
+fn pruned_by_trees(rt: HostRuntime) {
+    let instance = at_points(&rt, rt.alloc(), CIRCLE, ONE_EACH, 24);
+    let plan = plan_of(&rt, rt.alloc(), &instance, ROUND);
+    assert_same(&rt, plan.cost(), 309, "the plan");
+    let end = End::Finished(325, ROUND);
+    assert_search(&rt, rt.alloc(), &instance, Some(plan), 10_000, (end, 309));
+}
+
+// The plan of one truck that goes round the circle.
+const ROUND: &[u16] = &[
+    1, 2, 3, 4, 5, 6, 7, 8, 9, 10, 11, 12, 13, 14, 15, 16, 17, 18, 19, 20, 21, 22, 23, 24, 0,
+];
+
+// The depot and 24 customers on a circle, unevenly apart, all of whom a truck can carry.
+const CIRCLE: &[(i64, i64)] = &[
+    (90, 79),
+    (49, 99),
+    (47, 99),
+    (40, 99),
+    (33, 97),
+    (31, 96),
+    (8, 78),
+    (6, 73),
+    (0, 58),
+    (0, 57),
+    (0, 48),
+    (0, 46),
+    (6, 24),
+    (13, 16),
+    (29, 4),
+    (43, 0),
+    (51, 0),
+    (52, 0),
+    (60, 1),
+    (68, 3),
+    (90, 20),
+    (90, 21),
+    (91, 22),
+    (92, 23),
+    (99, 44),
+];
+
+const ONE_EACH: &[u64] = &[
+    0, 1, 1, 1, 1, 1, 1, 1, 1, 1, 1, 1, 1, 1, 1, 1, 1, 1, 1, 1, 1, 1, 1, 1, 1,
+];
+
+// Of 1,199 customers at the places 1 to 1,199 of a line all but the last two have a truck, there and back. The last two are
+// still to be carried: in the tables that costs no more than twice to the first customer and back.
+#[test]
+fn deep_piece_at_the_limits(rt: HostRuntime) {
+    let (rt, alloc) = (&rt, rt.alloc());
+    let instance = on_a_line(rt, alloc, MAX_NODES);
+    let piece = singles_prefix(rt, alloc, &instance, MAX_NODES - 3);
+    assert_same(rt, piece.word().len(), 2_394, "symbols");
+    let mut board = board_with(&instance, singles(rt, alloc, &instance));
+    let ended = search_piece(alloc, &instance, &piece, 1, &mut board);
+    let priced_tally = 1_197 * 1_198;
+    assert_end(
+        rt,
+        &ended.expect(rt, "memory"),
+        End::Unfinished(1, priced_tally + 4),
+    );
+    assert_same(rt, board.least(), 1_199 * 1_200, "the least cost");
+}
+
+// Behind the first customer's truck the second one is left. With tables over both a tour of what is left may go to the first.
+#[test]
+fn tables_over_those_left_are_tighter(rt: HostRuntime) {
+    let instance = three_on_a_line(&rt, rt.alloc(), 1);
+    let piece = piece_at(&rt, rt.alloc(), &instance, &[1, 0]);
+    let mut board = board_with(&instance, singles(&rt, rt.alloc(), &instance));
+    let ended = search_piece(rt.alloc(), &instance, &piece, 1, &mut board);
+    assert_left(&rt, ended, &mut board, 20);
+    let mut board = board_with(&instance, singles(&rt, rt.alloc(), &instance));
+    let ended = search_over_unserved(rt.alloc(), &instance, &piece, 1, &mut board);
+    assert_left(&rt, ended, &mut board, 30);
+}
+
+// The search was left unfinished at once, and the board has the plan of one truck each.
+fn assert_left(rt: &impl Abort, ended: Result<Ended, NoMemory>, board: &mut Local, low: u64) {
+    assert_end(rt, &ended.expect(rt, "memory"), End::Unfinished(1, low));
+    assert_same(rt, board.least(), 30, low);
+}
+
+/// Asserts how a search ended.
+pub(crate) fn assert_end(rt: &impl Abort, ended: &Ended, end: End<'_>) {
+    let found = match ended {
+        Ended::Finished { spent, first } => {
+            End::Finished(*spent, first.as_ref().map_or(&[], Plan::word))
+        }
+        Ended::Unfinished { spent, low } => End::Unfinished(*spent, *low),
+    };
+    assert_same(rt, found, end, "the end");
+}
+
+// Searches the whole tree with a board that has this plan: so it ends, and that is what the plan costs that the board has then.
+fn assert_search(
+    rt: &impl Abort,
+    alloc: Global,
+    instance: &Instance,
+    plan: Option<Plan>,
+    budget: u64,
+    ending: (End<'_>, u64),
+)
+    requires { ForSome plan (IsPlanOf instance.now) }
+{
+    let (end, cost) = ending;
+    assert!(rt; budget >= 1);
+    let mut board = board_with(instance, plan);
+    let ended = search_all(alloc, instance, budget, &mut board);
+    assert_end(rt, &ended.expect(rt, "memory"), end);
+    assert_same(rt, board.least(), cost, budget);
+}
+
+/// Searches the whole tree with tables over all customers.
+pub(crate) fn search_all<B: Board>(
+    alloc: Global,
+    instance: &Instance,
+    budget: u64,
+    board: &mut B,
+) -> Result<Ended, NoMemory>
+    requires board { B.serves board.old instance.now }
+    requires budget { 1 ≤ budget }
+{
+    let cutting = Cutting::whole(alloc, instance)?;
+    search_piece(alloc, instance, &cutting.pieces()[0], budget, board)
+}
+
+// Searches a piece with tables over all customers.
+fn search_piece<B: Board>(
+    alloc: Global,
+    instance: &Instance,
+    piece: &Piece,
+    budget: u64,
+    board: &mut B,
+) -> Result<Ended, NoMemory>
+    requires piece { IsPrefix instance.now piece.now.word }
+    requires board { B.serves board.old instance.now }
+    requires budget { 1 ≤ budget }
+{
+    let tables = Tables::over_all(alloc, instance)?;
+    search(alloc, instance, &tables, piece, budget, board)
+}
+
+// Searches a piece with tables over the customers that it leaves unserved.
+fn search_over_unserved(
+    alloc: Global,
+    instance: &Instance,
+    piece: &Piece,
+    budget: u64,
+    board: &mut Local,
+) -> Result<Ended, NoMemory>
+    requires piece { IsPrefix instance.now piece.now.word }
+    requires board { ForSome board.old (IsPlanOf instance.now) }
+    requires budget { 1 ≤ budget }
+{
+    let tables = own_tables(alloc, instance, piece)?;
+    search(alloc, instance, &tables, piece, budget, board)
+}

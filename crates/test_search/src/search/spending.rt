@@ -1,0 +1,114 @@
+//! Searches that their board stops.
+ghost use Rattle.std.specs.Prelude.{true, ⊤};
+
+use crate::assertion::assert_same;
+use crate::search::depth_first::search_all;
+use crate::search::fixture::at_points;
+use std::alloc::Global;
+use std::process::Abort;
+use vrp_model::{Instance, NO_COST, NoMemory, Plan};
+use vrp_search::{Board, Ended};
+
+// Keeps the least cost alone.
+#[derive(Drop)]
+struct CostBoard {
+    least: u64,
+    should_continue: bool,
+}
+
+impl Board for CostBoard {
+    ghost serves = { λ _ _. ⊤ };
+
+    ghost floor = { λ board. board.least };
+
+    ghost keeps = { λ _ _. ⊤ };
+
+    ghost may_stop = { λ _. true };
+
+    fn least(&mut self) -> u64 {
+        self.least
+    }
+
+    fn offer(&mut self, _alloc: Global, plan: &Plan) -> Result<(), NoMemory> {
+        self.least = self.least.min(plan.cost());
+        Ok(())
+    }
+
+    fn should_continue(&self) -> bool {
+        self.should_continue
+    }
+}
+
+// What the board says, the budget, and how many partial plans are looked at. The board is asked after 65,536 of them.
+const STOPS: &[(bool, u64, u64)] = &[
+    (false, 1, 1),
+    (false, 65_535, 65_535),
+    (false, 65_536, 65_536),
+    (false, 65_537, 65_536),
+    (false, 1_000_000, 65_536),
+    (true, 65_537, 65_537),
+    (true, 200_000, 200_000),
+];
+
+#[test]
+fn stops_where_the_board_says_so(rt: HostRuntime) {
+    let instance = at_points(&rt, rt.alloc(), SCATTERED, ONE_EACH, 4);
+    for &(should_continue, budget, looked) in STOPS {
+        assert_looked(
+            &rt,
+            rt.alloc(),
+            &instance,
+            (should_continue, budget),
+            looked,
+        );
+    }
+}
+
+// Asserts how many partial plans are looked at before the search is left unfinished.
+fn assert_looked(
+    rt: &impl Abort,
+    alloc: Global,
+    instance: &Instance,
+    (should_continue, budget): (bool, u64),
+    looked: u64,
+) {
+    let mut board = CostBoard {
+        least: NO_COST,
+        should_continue,
+    };
+    assert!(rt; budget >= 1);
+    let ended = search_all(alloc, instance, budget, &mut board).expect(rt, "memory");
+    let Ended::Unfinished { spent, .. } = ended else {
+        panic!(rt; "{ended:?}")
+    };
+    assert_same(rt, spent, looked, (should_continue, budget));
+}
+
+// Twenty scattered customers, four to a truck.
+const SCATTERED: &[(i64, i64)] = &[
+    (50, 50),
+    (17, 72),
+    (97, 8),
+    (32, 15),
+    (63, 97),
+    (57, 60),
+    (83, 48),
+    (26, 12),
+    (62, 3),
+    (49, 55),
+    (77, 97),
+    (12, 34),
+    (88, 71),
+    (5, 90),
+    (41, 81),
+    (93, 29),
+    (70, 22),
+    (36, 39),
+    (2, 5),
+    (60, 35),
+    (80, 85),
+];
+
+const ONE_EACH: &[u64] = &[
+    0, 1, 1, 1, 1, 1, 1, 1, 1, 1, 1, 1, 1, 1, 1, 1, 1, 1, 1, 1, 1,
+];

@@ -1,8 +1,0 @@
-//! A place that waits to be taken.
-
-/// A place, and the weight of the way that is paid for it when it is taken.
-#[derive(Clone, Copy, Debug)]
-pub struct Way {
-    pub place: u16,
-    pub weight: u64,
-}

@@ -1,0 +1,72 @@
+//! The unit that demands are counted in while prices are looked for: one by which the tables are small.
+ghost use Rattle.std.specs.Prelude.{◌≤◌, IfSome};
+
+use crate::purpose::Purpose;
+use vrp_bound::gcd;
+use vrp_bound_walks::Size;
+use vrp_model::Instance;
+
+// More halvings than any capacity has.
+const HALVINGS: u32 = 40;
+
+// So many rises lead from 1 to above any capacity.
+const RISES: u32 = 400;
+
+/// The greatest common divisor of the demands, where that makes tables that are small enough for so many steps; else a unit that does,
+/// about the least. `None` where none is found.
+pub(crate) fn unit_for(instance: &Instance, purpose: Purpose, steps: u64) -> Option<u64>
+    ensures { IfSome result (λ unit. 1 ≤ unit) }
+{
+    let divisor = common_divisor(instance).max(1);
+    if purpose.allows(Size::in_units(instance, divisor), steps) {
+        return Some(divisor);
+    }
+    match purpose {
+        Purpose::Search | Purpose::Routes => least_by_halving(instance, purpose, divisor, steps),
+        Purpose::Bound => first_of_rising(instance, divisor, steps),
+    }
+}
+
+// The least unit above this one, as if tables only got smaller with a greater one.
+fn least_by_halving(instance: &Instance, purpose: Purpose, divisor: u64, steps: u64) -> Option<u64>
+    ensures { IfSome result (λ unit. 1 ≤ unit) }
+{
+    let mut high = instance.capacity().max(1);
+    if !purpose.allows(Size::in_units(instance, high), steps) {
+        return None;
+    }
+    let mut low = divisor;
+    for _ in 0..HALVINGS {
+        let middle = low.saturating_add(high.saturating_sub(low) / 2).max(1);
+        if purpose.allows(Size::in_units(instance, middle), steps) {
+            high = middle;
+        } else {
+            low = middle;
+        }
+    }
+    Some(high.max(1))
+}
+
+// The first of the units above this one that rise by a sixteenth, or by one. Of many customers a large unit is no better: each of those
+// who demand less gives a truck room for one more.
+fn first_of_rising(instance: &Instance, divisor: u64, steps: u64) -> Option<u64>
+    ensures { IfSome result (λ unit. 1 ≤ unit) }
+{
+    let mut unit = divisor.max(1);
+    for _ in 0..RISES {
+        unit = unit.saturating_add(unit / 16).saturating_add(1);
+        if Purpose::Bound.allows(Size::in_units(instance, unit), steps) {
+            return Some(unit);
+        }
+    }
+    None
+}
+
+// The greatest common divisor of the demands; 0 where nobody demands anything.
+fn common_divisor(instance: &Instance) -> u64 {
+    let mut divisor = 0;
+    for index in 0..instance.customers() {
+        divisor = gcd(divisor, instance.demand(index + 1));
+    }
+    divisor
+}

@@ -1,0 +1,4 @@
+pub mod Inner
+pub mod NgSets
+pub mod Near
+pub mod NgWalks

@@ -1,0 +1,3 @@
+-- What inner contracts alone cite: nobody has to believe it.
+pub mod Kept
+pub mod Arcs

@@ -1,0 +1,39 @@
+-- A problem whose plans bound those of another.
+use Rattle.std.specs.Prelude.{◌≡◌, ℕ, ◌+◌, ◌*◌, ◌≤◌, ◌<◌, Option, MatchOption, List, ⊤}
+use Rattle.vrp_model.specs.Problem.{Problem, place_count}
+use Rattle.vrp_model.specs.Word.{IsPrefix, IsLawfulWord, word_cost}
+
+-- The same places and trucks. Each prefix of p is one of q, and so is each feasible word, which costs there no more than this many
+-- times as much, the charges and the rewards counted.
+pub record IsRelaxation (p q : Problem) (scale charges rewards : ℕ) : Type 0 where
+  pub same_places : place_count q ≡ place_count p
+  pub same_trucks : q.trucks ≡ p.trucks
+  pub prefixes : (prefix : List ℕ) → IsPrefix p prefix → IsPrefix q prefix
+  pub lawful : (word : List ℕ) → IsLawfulWord p word → IsLawfulWord q word
+  pub cheaper : (word : List ℕ) → IsLawfulWord p word → word_cost q word + rewards ≤ scale * word_cost p word + charges
+
+-- a problem, and one that bounds it
+pub record RelaxationOf : Type 0 where
+  pub problem : Problem
+  pub relaxed : Problem
+  pub scale : ℕ
+  pub charges : ℕ
+  pub rewards : ℕ
+
+-- a problem, and one that bounds it so
+abbrev pub relaxation_of : Problem → Problem → ℕ → ℕ → ℕ → RelaxationOf
+relaxation_of problem relaxed scale charges rewards =
+    record { problem = problem; relaxed = relaxed; scale = scale; charges = charges; rewards = rewards }
+
+-- what is known of every relaxation that is made
+abbrev pub Bounds : RelaxationOf → Type 0
+Bounds r = IsRelaxation r.problem r.relaxed r.scale r.charges r.rewards
+
+-- What a feasible word costs in the relaxed problem at most, where it costs no more than this in the other. None: no feasible word
+-- costs so little
+abbrev pub IsLimit : RelaxationOf → ℕ → Option ℕ → Type 0
+IsLimit r cost limit = MatchOption limit (r.scale * cost + r.charges < r.rewards) (λ most. most + r.rewards ≡ r.scale * cost + r.charges)
+
+-- a cost is above a limit
+abbrev pub IsAbove : Option ℕ → ℕ → Type 0
+IsAbove limit cost = MatchOption limit ⊤ (λ most. most < cost)

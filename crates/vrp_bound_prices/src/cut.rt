@@ -1,0 +1,107 @@
+//! Cuts: some customers, whose border the trucks cross that serve them, and a price for each arc across it.
+ghost use Rattle.std.specs.Prelude.{◌≡◌, ◌≤◌, vec_len, length};
+ghost use Rattle.vrp_bound.specs.Capacity.{IsTrucks};
+ghost use Rattle.vrp_model.specs.Problem.{place_count};
+ghost use Rattle.vrp_model.specs.Route.{load_of};
+ghost use Rattle.vrp_model.specs.Word.{stands_in};
+ghost use Rattle.vrp_model.specs.declared.limits.TheConstants.{MAX_NODES};
+ghost use Rattle.vrp_bound_prices.specs.Cut.{IsCut, crosses, marked};
+ghost use Rattle.vrp_bound_prices.specs.declared.limits.TheConstants.{MAX_CUT_PRICE};
+
+use std::marker::Model;
+use vrp_bound::trucks_needed;
+use vrp_model::Instance;
+
+/// Some customers, how many trucks are needed to carry what they demand, and a cut price: what each arc is cheaper by that crosses
+/// their border, where one of its ends is among them and the other isn't (the rounded capacity inequalities of Laporte and Nobert
+/// 1983).
+#[derive(Debug, Drop)]
+pub struct Cut {
+    // By place.
+    inside: Vec<bool>,
+    trucks: u64,
+    cut_price: u64,
+}
+
+impl Model for Cut {
+    ghost use Rattle.std.specs.Prelude.{◌≤◌};
+    ghost use Rattle.vrp_model.specs.declared.limits.TheConstants.{MAX_NODES};
+    ghost use Rattle.vrp_bound_prices.specs.Cut.{Cut, cut_of};
+    ghost use Rattle.vrp_bound_prices.specs.declared.limits.TheConstants.{MAX_CUT_PRICE};
+
+    ghost Value = { Cut };
+
+    ghost view = { λ a. cut_of a.inside.items a.trucks a.cut_price };
+
+    ghost invariant = { λ a. (a.trucks ≤ MAX_NODES) × (a.cut_price ≤ MAX_CUT_PRICE) };
+}
+
+impl Cut {
+    /// The cut of the customers that are marked, with a mark for each place; the depot's is not looked at.
+    pub fn new(instance: &Instance, inside: Vec<bool>, cut_price: u64) -> Cut
+        requires one_each { vec_len inside ≡ place_count instance.now }
+        requires small { cut_price ≤ MAX_CUT_PRICE }
+        ensures cut { IsCut instance.now result }
+        ensures inside { result.inside ≡ marked inside.items }
+        ensures cut_price { result.cut_price ≡ cut_price }
+    {
+        let trucks = trucks_for(instance, inside.as_slice());
+        Cut {
+            inside,
+            trucks,
+            cut_price,
+        }
+    }
+
+    /// How many trucks are needed to carry what its customers demand.
+    pub fn trucks(&self) -> u64
+        ensures value { result ≡ self.now.trucks }
+        ensures few { result ≤ MAX_NODES }
+    {
+        self.trucks
+    }
+
+    /// What each arc is cheaper by that crosses its border.
+    pub fn cut_price(&self) -> u64
+        ensures value { result ≡ self.now.cut_price }
+        ensures small { result ≤ MAX_CUT_PRICE }
+    {
+        self.cut_price
+    }
+
+    /// Whether an arc crosses its border.
+    pub fn is_crossed(&self, from: u16, to: u16) -> bool
+        ensures { result ≡ crosses self.now.inside from to }
+    {
+        self.has(from) != self.has(to)
+    }
+
+    /// Whether a place is inside.
+    pub(crate) fn has(&self, place: u16) -> bool
+        ensures { result ≡ stands_in self.now.inside place }
+    {
+        let place = usize::from(place);
+        if place == 0 || place >= self.inside.len() {
+            return false;
+        }
+        self.inside[place]
+    }
+}
+
+// How many trucks are needed to carry what the marked customers demand.
+fn trucks_for(instance: &Instance, inside: &[bool]) -> u64
+    requires one_each { length inside.now ≡ place_count instance.now }
+    ensures carry { let load = load_of instance.now (marked inside.now) in
+        IsTrucks instance.now.capacity load result }
+    ensures few { result ≤ MAX_NODES }
+{
+    let mut load = 0;
+    for index in 0..instance.customers() {
+        let customer = index + 1;
+        if inside[usize::from(customer)] {
+            let demand = instance.demand(customer);
+            load += demand;
+        }
+    }
+    trucks_needed(instance.capacity(), load)
+}

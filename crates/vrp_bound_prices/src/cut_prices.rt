@@ -1,0 +1,35 @@
+//! The prices of cuts: what they take off an arc, and together off a plan.
+ghost use Rattle.std.specs.Prelude.{◌≡◌, ◌*◌, ◌≤◌, length};
+ghost use Rattle.std.specs.List.{sum_by};
+ghost use Rattle.vrp_bound_prices.specs.Cut.{cut_prices_of};
+ghost use Rattle.vrp_bound_prices.specs.declared.limits.TheConstants.{MAX_CUTS, MAX_CUT_PRICES, MAX_CUT_REWARDS};
+
+use crate::cut::Cut;
+
+/// What an arc is cheaper by: the prices of the cuts that it crosses.
+pub(crate) fn cut_prices(cuts: &[Cut], from: u16, to: u16) -> u64
+    requires few { length cuts.now ≤ MAX_CUTS }
+    ensures value { result ≡ cut_prices_of cuts.now from to }
+    ensures small { result ≤ MAX_CUT_PRICES }
+{
+    let mut whole = 0;
+    for cut in cuts {
+        if cut.is_crossed(from, to) {
+            whole += cut.cut_price();
+        }
+    }
+    whole
+}
+
+/// What cut prices take off each plan at least: each truck that a cut needs crosses its border twice.
+pub(crate) fn cut_rewards(cuts: &[Cut]) -> u64
+    requires few { length cuts.now ≤ MAX_CUTS }
+    ensures value { result ≡ 2 * sum_by (λ cut. cut.cut_price * cut.trucks) cuts.now }
+    ensures small { result ≤ MAX_CUT_REWARDS }
+{
+    let mut whole = 0;
+    for cut in cuts {
+        whole += cut.cut_price() * cut.trucks();
+    }
+    2 * whole
+}

@@ -1,0 +1,21 @@
+//! A second problem beside an instance, whose arcs have prices and whose demands are counted in a coarser unit: what a plan costs
+//! there bounds what it costs.
+#![tactic(auto)]
+
+mod amounts;
+mod arcs;
+mod cut;
+mod cut_prices;
+mod law;
+mod limits;
+mod prices;
+mod relaxation;
+
+pub use amounts::{capacity_in_units, demand_in_units};
+pub use cut::Cut;
+pub use law::{
+    costly_prefixes, costs_with_prices, cuts_are_crossed, cuts_by_test, prices_relax,
+    relaxations_bound, relaxed_prefixes, rounded_words, same_symmetry, walks_bound,
+};
+pub use limits::{MAX_CUT_PRICE, MAX_CUTS, MAX_SCALE};
+pub use relaxation::Relaxation;

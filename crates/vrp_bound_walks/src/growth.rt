@@ -1,0 +1,120 @@
+//! The arcs with prices and cut prices, and how walks grow by them.
+ghost use Rattle.std.specs.Prelude.{◌<◌};
+ghost use Rattle.vrp_model.specs.Problem.{place_count};
+
+use crate::cells::{FAR, lower, lower_near};
+use crate::near_looks::{NearLook, NearLooks};
+use std::alloc::Global;
+use vrp_model::{Instance, NoMemory};
+
+/// The arcs between all places, and what is remembered on them.
+#[derive(Debug, Drop)]
+pub(crate) struct Growth {
+    places: usize,
+    // The scaled weight of the arc into each place, from each; a mark from a place to itself.
+    weights: Vec<i64>,
+    // The same with prices and cut prices.
+    arcs: Vec<i64>,
+    // The same with a mark where ng-sets count.
+    far_arcs: Vec<i64>,
+    looks: NearLooks,
+}
+
+impl Growth {
+    /// No prices yet, and these looks where ng-sets count.
+    pub(crate) fn new(
+        alloc: Global,
+        instance: &Instance,
+        scale: u64,
+        looks: NearLooks,
+    ) -> Result<Growth, NoMemory> {
+        let places = usize::from(instance.customers()) + 1;
+        let square = places.saturating_mul(places);
+        Ok(Growth {
+            places,
+            weights: scaled_weights(alloc, instance, scale)?,
+            arcs: vec![in alloc; FAR; square]?,
+            far_arcs: vec![in alloc; FAR; square]?,
+            looks,
+        })
+    }
+
+    /// The arcs into a place, and their scaled weights.
+    pub(crate) fn arcs_into(&mut self, to: usize) -> Option<(&mut [i64], &[i64])> {
+        let start = to.saturating_mul(self.places);
+        let end = start.saturating_add(self.places);
+        let arcs = self.arcs.as_mut_slice().get_mut(start..end)?;
+        let weights = self.weights.as_slice().get(start..end)?;
+        Some((arcs, weights))
+    }
+
+    /// Copies the arcs, as they were entered, and leaves out those where ng-sets count.
+    pub(crate) fn mark_near(&mut self) {
+        let arcs = self.arcs.iter().zip(self.looks.far());
+        for (far_arc, (&arc, &is_far)) in self.far_arcs.iter_mut().zip(arcs) {
+            *far_arc = if is_far { arc } else { FAR };
+        }
+    }
+
+    /// The arcs home.
+    pub(crate) fn arcs_home(&self) -> &[i64] {
+        self.arcs.as_slice().get(0..self.places).unwrap_or(&[])
+    }
+
+    /// What an arc costs.
+    pub(crate) fn arc(&self, from: usize, to: usize) -> i64 {
+        let cell = to.saturating_mul(self.places).saturating_add(from);
+        self.arcs.get(cell).copied().unwrap_or(FAR)
+    }
+
+    /// The looks before a stop where ng-sets count.
+    pub(crate) fn near_looks(&self, stop: usize) -> &[NearLook] {
+        self.looks.of(stop)
+    }
+
+    /// Whether ng-sets don't count between a place and the stop after it.
+    pub(crate) fn is_far(&self, place: usize, stop: usize) -> bool {
+        self.looks.is_far(place, stop)
+    }
+
+    /// Puts each place before the walks from a stop. They are among the walks of one load, and the least costs so much; the rows are
+    /// those of the load with the stop.
+    #[inline(always)]
+    pub(crate) fn extend(&self, walks: &[i64], stop: usize, cost: i64, rows: &mut [i64]) {
+        let start = stop.saturating_mul(self.places);
+        let end = start.saturating_add(self.places);
+        if let (Some(far_arcs), Some(arcs)) = (
+            self.far_arcs.as_slice().get(start..end),
+            self.arcs.as_slice().get(start..end),
+        ) {
+            lower(rows, far_arcs, cost);
+            lower_near(rows, self.looks.of(stop), arcs, walks, stop);
+        }
+    }
+}
+
+// The scaled weight of the arc into each place, from each; a mark from a place to itself.
+fn scaled_weights(alloc: Global, instance: &Instance, scale: u64) -> Result<Vec<i64>, NoMemory> {
+    let places = usize::from(instance.customers()) + 1;
+    let mut weights = Vec::with_capacity(alloc, places * places)?;
+    for to in 0..instance.customers() + 1 {
+        push_arcs_into(&mut weights, instance, scale, to)?;
+    }
+    Ok(weights)
+}
+
+fn push_arcs_into(
+    weights: &mut Vec<i64>,
+    instance: &Instance,
+    scale: u64,
+    to: u16,
+) -> Result<(), NoMemory>
+    requires within { to < place_count instance.now }
+{
+    for from in 0..instance.customers() + 1 {
+        let scaled = instance.weight(from, to).saturating_mul(scale);
+        let arc = i64::try_from(scaled).unwrap_or(FAR);
+        weights.push(if from == to { FAR } else { arc })?;
+    }
+    Ok(())
+}

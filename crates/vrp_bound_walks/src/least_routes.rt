@@ -1,0 +1,292 @@
+//! The least route through each customer: two walks home from it that remember nobody in common, of which one is gone back.
+ghost use Rattle.std.specs.Prelude.{pos, ◌<ℤ◌};
+
+use crate::cells::NO_WALK;
+use crate::tours_used::{Standing, UsedArc, WHOLE_TOUR};
+use crate::walks::{Walks, at};
+use std::alloc::Global;
+use std::mem;
+use vrp_model::NoMemory;
+
+// Costs for each unit are counted in parts of so many.
+const PARTS: i64 = 1_024;
+
+// So often a route is looked for that costs less for each unit; mostly two or three times are enough.
+const MOST_TURNS: u32 = 6;
+
+/// A route through a customer.
+#[derive(Clone, Copy, Debug)]
+pub struct LeastRoute {
+    /// The customer.
+    pub customer: usize,
+    /// What the route costs.
+    pub cost: i64,
+    /// What it carries, in units.
+    pub load: usize,
+    // What each half of it carries, without the customer, and what may be remembered of it at the customer.
+    there: Half,
+    back: Half,
+}
+
+impl LeastRoute {
+    // What it costs for each unit that it carries, in parts.
+    fn per_unit(&self) -> i64 {
+        self.cost.saturating_mul(PARTS) / units(self.load)
+    }
+
+    /// The part that falls to a customer who demands so much, of an amount that falls to the whole load. Its value is left open.
+    pub fn share(&self, amount: i64, demand: usize) -> i64 {
+        amount.saturating_mul(units(demand)) / units(self.load)
+    }
+}
+
+// A walk home from a customer.
+#[derive(Clone, Copy, Debug)]
+struct Half {
+    ng_set: usize,
+    load: usize,
+}
+
+// A walk home, and by how much it costs more than its load does by what a unit costs, in parts.
+#[derive(Clone, Copy, Debug)]
+struct PricedHalf {
+    half: Half,
+    excess: i64,
+}
+
+// None that could be a half.
+const NO_HALF: PricedHalf = PricedHalf {
+    half: Half { ng_set: 0, load: 0 },
+    excess: i64::MAX,
+};
+
+// Two halves, and by how much they cost more than their load does.
+#[derive(Clone, Copy, Debug)]
+struct Pair {
+    there: Half,
+    back: Half,
+    excess: i64,
+}
+
+const NO_PAIR: Pair = Pair {
+    there: Half { ng_set: 0, load: 0 },
+    back: Half { ng_set: 0, load: 0 },
+    excess: i64::MAX,
+};
+
+// Through whom a route is looked for.
+#[derive(Clone, Copy, Debug)]
+struct Search {
+    customer: usize,
+    demand: usize,
+    // The ng-set of all that can be remembered.
+    most: usize,
+    // What a unit costs, in parts.
+    per_unit: i64,
+}
+
+/// Looks for least routes in tables that were filled.
+#[derive(Debug, Drop)]
+pub struct LeastRoutes {
+    loads: usize,
+    // What the walks home from the customer cost, by ng-set and of each by load: copied out of the tables, where they lie far
+    // apart.
+    costs: Vec<i64>,
+    // By load: the best half of this load at most.
+    lighter: Vec<PricedHalf>,
+}
+
+impl LeastRoutes {
+    /// For tables of this size. What is looked for is left open.
+    pub fn new(alloc: Global, walks: &Walks) -> Result<LeastRoutes, NoMemory> {
+        let loads = walks.loads();
+        let rows = walks.most().saturating_add(1);
+        Ok(LeastRoutes {
+            loads,
+            costs: vec![in alloc; NO_WALK; rows.saturating_mul(loads)]?,
+            lighter: vec![in alloc; NO_HALF; loads]?,
+        })
+    }
+
+    /// The route through a customer that costs least for each unit that it carries, where arcs cost the same there and back; `None`
+    /// where there is none. Which it is is left open.
+    pub fn through(&mut self, walks: &Walks, customer: usize) -> Option<LeastRoute> {
+        self.copy_costs(walks, customer);
+        let mut search = Search {
+            customer,
+            demand: walks.demand(customer),
+            most: walks.most(),
+            per_unit: 0,
+        };
+        let mut best = self.cheapest(search)?;
+        for _ in 0..MOST_TURNS {
+            search.per_unit = best.per_unit();
+            let next = self.cheapest(search)?;
+            if next.per_unit() >= search.per_unit {
+                break;
+            }
+            best = next;
+        }
+        Some(best)
+    }
+
+    fn copy_costs(&mut self, walks: &Walks, customer: usize) {
+        for ng_set in 0..walks.most().saturating_add(1) {
+            let start = ng_set.saturating_mul(self.loads);
+            let end = start.saturating_add(self.loads);
+            if let Some(row) = self.costs.as_mut_slice().get_mut(start..end) {
+                copy_row(row, walks, customer, ng_set);
+            }
+        }
+    }
+
+    // The one whose cost is least above what its load costs. Of two ng-sets that have nobody in common the one is tried with the
+    // other, there or back.
+    fn cheapest(&mut self, search: Search) -> Option<LeastRoute> {
+        let mut best = NO_PAIR;
+        for ng_set in 0..(search.most / 2).saturating_add(1) {
+            self.keep_best(search, search.most.saturating_sub(ng_set));
+            let pair = self.best_pair(search, ng_set);
+            if pair.excess < best.excess {
+                best = pair;
+            }
+        }
+        if best.excess < i64::MAX {
+            Some(self.joined(search, best))
+        } else {
+            None
+        }
+    }
+
+    // The best pair of a half with this ng-set and one of those that are kept.
+    fn best_pair(&self, search: Search, ng_set: usize) -> Pair {
+        let mut best = NO_PAIR;
+        for (load, &cost) in self.row(ng_set).iter().enumerate() {
+            if let Some(there) = price_half(cost, search, Half { ng_set, load }) {
+                let back = self.beside(search, load);
+                let excess = there.excess.saturating_add(back.excess);
+                if excess < best.excess && back.excess < i64::MAX {
+                    best = Pair {
+                        there: there.half,
+                        back: back.half,
+                        excess,
+                    };
+                }
+            }
+        }
+        best
+    }
+
+    // Keeps the best half with this ng-set, by the load that it has at most.
+    fn keep_best(&mut self, search: Search, ng_set: usize) {
+        let costs = row_of(&self.costs, self.loads, ng_set);
+        lighten(self.lighter.as_mut_slice(), costs, search, ng_set);
+    }
+
+    // The best half for which there is room beside the customer and this load.
+    fn beside(&self, search: Search, load: usize) -> PricedHalf {
+        let taken = load.saturating_add(search.demand);
+        match self.loads.checked_sub(taken.saturating_add(1)) {
+            Some(room) => self.lighter.get(room).copied().unwrap_or(NO_HALF),
+            None => NO_HALF,
+        }
+    }
+
+    // The route of two halves.
+    fn joined(&self, search: Search, pair: Pair) -> LeastRoute {
+        let (there, back) = (pair.there, pair.back);
+        let load = there.load.saturating_add(back.load);
+        LeastRoute {
+            customer: search.customer,
+            cost: self.cost(there).saturating_add(self.cost(back)),
+            load: load.saturating_add(search.demand),
+            there,
+            back,
+        }
+    }
+
+    fn cost(&self, half: Half) -> i64 {
+        at(self.row(half.ng_set), half.load)
+    }
+
+    fn row(&self, ng_set: usize) -> &[i64] {
+        row_of(&self.costs, self.loads, ng_set)
+    }
+}
+
+// What walks with this ng-set cost, by load.
+fn row_of(costs: &[i64], loads: usize, ng_set: usize) -> &[i64] {
+    let start = ng_set.saturating_mul(loads);
+    let end = start.saturating_add(loads);
+    costs.get(start..end).unwrap_or(&[])
+}
+
+// The best half of walks that cost so much by load, for each load at most.
+fn lighten(lighter: &mut [PricedHalf], costs: &[i64], search: Search, ng_set: usize) {
+    let mut best = NO_HALF;
+    for (load, lighter) in lighter.iter_mut().enumerate() {
+        let cost = at(costs, load);
+        if let Some(half) = price_half(cost, search, Half { ng_set, load }) {
+            if half.excess < best.excess {
+                best = half;
+            }
+        }
+        *lighter = best;
+    }
+}
+
+// What the walks home from a customer cost with this ng-set, by load.
+fn copy_row(row: &mut [i64], walks: &Walks, customer: usize, ng_set: usize) {
+    for (load, cost) in row.iter_mut().enumerate() {
+        *cost = walks.cell(load, customer, ng_set);
+    }
+}
+
+impl Walks {
+    /// Adds the arcs of a route, in some order, of which so much is used as falls to its customer. The tables are those in which it
+    /// was found; in others they are any arcs. Where memory is refused, the first of them are added. Which arcs they are is left
+    /// open.
+    pub fn list_route(&self, route: &LeastRoute, used: &mut Vec<UsedArc>) -> Result<(), NoMemory> {
+        let part = route.share(WHOLE_TOUR, self.demand(route.customer));
+        let start = used.len();
+        self.list_walk(standing(route, route.there), part, used)?;
+        if let Some(arcs) = used.as_mut_slice().get_mut(start..) {
+            turn_round(arcs);
+        }
+        self.list_walk(standing(route, route.back), part, used)
+    }
+}
+
+// Lets each arc be gone the other way round.
+fn turn_round(arcs: &mut [UsedArc]) {
+    for arc in arcs {
+        mem::swap(&mut arc.from, &mut arc.to);
+    }
+}
+
+// Where a half of a route begins.
+fn standing(route: &LeastRoute, half: Half) -> Standing {
+    Standing {
+        place: route.customer,
+        ng_set: half.ng_set,
+        left: half.load,
+    }
+}
+
+// A half that costs so much, priced; `None` where there is none.
+fn price_half(cost: i64, search: Search, half: Half) -> Option<PricedHalf> {
+    if cost >= NO_WALK {
+        return None;
+    }
+    let load = i64::try_from(half.load).unwrap_or(0);
+    let by_load = search.per_unit.wrapping_mul(load);
+    let excess = cost.wrapping_mul(PARTS).wrapping_sub(by_load);
+    Some(PricedHalf { half, excess })
+}
+
+// An amount of units, at least one.
+fn units(amount: usize) -> i64
+    ensures { pos 0 <ℤ result }
+{
+    i64::try_from(amount).unwrap_or(i64::MAX).max(1)
+}

@@ -1,5 +1,0 @@
-use Rattle.vrp_canonical.proofs.Begun.{least_first}
-use Rattle.vrp_canonical.proofs.law.least_is_first.Goals as goal
-
-pub returns : goal.returns
-returns c = least_first

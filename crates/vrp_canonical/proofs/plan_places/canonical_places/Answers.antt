@@ -1,0 +1,80 @@
+use Rattle.std.proofs.Common.{◌+◌, ◌<◌, ◌≤◌, ℕ, IfSome, List, length, sym, subst, arith}
+use Rattle.std.specs.List.{All}
+use Rattle.std.proofs.lemmas.List.Elements.{All-nil, All-push}
+use Rattle.vrp_canonical.specs.Asking.{IsRight}
+use Rattle.vrp_canonical.specs.Passing.{IsAfter, IsBegun, IsNarrowed, route_in}
+use Rattle.vrp_canonical.specs.Reaching.{IsTask}
+use Rattle.vrp_canonical.specs.declared.residual.Residual.{Residual}
+use Rattle.vrp_canonical.proofs.Begun.{arrived, setting_out, step_passed}
+use Rattle.vrp_canonical.proofs.Narrowing.{taken_narrowed}
+use Rattle.vrp_model.specs.Problem.{Problem}
+use Rattle.vrp_canonical.proofs.plan_places.canonical_places.Goals as goal
+use Rattle.vrp_canonical.proofs.plan_places.canonical_places.Goals.{then-not-reach_to+in_ok-answers, else-not-reach_to}
+
+pub loop-index-init : goal.loop-index-init
+loop-index-init g c = record {
+  within = subst (All (λ at. at < length c.args.pool.now)) (sym c.new-chosen.ensures.items) (All-nil (λ at. at < length c.args.pool.now));
+  right = subst (All (IsRight c.args.pool.now)) (sym c.new-answers.ensures.items) (All-nil (IsRight c.args.pool.now));
+  end = omega arith;
+  begun = λ p limit stops task. subst (λ xs. IsBegun p stops task.plan c.args.whole 0 xs c.args.whole) (sym c.new-chosen.ensures.items) (setting_out p limit stops c.args.pool.now c.args.whole task);
+}
+
+pub narrow-requires-clause-right : goal.narrow-requires-clause-right
+narrow-requires-clause-right g c κs within =
+    subst (All (IsRight c.args.pool.now)) (sym c.deref-else-set-rest.ensures.value) (elim c.if-not-reach_to.branch [
+      | then-not-reach_to+in_ok-answers w ↦ rw w.answers-is w.in_ok-answers.ensures
+      | else-not-reach_to w ↦ rw w.answers-is c.loop-index.invariant.right
+    ])
+
+pub loop-index-preserved-then-set-rest : goal.loop-index-preserved-then-set-rest
+loop-index-preserved-then-set-rest g c = record {
+  within = c.loop-index.invariant.within;
+  right = c.loop-index.invariant.right;
+  end = omega arith;
+  begun = λ p limit stops task. step_passed p limit stops c.args.pool.now c.args.whole task c.loop-index.index c.loop-index.chosen.items c.loop-index.rest
+      (c.loop-index.invariant.begun p limit stops task) c.loop-index-test.true c.if-set-rest.true;
+}
+
+pub loop-index-preserved-then-at-run : goal.loop-index-preserved-then-at-run
+loop-index-preserved-then-at-run g c =
+    let pool = c.args.pool.now in
+    let at = c.in-Some.at in
+    let chosen = c.loop-index.chosen.items in
+    let rest = c.loop-index.rest in
+    let below : at < length pool = omega (arith, c.if-at-run.true, c.run_from-run.ensures.end) in
+    record {
+      within = subst (All (λ k. k < length pool)) (sym c.in_ok-push.ensures.items) (All-push (λ k. k < length pool) chosen at c.loop-index.invariant.within below);
+      right = elim c.if-not-reach_to.branch [
+        | then-not-reach_to+in_ok-answers w ↦ rw w.answers-is w.in_ok-answers.ensures
+        | else-not-reach_to w ↦ rw w.answers-is c.loop-index.invariant.right
+      ];
+      end = omega (arith, below);
+      begun = λ p limit stops task.
+          let narrowed : IsNarrowed p stops task.plan c.args.whole chosen rest c.run_from-run.result.end at = subst (λ o. IfSome o (λ at. (p : Problem) (limit : ℕ) (stops : List (List ℕ)) (whole : Residual) (chosen : List ℕ) → (task : IsTask p limit stops pool whole) → IsBegun p stops task.plan whole c.loop-index.index chosen rest → IsNarrowed p stops task.plan whole chosen rest c.run_from-run.result.end at)) c.in-Some.is c.in_ok-at.ensures.next p limit stops c.args.whole chosen task (c.loop-index.invariant.begun p limit stops task) in
+          let after : IsAfter rest (route_in pool at) c.in-Some-without.left = c.in-Some-without.ensures.after in
+          subst (λ xs. IsBegun p stops task.plan c.args.whole (at + 1) xs c.in-Some-without.left) (sym c.in_ok-push.ensures.items)
+          (taken_narrowed p limit stops pool c.args.whole task at chosen rest c.in-Some-without.left narrowed.begun below after (narrowed.next c.if-at-run.true));
+    }
+
+pub loop-index-preserved : goal.loop-index-preserved
+loop-index-preserved g c =
+    let pool = c.args.pool.now in
+    let at = c.in-Some.at in
+    let chosen = c.loop-index.chosen.items in
+    let rest = c.loop-index.rest in
+    let to : at ≤ c.run_from-run.result.end = subst (λ o. IfSome o (λ at. at ≤ c.run_from-run.result.end)) c.in-Some.is c.in_ok-at.ensures.to in
+    record {
+      within = c.loop-index.invariant.within;
+      right = elim c.if-not-reach_to.branch [
+        | then-not-reach_to+in_ok-answers w ↦ rw w.answers-is w.in_ok-answers.ensures
+        | else-not-reach_to w ↦ rw w.answers-is c.loop-index.invariant.right
+      ];
+      end = omega (arith, to, c.run_from-run.ensures.end);
+      begun = λ p limit stops task.
+          let narrowed : IsNarrowed p stops task.plan c.args.whole chosen rest c.run_from-run.result.end at = subst (λ o. IfSome o (λ at. (p : Problem) (limit : ℕ) (stops : List (List ℕ)) (whole : Residual) (chosen : List ℕ) → (task : IsTask p limit stops pool whole) → IsBegun p stops task.plan whole c.loop-index.index chosen rest → IsNarrowed p stops task.plan whole chosen rest c.run_from-run.result.end at)) c.in-Some.is c.in_ok-at.ensures.next p limit stops c.args.whole chosen task (c.loop-index.invariant.begun p limit stops task) in
+          narrowed.begun;
+    }
+
+pub returns-clause-canonical : goal.returns-clause-canonical
+returns-clause-canonical g c = λ p limit stops task.
+    arrived p limit stops c.args.pool.now c.args.whole task c.loop-index.index c.loop-index.chosen.items c.loop-index.rest (c.loop-index.invariant.begun p limit stops task) c.loop-index-test.false

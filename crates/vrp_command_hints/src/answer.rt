@@ -1,0 +1,125 @@
+//! Hints on an answer.
+ghost use Rattle.std.specs.Prelude.{◌≡◌, ◌≤◌, None, IfSome, length};
+ghost use Rattle.vrp_command_hints.specs.Hints.{few_trucks};
+ghost use Rattle.vrp_text_lexer.specs.declared.limits.TheConstants.{MAX_BYTES};
+
+use crate::line::lines_in;
+use std::fmt;
+use vrp_model::Instance;
+use vrp_text_lexer::{Key, MAX_BYTES, MAX_NODE, Tokens, number};
+
+/// What is known of an answer, and what to do about it. Its text is one line, without an end; which one is left open.
+#[derive(Clone, Copy, Debug, PartialEq, Eq)]
+pub enum AnswerHint {
+    /// There is no plan: what all customers demand, and what so many trucks carry.
+    FewTrucks {
+        demand: u64,
+        trucks: u16,
+        capacity: u64,
+    },
+    /// The file lists other depots than the one that is used.
+    OtherDepots {
+        used: u16,
+    },
+}
+
+impl fmt::Display for AnswerHint {
+    ghost output = { λ _. None };
+
+    fn fmt<W: fmt::Write>(&self, f: &mut fmt::Formatter<W>) -> fmt::Result {
+        match self {
+            AnswerHint::FewTrucks {
+                demand,
+                trucks,
+                capacity,
+            } => write_few_trucks(f, *demand, *trucks, *capacity),
+            AnswerHint::OtherDepots { used } => write!(
+                f,
+                "the file lists several depots, and node {used} is used: --depot NODE chooses another"
+            ),
+        }
+    }
+}
+
+// What all customers demand, and what so many trucks carry. Where that is enough, customers of large demands don't fit side by side.
+fn write_few_trucks<W: fmt::Write>(
+    f: &mut fmt::Formatter<W>,
+    demand: u64,
+    trucks: u16,
+    capacity: u64,
+) -> fmt::Result {
+    let carried = u64::from(trucks).saturating_mul(capacity);
+    write!(
+        f,
+        "all customers demand {demand}, and --trucks {trucks} allows {carried}, {capacity} for each"
+    )?;
+    if demand <= carried {
+        f.write_str("; but no sharing out of whole customers fits")?;
+    }
+    Ok(())
+}
+
+/// The hint on an instance that has no plan; none where it has as many trucks as are wanted.
+pub fn no_plan_hint(instance: &Instance) -> Option<AnswerHint>
+    ensures { result ≡ few_trucks instance.now instance.now.trucks }
+{
+    match instance.trucks() {
+        Some(trucks) => Some(AnswerHint::FewTrucks {
+            demand: instance.whole_demand(),
+            trucks,
+            capacity: instance.capacity(),
+        }),
+        None => None,
+    }
+}
+
+/// The hint on a file that lists several depots, where this one of them is used.
+pub fn depot_hint(bytes: &[u8], used: u16) -> Option<AnswerHint>
+    ensures { IfSome result (λ hint. hint ≡ AnswerHint.OtherDepots used) }
+{
+    if bytes.len() <= MAX_BYTES && lists_other_depot(bytes, used) {
+        Some(AnswerHint::OtherDepots { used })
+    } else {
+        None
+    }
+}
+
+// Whether a file lists a depot other than this one.
+fn lists_other_depot(bytes: &[u8], used: u16) -> bool
+    requires { length bytes.now ≤ MAX_BYTES }
+{
+    let Some(mut lines) = lines_in(bytes, Key::Depot) else {
+        return false;
+    };
+    while let Some(line) = lines.next_data() {
+        match depots_on(line.text, used) {
+            Depots::Same => {}
+            Depots::Other => return true,
+            Depots::End => return false,
+        }
+    }
+    false
+}
+
+// What a line lists.
+enum Depots {
+    // No depot but this one, and the list goes on.
+    Same,
+    // Another depot.
+    Other,
+    // The end of the list, and no other depot before it.
+    End,
+}
+
+// What a line lists beside this depot. Numbers below 1 are none: the list ends with -1.
+fn depots_on(text: &[u8], used: u16) -> Depots {
+    let mut tokens = Tokens::of(text);
+    while let Some(token) = tokens.next() {
+        match number(token, 1, MAX_NODE) {
+            Err(_) => return Depots::End,
+            Ok(node) if node != i64::from(used) => return Depots::Other,
+            Ok(_) => {}
+        }
+    }
+    Depots::Same
+}

@@ -1,0 +1,129 @@
+//! What stands on a line of a file, and behind a keyword.
+ghost use Rattle.std.specs.Prelude.{◌≤◌, length};
+ghost use Rattle.vrp_text_lexer.specs.declared.limits.TheConstants.{MAX_BYTES};
+
+use vrp_text_lexer::{Key, Keyword, Lines, Tokens};
+
+/// The line of this number, the first of which is 1, and nothing where there is none.
+pub(crate) fn line_on(bytes: &[u8], number: u32) -> &[u8] {
+    let mut lines = bytes.split(|byte| *byte == b'\n');
+    for _ in 1..number {
+        let _ = lines.next();
+    }
+    lines.next().unwrap_or(&[])
+}
+
+/// A line that begins with a keyword.
+#[derive(Clone, Copy)]
+pub(crate) struct Stated<'a> {
+    /// The keyword as the line writes it.
+    pub(crate) name: &'a [u8],
+    pub(crate) keyword: Option<Keyword>,
+    /// The first token behind it and its colon, and nothing where there is none.
+    pub(crate) value: &'a [u8],
+}
+
+/// What the line of this number states, if it begins with a keyword.
+pub(crate) fn stated_on<'a>(bytes: &'a [u8], number: u32) -> Option<Stated<'a>>
+    requires { length bytes.now ≤ MAX_BYTES }
+{
+    let mut lines = Lines::of(bytes);
+    while let Some(heading) = lines.next_heading() {
+        if heading.number == number {
+            return Some(Stated {
+                name: leading_keyword(first_token(line_on(bytes, number))),
+                keyword: heading.keyword,
+                value: first_token(heading.behind),
+            });
+        }
+    }
+    None
+}
+
+// The first token, and nothing where there is none.
+fn first_token(text: &[u8]) -> &[u8] {
+    Tokens::of(text).next().unwrap_or(&[])
+}
+
+// The letters, digits and underscores at the front of a token.
+fn leading_keyword(token: &[u8]) -> &[u8] {
+    &token[..keyword_len(token)]
+}
+
+// How many letters, digits and underscores stand at the front.
+fn keyword_len(token: &[u8]) -> usize
+    ensures { result ≤ length token.now }
+{
+    token
+        .iter()
+        .take_while(|byte| byte.is_ascii_alphanumeric() || **byte == b'_')
+        .count()
+}
+
+/// What a file states behind a key, if it has it.
+pub(crate) fn value_of(bytes: &[u8], key: Key) -> Option<&[u8]>
+    requires { length bytes.now ≤ MAX_BYTES }
+{
+    let mut lines = Lines::of(bytes);
+    while let Some(heading) = lines.next_heading() {
+        if heading.keyword == Some(Keyword::Key(key)) {
+            return Some(first_token(heading.behind));
+        }
+    }
+    None
+}
+
+/// The key whose section has the line of this number.
+pub(crate) fn section_of(bytes: &[u8], number: u32) -> Option<Key>
+    requires { length bytes.now ≤ MAX_BYTES }
+{
+    let mut key = None;
+    let mut lines = Lines::of(bytes);
+    while let Some(heading) = lines.next_heading() {
+        if heading.number > number {
+            break;
+        }
+        key = match heading.keyword {
+            Some(Keyword::Key(stated)) => Some(stated),
+            _ => None,
+        };
+    }
+    key
+}
+
+/// The lines of the first section with this key, if the file has one: those that are left begin with its data.
+pub(crate) fn lines_in<'a>(bytes: &'a [u8], key: Key) -> Option<Lines<'a>>
+    requires { length bytes.now ≤ MAX_BYTES }
+{
+    let mut lines = Lines::of(bytes);
+    while let Some(heading) = lines.next_heading() {
+        if heading.keyword == Some(Keyword::Key(key)) {
+            return Some(lines);
+        }
+    }
+    None
+}
+
+/// How many tokens the section with this key has.
+pub(crate) fn tokens_in(bytes: &[u8], key: Key) -> usize
+    requires { length bytes.now ≤ MAX_BYTES }
+{
+    let Some(mut lines) = lines_in(bytes, key) else {
+        return 0;
+    };
+    let mut count = 0usize;
+    while let Some(line) = lines.next_data() {
+        count = count.saturating_add(tokens_on(line.text));
+    }
+    count
+}
+
+// How many tokens a line has.
+fn tokens_on(text: &[u8]) -> usize {
+    let mut count = 0usize;
+    let mut tokens = Tokens::of(text);
+    while tokens.next().is_some() {
+        count = count.saturating_add(1);
+    }
+    count
+}

@@ -1,0 +1,36 @@
+-- How a run is asked for where nothing is said, and what may be asked for.
+use Rattle.std.specs.Prelude.{◌≡◌, ◌≢◌, ◌≤◌, None}
+use Rattle.std.specs.Option.{ForSome}
+use Rattle.vrp_model.specs.declared.limits.TheConstants.{MAX_NODES}
+use Rattle.vrp_search_tree.specs.declared.cutting.TheConstants.{MAX_PIECES}
+use Rattle.vrp_pool.specs.declared.solver.TheConstants.{MAX_WORKERS}
+use Rattle.vrp_command_request.specs.declared.options.Format.{Format}
+use Rattle.vrp_command_request.specs.declared.options.Format.TheVariants as format
+use Rattle.vrp_command_request.specs.declared.options.Options.{Options}
+use Rattle.vrp_command_request.specs.declared.options.TheConstants.{MAX_BUDGET}
+
+abbrev pub IsDefault : Options → Type 0
+IsDefault options = options ≡ record { workers = 1; pieces = 64; budget = 10000000; depot = None; trucks = None }
+
+-- what may be asked for
+pub record AreInRange (options : Options) : Type 0 where
+  pub some_worker : 1 ≤ options.workers
+  pub few_workers : options.workers ≤ MAX_WORKERS
+  pub some_piece : 1 ≤ options.pieces
+  pub few_pieces : options.pieces ≤ MAX_PIECES
+  pub some_budget : 1 ≤ options.budget
+  pub small_budget : options.budget ≤ MAX_BUDGET
+  pub some_truck : ForSome options.trucks (λ trucks. 1 ≤ trucks)
+  pub few_trucks : ForSome options.trucks (λ trucks. trucks ≤ MAX_NODES)
+
+-- the chosen depot, if there is one, is from the first node on
+abbrev pub HasDepotFromOne : Options → Type 0
+HasDepotFromOne options = ForSome options.depot (λ node. 1 ≤ node)
+
+-- and no higher than the last that a file may have
+abbrev pub HasDepotWithin : Options → Type 0
+HasDepotWithin options = ForSome options.depot (λ node. node ≤ MAX_NODES)
+
+-- another form than the report
+abbrev pub IsOtherFormat : Format → Type 0
+IsOtherFormat asked = asked ≢ format.Report

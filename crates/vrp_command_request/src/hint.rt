@@ -1,0 +1,159 @@
+//! Hints on the words of a command line that is refused.
+ghost use Rattle.std.specs.Prelude.{None};
+
+use crate::options::{MAX_BUDGET, MAX_SECONDS};
+use std::fmt;
+use vrp_model::MAX_NODES;
+use vrp_pool::MAX_WORKERS;
+use vrp_search_tree::MAX_PIECES;
+
+/// What is known of words that are refused, and what to do about it. Its text is one line, without an end; which one is left open.
+#[derive(Clone, Copy, Debug, PartialEq, Eq)]
+pub enum WordHint<'a> {
+    /// An option has no value that it takes.
+    Value {
+        option: &'a str,
+        takes: Takes,
+    },
+    /// A word is no option.
+    NoOption(&'a str),
+    /// An option isn't there, and another one has its meaning.
+    Meant {
+        option: &'a str,
+        meant: &'static str,
+    },
+}
+
+/// What an option takes.
+#[derive(Clone, Copy, Debug, PartialEq, Eq)]
+pub enum Takes {
+    Nothing,
+    /// A whole number from 1 to this one.
+    Number(u64),
+    /// The path of a file.
+    Path,
+    /// The name of a form.
+    Form,
+}
+
+impl fmt::Display for WordHint<'_> {
+    // What is printed no clause says.
+    ghost output = { λ _. None };
+
+    fn fmt<W: fmt::Write>(&self, f: &mut fmt::Formatter<W>) -> fmt::Result {
+        match self {
+            WordHint::Value { option, takes } => write!(f, "--{option} takes {takes}"),
+            WordHint::NoOption(word) => write!(
+                f,
+                "a file comes on standard input, as in cvrp < {word}"
+            ),
+            WordHint::Meant { option, meant } => write!(f, "for --{option} there is {meant}"),
+        }
+    }
+}
+
+impl fmt::Display for Takes {
+    ghost output = { λ _. None };
+
+    fn fmt<W: fmt::Write>(&self, f: &mut fmt::Formatter<W>) -> fmt::Result {
+        match self {
+            Takes::Nothing => f.write_str("no value"),
+            Takes::Number(most) => write!(f, "a whole number from 1 to {most}"),
+            Takes::Path => f.write_str("the path of a file"),
+            Takes::Form => f.write_str("report, sol, json or svg"),
+        }
+    }
+}
+
+/// The hint on words that are refused, if there is one: on the first word for which there is one. Which it is, is left open.
+pub fn word_hint<'a>(words: &'a [&'a str]) -> Option<WordHint<'a>> {
+    let mut words = words.iter();
+    while let Some(word) = words.next() {
+        let Some(option) = word.strip_prefix("--") else {
+            return no_option(word);
+        };
+        let (name, value) = parted(option);
+        let Some(takes) = taken_by(name) else {
+            return meant(name);
+        };
+        let value = if value.is_none() && takes != Takes::Nothing {
+            words.next().copied()
+        } else {
+            value
+        };
+        if !fits(takes, value) {
+            return Some(WordHint::Value {
+                option: name,
+                takes,
+            });
+        }
+    }
+    None
+}
+
+// The name of an option, and the value that stands behind it in the same word.
+fn parted(option: &str) -> (&str, Option<&str>) {
+    match option.split_once('=') {
+        Some((name, value)) => (name, Some(value)),
+        None => (option, None),
+    }
+}
+
+// The hint on a word that is no option.
+fn no_option(word: &str) -> Option<WordHint<'_>> {
+    if word.starts_with('-') {
+        None
+    } else {
+        Some(WordHint::NoOption(word))
+    }
+}
+
+// What an option of this name takes, if there is one.
+fn taken_by(name: &str) -> Option<Takes> {
+    match name {
+        "workers" | "threads" => Some(Takes::Number(u64::from(MAX_WORKERS))),
+        "pieces" => Some(Takes::Number(u64::from(MAX_PIECES))),
+        "budget" => Some(Takes::Number(MAX_BUDGET)),
+        "seconds" | "time-limit" => Some(Takes::Number(u64::from(MAX_SECONDS))),
+        "depot" | "trucks" | "vehicles" => Some(Takes::Number(u64::from(MAX_NODES))),
+        "start" => Some(Takes::Path),
+        "format" => Some(Takes::Form),
+        "progress" | "check" | "strict" | "explain" | "help" | "version" => Some(Takes::Nothing),
+        _ => None,
+    }
+}
+
+// Whether an option takes this value, or none.
+fn fits(takes: Takes, value: Option<&str>) -> bool {
+    match (takes, value) {
+        (Takes::Nothing, value) => value.is_none(),
+        (Takes::Number(most), Some(value)) => match value.parse::<u64>() {
+            Ok(number) => 1 <= number && number <= most,
+            Err(_) => false,
+        },
+        (Takes::Path, Some(_)) => true,
+        (Takes::Form, Some(form)) => matches!(form, "report" | "sol" | "json" | "svg"),
+        (_, None) => false,
+    }
+}
+
+// The hint on an option that isn't there, where another one has its meaning.
+fn meant(name: &str) -> Option<WordHint<'_>> {
+    let meant = match name {
+        "thread" | "jobs" | "cores" | "cpus" => "--workers",
+        "time" | "timeout" | "time_limit" | "max-time" | "limit" => "--seconds",
+        "truck" | "vehicle" | "fleet" | "num-vehicles" | "max-vehicles" => "--trucks",
+        "initial" | "warm-start" | "solution" => "--start",
+        "verify" | "validate" => "--check",
+        "verbose" | "log" => "--progress",
+        "output-format" | "json" | "sol" | "svg" => "--format",
+        "output" | "out" => "standard output, as in cvrp < FILE > REPORT",
+        "input" | "file" | "instance" => "standard input, as in cvrp < FILE",
+        "hint" | "hints" => "--explain",
+        _ => return None,
+    };
+    Some(WordHint::Meant {
+        option: name,
+        meant,
+    })
+}

@@ -1,0 +1,14 @@
+use Rattle.std.proofs.Common.{◌++◌, arith, length-append, length-take, take}
+use Rattle.std.proofs.KnownBytes.{Consumes-trans}
+use Rattle.vrp_command_streams.proofs.input.read_input.Goals as goal
+
+pub returns-in_err-extend_from_slice-clause-taken : goal.returns-in_err-extend_from_slice-clause-taken
+returns-in_err-extend_from_slice-clause-taken g c =
+    let left = g.R.Read.remaining in
+    let so_far = c.loop-buffer.bytes.items in
+    let more = take c.in_ok-count.count c.read_some.new.buffer in
+    record {
+      bytes = so_far ++ more;
+      taken = Consumes-trans (left c.args.input.now) (left c.loop-buffer.input) (left c.read_some.new.input) so_far more c.loop-buffer.invariant.0 c.in_ok-count.ensures.read;
+      bounded = rw (length-append so_far more) (omega (arith, length-take c.in_ok-count.count c.read_some.new.buffer, simp length-take at c.in_ok-count.ensures.bounded));
+    }

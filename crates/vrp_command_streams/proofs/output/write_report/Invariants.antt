@@ -1,0 +1,11 @@
+use Rattle.std.proofs.Common.{length, ◌-◌, ◌≤◌, take}
+use Rattle.std.specs.Io.KnownBytes.{Appends}
+use Rattle.vrp_command_streams.proofs.output.write_report.Given as goal
+
+abbrev pub invariant-loop-written : goal.invariant-loop-written
+invariant-loop-written g l =
+    (l.written ≤ length l.report)
+    × Appends (g.W.Write.contents l.initial.output) (g.W.Write.contents l.output) (take l.written l.report)
+
+abbrev pub decreases-loop-written : goal.decreases-loop-written
+decreases-loop-written g l = length l.report - l.written

@@ -1,7 +1,0 @@
-use Rattle.vrp_export.proofs.Documents.{next_route}
-use Rattle.vrp_export.proofs.json.objects_of.Goals as goal
-
-pub loop-index-preserved : goal.loop-index-preserved
-loop-index-preserved c =
-    next_route c.args.instance.now c.args.plan.now.routes c.loop-index.index c.route.result.now c.route.ensures c.loop-index.routes.items c.in_ok-route_of.field-0 c.loop-index.invariant c.in_ok-route_of.ensures
-    c.push.new.self.items c.in_ok-push.ensures.items

@@ -1,0 +1,171 @@
+//! The heuristic plan: the best of the plan by savings and of what runs of ruin and recreate make of it.
+ghost use Rattle.std.specs.Prelude.{◌<◌, ◌≤◌, IfOk, IfSome};
+ghost use Rattle.vrp_model.specs.Route.{IsPlanOf};
+
+use crate::recombined::recombined;
+use crate::runs::{Crew, Round, Run, run_all};
+use std::alloc::Global;
+use std::thread::Threads;
+use vrp_heuristic_recreate::{Setting, Threshold, Watch};
+use vrp_heuristic_savings::savings_plan;
+use vrp_model::{Instance, NoMemory, Plan};
+use vrp_search_tree::lawful_plan;
+
+/// With this many moves a run finds the cheapest plan of most instances of some 60 customers.
+pub const ENOUGH_MOVES: u32 = 20_000;
+
+const RUNS: u16 = 4;
+
+// So many runs of more moves than enough there are: they are asked for where each unit of cost counts.
+const RUNS_OF_MORE: u16 = 8;
+
+// The number of the first run: by these numbers the runs end well on the instances that the method was tuned on.
+const FIRST_RUN: u64 = 49;
+
+// From so many customers on the runs go in two rounds, and nothing is made of the routes that they gather.
+const MANY_CUSTOMERS: u16 = 128;
+
+// So many symbols of routes a run gathers at most: mostly all that it comes by.
+const MOST_GATHERED: usize = 1 << 20;
+
+/// For each of its moves a run looks at this many positions at most.
+const POSITIONS_A_MOVE: u64 = 2_000;
+
+/// A plan near the best, by ruin and recreate, of Christiaens and Vanden Berghe (2020): from a plan strings of customers are taken
+/// out of a few routes that lie close together, and put back one by one where that costs least. The new plan is kept where it
+/// isn't costlier than the last by a threshold or more, which falls to nothing. There are four runs of this many moves each, and
+/// eight where that is more than `ENOUGH_MOVES`; with many customers there are fewer moves, since for each move at most 2,000
+/// positions are looked at on average. The runs are shared among the workers. Each starts from the plan by savings; from 128
+/// customers on, where a run ends sooner than it is done, the second half of them from the best plan of the first half. What is
+/// answered is the best of all these plans, the first by cost and then by word, and the same at each call and by any number of
+/// workers, unless the watch tells it to stop, which is asked before each move and hears of each cheaper cost.
+///
+/// Eight runs of fewer customers gather the routes of good plans too, and the cheapest plan that can be made of these routes is taken
+/// where it costs less, as far as a search for it gets that takes some seconds at most.
+///
+/// With a limit on trucks no route is opened beyond it. Where savings find no plan within the limit, the runs start with nobody
+/// served; customers who find no place are tried again in each move, and a move that leaves more of them unserved is undone.
+///
+/// `None`: no feasible plan was found. Which feasible plan is answered is left open, and so is when there is none.
+pub fn heuristic_plan<R: Threads + Sync, W: Watch + Sync>(
+    crew: &Crew<'_, R, W>,
+    moves: u32,
+) -> Result<Option<Plan>, NoMemory>
+    requires workers { 1 ≤ crew.now.workers }
+    ensures { IfOk result (λ plan. IfSome plan (IsPlanOf crew.now.instance.now)) }
+{
+    let instance = crew.instance;
+    let mut best = savings_plan(crew.alloc, instance)?;
+    if moves == 0 || instance.customers() == 0 {
+        return Ok(best);
+    }
+    let setting = Setting::new(crew.alloc, instance)?;
+    let rounds = rounds_of(instance.customers());
+    let (runs, gathers) = match (moves > ENOUGH_MOVES, rounds) {
+        (false, _) => (RUNS / rounds, 0),
+        (true, 1) => (RUNS_OF_MORE, MOST_GATHERED),
+        (true, _) => (RUNS_OF_MORE / rounds, 0),
+    };
+    let threshold = Threshold {
+        start: first_threshold(instance),
+        moves,
+        positions: u64::from(moves) * POSITIONS_A_MOVE,
+    };
+    for index in 0..rounds {
+        let round = Round {
+            first: FIRST_RUN + u64::from(index) * u64::from(runs),
+            runs,
+            threshold,
+            gathers,
+        };
+        best = best_of_round(crew, &setting, round, best)?;
+    }
+    Ok(best)
+}
+
+// In how many rounds the runs of this many customers go.
+fn rounds_of(customers: u16) -> u16
+    ensures some { 0 < result }
+    ensures few { result ≤ 2 }
+{
+    if customers < MANY_CUSTOMERS { 1 } else { 2 }
+}
+
+// The best of a plan, if there is one, of what a round makes of it, and of what can be made of the routes that were gathered meanwhile.
+fn best_of_round<R: Threads + Sync, W: Watch + Sync>(
+    crew: &Crew<'_, R, W>,
+    setting: &Setting<'_>,
+    round: Round,
+    plan: Option<Plan>,
+) -> Result<Option<Plan>, NoMemory>
+    requires workers { 1 ≤ crew.now.workers }
+    requires plan { IfSome plan (IsPlanOf crew.now.instance.now) }
+    ensures { IfOk result (λ found. IfSome found (IsPlanOf crew.now.instance.now)) }
+{
+    let word = match &plan {
+        Some(plan) => plan.word(),
+        None => &[],
+    };
+    let runs = run_all(crew, setting, round, word)?;
+    let mut best = plan;
+    let mut gathered = Vec::new(crew.alloc);
+    for run in runs {
+        let Run {
+            word,
+            gathered: routes,
+            ..
+        } = run;
+        gathered.extend_from_slice(routes.word())?;
+        best = better(crew.alloc, crew.instance, &word?, best)?;
+    }
+    match best {
+        Some(plan) => Ok(Some(recombined(crew, gathered.as_slice(), plan)?)),
+        None => Ok(None),
+    }
+}
+
+// The plan of a word, where it is before the best so far, or else that one.
+fn better(
+    alloc: Global,
+    instance: &Instance,
+    word: &[u16],
+    best: Option<Plan>,
+) -> Result<Option<Plan>, NoMemory>
+    requires { IfSome best (IsPlanOf instance.now) }
+    ensures { IfOk result (λ plan. IfSome plan (IsPlanOf instance.now)) }
+{
+    match best {
+        None => Ok(lawful_plan(alloc, instance, word)?),
+        Some(best) => Ok(Some(cheaper(alloc, instance, word, best)?)),
+    }
+}
+
+/// The plan of a word, where it is before this one, or else this one.
+pub(crate) fn cheaper(
+    alloc: Global,
+    instance: &Instance,
+    word: &[u16],
+    best: Plan,
+) -> Result<Plan, NoMemory>
+    requires { IsPlanOf instance.now best }
+    ensures lawful { IfOk result (IsPlanOf instance.now) }
+    ensures no_costlier { IfOk result (λ plan. plan.cost ≤ best.cost) }
+{
+    match lawful_plan(alloc, instance, word)? {
+        Some(plan) if plan.is_before(&best) => Ok(plan),
+        _ => Ok(best),
+    }
+}
+
+/// The threshold of the first move: a third of what a truck to one customer alone costs on average, or less where there are many
+/// customers.
+pub(crate) fn first_threshold(instance: &Instance) -> u64 {
+    let customers = instance.customers();
+    let mut arcs: u64 = 0;
+    for customer in 1..customers + 1 {
+        let there = instance.weight(0, customer);
+        arcs = arcs.saturating_add(there + instance.weight(customer, 0));
+    }
+    let parts = 3 + u64::from(customers) / 60;
+    (arcs / (u64::from(customers).max(1) * parts)).max(1)
+}

@@ -1,0 +1,89 @@
+//! A plan made better for as long as there is time: rounds of runs of ruin and recreate, side by side.
+ghost use Rattle.std.specs.Prelude.{◌≡◌, ◌≤◌, IfOk};
+ghost use Rattle.vrp_model.specs.Route.{IsPlanOf};
+
+use crate::heuristic::{cheaper, first_threshold};
+use crate::pace::Pace;
+use crate::runs::{Crew, Round, run_all};
+use std::thread::Threads;
+use vrp_heuristic_recreate::{Setting, Threshold, Watch};
+use vrp_model::{NoMemory, Plan};
+
+// The number of the first run: those of a heuristic plan have lower ones.
+const FIRST_RUN: u64 = 100;
+
+// Each round takes at least as long as the one before, and the last ones a twentieth of a second.
+const MOST_ROUNDS: u32 = 100_000;
+
+/// The plan, or a better one: in each round each worker has a run of ruin and recreate of its own, from the best plan so far, whose
+/// chances go by a number of its own. A round takes twice as long as the one before, and the last one all the time that is left: so
+/// its threshold falls to nothing in time. The watch is asked before each move whether to go on, and hears of each cheaper cost.
+/// Where it has no time set, the plan is answered as it is. Which feasible plan is answered is left open.
+pub fn improved_plan<R: Threads + Sync, W: Watch + Sync>(
+    crew: &Crew<'_, R, W>,
+    plan: &Plan,
+) -> Result<Plan, NoMemory>
+    requires workers { 1 ≤ crew.now.workers }
+    requires plan { IsPlanOf crew.now.instance.now plan.now }
+    ensures lawful { IfOk result (IsPlanOf crew.now.instance.now) }
+    ensures no_costlier { IfOk result (λ found. found.cost ≤ plan.now.cost) }
+{
+    let mut best = plan.copy(crew.alloc)?;
+    if crew.watch.milliseconds_left().is_none() || crew.instance.customers() == 0 {
+        return Ok(best);
+    }
+    let setting = Setting::new(crew.alloc, crew.instance)?;
+    let start = first_threshold(crew.instance);
+    let mut pace = Pace::new();
+    let mut first = FIRST_RUN;
+    for _ in 0..MOST_ROUNDS {
+        let left = time_left(crew.watch);
+        let Some(positions) = pace.positions(left) else {
+            return Ok(best);
+        };
+        let threshold = Threshold {
+            start,
+            moves: u32::MAX,
+            positions,
+        };
+        let round = Round {
+            first,
+            runs: crew.workers,
+            threshold,
+            gathers: 0,
+        };
+        best = best_of_round(crew, &setting, round, best)?;
+        first = first.saturating_add(u64::from(crew.workers));
+        pace.note(positions, left, crew.watch.milliseconds_left());
+    }
+    Ok(best)
+}
+
+// How many milliseconds are left; none where the watch tells to stop.
+fn time_left<W: Watch>(watch: &W) -> Option<u64> {
+    if watch.should_continue() {
+        watch.milliseconds_left()
+    } else {
+        Some(0)
+    }
+}
+
+// The best of a plan and of what a round makes of it.
+fn best_of_round<R: Threads + Sync, W: Watch + Sync>(
+    crew: &Crew<'_, R, W>,
+    setting: &Setting<'_>,
+    round: Round,
+    plan: Plan,
+) -> Result<Plan, NoMemory>
+    requires workers { 1 ≤ crew.now.workers }
+    requires plan { IsPlanOf crew.now.instance.now plan }
+    ensures lawful { IfOk result (IsPlanOf crew.now.instance.now) }
+    ensures no_costlier { IfOk result (λ found. found.cost ≤ plan.cost) }
+{
+    let runs = run_all(crew, setting, round, plan.word())?;
+    let mut best = plan;
+    for run in runs {
+        best = cheaper(crew.alloc, crew.instance, &run.word?, best)?;
+    }
+    Ok(best)
+}

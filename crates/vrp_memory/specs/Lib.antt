@@ -1,4 +1,0 @@
-pub mod Inner
-pub mod Memory
-pub mod Near
-pub mod Remembering

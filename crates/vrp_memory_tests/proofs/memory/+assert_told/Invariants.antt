@@ -1,4 +1,0 @@
-use Rattle.vrp_memory_tests.proofs.memory.+assert_told.Given as goal
-
-abbrev pub decreases-assert_told : goal.decreases-assert_told
-decreases-assert_told g l = l.more

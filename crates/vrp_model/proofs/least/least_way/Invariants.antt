@@ -1,5 +1,0 @@
-use Rattle.vrp_model.specs.Inner.LeastWays.{IsLeastSoFar}
-use Rattle.vrp_model.proofs.least.least_way.Given as goal
-
-abbrev pub invariant-loop-from : goal.invariant-loop-from
-invariant-loop-from l = record { so_far : IsLeastSoFar l.weights l.places l.to l.from l.least }

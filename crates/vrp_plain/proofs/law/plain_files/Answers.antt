@@ -1,5 +1,0 @@
-use Rattle.vrp_plain.proofs.PlainLaw.{plain_means}
-use Rattle.vrp_plain.proofs.law.plain_files.Goals as goal
-
-pub returns : goal.returns
-returns c = plain_means

@@ -1,0 +1,63 @@
+-- What is kept of the lines of a text while they are read.
+use Rattle.std.specs.Prelude.{◌≡◌, ◌≢◌, ◌⊎◌, ℕ, ℤ, pos, Option, Some, None, Ok, IsErr, List, [], ◌∷◌, ◌++◌, filter, map}
+use Rattle.std.specs.List.{All, Contains}
+use Rattle.vrp_model.specs.Problem.{Problem, customers}
+use Rattle.vrp_plan_read.specs.Line.{Cost, Line, Number}
+use Rattle.vrp_plan_read.specs.Solution.{AreCustomers, FollowsCustomers, GivenRoute, IsSaid, is_cost, is_route, line_of_route, with_stops}
+use Rattle.vrp_plan_read.specs.Inner.Read.{number_stated}
+use Rattle.vrp_plan_read.specs.declared.error.SolutionError.{SolutionError}
+use Rattle.vrp_plan_read.specs.declared.error.SolutionError.TheVariants as error
+use Rattle.vrp_plan_read.specs.declared.line.LineError.{LineError}
+use Rattle.vrp_plan_read.specs.declared.line.LineError.TheVariants as bad
+use Rattle.vrp_plan_read.specs.declared.line.StatedCost.{StatedCost}
+use Rattle.vrp_plan_read.specs.declared.line.StatedCost.TheVariants.{Whole, Fraction}
+use Rattle.vrp_plan_read.specs.declared.listing.Listing.{Listing}
+use Rattle.vrp_plan_read.specs.declared.route.Route.{Route}
+
+abbrev pub given_route : Route → GivenRoute
+given_route route = record { number = route.number; stops = route.stops.items }
+
+abbrev pub given_routes : List Route → List GivenRoute
+given_routes routes = map given_route routes
+
+-- the line of a cost that is stated, if one is
+abbrev pub cost_lines : Option StatedCost → List Line
+cost_lines None = []
+cost_lines (Some cost) = Cost (number_stated cost) ∷ []
+
+-- the same, if that is whole
+abbrev pub kept_cost : Option StatedCost → Option ℕ
+kept_cost None = None
+kept_cost (Some (Whole cost)) = Some cost
+kept_cost (Some Fraction) = None
+
+-- nothing is wrong with these lines, and this is what they list
+pub record Keeps (p : Problem) (lines : List Line) (listing : Listing) : Type 0 where
+  pub said : All IsSaid lines
+  pub costs : filter is_cost lines ≡ cost_lines listing.cost
+  pub given : List GivenRoute
+  pub listed : filter is_route lines ≡ map line_of_route given
+  pub kept : given_routes listing.routes.items ≡ with_stops given
+  pub customers : All (λ route. AreCustomers p route.stops) (given_routes listing.routes.items)
+
+-- a stop behind customers is no whole number, or no customer
+abbrev pub IsStopFault : Problem → ℕ → ℕ → List Number → SolutionError → Type 0
+IsStopFault p line route stops fault =
+    ((fault ≡ error.BadNumber line) × ((bad : Number) × IsErr bad × FollowsCustomers p stops bad))
+    ⊎ ((stop : ℤ) × (fault ≡ error.NotACustomer route stop) × FollowsCustomers p stops (Ok stop) × ((customer : ℕ) → Contains (customers p) customer → stop ≢ pos customer))
+
+-- a cost is stated for the first time
+pub record IsCostAdded (cost : StatedCost) (old new : Listing) : Type 0 where
+  pub first : old.cost ≡ None
+  pub stated : new.cost ≡ Some cost
+  pub routes : new.routes ≡ old.routes
+
+-- a route is listed: without stops it counts for nothing
+pub record IsRouteAdded (number : ℕ) (stops : List ℕ) (old new : Listing) : Type 0 where
+  pub cost : new.cost ≡ old.cost
+  pub routes : given_routes new.routes.items ≡ given_routes old.routes.items ++ with_stops (record { number = number; stops = stops } ∷ [])
+
+-- why a text with such a line is refused
+abbrev pub fault_at : ℕ → LineError → SolutionError
+fault_at line bad.Unknown = error.UnknownLine line
+fault_at line bad.BadNumber = error.BadNumber line

@@ -1,0 +1,162 @@
+//! What a line of a solution says.
+ghost use Rattle.std.specs.Prelude.{◌≡◌, ◌≤ℤ◌, ◌||◌, ◌==◌, ℕ, pos, List, codes, option_copied, IfOk, IsErr, MatchOption, MatchResult};
+ghost use Rattle.std.specs.List.{position};
+ghost use Rattle.vrp_text_lexer.specs.Numeral.{number_of};
+ghost use Rattle.vrp_plan_read.specs.Line as spec;
+ghost use Rattle.vrp_plan_read.specs.Line.{cost_line, is_word, number_token, without_hash};
+ghost use Rattle.vrp_plan_read.specs.Inner.Parted.{ArePartedAt};
+ghost use Rattle.vrp_plan_read.specs.Inner.Read.{IsCostRead, IsRead};
+
+use vrp_text_lexer::{FileLineFault, Tokens, number};
+
+/// How far from 0 a number of a line may lie.
+pub(crate) const MAX_NUMBER: i64 = 1_000_000_000_000_000_000;
+
+/// What a line says.
+#[derive(Drop)]
+pub(crate) enum Said<'a> {
+    Nothing,
+    /// A route has this number and these stops.
+    Route { number: u64, stops: Tokens<'a> },
+    /// The plan has this cost.
+    Cost(StatedCost),
+}
+
+/// A cost that a solution states.
+#[derive(Clone, Copy, Debug, PartialEq, Eq)]
+pub(crate) enum StatedCost {
+    Whole(u64),
+    /// No plan has a cost that isn't whole.
+    Fraction,
+}
+
+/// What is wrong with a line.
+#[derive(Clone, Copy, Debug, PartialEq, Eq)]
+pub(crate) enum LineError {
+    Unknown,
+    BadNumber,
+}
+
+// Where a byte stands first.
+fn place_of(text: &[u8], byte: u8) -> Option<usize>
+    ensures { result ≡ position (λ other. other == byte) text.now }
+{
+    text.iter().position(|other| *other == byte)
+}
+
+/// What stands before the first of these bytes, and what stands behind it.
+pub(crate) fn parted(text: &[u8], byte: u8) -> Option<(&[u8], &[u8])>
+    ensures { MatchOption result
+        (position (λ other. other == byte) text.now ≡ None)
+        (λ parts. ArePartedAt (λ other. other == byte) text.now parts.0.now parts.1.now) }
+{
+    match place_of(text, byte) {
+        Some(place) => Some((&text[..place], &text[place + 1..])),
+        None => None,
+    }
+}
+
+/// What a line says: `Route #1: 5 2` or `Cost 521`. Small and capital letters mean the same, blanks may stand between all parts, and
+/// the sign `#` and the colon behind `Cost` are as may be.
+pub(crate) fn line_of(text: &[u8]) -> Result<Said<'_>, LineError>
+    ensures { IsRead (spec.line_of text.now) result }
+{
+    let mut tokens = Tokens::of(text);
+    let Some(word) = tokens.next() else {
+        return Ok(Said::Nothing);
+    };
+    if is_cost(word) {
+        Ok(Said::Cost(stated_cost(tokens)?))
+    } else if is_route(word) {
+        route_line(text)
+    } else {
+        Err(LineError::Unknown)
+    }
+}
+
+// Whether a token is the word of the cost.
+fn is_cost(token: &[u8]) -> bool
+    ensures { result ≡ (is_word (codes "cost") token.now || is_word (codes "cost:") token.now) }
+{
+    token.eq_ignore_ascii_case(b"cost".as_slice())
+        || token.eq_ignore_ascii_case(b"cost:".as_slice())
+}
+
+// Whether a token is the word of a route.
+fn is_route(token: &[u8]) -> bool
+    ensures { result ≡ is_word (codes "route") token.now }
+{
+    token.eq_ignore_ascii_case(b"route".as_slice())
+}
+
+// The cost that stands behind its word.
+fn stated_cost(mut tokens: Tokens<'_>) -> Result<StatedCost, LineError>
+    ensures { IsCostRead (cost_line tokens.entry) result }
+{
+    let Some(cost) = tokens.next() else {
+        return Err(LineError::Unknown);
+    };
+    if !tokens.is_empty() {
+        return Err(LineError::Unknown);
+    }
+    match number(cost, 0, MAX_NUMBER) {
+        Ok(cost) => Ok(StatedCost::Whole(cost as u64)),
+        Err(fault) => match fault {
+            FileLineFault::NotWhole => Ok(StatedCost::Fraction),
+            _ => Err(LineError::BadNumber),
+        },
+    }
+}
+
+// The number that stands before the colon, and the stops behind it.
+fn route_line(text: &[u8]) -> Result<Said<'_>, LineError>
+    ensures { IsRead (spec.parted_line text.now) result }
+{
+    let Some((heading, stops)) = parted(text, b':') else {
+        return Err(LineError::Unknown);
+    };
+    let Some(digits) = number_token(Tokens::of(heading)) else {
+        return Err(LineError::Unknown);
+    };
+    match whole(digits, 0) {
+        Ok(number) => Ok(Said::Route {
+            number: number as u64,
+            stops: Tokens::of(stops),
+        }),
+        Err(error) => Err(error),
+    }
+}
+
+// The token of the number behind the word of a route.
+fn number_token(mut tokens: Tokens<'_>) -> Option<&[u8]>
+    ensures { option_copied result ≡ number_token tokens.entry }
+{
+    let _word = tokens.next()?;
+    let first = tokens.next()?;
+    let token = if first == b"#".as_slice() {
+        tokens.next()?
+    } else {
+        without_hash(first)
+    };
+    if tokens.is_empty() { Some(token) } else { None }
+}
+
+// Without the sign # that may stand at the front.
+fn without_hash(token: &[u8]) -> &[u8]
+    ensures { result.now ≡ without_hash token.now }
+{
+    match token {
+        [b'#', digits @ ..] => digits,
+        _ => token,
+    }
+}
+
+/// The whole number of a token, no less than `least`.
+pub(crate) fn whole(token: &[u8], least: i64) -> Result<i64, LineError>
+    ensures value { MatchResult result
+        (λ whole. number_of least MAX_NUMBER token.now ≡ Ok whole)
+        (λ error. (error ≡ LineError.BadNumber) × IsErr (number_of least MAX_NUMBER token.now)) }
+    ensures in_range { IfOk result (λ number. (least ≤ℤ number) × (number ≤ℤ MAX_NUMBER)) }
+{
+    number(token, least, MAX_NUMBER).map_err(|_| LineError::BadNumber)
+}

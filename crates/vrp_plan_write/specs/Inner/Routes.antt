@@ -1,0 +1,17 @@
+-- Routes as JSON.
+use Rattle.std.specs.Prelude.{◌≡◌, ℕ, List, [], ◌∷◌, ⊤}
+use Rattle.serde_json.specs.Data.{Data}
+use Rattle.vrp_plan_write.specs.Inner.Document.{route_object}
+use Rattle.vrp_plan_write.specs.Json.{customers_of, nodes_of}
+use Rattle.vrp_model.specs.Problem.{Problem}
+
+-- the object of a route with these stops
+abbrev pub IsRoute : Problem → List ℕ → Data → Type 0
+IsRoute p stops route = (cost : ℕ) × (load : ℕ) × (route ≡ route_object cost load (customers_of stops) (nodes_of p stops))
+
+-- one for each route, in order
+abbrev pub AreRoutes : Problem → List (List ℕ) → List Data → Type 0
+AreRoutes p [] [] = ⊤
+AreRoutes p [] (value ∷ values) = ⊥
+AreRoutes p (stops ∷ routes) [] = ⊥
+AreRoutes p (stops ∷ routes) (value ∷ values) = IsRoute p stops value × AreRoutes p routes values

@@ -1,0 +1,94 @@
+-- What is told of a problem, as JSON (RFC 8259).
+use Rattle.std.specs.Option.{option_map}
+use Rattle.std.specs.Prelude.{◌≡◌, ℕ, ◌-◌, Option, None, Some, List, [], ◌++◌, codes, map}
+use Rattle.serde_json.specs.Data.{Data, array, member, no_members, null, number, object, string, unsigned}
+use Rattle.serde_json.specs.Find.{get}
+use Rattle.serde_json.specs.Read.{read}
+use Rattle.serde_json.specs.View.{items_of}
+use Rattle.vrp_pool_answer.specs.Finding.{FindingOf, status_text}
+use Rattle.vrp_plan_write.specs.Gap.{IsGapOf}
+use Rattle.vrp_plan_write.specs.declared.json.Context.{Context}
+use Rattle.vrp_plan_write.specs.declared.json.Settings.{Settings}
+use Rattle.vrp_model.specs.Problem.{Problem, node_of, place_count}
+use Rattle.vrp_model.specs.Route.{PricedPlan}
+
+-- the number, or `null` where there is none
+abbrev pub number_or_null : Option ℕ → Data
+number_or_null None = null
+number_or_null (Some n) = number (unsigned n)
+
+-- a route's stops, each by its number
+abbrev pub numbers_of : (ℕ → ℕ) → List ℕ → Data
+numbers_of number_of stops = array (items_of (map (λ place. number (unsigned (number_of place))) stops))
+
+-- the file's node numbers of a route's stops
+abbrev pub nodes_of : Problem → List ℕ → Data
+nodes_of p stops = numbers_of (node_of p) stops
+
+-- the customers of a route by CVRPLIB's numbers: their places, since the depot is place 0
+abbrev pub customers_of : List ℕ → Data
+customers_of stops = numbers_of (λ place. place) stops
+
+-- the routes of a plan, if there is one
+abbrev pub routes_told : Option PricedPlan → List (List ℕ)
+routes_told None = []
+routes_told (Some plan) = plan.routes
+
+-- the text, or `null` where there is none
+abbrev pub text_or_null : Option (List ℕ) → Data
+text_or_null None = null
+text_or_null (Some text) = string text
+
+-- what a finding is told with: what the file calls itself, the program's version, the cost that the plan to begin with is stated to have,
+-- and how the run was asked for
+pub record ContextOf : Type 0 where
+  pub name : Option (List ℕ)
+  pub version : List ℕ
+  pub stated_cost : Option ℕ
+  pub asked : Settings
+
+abbrev pub context_by : Context → ContextOf
+context_by context = record { name = option_map (λ name. name.now) context.name; version = context.version.now; stated_cost = context.stated_cost; asked = context.asked }
+
+-- how the run was asked for
+abbrev pub options_told : Settings → Data
+options_told asked =
+    object (member (codes "budget") (number_or_null asked.budget) (member (codes "depot") (number_or_null asked.depot) (member (codes "pieces") (number (unsigned asked.pieces))
+    (member (codes "seconds") (number_or_null asked.seconds) (member (codes "trucks") (number_or_null asked.trucks) (member (codes "workers") (number (unsigned asked.workers)) no_members))))))
+
+-- what the plan costs, if there is one
+abbrev pub cost_told : FindingOf → Option ℕ
+cost_told finding = option_map (λ plan. plan.cost) finding.plan
+
+-- the object's verdict, cost, both lower bounds and the gap by the best one, the nodes and the customers of each route, what is told of the problem, and with what
+pub record IsDocument (p : Problem) (finding : FindingOf) (context : ContextOf) (document : Data) : Type 0 where
+  pub verdict : get (codes "verdict") document ≡ Some (string (status_text finding.status))
+  pub cost : get (codes "cost") document ≡ Some (number_or_null (cost_told finding))
+  pub lower_bound : get (codes "lower_bound") document ≡ Some (number_or_null finding.lower_bound)
+  pub best_lower_bound : get (codes "best_lower_bound") document ≡ Some (number_or_null finding.best_lower_bound)
+  pub gap : Option ℕ
+  pub least : IsGapOf (cost_told finding) finding.best_lower_bound gap
+  pub gap_told : get (codes "gap") document ≡ Some (number_or_null gap)
+  pub routes : List Data
+  pub listed : get (codes "routes") document ≡ Some (array (items_of routes))
+  pub nodes : map (get (codes "nodes")) routes ≡ map (λ stops. Some (nodes_of p stops)) (routes_told finding.plan)
+  pub served : map (get (codes "customers")) routes ≡ map (λ stops. Some (customers_of stops)) (routes_told finding.plan)
+  pub customers : get (codes "customers") document ≡ Some (number (unsigned (place_count p - 1)))
+  pub capacity : get (codes "capacity") document ≡ Some (number (unsigned p.capacity))
+  pub depot : get (codes "depot") document ≡ Some (number (unsigned (node_of p 0)))
+  pub name : get (codes "name") document ≡ Some (text_or_null context.name)
+  pub version : get (codes "version") document ≡ Some (string context.version)
+  pub stated_cost : get (codes "stated_cost") document ≡ Some (number_or_null context.stated_cost)
+  pub options : get (codes "options") document ≡ Some (options_told context.asked)
+
+-- a text that reads as the value, and a line feed
+pub record IsLineOf (value : Data) (text : List ℕ) : Type 0 where
+  pub line : List ℕ
+  pub ends : text ≡ line ++ codes "\n"
+  pub reads : read line ≡ Some value
+
+-- the line of such an object
+pub record IsJsonOf (p : Problem) (finding : FindingOf) (context : ContextOf) (text : List ℕ) : Type 0 where
+  pub value : Data
+  pub line : IsLineOf value text
+  pub document : IsDocument p finding context value

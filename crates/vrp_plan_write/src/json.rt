@@ -1,0 +1,238 @@
+//! What is told of an instance, as JSON (RFC 8259).
+ghost use Rattle.std.specs.Option.{ForSome, option_map};
+ghost use Rattle.std.specs.Prelude.{◌≡◌, ◌≤◌, ℕ, IfOk, map, string_bytes};
+ghost use Rattle.serde_json.specs.Data.{array, depth};
+ghost use Rattle.serde_json.specs.View.{items_view, view};
+ghost use Rattle.vrp_pool_answer.specs.Finding.{told_by};
+ghost use Rattle.vrp_plan_write.specs.Inner.Document.{document_of, route_object};
+ghost use Rattle.vrp_plan_write.specs.Inner.Routes.{AreRoutes};
+ghost use Rattle.vrp_plan_write.specs.Json.{IsJsonOf, IsLineOf, context_by, customers_of, nodes_of, number_or_null, options_told, routes_told, text_or_null};
+ghost use Rattle.vrp_plan_write.specs.Stops.{ArePlaces, HaveStopsIn};
+ghost use Rattle.vrp_model.specs.Route.{IsPlanOf};
+
+use crate::gap::gap_of;
+use crate::route::{cost, load};
+use serde_json::{Value, json};
+use std::alloc::{AllocError, Global};
+use vrp_model::{Instance, NoMemory, Plan};
+use vrp_pool_answer::Finding;
+
+/// How the run was asked for.
+#[derive(Clone, Copy, Debug, PartialEq, Eq, Drop)]
+pub struct Settings {
+    /// Threads that searched.
+    pub workers: u32,
+    /// Parts into which the search was cut.
+    pub pieces: u32,
+    /// Partial plans that might be looked at in each part, if their number was given.
+    pub budget: Option<u64>,
+    /// After how many seconds the search was to end, if there was a limit.
+    pub seconds: Option<u32>,
+    /// The node that was chosen as the depot, if one was.
+    pub depot: Option<u16>,
+    /// How many trucks there were, if their number was limited.
+    pub trucks: Option<u16>,
+}
+
+/// What a finding is told with.
+#[derive(Clone, Copy, Debug, PartialEq, Eq, Drop)]
+pub struct Context<'a> {
+    /// What the file calls itself, if it does.
+    pub name: Option<&'a str>,
+    /// The program's version.
+    pub version: &'a str,
+    /// The cost that the plan to begin with is stated to have, if one is stated and is whole.
+    pub stated_cost: Option<u64>,
+    /// How the run was asked for.
+    pub asked: Settings,
+}
+
+/// What is told of an instance as one JSON object and a line feed. It has the members `best_lower_bound`, `capacity`, `cost`, `customers`,
+/// `depot`, `gap`, `lower_bound`, `name`, `options`, `routes`, each of them with its `cost`, `customers`, `load` and `nodes`,
+/// `stated_cost`, `verdict` and `version`. Nodes have the file's numbers, and the customers of a route those of CVRPLIB: from 1 on by
+/// rising node, the depot left out. The gap is how far the plan may be from the best, by the best lower bound, in hundredths of a
+/// percent, rounded up. What isn't known is `null`, and without a plan there are no routes.
+///
+/// What stands in `load` and `cost` of a route is left open.
+pub fn json_text(
+    alloc: Global,
+    instance: &Instance,
+    finding: &Finding<'_>,
+    context: Context<'_>,
+) -> Result<String, NoMemory>
+    requires { ForSome (option_map (λ plan. plan.now) finding.now.plan) (IsPlanOf instance.now) }
+    ensures { IfOk result (λ text. IsJsonOf instance.now (told_by finding.now) (context_by context.entry) (string_bytes text)) }
+{
+    let routes = routes_of(alloc, instance, finding.plan)?;
+    let options = options_of(alloc, context.asked)?;
+    let name = text_or_null(alloc, context.name)?;
+    let gap = gap_of(instance, finding);
+    let document = document(
+        alloc, instance, finding, context, name, gap, routes, options,
+    )?;
+    Ok(line_of(alloc, document)?)
+}
+
+// The line of an object.
+fn line_of(alloc: Global, object: Value) -> Result<String, AllocError>
+    ensures { IfOk result (λ text. depth (view object) ≤ 4 → IsLineOf (view object) (string_bytes text)) }
+{
+    let text = object.to_string(alloc);
+    drop(object);
+    let mut text = text?;
+    text.push_str("\n")?;
+    Ok(text)
+}
+
+// The object, with this name, this gap, these routes and options.
+fn document(
+    alloc: Global,
+    instance: &Instance,
+    finding: &Finding<'_>,
+    context: Context<'_>,
+    name: Value,
+    gap: Option<u64>,
+    routes: Vec<Value>,
+    options: Value,
+) -> Result<Value, AllocError>
+    requires name { view name ≡ text_or_null (context_by context).name }
+    requires options { view options ≡ options_told context.asked }
+    ensures { IfOk result (λ value. view value
+        ≡ document_of instance.now (told_by finding.now) (context_by context.entry) gap (map view routes.items)) }
+{
+    let verdict = finding.status.as_str();
+    let cost = or_null(cost_of(finding.plan));
+    let lower_bound = or_null(finding.lower_bound);
+    let best_lower_bound = or_null(finding.best_lower_bound);
+    let gap = or_null(gap);
+    let customers = instance.customers();
+    let depot = instance.node(0);
+    let stated_cost = or_null(context.stated_cost);
+    json!(in alloc; {
+        "name": name,
+        "version": context.version,
+        "verdict": verdict,
+        "cost": cost,
+        "stated_cost": stated_cost,
+        "lower_bound": lower_bound,
+        "best_lower_bound": best_lower_bound,
+        "gap": gap,
+        "customers": customers,
+        "capacity": instance.capacity(),
+        "depot": depot,
+        "routes": routes,
+        "options": options,
+    })
+}
+
+// What a plan costs, if there is one.
+fn cost_of(plan: Option<&Plan>) -> Option<u64>
+    ensures { result ≡ option_map (λ plan. plan.cost) (option_map (λ plan. plan.now) plan.entry) }
+{
+    match plan {
+        Some(plan) => Some(plan.cost()),
+        None => None,
+    }
+}
+
+// A number, or `null` where there is none.
+fn or_null(number: Option<u64>) -> Value
+    ensures { view result ≡ number_or_null number }
+{
+    match number {
+        Some(number) => Value::from(number),
+        None => Value::Null,
+    }
+}
+
+// A text, or `null` where there is none.
+fn text_or_null(alloc: Global, text: Option<&str>) -> Result<Value, AllocError>
+    ensures { IfOk result (λ value. view value ≡ text_or_null (option_map (λ text. text.now) text.entry)) }
+{
+    match text {
+        Some(text) => Value::try_from_str(alloc, text),
+        None => Ok(Value::Null),
+    }
+}
+
+// How the run was asked for, as an object.
+fn options_of(alloc: Global, settings: Settings) -> Result<Value, AllocError>
+    ensures { IfOk result (λ value. view value ≡ options_told settings) }
+{
+    let budget = Value::from(settings.budget);
+    let seconds = Value::from(settings.seconds);
+    let depot = Value::from(settings.depot);
+    let trucks = Value::from(settings.trucks);
+    json!(in alloc; {
+        "workers": settings.workers,
+        "pieces": settings.pieces,
+        "budget": budget,
+        "seconds": seconds,
+        "depot": depot,
+        "trucks": trucks,
+    })
+}
+
+// The routes of a plan, if there is one.
+fn routes_of(
+    alloc: Global,
+    instance: &Instance,
+    plan: Option<&Plan>,
+) -> Result<Vec<Value>, AllocError>
+    requires { ForSome (option_map (λ plan. plan.now) plan) (IsPlanOf instance.now) }
+    ensures { IfOk result (λ routes. AreRoutes instance.now (routes_told (option_map (λ plan. plan.now) plan.entry))
+        (map view routes.items)) }
+{
+    match plan {
+        Some(plan) => objects_of(alloc, instance, plan),
+        None => Ok(Vec::new(alloc)),
+    }
+}
+
+// The routes of a plan.
+fn objects_of(alloc: Global, instance: &Instance, plan: &Plan) -> Result<Vec<Value>, AllocError>
+    requires { HaveStopsIn instance.now plan.now.routes }
+    ensures { IfOk result (λ routes. AreRoutes instance.now plan.now.routes (map view routes.items)) }
+{
+    let mut routes = Vec::new(alloc);
+    for index in 0..plan.routes() {
+        routes.push(route_of(alloc, instance, plan.route(index))?)?;
+    }
+    Ok(routes)
+}
+
+// A route with these stops.
+fn route_of(alloc: Global, instance: &Instance, stops: &[u16]) -> Result<Value, AllocError>
+    requires { ArePlaces instance.now stops.now }
+    ensures { IfOk result (λ route. (cost load : ℕ)
+        × (view route ≡ route_object cost load (customers_of stops.now) (nodes_of instance.now stops.now))) }
+{
+    let cost = cost(instance, stops);
+    let load = load(instance, stops);
+    let customers = customer_numbers(alloc, stops)?;
+    let nodes = node_numbers(alloc, instance, stops)?;
+    json!(in alloc; {"nodes": nodes, "customers": customers, "load": load, "cost": cost})
+}
+
+// CVRPLIB's numbers of these stops: their places.
+fn customer_numbers(alloc: Global, stops: &[u16]) -> Result<Vec<Value>, AllocError>
+    ensures { IfOk result (λ customers. array (items_view customers.items) ≡ customers_of stops.now) }
+{
+    let mut customers = Vec::with_capacity(alloc, stops.len())?;
+    for place in stops {
+        customers.push(Value::from(*place))?;
+    }
+    Ok(customers)
+}
+
+// The file's node numbers of these stops.
+fn node_numbers(alloc: Global, instance: &Instance, stops: &[u16]) -> Result<Vec<Value>, AllocError>
+    requires { ArePlaces instance.now stops.now }
+    ensures { IfOk result (λ nodes. array (items_view nodes.items) ≡ nodes_of instance.now stops.now) }
+{
+    let mut nodes = Vec::with_capacity(alloc, stops.len())?;
+    for place in stops {
+        nodes.push(Value::from(instance.node(*place)))?;
+    }
+    Ok(nodes)
+}

@@ -1,0 +1,21 @@
+//! What workers leave of the pieces of a cutting makes an answer: a plan, and a verdict on it.
+#![tactic(auto)]
+
+mod answers;
+mod conclusion;
+mod finding;
+mod gates;
+mod gatherer;
+mod open_pieces;
+mod outcome;
+mod shared;
+mod status;
+
+pub use answers::{Answer, SolveError, Solved};
+pub use conclusion::conclude;
+pub use finding::Finding;
+pub use gates::{Event, Gate, NoGate};
+pub use gatherer::{GatherError, Gatherer};
+pub use outcome::{Finished, OpenPiece, PieceOutcome, Searched};
+pub use shared::Shared;
+pub use status::Status;

@@ -1,3 +1,0 @@
--- What inner contracts alone cite: nobody has to believe it.
-pub mod Kept
-pub mod Ways

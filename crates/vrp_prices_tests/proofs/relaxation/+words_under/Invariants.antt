@@ -1,4 +1,0 @@
-use Rattle.vrp_prices_tests.proofs.relaxation.+words_under.Given as goal
-
-abbrev pub decreases-words_under : goal.decreases-words_under
-decreases-words_under g l = l.steps

@@ -1,9 +1,0 @@
-//! Tests of `vrp_prices` by values from outside. They are a crate of their own, since a crate with tests is proved twice.
-#![tactic(auto)]
-
-#[cfg(test)]
-mod assertion;
-#[cfg(test)]
-mod instances;
-#[cfg(test)]
-mod relaxation;

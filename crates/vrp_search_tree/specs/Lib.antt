@@ -1,0 +1,9 @@
+pub mod Child
+pub mod Cutting
+pub mod Inner
+pub mod Low
+pub mod PricedTally
+pub mod Partial
+pub mod Pruned
+pub mod Reached
+pub mod Tally

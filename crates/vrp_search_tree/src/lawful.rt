@@ -1,0 +1,47 @@
+//! From a word that need not be trusted to a feasible plan.
+ghost use Rattle.std.specs.Prelude.{◌≡◌, [], IfNone, IfOk, IfSome};
+ghost use Rattle.vrp_model.specs.Route.{IsPlanOf};
+ghost use Rattle.vrp_model.specs.Word.{IsLawfulWord, word_of};
+
+use crate::partial::Partial;
+use std::alloc::Global;
+use vrp_model::{Instance, NoMemory, Plan};
+
+/// The plan of a word, if it is a feasible word of the instance, and `None` if it is not. Each symbol is asked for before it is
+/// pushed, so the word need not be trusted.
+pub fn lawful_plan(
+    alloc: Global,
+    instance: &Instance,
+    word: &[u16],
+) -> Result<Option<Plan>, NoMemory>
+    ensures lawful { IfOk result (λ plan. IfSome plan (IsPlanOf instance.now)) }
+    ensures word { IfOk result (λ found. IfSome found (λ plan. word_of plan.routes ≡ word.now)) }
+    ensures none { IfOk result (λ found. IfNone found (IsLawfulWord instance.now word.now → ⊥)) }
+{
+    let mut partial = Partial::root(alloc, instance)?;
+    pushed_plan(alloc, &mut partial, word)
+}
+
+// The plan of a word that is pushed onto the empty one, as far as it can be, if it is feasible.
+fn pushed_plan(
+    alloc: Global,
+    partial: &mut Partial<'_>,
+    word: &[u16],
+) -> Result<Option<Plan>, NoMemory>
+    requires { partial.old.word ≡ [] }
+    ensures lawful { IfOk result (λ plan. IfSome plan (IsPlanOf partial.old.problem)) }
+    ensures word { IfOk result (λ found. IfSome found (λ plan. word_of plan.routes ≡ word.now)) }
+    ensures none { IfOk result (λ found.
+        IfNone found (IsLawfulWord partial.old.problem word.now → ⊥)) }
+{
+    for symbol in word {
+        if !partial.child(*symbol) {
+            return Ok(None);
+        }
+        partial.push(*symbol);
+    }
+    if !partial.complete() {
+        return Ok(None);
+    }
+    Ok(Some(partial.plan(alloc)?))
+}

@@ -1,0 +1,21 @@
+//! The tree of plans: partial plans, what a plan under one costs at least, cuttings of the tree into pieces, and the feasible plan
+//! of a word that need not be trusted.
+#![tactic(auto)]
+
+mod cutting;
+mod law;
+mod lawful;
+mod partial;
+mod piece;
+mod priced_tally;
+mod prices;
+mod tally;
+
+pub use cutting::{Cutting, MAX_PIECES, MAX_REFINED};
+pub use law::{one_low, one_piece, own_low_no_lower};
+pub use lawful::lawful_plan;
+pub use partial::{Partial, Reserved};
+pub use piece::Piece;
+pub use priced_tally::PricedTally;
+pub use prices::Prices;
+pub use tally::Tally;

@@ -1,0 +1,123 @@
+//! What is counted along a word, and what a plan under it costs at least.
+ghost use Rattle.std.specs.Prelude.{◌≡◌, ◌↔◌, ◌⊎◌, ◌-◌, ◌*◌, ◌≤◌, ◌<◌, [], IsTrue};
+ghost use Rattle.vrp_bound.specs.Capacity.{CanCarry, IsInboundSumOf};
+ghost use Rattle.vrp_model.specs.Problem.{HasTrucks, customers, place_count};
+ghost use Rattle.vrp_model.specs.Route.{load_of};
+ghost use Rattle.vrp_model.specs.declared.limits.TheConstants.{MAX_ARCS};
+ghost use Rattle.vrp_search_tree.specs.Inner.Tallied.{IsLowOf, routes_by};
+ghost use Rattle.vrp_search_tree.specs.Tally.{IsTally};
+
+use vrp_bound::{Tables, bound, can_carry};
+use vrp_model::Instance;
+
+/// What is counted along a word, in the units of the instance.
+#[derive(Clone, Copy, Default)]
+pub struct Tally {
+    pub(crate) cost: u64,
+    /// Of the open route, 0 where none is open.
+    pub(crate) load: u64,
+    /// What the unserved customers demand.
+    pub(crate) rest: u64,
+    /// What the least arcs into the unserved customers cost together.
+    pub(crate) inbound_sum: u64,
+    /// The first customer of the last route, 0 where there is no route yet.
+    pub(crate) first_customer: u16,
+    /// How many customers are unserved.
+    pub(crate) unserved: u16,
+    /// The greatest unserved customer, 0 where there is none.
+    pub(crate) greatest: u16,
+    /// How many routes there are, an open one counted.
+    pub(crate) routes: u16,
+}
+
+impl Tally {
+    /// That of the empty word.
+    pub(crate) fn root(instance: &Instance) -> Tally
+        ensures { IsTally instance.now [] result }
+    {
+        let customers = instance.customers();
+        Tally {
+            cost: 0,
+            load: 0,
+            rest: instance.whole_demand(),
+            inbound_sum: whole_inbound_sum(instance),
+            first_customer: 0,
+            unserved: customers,
+            greatest: customers,
+            routes: 0,
+        }
+    }
+
+    /// Whether the word that ends at this place is a partial plan without completion, where the instance is symmetric: every
+    /// unserved customer is below the first one of the last route, and one is left, or the open route ends below its first.
+    #[inline(always)]
+    pub(crate) fn has_no_completion(self, at: u16) -> bool
+        ensures { IsTrue result ↔ (self.greatest < self.first_customer)
+            × ((0 < self.greatest) ⊎ ((0 < at) × (at < self.first_customer))) }
+    {
+        self.greatest < self.first_customer
+            && (self.greatest > 0 || (at > 0 && at < self.first_customer))
+    }
+
+    /// What is paid along the word, and the bound on what is still to pay from its end. `None` where the bound says that there
+    /// is no plan.
+    // Asked at each partial plan that is looked at.
+    #[inline(always)]
+    pub(crate) fn low(self, instance: &Instance, tables: &Tables<'_>, at: u16) -> Option<u64>
+        requires tables { tables.now.problem ≡ instance.now }
+        requires place { at < place_count instance.now }
+        requires load { self.load ≤ instance.now.capacity }
+        requires depot { at ≡ 0 → self.load ≡ 0 }
+        requires inbound_sum { self.inbound_sum ≤ MAX_ARCS }
+        requires cost { self.cost ≤ 2 * MAX_ARCS }
+        requires rest { self.rest ≤ load_of instance.now tables.now.among }
+        requires all { self.rest ≤ load_of instance.now (customers instance.now) }
+        requires trucks { HasTrucks instance.now self.routes }
+        ensures { IsLowOf instance.now tables.now.among at self result }
+    {
+        let left = self.routes_left(instance);
+        let more = bound(
+            tables,
+            instance,
+            at,
+            self.load,
+            self.inbound_sum,
+            self.rest,
+            left,
+        )?;
+        Some(self.cost + more)
+    }
+
+    /// Whether the trucks that are left can carry what is left, where the word ends at this place.
+    #[inline(always)]
+    pub(crate) fn can_carry(self, instance: &Instance, at: u16) -> bool
+        requires load { self.load ≤ instance.now.capacity }
+        requires trucks { HasTrucks instance.now self.routes }
+        ensures { IsTrue result
+            ↔ CanCarry instance.now at self.load self.rest (routes_by instance.now self) }
+    {
+        let left = self.routes_left(instance);
+        can_carry(instance, at, self.load, self.rest, left)
+    }
+
+    // How many routes may still be opened; `None` where there are as many trucks as are wanted.
+    #[inline(always)]
+    fn routes_left(self, instance: &Instance) -> Option<u16>
+        requires { HasTrucks instance.now self.routes }
+        ensures { result ≡ routes_by instance.now self }
+    {
+        Some(instance.trucks()? - self.routes)
+    }
+}
+
+// What the least arcs into all customers cost together.
+fn whole_inbound_sum(instance: &Instance) -> u64
+    ensures inbound_sum { IsInboundSumOf instance.now [] result }
+    ensures small { result ≤ MAX_ARCS }
+{
+    let mut inbound_sum = 0;
+    for index in 0..instance.customers() {
+        inbound_sum += instance.least_in(index + 1);
+    }
+    inbound_sum
+}

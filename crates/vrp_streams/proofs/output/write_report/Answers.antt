@@ -1,6 +1,0 @@
-use Rattle.std.proofs.Common.{rules}
-use Rattle.vrp_streams.proofs.WrittenParts.{written_on, written_within}
-use Rattle.vrp_streams.proofs.output.write_report.Goals as goal
-
-pub loop-written-preserved : goal.loop-written-preserved
-loop-written-preserved g c = search (rules, written_on, written_within)

@@ -1,0 +1,11 @@
+use Rattle.std.proofs.Common.{◌≤◌, length, arith}
+use Rattle.std.specs.Char.{is_ascii_digit}
+use Rattle.std.specs.List.{prefix_len}
+use Rattle.vrp_text_lexer.proofs.NumeralLemmas.{all_are_digits}
+use Rattle.vrp_text_lexer.proofs.numeral.power_of_digits.Goals as goal
+
+pub value_after-size-requires-clause-all_digits : goal.value_after-size-requires-clause-all_digits
+value_after-size-requires-clause-all_digits c =
+    let digits = c.without_sign-digits.result.now in
+    let all : length digits ≤ prefix_len is_ascii_digit digits = omega (arith, c.leading_digits.ensures) in
+    all_are_digits digits all

@@ -1,5 +1,0 @@
-use Rattle.vrp_tree.proofs.OneLow.{one_low}
-use Rattle.vrp_tree.proofs.law.one_low.Goals as goal
-
-pub returns : goal.returns
-returns c = one_low

@@ -1,5 +1,0 @@
-use Rattle.vrp_tree.proofs.OnePlace.{piece_of_word}
-use Rattle.vrp_tree.proofs.law.one_piece.Goals as goal
-
-pub returns : goal.returns
-returns c = piece_of_word

@@ -1,5 +1,0 @@
-use Rattle.vrp_tree.proofs.OwnLows.{own_low_no_lower}
-use Rattle.vrp_tree.proofs.law.own_low_no_lower.Goals as goal
-
-pub returns : goal.returns
-returns c = own_low_no_lower c.fewer_customers.ensures

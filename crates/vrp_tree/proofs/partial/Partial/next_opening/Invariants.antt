@@ -1,8 +1,0 @@
-use Rattle.std.proofs.Common.{ℕ, ◌≤◌, ◌<◌, [], ◌∷◌, ◌++◌}
-use Rattle.vrp_model.specs.Word.{IsFront}
-use Rattle.vrp_tree.proofs.partial.Partial.next_opening.Given as goal
-
-abbrev pub invariant-loop-customer : goal.invariant-loop-customer
-invariant-loop-customer l = record {
-  none : (k : ℕ) → l.fn.from ≤ k → k < l.customer → IsFront l.self.problem (l.self.word ++ k ∷ []) → ⊥;
-}

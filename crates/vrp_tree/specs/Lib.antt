@@ -1,9 +1,0 @@
-pub mod Child
-pub mod Cutting
-pub mod Inner
-pub mod Low
-pub mod Paid
-pub mod Partial
-pub mod Pruned
-pub mod Reached
-pub mod Tally
