@@ -56,8 +56,11 @@ pub fn find_prices<'a, F: Fn() -> bool>(
     prices_for(alloc, instance, purpose, cost, near, steps, should_continue)
 }
 
-/// The same for a list of routes, of an instance of at most 127 customers: by finer units where so many steps allow them, since
-/// there need be no completion table.
+/// Prices and cut prices to list the routes of an instance of at most 127 customers by, where a plan of it costs so much, and the
+/// ng-sets of the walks in their rounds. Where at most this many steps allow 300 rounds, demands are counted in finer units than
+/// `find_prices` has for a search, since there need be no completion table; else all is as there. Before each round it is asked whether
+/// to go on. `None` where the steps are too few for a hundred rounds, no unit makes the tables small, or the prices are out of range.
+/// Which prices they are, which units and which ng-sets, is left open: any bound the instance's plans.
 pub fn find_prices_for_routes<'a, F: Fn() -> bool>(
     alloc: Global,
     instance: &'a Instance,

@@ -38,7 +38,7 @@ pub(crate) fn rebate_at(prices: &[i64], place: u16) -> u64
 }
 
 /// Whether no price is above what an arc may cost and what cut prices take off the arc from the depot, and no rebate above what an
-/// arc costs before. Any others are infeasible.
+/// arc costs before. Any others are refused.
 pub(crate) fn are_moderate(instance: &Instance, prices: &[i64], cuts: &[Cut]) -> bool
     requires one_each { length prices.now ≡ place_count instance.now }
     requires few { length cuts.now ≤ MAX_CUTS }

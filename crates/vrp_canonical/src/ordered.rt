@@ -57,7 +57,7 @@ pub fn marked_routes(
     Ok(listed)
 }
 
-/// Those of the routes that are marked. That they keep their order is left open.
+/// Those of the routes that are marked. That no other is among them, and that they keep their order, is left open.
 pub fn kept_routes(
     alloc: Global,
     ordered: &[ListedRoute],

@@ -149,7 +149,8 @@ fn prices_by_budget<'a, R, G: Gate>(
     }
 }
 
-/// Prices to search pieces by, in units so coarse that there can be a completion table, of an instance of at most 127 customers.
+/// Prices to search pieces by, in units so coarse that there can be a completion table. `None` where no plan is known, there are more
+/// than 127 customers, or no prices are found. Where a time is set, half of what is left is kept for what comes after.
 pub(crate) fn prices_for_pieces<'a, R, G: Gate>(
     shared: &Shared<'a, R, G>,
 ) -> Result<Option<FoundPrices<'a>>, NoMemory>
