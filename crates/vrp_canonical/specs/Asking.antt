@@ -1,7 +1,7 @@
 -- Questions about parts of the pool, and their answers.
 use Rattle.std.specs.Prelude.{Bool, IfSome, List}
 use Rattle.vrp_canonical.specs.Passing.{IsAnswer}
-use Rattle.vrp_canonical.specs.declared.ahead.Reply.{Reply}
+use Rattle.vrp_canonical.specs.declared.asked.Reply.{Reply}
 use Rattle.vrp_canonical.specs.declared.question.Answered.{Answered}
 use Rattle.vrp_canonical.specs.declared.question.Question.{Question}
 use Rattle.vrp_partition.specs.declared.route.Route.{Route}

@@ -1,0 +1,249 @@
+//! Questions that several workers search answers to: whoever is free takes the next one that nobody has taken.
+ghost use Rattle.std.specs.Prelude.{◌≤◌, IfOk};
+ghost use Rattle.std.specs.List.{All};
+ghost use Rattle.vrp_canonical.specs.Asking.{IsReply};
+
+use crate::loads::Loads;
+use crate::part::part_between;
+use crate::question::{Answered, Question};
+use crate::searches::search_within;
+use std::alloc::{AllocError, Global};
+use std::sync::atomic::{AtomicUsize, Ordering};
+use std::thread::{Threads, for_each_mut};
+use vrp_partition::{Ask, Found, Guide, Route, Team};
+
+/// What came of a question: its answer, where it is known, and how much of the budget was spent.
+#[derive(Debug, Drop)]
+pub struct Reply {
+    /// The place of the question among those that were asked.
+    pub place: usize,
+    pub answer: Option<Answered>,
+    pub spent: u64,
+}
+
+impl Reply {
+    // Whether replies to later questions are of no use: the known choice is not the canonical plan, or nothing is known.
+    fn is_last(&self) -> bool {
+        match &self.answer {
+            Some(answered) => answered.yes,
+            None => true,
+        }
+    }
+}
+
+/// Questions about a pool, each to be searched for within a budget, by workers who search alone.
+#[derive(Clone, Copy)]
+pub struct Inquiry<'a, R, A> {
+    pub team: Team<'a, R, A>,
+    pub loads: &'a Loads,
+    pub pool: &'a [Route],
+    pub budget: u64,
+    pub questions: &'a [Question],
+}
+
+// Which question is whose. It only guides: a worker who takes a question twice, or none, searches for what is right all the same.
+#[derive(Drop)]
+struct Turns {
+    // The first place that nobody has taken.
+    next: AtomicUsize,
+    // Replies behind this place are of no use.
+    last: AtomicUsize,
+}
+
+impl Turns {
+    fn new() -> Turns {
+        Turns {
+            next: AtomicUsize::new(0),
+            last: AtomicUsize::new(usize::MAX),
+        }
+    }
+
+    // The next place, which is the caller's from now on.
+    fn take(&self) -> usize {
+        self.next.fetch_add(1, Ordering::SeqCst)
+    }
+
+    // From now on replies behind this place are of no use.
+    fn end_at(&self, place: usize) {
+        // Who writes a later place in between spares others less work, and changes no answer.
+        if self.is_of_use(place) {
+            self.last.store(place, Ordering::SeqCst);
+        }
+    }
+
+    // Whether a reply at this place may be of use.
+    fn is_of_use(&self, place: usize) -> bool {
+        place <= self.last.load(Ordering::SeqCst)
+    }
+}
+
+// Who is asked whether the search for one answer goes on: only as long as the reply may be of use.
+#[derive(Clone, Copy)]
+struct Turn<'a, A> {
+    ask: &'a A,
+    turns: &'a Turns,
+    place: usize,
+}
+
+impl<A: Ask> Ask for Turn<'_, A> {
+    fn should_continue(&self) -> bool {
+        self.turns.is_of_use(self.place) && self.ask.should_continue()
+    }
+}
+
+// One who searches: a guide for the searches, and what came of the questions that were taken: an error before that.
+#[derive(Drop)]
+struct Worker<P: Guide> {
+    guide: P,
+    replies: Result<Vec<Reply>, AllocError>,
+}
+
+impl<P: Guide + Send> Worker<P> {
+    // Takes questions as long as some are left that are of use, and searches for the answers.
+    fn work<R: Threads + Sync, A: Ask>(&mut self, inquiry: &Inquiry<'_, R, A>, turns: &Turns)
+        requires workers { 1 ≤ inquiry.now.team.workers }
+        ensures { IfOk self.new.replies (λ replies. All (IsReply inquiry.now.pool.now) replies.items) }
+    {
+        self.replies = self.taken_replies(inquiry, turns);
+    }
+
+    // What comes of the questions that are taken.
+    fn taken_replies<R: Threads + Sync, A: Ask>(
+        &self,
+        inquiry: &Inquiry<'_, R, A>,
+        turns: &Turns,
+    ) -> Result<Vec<Reply>, AllocError>
+        requires workers { 1 ≤ inquiry.now.team.workers }
+        ensures { IfOk result (λ replies. All (IsReply inquiry.now.pool.now) replies.items) }
+    {
+        let mut replies = Vec::new(inquiry.team.alloc);
+        for _ in 0..inquiry.questions.len() {
+            let place = turns.take();
+            if place >= inquiry.questions.len() || !turns.is_of_use(place) {
+                return Ok(replies);
+            }
+            let turn = Turn {
+                ask: inquiry.team.ask,
+                turns,
+                place,
+            };
+            let reply = self.reply_to(inquiry, &turn, inquiry.questions[place])?;
+            if reply.is_last() {
+                turns.end_at(place);
+            }
+            replies.push(reply)?;
+        }
+        Ok(replies)
+    }
+
+    // What comes of a question by a search alone.
+    fn reply_to<R: Threads + Sync, A: Ask>(
+        &self,
+        inquiry: &Inquiry<'_, R, A>,
+        turn: &Turn<'_, A>,
+        question: Question,
+    ) -> Result<Reply, AllocError>
+        requires workers { 1 ≤ inquiry.now.team.workers }
+        ensures { IfOk result (IsReply inquiry.now.pool.now) }
+    {
+        let Question {
+            rest,
+            customer,
+            low,
+            high,
+        } = question;
+        let team = Team {
+            rt: inquiry.team.rt,
+            alloc: inquiry.team.alloc,
+            workers: inquiry.team.workers,
+            ask: turn,
+        };
+        let (alloc, pool) = (inquiry.team.alloc, inquiry.pool);
+        let part = part_between(alloc, pool, rest.unserved, customer, low, high)?;
+        let part = part.as_slice();
+        let mut left = inquiry.budget;
+        let found = search_within(&team, &self.guide, inquiry.loads, part, rest, &mut left)?;
+        let spent = inquiry.budget - left;
+        let place = turn.place;
+        let Some(Found::Cheapest(chosen)) = found else {
+            return Ok(Reply {
+                place,
+                answer: None,
+                spent,
+            });
+        };
+        let answer = Some(Answered {
+            question,
+            yes: chosen.cost <= rest.most,
+            choice: chosen.routes,
+        });
+        Ok(Reply {
+            place,
+            answer,
+            spent,
+        })
+    }
+}
+
+impl<R: Threads + Sync, A: Ask + Sync> Inquiry<'_, R, A> {
+    /// What comes of the questions by so many workers, in the order of the questions. Which of them get no reply is left open: it is
+    /// some behind the first one whose answer is yes, or isn't known. Up to that one the replies are the same whoever works.
+    pub fn replies<P: Guide + Send>(
+        &self,
+        guide: &P,
+        workers: usize,
+    ) -> Result<Vec<Reply>, AllocError>
+        requires alone { 1 ≤ self.now.team.workers }
+        requires workers { 1 ≤ workers }
+        ensures { IfOk result (λ replies. All (IsReply self.now.pool.now) replies.items) }
+    {
+        let alloc = self.team.alloc;
+        let team = new_team(alloc, guide, workers.min(self.questions.len()))?;
+        let mut replies = Vec::new(alloc);
+        for worker in after_work(self, workers, team) {
+            let mut more = worker.replies?;
+            replies.append(&mut more)?;
+        }
+        replies.sort_by_key(|reply| reply.place)?;
+        Ok(replies)
+    }
+}
+
+// So many workers.
+fn new_team<P: Guide>(
+    alloc: Global,
+    guide: &P,
+    workers: usize,
+) -> Result<Vec<Worker<P>>, AllocError> {
+    let mut team = Vec::new(alloc);
+    for _ in 0..workers {
+        team.push(Worker {
+            guide: guide.fork()?,
+            replies: Err(AllocError),
+        })?;
+    }
+    Ok(team)
+}
+
+// The workers once they have worked, side by side.
+fn after_work<R: Threads + Sync, A: Ask + Sync, P: Guide + Send>(
+    inquiry: &Inquiry<'_, R, A>,
+    threads: usize,
+    mut team: Vec<Worker<P>>,
+) -> Vec<Worker<P>>
+    requires alone { 1 ≤ inquiry.now.team.workers }
+    requires threads { 1 ≤ threads }
+    ensures { All (λ worker. IfOk worker.replies (λ replies. All (IsReply inquiry.now.pool.now) replies.items)) result.items }
+{
+    let turns = Turns::new();
+    for_each_mut(
+        inquiry.team.rt,
+        team.as_mut_slice(),
+        threads,
+        &|_, worker: &mut Worker<P>|
+            requires { 1 ≤ inquiry.now.team.workers }
+            ensures { IfOk worker.exit.now.replies (λ replies. All (IsReply inquiry.entry.now.pool.now) replies.items) }
+        { worker.work(inquiry, &turns) },
+    );
+    team
+}
