@@ -21,7 +21,7 @@ pub const FIVE: &[(i64, i64)] = &[(0, 0), (3, 4), (6, 8), (5, -12), (-8, 2)];
 pub const SQUARE: &[(i64, i64)] = &[(0, 0), (5, 5), (-5, 5), (-5, -5), (5, -5)];
 
 /// The points of E-n22-k4 of Christofides and Eilon (1969).
-pub const E_N22_K4: &[(i64, i64)] = &[
+pub const E_N22_K4_POINTS: &[(i64, i64)] = &[
     (145, 215),
     (151, 264),
     (159, 261),
@@ -44,6 +44,31 @@ pub const E_N22_K4: &[(i64, i64)] = &[
     (129, 189),
     (155, 185),
     (139, 182),
+];
+
+/// The depot and twenty scattered customers.
+pub const SCATTERED: [(i64, i64); 21] = [
+    (50, 50),
+    (17, 72),
+    (97, 8),
+    (32, 15),
+    (63, 97),
+    (57, 60),
+    (83, 48),
+    (26, 12),
+    (62, 3),
+    (49, 55),
+    (77, 97),
+    (12, 34),
+    (88, 71),
+    (5, 90),
+    (41, 81),
+    (93, 29),
+    (70, 22),
+    (36, 39),
+    (2, 5),
+    (60, 35),
+    (80, 85),
 ];
 
 /// Places at these points, a rounded Euclidean distance apart.
