@@ -24,6 +24,14 @@ use vrp_heuristic::{Crew, ENOUGH_MOVES, Unhurried, heuristic_plan};
 use vrp_model::{Instance, NO_COST, Plan};
 use vrp_search::{Cutting, Ended, Local, Prices, search_by_prices};
 
+// How prices are found, and how many partial plans are looked at by them.
+#[derive(Clone, Copy)]
+struct Setup {
+    budget: u64,
+    near: usize,
+    steps: u64,
+}
+
 // How a search ended, and how many partial plans it looked at.
 #[derive(Clone, Copy)]
 struct End {
@@ -44,7 +52,12 @@ fn main(rt: HostRuntime) -> Result<()> {
         "more than {MOST_NEAR} customers near a place"
     );
     let instance = read(&rt, name.as_str())?;
-    measure(&rt, name.as_str(), &instance, budget, near, steps)
+    let setup = Setup {
+        budget,
+        near,
+        steps,
+    };
+    measure(&rt, name.as_str(), &instance, setup)
 }
 
 // The instance in a file.
@@ -58,19 +71,15 @@ fn measure<R: Clock + Print + Eprint + AllocGlobal + Threads + Sync>(
     rt: &R,
     name: &str,
     instance: &Instance,
-    budget: u64,
-    near: usize,
-    steps: u64,
+    setup: Setup,
 ) -> Result<()>
-    requires budget { 1 ≤ budget }
-    requires near { near ≤ MOST_NEAR }
+    requires budget { 1 ≤ setup.budget }
+    requires near { setup.near ≤ MOST_NEAR }
 {
     let plan = timed_plan(rt, instance)?;
     let first = plan.cost();
     let mut board = Local::open(Some(plan));
-    let End { verdict, looked } = search_by_found(
-        rt, instance, first, budget, near, steps, &mut board,
-    )?;
+    let End { verdict, looked } = search_by_found(rt, instance, first, setup, &mut board)?;
     let cost = board.into_plan().context("no plan")?.cost();
     println!(rt;
         "{name}: first plan {first}, {verdict}, {looked} partial plans looked at, cost {cost}"
@@ -83,18 +92,16 @@ fn search_by_found<R: Clock + Eprint + AllocGlobal>(
     rt: &R,
     instance: &Instance,
     first: u64,
-    budget: u64,
-    near: usize,
-    steps: u64,
+    setup: Setup,
     board: &mut Local,
 ) -> Result<End>
-    requires budget { 1 ≤ budget }
-    requires near { near ≤ MOST_NEAR }
+    requires budget { 1 ≤ setup.budget }
+    requires near { setup.near ≤ MOST_NEAR }
     requires board { ForSome board.old (IsPlanOf instance.now) }
 {
-    let found = timed_prices(rt, instance, first, near, steps)?;
+    let found = timed_prices(rt, instance, first, setup)?;
     print_bound(rt, instance, &found, first.min(NO_COST))?;
-    timed_search(rt, instance, found, budget, board)
+    timed_search(rt, instance, found, setup.budget, board)
 }
 
 // The heuristic plan, and prints how long it took.
@@ -122,13 +129,13 @@ fn timed_prices<'a, R: Clock + Eprint + AllocGlobal>(
     rt: &R,
     instance: &'a Instance,
     cost: u64,
-    near: usize,
-    steps: u64,
+    setup: Setup,
 ) -> Result<FoundPrices<'a>>
-    requires { near ≤ MOST_NEAR }
+    requires { setup.near ≤ MOST_NEAR }
     ensures relaxation { IfOk result (λ found. found.relaxation.problem ≡ instance.now) }
     ensures ng_sets { IfOk result (λ found. found.ng_sets.places ≡ place_count instance.now) }
 {
+    let Setup { near, steps, .. } = setup;
     let start = Instant::now(rt)?;
     let found = find_prices(rt.alloc(), instance, cost, near, steps, &|| true)?;
     print_time(rt, "prices", start.elapsed(rt)?)?;

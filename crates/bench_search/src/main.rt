@@ -13,7 +13,7 @@ ghost use Rattle.vrp_search_tree.specs.declared.cutting.TheConstants.{MAX_PIECES
 
 mod pieces;
 
-use crate::pieces::{Whose, search_pieces};
+use crate::pieces::{Effort, Whose, search_pieces};
 use anyhow::{Context, Result, ensure};
 use std::alloc::Global;
 use std::rt::{Clock, Files};
@@ -27,10 +27,9 @@ use vrp_search::{Cutting, Local, MAX_PIECES};
 // How an instance is searched.
 #[derive(Clone, Copy)]
 struct Setup {
-    budget: u64,
     by_savings: bool,
     pieces: u32,
-    whose: Whose,
+    effort: Effort,
 }
 
 fn main(rt: HostRuntime) -> Result<()> {
@@ -50,10 +49,9 @@ fn main(rt: HostRuntime) -> Result<()> {
     };
     let instance = read(&rt, name.as_str())?;
     let setup = Setup {
-        budget,
         by_savings,
         pieces,
-        whose,
+        effort: Effort { whose, budget },
     };
     measure(&rt, name.as_str(), &instance, setup)
 }
@@ -86,7 +84,7 @@ fn measure<R: Clock + Print + Eprint + AllocGlobal>(
     instance: &Instance,
     setup: Setup,
 ) -> Result<()>
-    requires budget { 1 ≤ setup.budget }
+    requires budget { 1 ≤ setup.effort.budget }
     requires pieces { setup.pieces ≤ MAX_PIECES }
 {
     let start = Instant::now(rt)?;
@@ -106,7 +104,7 @@ fn measure_search<R: Clock + Print + Eprint + AllocGlobal>(
     setup: Setup,
 ) -> Result<()>
     requires tables { tables.now ≡ tables_over instance.now (customers instance.now) }
-    requires budget { 1 ≤ setup.budget }
+    requires budget { 1 ≤ setup.effort.budget }
     requires pieces { setup.pieces ≤ MAX_PIECES }
 {
     let mut board = Local::open(heuristic_plan(rt.alloc(), instance, setup.by_savings)?);
@@ -129,20 +127,12 @@ fn search_all(
 ) -> Result<u64, NoMemory>
     requires tables { tables.now ≡ tables_over instance.now (customers instance.now) }
     requires board { ForSome board.old (IsPlanOf instance.now) }
-    requires budget { 1 ≤ setup.budget }
+    requires budget { 1 ≤ setup.effort.budget }
     requires pieces { setup.pieces ≤ MAX_PIECES }
 {
     let mut cutting = Cutting::whole(alloc, instance)?;
     cutting.at_least(alloc, instance, setup.pieces)?;
-    search_pieces(
-        alloc,
-        instance,
-        tables,
-        &cutting,
-        setup.whose,
-        setup.budget,
-        board,
-    )
+    search_pieces(alloc, instance, tables, &cutting, setup.effort, board)
 }
 
 // Prints the time, and the rate in millions a second, to its first place behind the point.

@@ -24,24 +24,30 @@ pub(crate) enum Whose {
     Own,
 }
 
-/// Searches each piece with this budget, with tables over all customers or its own, and answers how many partial plans were looked at.
+/// How a piece is searched: with whose tables, and at how many partial plans.
+#[derive(Clone, Copy)]
+pub(crate) struct Effort {
+    pub(crate) whose: Whose,
+    pub(crate) budget: u64,
+}
+
+/// Searches each piece with this effort, and answers how many partial plans were looked at.
 pub(crate) fn search_pieces(
     alloc: Global,
     instance: &Instance,
     tables: &Tables<'_>,
     cutting: &Cutting,
-    whose: Whose,
-    budget: u64,
+    effort: Effort,
     board: &mut Local,
 ) -> Result<u64, NoMemory>
     requires tables { tables.now ≡ tables_over instance.now (customers instance.now) }
     requires cutting { IsCutting instance.now cutting.now }
     requires board { ForSome board.old (IsPlanOf instance.now) }
-    requires budget { 1 ≤ budget }
+    requires budget { 1 ≤ effort.budget }
 {
     let mut looked: u64 = 0;
     for piece in cutting.pieces() {
-        let spent = search_piece(alloc, instance, tables, piece, whose, budget, board)?;
+        let spent = search_piece(alloc, instance, tables, piece, effort, board)?;
         looked = looked.saturating_add(spent);
     }
     Ok(looked)
@@ -53,16 +59,16 @@ fn search_piece(
     instance: &Instance,
     tables: &Tables<'_>,
     piece: &Piece,
-    whose: Whose,
-    budget: u64,
+    effort: Effort,
     board: &mut Local,
 ) -> Result<u64, NoMemory>
     requires tables { tables.now ≡ tables_over instance.now (customers instance.now) }
     requires prefix { IsPrefix instance.now piece.now.word }
     requires board { ForSome board.old (IsPlanOf instance.now) }
-    requires budget { 1 ≤ budget }
+    requires budget { 1 ≤ effort.budget }
     ensures { ForSome board.new (IsPlanOf instance.now) }
 {
+    let Effort { whose, budget } = effort;
     let first_budget = match whose {
         Whose::All => budget,
         Whose::Own => budget.min(FIRST_LOOK),

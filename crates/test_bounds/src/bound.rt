@@ -5,7 +5,6 @@ mod capacity;
 mod divisor;
 mod fixture;
 mod greater;
-mod instances;
 mod ng_tables;
 mod over;
 mod quotients;

@@ -1,9 +1,10 @@
 //! Plans of one instance beside another.
 use crate::assertion::assert_same;
 use crate::fixture::{Square, full_matrix};
-use crate::plan::{joined, singles};
+use crate::plan::singles;
 use std::alloc::Global;
 use std::process::Abort;
+use test_fixtures::joined;
 use vrp_model::Plan;
 
 // Two customers: alone they cost 1 + 2 and 2 + 4, and on one route 1 + 1 + 4.
@@ -73,7 +74,7 @@ const OTHERS: &[Other<'_>] = &[
 fn beside_another_instance(rt: HostRuntime) {
     let own = full_matrix(&rt, rt.alloc(), OWN);
     let apart = singles(&rt, rt.alloc(), &own);
-    let together = joined(&rt, rt.alloc(), &own, 1);
+    let together = joined(rt.alloc(), &own, 1).expect(&rt, "a plan");
     for other in OTHERS {
         assert_fits(&rt, rt.alloc(), &apart, &together, other);
     }
@@ -97,7 +98,7 @@ fn assert_fits(rt: &impl Abort, alloc: Global, apart: &Plan, together: &Plan, ot
 #[test]
 fn a_route_may_run_backward(rt: HostRuntime) {
     let own = full_matrix(&rt, rt.alloc(), OWN);
-    let backward = joined(&rt, rt.alloc(), &own, 2);
+    let backward = joined(rt.alloc(), &own, 2).expect(&rt, "a plan");
     let square: Square<'_> = (&[0, 2, 2, 2, 0, 2, 2, 2, 0], DEMANDS, 2, &[1]);
     let other = full_matrix(&rt, rt.alloc(), square);
     assert!(rt; other.symmetric());

@@ -3,6 +3,7 @@ use crate::assertion::assert_same;
 use crate::fixture::{Case, Square, full_matrix, three_nodes};
 use std::alloc::Global;
 use std::process::Abort;
+use test_fixtures::joined;
 use vrp_model::{Instance, Metric, NoMemory, Plan, Weights};
 
 // Two customers, of whom each demands one.
@@ -47,25 +48,11 @@ fn words(rt: HostRuntime) {
     assert_plan(&rt, &plan, &[&[1], &[2]], 30);
 }
 
-// The plan of one truck that serves this one of two customers first, and then the other.
-pub(crate) fn joined(rt: &impl Abort, alloc: Global, instance: &Instance, first: u16) -> Plan {
-    assert!(rt; instance.customers() == 2);
-    assert!(rt; 1 <= first);
-    assert!(rt; first <= 2);
-    let second = 3 - first;
-    assert!(rt; instance.demand(first) + instance.demand(second) <= instance.capacity());
-    // Backward only where the other direction costs something else.
-    if first == 2 {
-        assert!(rt; !instance.symmetric());
-    }
-    Plan::of_word(alloc, instance, &[first, second, 0]).expect(rt, "memory")
-}
-
 // Both customers are served by one truck, whose route runs forward.
 #[test]
 fn one_truck_for_all(rt: HostRuntime) {
     let instance = three_nodes(&rt, rt.alloc(), TWO);
-    let plan = joined(&rt, rt.alloc(), &instance, 1);
+    let plan = joined(rt.alloc(), &instance, 1).expect(&rt, "a plan");
     assert_same(&rt, plan.word(), &[1, 2, 0], "the word");
     assert_plan(&rt, &plan, &[&[1, 2]], 20);
 }
@@ -90,8 +77,8 @@ fn before_by_cost_and_then_by_word(rt: HostRuntime) {
 
 fn assert_ranks(rt: &impl Abort, alloc: Global, instance: &Instance, ranks: [Rank; 3]) {
     let apart = singles(rt, alloc, instance);
-    let forward = joined(rt, alloc, instance, 1);
-    let backward = joined(rt, alloc, instance, 2);
+    let forward = joined(alloc, instance, 1).expect(rt, "a plan");
+    let backward = joined(alloc, instance, 2).expect(rt, "a plan");
     let [one, other, last] = ranks;
     assert_order(rt, &[(&apart, one), (&forward, other), (&backward, last)]);
 }

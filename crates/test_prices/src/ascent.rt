@@ -2,6 +2,5 @@
 
 mod fine;
 mod found;
-mod instances;
 mod many;
 mod remembered;

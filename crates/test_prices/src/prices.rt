@@ -1,4 +1,3 @@
 //! Tests of `vrp_bound_prices` by values from outside.
 
-mod instances;
 mod relaxation;

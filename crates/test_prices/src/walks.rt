@@ -1,6 +1,5 @@
 //! Tests of `vrp_bound_walks` by a program that tells each walk.
 
-mod instances;
 mod least_routes;
 mod ng_walks;
 mod slow;

@@ -5,10 +5,20 @@
 #[cfg(test)]
 mod assertion;
 #[cfg(test)]
+mod by_hand;
+#[cfg(test)]
 mod canonical;
 #[cfg(test)]
+mod five_places;
+#[cfg(test)]
+mod guides;
+#[cfg(test)]
 mod partition;
+#[cfg(test)]
+mod random;
 #[cfg(test)]
 mod routes;
 #[cfg(test)]
 mod simplex;
+#[cfg(test)]
+mod slow;

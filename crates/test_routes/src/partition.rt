@@ -2,7 +2,4 @@
 
 mod choices;
 mod covers;
-mod guides;
 mod prices;
-mod random;
-mod slow;

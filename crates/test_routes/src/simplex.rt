@@ -2,5 +2,3 @@
 
 mod choices;
 mod programs;
-mod random;
-mod slow;

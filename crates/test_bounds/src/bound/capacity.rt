@@ -1,8 +1,8 @@
 //! The capacity bound by hand.
 
 use crate::assertion::assert_same;
-use crate::bound::instances::{LINE, at_points};
 use std::process::Abort;
+use test_fixtures::{LINE, at_points};
 use vrp_bound::cap_bound;
 use vrp_model::Instance;
 
@@ -26,7 +26,7 @@ const TWO_CUSTOMERS: &[([u64; 3], Asked)] = &[
 #[test]
 fn bounds_of_two_customers(rt: HostRuntime) {
     for (demands, asked) in TWO_CUSTOMERS {
-        let instance = at_points(&rt, rt.alloc(), LINE, demands, 2);
+        let instance = at_points(rt.alloc(), LINE, demands, 2).expect(&rt, "an instance");
         assert_bound(&rt, &instance, *asked);
     }
 }

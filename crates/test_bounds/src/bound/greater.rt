@@ -1,10 +1,10 @@
 //! The greater of the two bounds, by hand.
 
 use crate::assertion::assert_same;
-use crate::bound::instances::{LINE, at_points};
 use crate::bound::over::Over;
 use std::alloc::Global;
 use std::process::Abort;
+use test_fixtures::{LINE, at_points};
 use vrp_bound::bound;
 
 // The second customer lies farther out on the line.
@@ -77,7 +77,7 @@ fn assert_answer(
     demands: [u64; 3],
     asked: Asked,
 ) {
-    let instance = at_points(rt, alloc, points, &demands, 2);
+    let instance = at_points(alloc, points, &demands, 2).expect(rt, "an instance");
     let over = Over::these(rt, alloc, &instance, &[1, 2]);
     assert_bound(rt, &over, asked);
 }

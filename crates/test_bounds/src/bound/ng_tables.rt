@@ -2,10 +2,10 @@
 ghost use Rattle.std.specs.Prelude.{◌≡◌};
 
 use crate::assertion::assert_same;
-use crate::bound::instances::{at_points, one_each, with_arcs};
 use crate::bound::slow_walks::{Stand, Walkers, every_walk};
 use std::alloc::Global;
 use std::process::Abort;
+use test_fixtures::{at_points, one_each, with_arcs};
 use vrp_bound::NgTables;
 use vrp_bound_ng::NgSets;
 use vrp_model::{Instance, MAX_NODES};
@@ -68,7 +68,7 @@ const THREE: &[Three<'_>] = &[
 #[test]
 fn three_on_a_line(rt: HostRuntime) {
     let points = [(0, 0), (10, 0), (20, 0), (30, 0)];
-    let instance = at_points(&rt, rt.alloc(), &points, &[0, 1, 1, 1], 3);
+    let instance = at_points(rt.alloc(), &points, &[0, 1, 1, 1], 3).expect(&rt, "an instance");
     for &three in THREE {
         assert_three(&rt, rt.alloc(), &instance, three);
     }
@@ -130,13 +130,13 @@ fn the_same_as_every_walk(rt: HostRuntime) {
 
 fn assert_there_and_back(rt: &impl Abort, alloc: Global, (demands, capacity): Loaded) {
     let points = [(0, 0), (3, 4), (6, 8), (5, -12), (-4, 3)];
-    let instance = at_points(rt, alloc, &points, &demands, capacity);
+    let instance = at_points(alloc, &points, &demands, capacity).expect(rt, "an instance");
     assert_sizes(rt, alloc, &instance);
 }
 
 fn assert_one_direction(rt: &impl Abort, alloc: Global, (demands, capacity): Loaded) {
     let arcs = one_direction(rt, alloc);
-    let instance = with_arcs(rt, alloc, &arcs, &demands, capacity);
+    let instance = with_arcs(alloc, &arcs, &demands, capacity).expect(rt, "an instance");
     assert_sizes(rt, alloc, &instance);
 }
 
@@ -225,6 +225,6 @@ fn crowded(rt: &impl Abort, alloc: Global) -> Instance {
     let places = usize::from(MAX_NODES);
     let mut points = vec![in alloc; (10, 0); places].expect(rt, "memory");
     points[0] = (0, 0);
-    let demands = one_each(rt, alloc, places);
-    at_points(rt, alloc, &points, &demands, 3)
+    let demands = one_each(alloc, places).expect(rt, "demands");
+    at_points(alloc, &points, &demands, 3).expect(rt, "an instance")
 }

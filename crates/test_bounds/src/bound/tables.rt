@@ -1,11 +1,11 @@
 //! Bounds over some customers: by hand, at the limits of the tables, and beside a slow program that tries every walk.
 
 use crate::assertion::assert_same;
-use crate::bound::instances::{FOUR, LINE, at_points, with_arcs};
 use crate::bound::over::Over;
 use crate::bound::slow_walks::{Stand, Walkers, every_walk};
 use std::alloc::Global;
 use std::process::Abort;
+use test_fixtures::{FOUR, LINE, at_points, with_arcs};
 use vrp_bound::Shape;
 use vrp_model::Instance;
 
@@ -72,7 +72,7 @@ const TWO_CUSTOMERS: &[([u64; 3], &[Asked])] = &[
 #[test]
 fn bounds_over_two_customers(rt: HostRuntime) {
     for &(demands, asked) in TWO_CUSTOMERS {
-        let instance = at_points(&rt, rt.alloc(), LINE, &demands, 2);
+        let instance = at_points(rt.alloc(), LINE, &demands, 2).expect(&rt, "an instance");
         assert_over(&rt, rt.alloc(), &instance, &[1, 2], asked);
     }
 }
@@ -101,7 +101,7 @@ const ONE_CUSTOMER: &[(&[u16], &[Asked])] = &[
 
 #[test]
 fn a_place_outside_the_list(rt: HostRuntime) {
-    let instance = at_points(&rt, rt.alloc(), LINE, &[0, 1, 1], 2);
+    let instance = at_points(rt.alloc(), LINE, &[0, 1, 1], 2).expect(&rt, "an instance");
     for &(customers, asked) in ONE_CUSTOMER {
         assert_over(&rt, rt.alloc(), &instance, customers, asked);
     }
@@ -116,7 +116,10 @@ const LARGEST: &[(u64, &[Asked])] = &[
 #[test]
 fn the_largest_tables(rt: HostRuntime) {
     for &(demand, asked) in LARGEST {
-        let instance = at_points(&rt, rt.alloc(), &[(0, 0), (3, 4)], &[0, demand], demand);
+        let instance = at_points(rt.alloc(), &[(0, 0), (3, 4)], &[0, demand], demand).expect(
+            &rt,
+            "an instance",
+        );
         assert_over(&rt, rt.alloc(), &instance, &[1], asked);
     }
 }
@@ -130,7 +133,10 @@ const DEMANDS: &[Demanded] = &[(1, 2, true), (2_308, 2_309, true), (2_307, 2_311
 #[test]
 fn the_largest_completion_table(rt: HostRuntime) {
     for &(first, second, made) in DEMANDS {
-        let instance = at_points(&rt, rt.alloc(), LINE, &[0, first, second], 4_618);
+        let instance = at_points(rt.alloc(), LINE, &[0, first, second], 4_618).expect(
+            &rt,
+            "an instance",
+        );
         assert_of_two(&rt, rt.alloc(), &instance, (first, second, made));
     }
 }
@@ -170,7 +176,7 @@ const IN_HUNDREDS: &[Asked] = &[
 fn demands_in_hundreds(rt: HostRuntime) {
     let points = [(0, 0), (3, 4), (6, 8), (9, 12), (12, 16)];
     let demands = [0, 5_900, 5_600, 6_000, 5_000];
-    let instance = at_points(&rt, rt.alloc(), &points, &demands, 6_000);
+    let instance = at_points(rt.alloc(), &points, &demands, 6_000).expect(&rt, "an instance");
     let over = Over::these(&rt, rt.alloc(), &instance, &[1, 2, 3, 4]);
     assert_same(&rt, over.tables.shape(), Some(HUNDREDS), "the shape");
     assert_answers(&rt, &over, IN_HUNDREDS);
@@ -217,13 +223,13 @@ fn the_same_as_every_walk(rt: HostRuntime) {
 }
 
 fn assert_near(rt: &impl Abort, alloc: Global, (demands, capacity): Loaded) {
-    let instance = at_points(rt, alloc, FOUR, &demands, capacity);
+    let instance = at_points(alloc, FOUR, &demands, capacity).expect(rt, "an instance");
     assert_lists(rt, alloc, &instance, true);
 }
 
 // Too far for the completion table.
 fn assert_far(rt: &impl Abort, alloc: Global, (demands, capacity): Loaded) {
-    let instance = with_arcs(rt, alloc, FAR, &demands, capacity);
+    let instance = with_arcs(alloc, FAR, &demands, capacity).expect(rt, "an instance");
     assert_lists(rt, alloc, &instance, false);
 }
 

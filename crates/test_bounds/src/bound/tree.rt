@@ -4,10 +4,10 @@ ghost use Rattle.vrp_model.specs.Problem.{place_count};
 
 use crate::assertion::assert_same;
 use crate::bound::fixture::{are_customers, demand_of_all};
-use crate::bound::instances::{LINE, at_points, one_each, with_arcs};
 use crate::bound::slow_tree::{Situation, least_completion, situations, slow_bound};
 use std::alloc::Global;
 use std::process::Abort;
+use test_fixtures::{LINE, at_points, one_each, with_arcs};
 use vrp_bound::TreeScratch;
 use vrp_model::{Instance, MAX_NODES};
 
@@ -50,7 +50,7 @@ const TWO_CUSTOMERS: &[([u64; 3], Asked<'_>)] = &[
 #[test]
 fn bounds_of_two_customers(rt: HostRuntime) {
     for &(demands, asked) in TWO_CUSTOMERS {
-        let instance = at_points(&rt, rt.alloc(), LINE, &demands, 2);
+        let instance = at_points(rt.alloc(), LINE, &demands, 2).expect(&rt, "an instance");
         assert_bound(&rt, rt.alloc(), &instance, asked);
     }
 }
@@ -69,7 +69,7 @@ const THERE_AND_BACK: &[Asked<'_>] = &[
 #[test]
 fn there_and_back_differ(rt: HostRuntime) {
     let arcs = [0, 4, 9, 7, 0, 2, 3, 8, 0];
-    let instance = with_arcs(&rt, rt.alloc(), &arcs, &[0, 2, 2], 2);
+    let instance = with_arcs(rt.alloc(), &arcs, &[0, 2, 2], 2).expect(&rt, "an instance");
     for &asked in THERE_AND_BACK {
         assert_bound(&rt, rt.alloc(), &instance, asked);
     }
@@ -201,7 +201,7 @@ fn scattered(rt: &impl Abort, alloc: Global, seed: Seed, loaded: Loaded<'_>) -> 
                 .expect(rt, "memory");
         }
     }
-    with_arcs(rt, alloc, &arcs, demands, capacity)
+    with_arcs(alloc, &arcs, demands, capacity).expect(rt, "an instance")
 }
 
 fn scattered_weight((seed, symmetric): Seed, from: u64, to: u64) -> u64 {
@@ -214,8 +214,8 @@ fn scattered_weight((seed, symmetric): Seed, from: u64, to: u64) -> u64 {
 // This many nodes on a line, a step apart, the depot first. Each truck carries 240 customers.
 fn on_a_line(rt: &impl Abort, alloc: Global, nodes: u16) -> Instance {
     let arcs = steps_between(rt, alloc, nodes);
-    let demands = one_each(rt, alloc, usize::from(nodes));
-    with_arcs(rt, alloc, &arcs, &demands, 240)
+    let demands = one_each(alloc, usize::from(nodes)).expect(rt, "demands");
+    with_arcs(alloc, &arcs, &demands, 240).expect(rt, "an instance")
 }
 
 fn steps_between(rt: &impl Abort, alloc: Global, nodes: u16) -> Vec<u64> {

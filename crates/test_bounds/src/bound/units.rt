@@ -2,8 +2,8 @@
 
 use crate::assertion::assert_same;
 use crate::bound::fixture::are_customers;
-use crate::bound::instances::{FOUR, at_points};
 use std::process::Abort;
+use test_fixtures::{FOUR, at_points};
 use vrp_bound::{Scope, unit_of};
 use vrp_model::Instance;
 
@@ -20,7 +20,7 @@ const UNITS: &[([u64; 4], &[u16], u64)] = &[
 #[test]
 fn greatest_units(rt: HostRuntime) {
     for &(demands, customers, unit) in UNITS {
-        let instance = at_points(&rt, rt.alloc(), FOUR, &demands, 1_000);
+        let instance = at_points(rt.alloc(), FOUR, &demands, 1_000).expect(&rt, "an instance");
         assert_unit(&rt, &instance, customers, unit);
     }
 }

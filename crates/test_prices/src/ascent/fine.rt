@@ -1,8 +1,8 @@
 //! Prices for a list of routes: demands are counted in finer units than for a search, where there are steps enough.
-use crate::ascent::instances::at_points;
 use crate::assertion::assert_same;
 use std::alloc::Global;
 use std::process::Abort;
+use test_fixtures::at_points;
 use vrp_bound_ascent::{FoundPrices, find_prices, find_prices_for_routes};
 use vrp_model::{Instance, NoMemory};
 
@@ -41,7 +41,7 @@ fn demanding(rt: &impl Abort, alloc: Global) -> Instance {
         let more = (place.wrapping_mul(17) % 41).unsigned_abs();
         demands.push(more.saturating_add(30)).expect(rt, "memory");
     }
-    at_points(rt, alloc, &points, &demands, CAPACITY)
+    at_points(alloc, &points, &demands, CAPACITY).expect(rt, "an instance")
 }
 
 // What a truck carries in the units of the prices.

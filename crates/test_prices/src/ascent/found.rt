@@ -2,10 +2,10 @@
 ghost use Rattle.std.specs.Prelude.{◌≡◌};
 ghost use Rattle.vrp_model.specs.Problem.{place_count};
 
-use crate::ascent::instances::{FOUR, at_points};
 use crate::assertion::assert_same;
 use std::alloc::Global;
 use std::process::Abort;
+use test_fixtures::{FOUR, at_points};
 use vrp_bound::Tables;
 use vrp_bound_ascent::{FoundPrices, find_prices};
 use vrp_bound_prices::Relaxation;
@@ -14,7 +14,7 @@ use vrp_model::Instance;
 
 #[test]
 fn found_prices_bound(rt: HostRuntime) {
-    let instance = at_points(&rt, rt.alloc(), FOUR, &[0, 1, 2, 1], 3);
+    let instance = at_points(rt.alloc(), FOUR, &[0, 1, 2, 1], 3).expect(&rt, "an instance");
     let relaxation = found_prices(&rt, rt.alloc(), &instance, true).relaxation;
     assert_same(&rt, relaxation.scale(), 1_000, "the scale");
     let least = least_of_tours(&rt, rt.alloc(), relaxation.relaxed());
@@ -50,7 +50,7 @@ fn assert_bounds(rt: &impl Abort, relaxation: &Relaxation<'_>, least: u64) {
 // Prices that were found bound the ng-walks too, and these bound as well as walks that don't.
 #[test]
 fn found_prices_bound_walks(rt: HostRuntime) {
-    let instance = at_points(&rt, rt.alloc(), FOUR, &[0, 1, 2, 1], 3);
+    let instance = at_points(rt.alloc(), FOUR, &[0, 1, 2, 1], 3).expect(&rt, "an instance");
     let found = found_prices(&rt, rt.alloc(), &instance, true);
     assert_same(&rt, found.ng_sets.masks(), 4, "masks");
     let looks = NearLooks::new(rt.alloc(), &instance, &found.ng_sets);
@@ -71,7 +71,7 @@ fn least_of_walks(rt: &impl Abort, alloc: Global, instance: &Instance, looks: Ne
 // Told to stop before the first round, it has found no prices: arcs cost what they do in the instance.
 #[test]
 fn stopped_before_the_first_round(rt: HostRuntime) {
-    let instance = at_points(&rt, rt.alloc(), FOUR, &[0, 1, 2, 1], 3);
+    let instance = at_points(rt.alloc(), FOUR, &[0, 1, 2, 1], 3).expect(&rt, "an instance");
     let relaxation = found_prices(&rt, rt.alloc(), &instance, false).relaxation;
     assert!(rt; relaxation.relaxed().customers() == 3 && instance.customers() == 3);
     for customer in 1..4 {
@@ -92,7 +92,7 @@ fn assert_scaled(rt: &impl Abort, instance: &Instance, relaxation: &Relaxation<'
 fn none_at_the_most_nodes(rt: HostRuntime) {
     let points = vec![in rt.alloc(); (0, 0); 1_200].expect(&rt, "memory");
     let demands = vec![in rt.alloc(); 0; 1_200].expect(&rt, "memory");
-    let instance = at_points(&rt, rt.alloc(), &points, &demands, 7);
+    let instance = at_points(rt.alloc(), &points, &demands, 7).expect(&rt, "an instance");
     let found = find_prices(rt.alloc(), &instance, 0, 3, 1_000_000, &|| true);
     assert!(rt; found.expect(&rt, "memory").is_none());
 }

@@ -2,10 +2,10 @@
 ghost use Rattle.std.specs.Prelude.{◌≡◌};
 ghost use Rattle.vrp_model.specs.Problem.{place_count};
 
-use crate::ascent::instances::{at_points, with_arcs};
 use crate::assertion::assert_same;
 use std::alloc::Global;
 use std::process::Abort;
+use test_fixtures::{at_points, with_arcs};
 use vrp_bound::NgTables;
 use vrp_bound_ascent::{FoundPrices, MOST_SEARCHED, find_prices};
 use vrp_model::Instance;
@@ -63,7 +63,7 @@ fn scattered(rt: &impl Abort, alloc: Global, customers: usize) -> Instance {
         points.push((east, north)).expect(rt, "memory");
         demands.push(1).expect(rt, "memory");
     }
-    at_points(rt, alloc, &points, &demands, 4)
+    at_points(alloc, &points, &demands, 4).expect(rt, "an instance")
 }
 
 // The prices that are found where a plan costs so much.
@@ -117,7 +117,7 @@ fn one_direction(rt: &impl Abort, alloc: Global) -> Instance {
     for customer in 0..130u64 {
         demands.push(10_000_000 + customer).expect(rt, "memory");
     }
-    with_arcs(rt, alloc, &arcs, &demands, 100_000_000)
+    with_arcs(alloc, &arcs, &demands, 100_000_000).expect(rt, "an instance")
 }
 
 fn push_arcs(rt: &impl Abort, arcs: &mut Vec<u64>, from: u64) {

@@ -1,8 +1,8 @@
 //! How much the walks of the rounds remember.
-use crate::ascent::instances::at_points;
 use crate::assertion::assert_same;
 use std::alloc::Global;
 use std::process::Abort;
+use test_fixtures::at_points;
 use vrp_bound_ascent::{Remembered, find_prices, is_affordable};
 use vrp_bound_walks::Size;
 use vrp_model::Instance;
@@ -33,7 +33,7 @@ fn crowd(rt: &impl Abort, alloc: Global, customers: usize) -> Instance {
     let points = [(3, 4), (0, 0), (0, 0), (0, 0), (0, 0), (0, 0)];
     let demands = [0, 1, 1, 1, 1, 1];
     let places = customers + 1;
-    at_points(rt, alloc, &points[..places], &demands[..places], 2)
+    at_points(alloc, &points[..places], &demands[..places], 2).expect(rt, "an instance")
 }
 
 // The whole demand, the steps, how many ng-sets there are, and what a round takes. With 4 places each load takes 16 looks

@@ -3,9 +3,9 @@ ghost use Rattle.std.specs.Prelude.{All};
 ghost use Rattle.vrp_bound_prices.specs.Cut.{IsCut};
 
 use crate::assertion::assert_same;
-use crate::prices::instances::{FOUR, LINE, at_points, with_arcs};
 use std::alloc::Global;
 use std::process::Abort;
+use test_fixtures::{FOUR, LINE, at_points, with_arcs};
 use vrp_bound_prices::{Cut, Relaxation};
 use vrp_model::{Instance, NO_COST};
 
@@ -47,9 +47,12 @@ const PRICES: &[[i64; 4]] = &[
 fn every_word_within_its_limit(rt: HostRuntime) {
     let mut words = 0u64;
     for (demands, capacity) in DEMANDS {
-        let near = at_points(&rt, rt.alloc(), FOUR, demands, *capacity);
+        let near = at_points(rt.alloc(), FOUR, demands, *capacity).expect(&rt, "an instance");
         words = words.saturating_add(words_of_all(&rt, rt.alloc(), &near));
-        let far = with_arcs(&rt, rt.alloc(), ONE_DIRECTION, demands, *capacity);
+        let far = with_arcs(rt.alloc(), ONE_DIRECTION, demands, *capacity).expect(
+            &rt,
+            "an instance",
+        );
         words = words.saturating_add(words_of_all(&rt, rt.alloc(), &far));
         let few = far.with_trucks(2);
         words = words.saturating_add(words_of_all(&rt, rt.alloc(), &few));
@@ -193,7 +196,7 @@ fn relaxed<'a>(
 
 // Three nodes on a line.
 fn three_nodes(rt: &impl Abort, alloc: Global, demands: &[u64], capacity: u64) -> Instance {
-    at_points(rt, alloc, LINE, demands, capacity)
+    at_points(alloc, LINE, demands, capacity).expect(rt, "an instance")
 }
 
 const PRICED_ARCS: &[(u16, u16, u64)] = &[
@@ -362,7 +365,7 @@ fn the_most_nodes(rt: HostRuntime) {
 fn most_nodes(rt: &impl Abort, alloc: Global) -> Instance {
     let points = vec![in alloc; (0, 0); 1_200].expect(rt, "memory");
     let demands = vec![in alloc; 0; 1_200].expect(rt, "memory");
-    at_points(rt, alloc, &points, &demands, 7)
+    at_points(alloc, &points, &demands, 7).expect(rt, "an instance")
 }
 
 // The relaxation by these cuts, and the same price for each of so many nodes.

@@ -1,8 +1,8 @@
 //! The least route through each customer, and its arcs.
 use crate::assertion::assert_same;
-use crate::walks::instances::with_arcs;
 use std::alloc::Global;
 use std::process::Abort;
+use test_fixtures::with_arcs;
 use vrp_bound_ng::NgSets;
 use vrp_bound_walks::{LeastRoutes, NearLooks, Size, UsedArc, WHOLE_TOUR, Walks};
 use vrp_model::Instance;
@@ -26,7 +26,7 @@ const LEAST: &[Least] = &[
 
 #[test]
 fn least_routes(rt: HostRuntime) {
-    let instance = with_arcs(&rt, rt.alloc(), &ARCS, DEMANDS, 2);
+    let instance = with_arcs(rt.alloc(), &ARCS, DEMANDS, 2).expect(&rt, "an instance");
     for &least in LEAST {
         for near in 0..3 {
             assert_least(&rt, rt.alloc(), &instance, least, near);

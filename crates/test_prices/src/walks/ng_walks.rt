@@ -1,9 +1,9 @@
 //! The least ng-walks, and the least tours, beside a program that tells each walk stop by stop.
 use crate::assertion::assert_same;
-use crate::walks::instances::with_arcs;
 use crate::walks::slow::Slow;
 use std::alloc::Global;
 use std::process::Abort;
+use test_fixtures::with_arcs;
 use vrp_bound_ng::NgSets;
 use vrp_bound_walks::{NearLooks, Size, Walks};
 use vrp_model::Instance;
@@ -127,7 +127,7 @@ fn prices_of(rt: &impl Abort, alloc: Global, places: usize, round: i64) -> Vec<i
 }
 
 fn instance_of(rt: &impl Abort, alloc: Global, case: Case) -> Instance {
-    with_arcs(rt, alloc, case.weights, case.demands, case.capacity)
+    with_arcs(alloc, case.weights, case.demands, case.capacity).expect(rt, "an instance")
 }
 
 // Fills the tables where this many customers are near each place, and compares them with all walks; how many these are.

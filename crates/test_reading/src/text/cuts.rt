@@ -4,50 +4,59 @@ use crate::text::fixture::{SMALL, refusal_of};
 use vrp_text::TextError::{BadNumber, BadValue, Missing, UnknownKeyword, WrongCount};
 use vrp_text::{Key, TextError};
 
+// From this length on the small file is refused for this when it is cut off there, or is not.
+const REFUSALS: &[(usize, Option<TextError>)] = &[
+    (0, Some(Missing(Key::Problem))),
+    // NAME : A
+    (1, Some(UnknownKeyword(1))),
+    (4, Some(Missing(Key::Problem))),
+    // COMMENT : three nodes
+    (10, Some(UnknownKeyword(2))),
+    (16, Some(Missing(Key::Problem))),
+    // TYPE : CVRP
+    (32, Some(UnknownKeyword(3))),
+    (35, Some(BadValue(3))),
+    (42, Some(Missing(Key::Dimension))),
+    // DIMENSION : 3
+    (44, Some(UnknownKeyword(4))),
+    (52, Some(BadValue(4))),
+    (56, Some(Missing(Key::Capacity))),
+    // EDGE_WEIGHT_TYPE : EUC_2D
+    (58, Some(UnknownKeyword(5))),
+    (73, Some(BadValue(5))),
+    (82, Some(Missing(Key::Capacity))),
+    // CAPACITY : 2
+    (84, Some(UnknownKeyword(6))),
+    (91, Some(BadValue(6))),
+    (95, Some(Missing(Key::NodeCoord))),
+    // NODE_COORD_SECTION and its rows
+    (97, Some(UnknownKeyword(7))),
+    (114, Some(Missing(Key::Demand))),
+    // DEMAND_SECTION and its rows
+    (134, Some(UnknownKeyword(11))),
+    (147, Some(Missing(Key::Depot))),
+    // DEPOT_SECTION
+    (161, Some(UnknownKeyword(15))),
+    (173, Some(WrongCount(Key::Depot))),
+    // 1
+    (175, None),
+    // -1
+    (177, Some(BadNumber(17))),
+    (178, None),
+    // EOF
+    (180, Some(UnknownKeyword(18))),
+    (182, None),
+];
+
 // Why the small file is refused when it is cut off after this many bytes, where it is.
 fn refusal_after(length: usize) -> Option<TextError> {
-    match length {
-        0 => Some(Missing(Key::Problem)),
-        // NAME : A
-        1..=3 => Some(UnknownKeyword(1)),
-        4..=9 => Some(Missing(Key::Problem)),
-        // COMMENT : three nodes
-        10..=15 => Some(UnknownKeyword(2)),
-        16..=31 => Some(Missing(Key::Problem)),
-        // TYPE : CVRP
-        32..=34 => Some(UnknownKeyword(3)),
-        35..=41 => Some(BadValue(3)),
-        42..=43 => Some(Missing(Key::Dimension)),
-        // DIMENSION : 3
-        44..=51 => Some(UnknownKeyword(4)),
-        52..=55 => Some(BadValue(4)),
-        56..=57 => Some(Missing(Key::Capacity)),
-        // EDGE_WEIGHT_TYPE : EUC_2D
-        58..=72 => Some(UnknownKeyword(5)),
-        73..=81 => Some(BadValue(5)),
-        82..=83 => Some(Missing(Key::Capacity)),
-        // CAPACITY : 2
-        84..=90 => Some(UnknownKeyword(6)),
-        91..=94 => Some(BadValue(6)),
-        95..=96 => Some(Missing(Key::NodeCoord)),
-        // NODE_COORD_SECTION and its rows
-        97..=113 => Some(UnknownKeyword(7)),
-        114..=133 => Some(Missing(Key::Demand)),
-        // DEMAND_SECTION and its rows
-        134..=146 => Some(UnknownKeyword(11)),
-        147..=160 => Some(Missing(Key::Depot)),
-        // DEPOT_SECTION
-        161..=172 => Some(UnknownKeyword(15)),
-        173..=174 => Some(WrongCount(Key::Depot)),
-        // 1
-        175..=176 => None,
-        // -1
-        177 => Some(BadNumber(17)),
-        178..=179 => None,
-        // EOF
-        180..=181 => Some(UnknownKeyword(18)),
-        _ => None,
+    let mut refusal = None;
+    for &(from, row) in REFUSALS {
+        if from <= length {
+            refusal = row;
+        }
     }
+    refusal
 }
 
 // Cut off after each byte in turn.

@@ -1,5 +1,6 @@
 //! Plans found from the pool that is listed by a known plan.
 
+use crate::guides::Asks;
 use std::alloc::Global;
 use std::process::Abort;
 use std::thread::Threads;
@@ -8,34 +9,27 @@ use vrp_bound_ng::NgSets;
 use vrp_bound_prices::Relaxation;
 use vrp_canonical::{PlanSearch, canonical_plan};
 use vrp_model::{Instance, NO_COST, NoMemory, Plan};
-use vrp_partition::{Ask, Guide, Team};
+use vrp_partition::{Guide, Team};
 use vrp_routes::{Listed, can_list, list_routes};
 
-/// Who is asked whether a search goes on.
+/// How long a search may take.
 #[derive(Clone, Copy, Debug)]
-pub(crate) struct Asks {
-    pub(crate) should_continue: bool,
+pub(crate) struct Effort {
+    pub(crate) ask: Asks,
+    pub(crate) budget: u64,
 }
 
-impl Ask for Asks {
-    fn should_continue(&self) -> bool {
-        self.should_continue
-    }
-}
-
-/// What is found by two workers from a known plan, by a guide and within a budget.
+/// What is found by two workers from a known plan, by a guide and with so much effort.
 pub(crate) fn found_plan<R: Abort + Threads + Sync, P: Guide + Send>(
     rt: &R,
     alloc: Global,
     instance: &Instance,
     known: &Plan,
     guide: &P,
-    ask: Asks,
-    budget: u64,
+    effort: Effort,
 ) -> Result<Option<PlanSearch>, NoMemory> {
     let limit = known.cost();
-    assert!(rt; can_list(instance));
-    assert!(rt; limit <= NO_COST);
+    assert!(rt; can_list(instance) && limit <= NO_COST);
     let prices = vec![in alloc; 0i64; usize::from(instance.customers()) + 1]?;
     let made = Relaxation::new(alloc, instance, 1, 1, prices.as_slice(), &[])?;
     let relaxation = made.expect(rt, "prices");
@@ -51,12 +45,12 @@ pub(crate) fn found_plan<R: Abort + Threads + Sync, P: Guide + Send>(
         u32::MAX,
         &|_labels| true,
     )?;
-    let mut left = budget;
+    let mut left = effort.budget;
     let team = Team {
         rt,
         alloc,
         workers: 2,
-        ask: &ask,
+        ask: &effort.ask,
     };
     match listed {
         Listed::Pool(pool) => {

@@ -1,51 +1,34 @@
 //! Plans found are the canonical ones, as a slow program finds them.
 
 use crate::assertion::assert_same;
-use crate::canonical::found::{Asks, found_plan};
-use crate::canonical::guides::{Habit, Habitual};
-use crate::canonical::instances::{FIVE, SQUARE, at_points, with_arcs};
-use crate::canonical::random::Random;
-use crate::canonical::slow::{Canonical, canonical_plan};
+use crate::canonical::found::{Effort, found_plan};
+use crate::five_places::{DEMANDS, LEVEL, ONE_DIRECTION};
+use crate::guides::{Among, Asks, Habit, Habitual};
 use std::alloc::Global;
 use std::process::Abort;
 use std::thread::Threads;
+use test_fixtures::{Canonical, FIVE, Random, SQUARE, at_points, canonical_plan, with_arcs};
 use vrp_canonical::PlanSearch;
 use vrp_model::{Instance, Plan};
 use vrp_search_tree::lawful_plan;
-
-const ONE_DIRECTION: &[u64] = &[
-    0, 3, 9, 4, 5, 8, 0, 2, 7, 6, 5, 6, 0, 1, 4, 9, 3, 8, 0, 2, 4, 4, 7, 3, 0,
-];
-
-// All arcs cost the same, so that the order of symbols decides.
-const LEVEL: &[u64] = &[
-    0, 1, 1, 1, 1, 1, 0, 1, 1, 1, 1, 1, 0, 1, 1, 1, 1, 1, 0, 1, 1, 1, 1, 1, 0,
-];
-
-// Tight and loose, and with demands of 0.
-const DEMANDS: &[([u64; 5], u64)] = &[
-    ([0, 1, 2, 1, 2], 3),
-    ([0, 3, 5, 4, 2], 9),
-    ([0, 3, 5, 4, 2], 20),
-    ([0, 0, 2, 0, 1], 2),
-    ([0, 0, 0, 0, 0], 0),
-    ([0, 7, 9, 1, 3], 10),
-];
 
 #[test]
 fn plans_by_hand(rt: HostRuntime) {
     let (rt, alloc) = (&rt, rt.alloc());
     let mut plans = 0u64;
     for (demands, capacity) in DEMANDS {
-        let instance = at_points(rt, alloc, FIVE, demands, *capacity);
+        let instance = at_points(alloc, FIVE, demands, *capacity).expect(rt, "an instance");
         plans = plans.saturating_add(plans_of(rt, alloc, &instance));
-        let instance = at_points(rt, alloc, SQUARE, demands, *capacity);
+        let instance = at_points(alloc, SQUARE, demands, *capacity).expect(rt, "an instance");
         plans = plans.saturating_add(plans_of(rt, alloc, &instance));
-        let instance = with_arcs(rt, alloc, LEVEL, demands, *capacity);
+        let instance = with_arcs(alloc, LEVEL, demands, *capacity).expect(rt, "an instance");
         plans = plans.saturating_add(plans_of(rt, alloc, &instance));
         let few = instance.with_trucks(2);
         plans = plans.saturating_add(plans_of(rt, alloc, &few));
-        let instance = with_arcs(rt, alloc, ONE_DIRECTION, demands, *capacity);
+        let instance = with_arcs(alloc, ONE_DIRECTION, demands, *capacity).expect(
+            rt,
+            "an instance",
+        );
         plans = plans.saturating_add(plans_of(rt, alloc, &instance));
         let few = instance.with_trucks(1);
         plans = plans.saturating_add(plans_of(rt, alloc, &few));
@@ -81,12 +64,13 @@ fn by_chance(rt: &impl Abort, alloc: Global, random: &mut Random) -> Instance {
             .push(u64::from(random.next() % 3))
             .expect(rt, "memory");
     }
-    with_arcs(rt, alloc, arcs.as_slice(), demands.as_slice(), 4)
+    with_arcs(alloc, arcs.as_slice(), demands.as_slice(), 4).expect(rt, "an instance")
 }
 
 // How many plans were found and are the canonical one: from it, and from the plan of one truck to each customer, by several guides.
 fn plans_of<R: Abort + Threads + Sync>(rt: &R, alloc: Global, instance: &Instance) -> u64 {
-    let Some(canonical) = canonical_plan(rt, alloc, instance) else {
+    let canonical = canonical_plan(alloc, instance).expect(rt, "memory");
+    let Some(canonical) = canonical else {
         return 0;
     };
     let known = lawful_plan(alloc, instance, canonical.word.as_slice()).expect(rt, "memory");
@@ -129,6 +113,15 @@ fn bound_told(found: &Option<PlanSearch>) -> Option<u64> {
     }
 }
 
+fn guide(alloc: Global, habit: Habit, seed: u64) -> Habitual {
+    Habitual {
+        alloc,
+        habit,
+        among: Among::FirstEight,
+        random: Random(seed),
+    }
+}
+
 const GUIDES: &[(Habit, u64)] = &[(Habit::Zeros, 1), (Habit::Random, 2), (Habit::Random, 3)];
 
 fn by_guides<R: Abort + Threads + Sync>(
@@ -140,16 +133,14 @@ fn by_guides<R: Abort + Threads + Sync>(
 ) -> u64 {
     let mut plans = 0u64;
     for &(habit, seed) in GUIDES {
-        let random = Random(seed);
-        let guide = Habitual {
-            alloc,
-            habit,
-            random,
+        let guide = guide(alloc, habit, seed);
+        let effort = Effort {
+            ask: Asks {
+                should_continue: true,
+            },
+            budget: 1_000_000,
         };
-        let ask = Asks {
-            should_continue: true,
-        };
-        let found = found_plan(rt, alloc, instance, known, &guide, ask, 1_000_000);
+        let found = found_plan(rt, alloc, instance, known, &guide, effort);
         let plan = canonical_of(found.expect(rt, "memory")).expect(rt, "a plan");
         assert_same(rt, plan.cost(), canonical.cost, "cost");
         assert!(rt;
@@ -179,21 +170,20 @@ const LIMITS: &[(Habit, u64, bool, bool)] = &[
 #[test]
 fn budgets_and_guides_that_stop(rt: HostRuntime) {
     let (rt, alloc) = (&rt, rt.alloc());
-    let instance = at_points(rt, alloc, FIVE, &[0, 1, 1, 1, 1], 4);
+    let instance = at_points(alloc, FIVE, &[0, 1, 1, 1, 1], 4).expect(rt, "an instance");
     let singles = Plan::singles(alloc, &instance).expect(rt, "memory");
     let known = singles.expect(rt, "a truck for each");
-    let canonical = canonical_plan(rt, alloc, &instance).expect(rt, "a plan");
+    let canonical = canonical_plan(alloc, &instance).expect(rt, "memory");
+    let canonical = canonical.expect(rt, "a plan");
     for &(habit, budget, wanted, told) in LIMITS {
-        let random = Random(5);
-        let guide = Habitual {
-            alloc,
-            habit,
-            random,
+        let guide = guide(alloc, habit, 5);
+        let effort = Effort {
+            ask: Asks {
+                should_continue: habit != Habit::Stopping,
+            },
+            budget,
         };
-        let ask = Asks {
-            should_continue: habit != Habit::Stopping,
-        };
-        let found = found_plan(rt, alloc, &instance, &known, &guide, ask, budget);
+        let found = found_plan(rt, alloc, &instance, &known, &guide, effort);
         let found = found.expect(rt, "memory");
         let cost = cost_told(rt, alloc, &instance, &found);
         assert_same(rt, cost, told.then_some(canonical.cost), (habit, budget));

@@ -1,37 +1,17 @@
 //! The cheapest choice by hand, and beside every choice of random pools, by guides that know nothing.
 
 use crate::assertion::assert_same;
-use crate::partition::guides::{Asks, HABITS, Habit, Habitual};
-use crate::partition::random::{Random, all_customers};
-use crate::partition::slow::{cost_of_choice, least_cost};
+use crate::by_hand::{FOUR, Pair, THREE, pool_of};
+use crate::guides::{Among, Asks, HABITS, Habit, Habitual};
+use crate::random::{ALL_CUSTOMERS, pool, repeated};
+use crate::slow::{cost_of_choice, least_cost};
 use std::alloc::{AllocError, Global};
 use std::process::Abort;
 use std::thread::Threads;
+use test_fixtures::Random;
 use vrp_partition::{
     Chosen, Fleet, Found, MOST_CUSTOMERS, Route, Team, all_fit, cheapest_choice, routes_within,
 };
-
-// A route: its customers and its cost.
-type Pair = (u128, u32);
-
-const THREE: &[Pair] = &[
-    (0b0010, 10),
-    (0b0100, 10),
-    (0b1000, 10),
-    (0b0110, 12),
-    (0b1100, 13),
-    (0b1010, 14),
-    (0b1110, 25),
-];
-
-const FOUR: &[Pair] = &[
-    (0b00110, 5),
-    (0b11000, 5),
-    (0b01010, 4),
-    (0b10100, 7),
-    (0b10010, 3),
-    (0b01100, 6),
-];
 
 const MUCH: u64 = 1 << 32;
 
@@ -76,47 +56,43 @@ fn choices_by_hand(rt: HostRuntime) {
     for &(told, customers, trucks, incumbent, cost) in BY_HAND {
         for &habit in HABITS {
             let pool = pool_of(rt, alloc, told);
-            let found = choice(
-                rt, alloc, habit, 128, trucks, pool, customers, incumbent, 100,
-            );
+            let asked = Asked {
+                habit,
+                capacity: 128,
+                trucks,
+                customers,
+                incumbent,
+                budget: 100,
+            };
+            let found = choice(rt, alloc, asked, &pool);
             let found = found.expect(rt, "a budget that suffices");
             assert_same(rt, found.cost, cost, (customers, incumbent));
-            assert_routes(rt, &found, customers, trucks, incumbent);
+            assert_routes(rt, &found, asked);
         }
     }
 }
 
-fn pool_of(rt: &impl Abort, alloc: Global, told: &[Pair]) -> Vec<Route> {
-    let mut pool = Vec::new(alloc);
-    for &(set, cost) in told {
-        pool.push(Route { set, cost }).expect(rt, "memory");
-    }
-    pool
-}
-
-// The cheapest choice, where the search ends, by any number of workers. Each customer demands 1.
-fn choice<R: Abort + Threads + Sync>(
-    rt: &R,
-    alloc: Global,
+// What is asked of a search. Each customer demands 1.
+#[derive(Clone, Copy, Debug)]
+struct Asked {
     habit: Habit,
     capacity: u32,
     trucks: u8,
-    pool: Vec<Route>,
     customers: u128,
     incumbent: u64,
-    nodes: u64,
+    budget: u64,
+}
+
+// The cheapest choice, where the search ends, by any number of workers.
+fn choice<R: Abort + Threads + Sync>(
+    rt: &R,
+    alloc: Global,
+    asked: Asked,
+    pool: &[Route],
 ) -> Option<Chosen> {
-    let asked = Asked {
-        habit,
-        capacity,
-        trucks,
-        customers,
-        incumbent,
-        budget: nodes,
-    };
-    let one = found_by(rt, alloc, 1, asked, &pool);
+    let one = found_by(rt, alloc, 1, asked, pool);
     for workers in [2, 3, 8] {
-        let other = found_by(rt, alloc, workers, asked, &pool);
+        let other = found_by(rt, alloc, workers, asked, pool);
         assert_same(rt, told_of(&other), told_of(&one), workers);
     }
     cheapest(one)
@@ -128,17 +104,6 @@ fn cheapest(found: Found) -> Option<Chosen> {
         Found::Cheapest(chosen) => Some(chosen),
         Found::Unfinished { .. } => None,
     }
-}
-
-// What is asked of a search.
-#[derive(Clone, Copy, Debug)]
-struct Asked {
-    habit: Habit,
-    capacity: u32,
-    trucks: u8,
-    customers: u128,
-    incumbent: u64,
-    budget: u64,
 }
 
 // What so many workers find.
@@ -159,6 +124,15 @@ fn found_by<R: Abort + Threads + Sync>(
     found
 }
 
+fn guide(alloc: Global, habit: Habit, seed: u64) -> Habitual {
+    Habitual {
+        alloc,
+        habit,
+        among: Among::Pools,
+        random: Random(seed),
+    }
+}
+
 // What comes of a search by so many workers.
 fn searched_by<R: Abort + Threads + Sync>(
     rt: &R,
@@ -171,11 +145,7 @@ fn searched_by<R: Abort + Threads + Sync>(
     let demands = [1u32; MOST_CUSTOMERS];
     assert!(rt; all_fit(pool, &demands, asked.capacity));
     assert!(rt; asked.incumbent <= MUCH && workers > 0);
-    let guide = Habitual {
-        alloc,
-        habit: asked.habit,
-        random: Random(asked.budget),
-    };
+    let guide = guide(alloc, asked.habit, asked.budget);
     let ask = Asks {
         should_continue: asked.habit != Habit::Stopping,
     };
@@ -227,12 +197,12 @@ fn told_of(found: &Found) -> Told {
 }
 
 // Below the incumbent the routes are a choice of that cost.
-fn assert_routes(rt: &impl Abort, found: &Chosen, customers: u128, trucks: u8, incumbent: u64) {
-    if found.cost < incumbent {
-        let cost = cost_of_choice(&found.routes, customers, trucks);
-        assert_same(rt, cost, Some(found.cost), customers);
+fn assert_routes(rt: &impl Abort, found: &Chosen, asked: Asked) {
+    if found.cost < asked.incumbent {
+        let cost = cost_of_choice(&found.routes, asked.customers, asked.trucks);
+        assert_same(rt, cost, Some(found.cost), asked.customers);
     } else {
-        assert_same(rt, found.cost, incumbent, customers);
+        assert_same(rt, found.cost, asked.incumbent, asked.customers);
     }
 }
 
@@ -246,34 +216,25 @@ fn choices_beside_every_choice(rt: HostRuntime) {
     let mut random = Random(2);
     for round in 0..24u32 {
         let capacity = 3 + round % 2 * 3;
-        let pool = fitting(
-            rt,
-            alloc,
-            &mut random,
-            4 + round % 9,
-            4 + round % 3 * 50,
-            capacity,
-        );
+        let (count, costs) = (4 + round % 9, 4 + round % 3 * 50);
+        let pool = fitting(rt, alloc, &mut random, count, costs, capacity);
         let trucks = TRUCKS[round as usize % TRUCKS.len()];
-        let least = least_cost(rt, &pool, all_customers(), trucks);
+        let least = least_cost(rt, &pool, ALL_CUSTOMERS, trucks);
         for &habit in HABITS {
             for incumbent in [MUCH, 40, 3] {
-                let routes = Vec::from_slice(alloc, &pool).expect(rt, "memory");
-                let found = choice(
-                    rt,
-                    alloc,
+                let asked = Asked {
                     habit,
                     capacity,
                     trucks,
-                    routes,
-                    all_customers(),
+                    customers: ALL_CUSTOMERS,
                     incumbent,
-                    1_000,
-                );
+                    budget: 1_000,
+                };
+                let found = choice(rt, alloc, asked, &pool);
                 let found = found.expect(rt, "a budget that suffices");
                 let wanted = least.unwrap_or(incumbent).min(incumbent);
                 assert_same(rt, found.cost, wanted, (round, habit, incumbent));
-                assert_routes(rt, &found, all_customers(), trucks, incumbent);
+                assert_routes(rt, &found, asked);
             }
         }
     }
@@ -288,8 +249,8 @@ fn fitting(
     costs: u32,
     capacity: u32,
 ) -> Vec<Route> {
-    let mut pool = random.pool(rt, alloc, count, costs);
-    for route in &mut pool {
+    let mut routes = pool(rt, alloc, random, (count, u32::MAX), costs);
+    for route in &mut routes {
         if route.set.count_ones() > capacity {
             route.set &= route.set - 1;
         }
@@ -297,11 +258,21 @@ fn fitting(
             route.set = 1;
         }
     }
-    pool
+    routes
 }
 
 // More than any choice of cheap routes costs.
 const DEAR: u64 = 600;
+
+// All customers of random pools, three at most to a truck, where that costs less than dear routes do.
+const CHEAP: Asked = Asked {
+    habit: Habit::Zeros,
+    capacity: 3,
+    trucks: 128,
+    customers: ALL_CUSTOMERS,
+    incumbent: DEAR,
+    budget: 1_000,
+};
 
 // Of each route there are so many costlier ones that a node is branched on before it is searched.
 #[test]
@@ -310,41 +281,31 @@ fn pools_that_are_branched_on(rt: HostRuntime) {
     let mut random = Random(3);
     for round in 0..8u32 {
         let base = fitting(rt, alloc, &mut random, 8, 10, 3);
-        let least = least_cost(rt, &base, all_customers(), 128).unwrap_or(DEAR);
+        let least = least_cost(rt, &base, ALL_CUSTOMERS, 128).unwrap_or(DEAR);
+        let pool = repeated(rt, alloc, &base, 400, 1);
         for &habit in HABITS {
-            let pool = repeated(rt, alloc, &base, 400);
-            let found = choice(rt, alloc, habit, 3, 128, pool, all_customers(), DEAR, 1_000);
+            let asked = Asked { habit, ..CHEAP };
+            let found = choice(rt, alloc, asked, &pool);
             let found = found.expect(rt, "a budget that suffices");
             assert_same(rt, found.cost, least, (round, habit));
-            assert_routes(rt, &found, all_customers(), 128, DEAR);
+            assert_routes(rt, &found, asked);
         }
-        for nodes in [0, 1, 9] {
-            let pool = repeated(rt, alloc, &base, 400);
-            let found = choice(
-                rt,
-                alloc,
-                Habit::Idle,
-                3,
-                128,
-                pool,
-                all_customers(),
-                MUCH,
-                nodes,
-            );
-            assert_same(rt, found.is_some(), false, nodes);
+        for budget in [0, 1, 9] {
+            let found = choice(rt, alloc, unfinished(Habit::Idle, budget), &pool);
+            assert_same(rt, found.is_some(), false, budget);
         }
-        let found = choice(
-            rt,
-            alloc,
-            Habit::Stopping,
-            3,
-            128,
-            base,
-            all_customers(),
-            MUCH,
-            9,
-        );
+        let found = choice(rt, alloc, unfinished(Habit::Stopping, 9), &base);
         assert_same(rt, found.is_some(), false, "it would not go on");
+    }
+}
+
+// The same, where no cost is known and the search doesn't end.
+fn unfinished(habit: Habit, budget: u64) -> Asked {
+    Asked {
+        habit,
+        incumbent: MUCH,
+        budget,
+        ..CHEAP
     }
 }
 
@@ -368,19 +329,12 @@ fn memory_refused_to_a_guide(rt: HostRuntime) {
     }
 }
 
-// Each of the routes, and so many times the same at a higher cost.
-fn repeated(rt: &impl Abort, alloc: Global, base: &[Route], times: u32) -> Vec<Route> {
-    let mut pool = Vec::from_slice(alloc, base).expect(rt, "memory");
-    for _ in 0..times {
-        for route in base {
-            let route = Route {
-                set: route.set,
-                cost: route.cost.saturating_add(590),
-            };
-            pool.push(route).expect(rt, "memory");
-        }
-    }
-    pool
+// Which routes are asked for: those that stand in a choice within the limit. Each customer demands 1, and a truck carries 3.
+#[derive(Clone, Copy, Debug)]
+struct Within {
+    habit: Habit,
+    trucks: u8,
+    limit: u32,
 }
 
 // A route is marked where it stands in a choice within the limit: what costs least with it is found by a slow program.
@@ -393,21 +347,31 @@ fn routes_within_limits(rt: HostRuntime) {
         let trucks = TRUCKS[round as usize % TRUCKS.len()];
         for &habit in HABITS {
             for limit in [0, 5, 60, u32::MAX] {
-                let mut budget = MUCH;
-                let marks = marks(rt, alloc, habit, trucks, &pool, limit, &mut budget);
-                assert!(rt; budget < MUCH, "nothing is spent, round {round}");
-                assert_same(rt, marks.len(), pool.len(), round);
-                for (at, route) in pool.iter().enumerate() {
-                    let least = least_with(rt, alloc, &pool, at, trucks);
-                    let marked = marks.get(at).copied().unwrap_or(false);
-                    let stands = least.is_some_and(|cost| cost <= u64::from(limit));
-                    assert!(rt;
-                        marked || !stands,
-                        "{route:?} within {limit}, round {round}"
-                    );
-                }
+                let within = Within {
+                    habit,
+                    trucks,
+                    limit,
+                };
+                assert_marks(rt, alloc, within, &pool, round);
             }
         }
+    }
+}
+
+fn assert_marks(rt: &impl Abort, alloc: Global, within: Within, pool: &[Route], round: u32) {
+    let mut budget = MUCH;
+    let marks = marks(rt, alloc, within, pool, &mut budget);
+    assert!(rt; budget < MUCH, "nothing is spent, round {round}");
+    assert_same(rt, marks.len(), pool.len(), round);
+    let limit = within.limit;
+    for (at, route) in pool.iter().enumerate() {
+        let least = least_with(rt, alloc, pool, at, within.trucks);
+        let marked = marks.get(at).copied().unwrap_or(false);
+        let stands = least.is_some_and(|cost| cost <= u64::from(limit));
+        assert!(rt;
+            marked || !stands,
+            "{route:?} within {limit}, round {round}"
+        );
     }
 }
 
@@ -416,8 +380,13 @@ fn routes_within_limits(rt: HostRuntime) {
 fn no_budget_marks_all(rt: HostRuntime) {
     let (rt, alloc) = (&rt, rt.alloc());
     let pool = fitting(rt, alloc, &mut Random(7), 5, 60, 3);
+    let within = Within {
+        habit: Habit::Zeros,
+        trucks: 128,
+        limit: 0,
+    };
     let mut budget = 0;
-    let marks = marks(rt, alloc, Habit::Zeros, 128, &pool, 0, &mut budget);
+    let marks = marks(rt, alloc, within, &pool, &mut budget);
     assert_same(rt, marks.len(), pool.len(), 0u32);
     assert!(rt; marks.iter().all(|mark| *mark), "a route is not marked");
 }
@@ -425,23 +394,17 @@ fn no_budget_marks_all(rt: HostRuntime) {
 fn marks(
     rt: &impl Abort,
     alloc: Global,
-    habit: Habit,
-    trucks: u8,
+    within: Within,
     pool: &[Route],
-    limit: u32,
     budget: &mut u64,
 ) -> Vec<bool> {
     let demands = [1u32; MOST_CUSTOMERS];
     assert!(rt; all_fit(pool, &demands, 3));
-    let mut guide = Habitual {
-        alloc,
-        habit,
-        random: Random(u64::from(limit)),
-    };
+    let mut guide = guide(alloc, within.habit, u64::from(within.limit));
     let fleet = Fleet {
         demands: &demands,
         capacity: 3,
-        trucks,
+        trucks: within.trucks,
     };
     let ask = Asks {
         should_continue: true,
@@ -452,8 +415,8 @@ fn marks(
         &ask,
         &fleet,
         pool,
-        all_customers(),
-        limit,
+        ALL_CUSTOMERS,
+        within.limit,
         budget,
     );
     marks.expect(rt, "memory")
@@ -470,7 +433,7 @@ fn least_with(
     let mut others = Vec::from_slice(alloc, pool).expect(rt, "memory");
     assert!(rt; at < others.len(), "no route {at}");
     let route = others.remove(at);
-    let left = all_customers() ^ route.set;
+    let left = ALL_CUSTOMERS ^ route.set;
     let least = least_cost(rt, &others, left, trucks.saturating_sub(1))?;
     Some(least.saturating_add(u64::from(route.cost)))
 }

@@ -1,10 +1,11 @@
 //! The exact cover by hand, and beside every choice of random columns.
 
 use crate::assertion::assert_same;
-use crate::partition::random::{Random, all_customers};
-use crate::partition::slow::{cost_of_choice, least_cost};
+use crate::random::{self, ALL_CUSTOMERS};
+use crate::slow::{cost_of_choice, least_cost};
 use std::alloc::Global;
 use std::process::Abort;
+use test_fixtures::Random;
 use vrp_partition::{Column, Cover, Route, cheapest_cover};
 
 // A column: its customers, its reduced cost and its cost.
@@ -68,9 +69,15 @@ fn covers_by_hand(rt: HostRuntime) {
     let (rt, alloc) = (&rt, rt.alloc());
     for &(told, customers, trucks, incumbent, gap, cost) in BY_HAND {
         let columns = columns_of(rt, alloc, told);
-        let found = cover(rt, alloc, &columns, customers, trucks, incumbent, gap);
+        let asked = Asked {
+            customers,
+            trucks,
+            incumbent,
+            gap,
+        };
+        let found = cover(rt, alloc, &columns, asked);
         assert_same(rt, found.cost, cost, (customers, incumbent, gap));
-        assert_parts(rt, alloc, &found, customers, trucks, incumbent);
+        assert_parts(rt, alloc, &found, asked);
     }
 }
 
@@ -87,23 +94,24 @@ fn columns_of(rt: &impl Abort, alloc: Global, told: &[Told]) -> Vec<Column> {
     columns
 }
 
-fn cover(
-    rt: &impl Abort,
-    alloc: Global,
-    columns: &[Column],
+// What is asked of a search.
+#[derive(Clone, Copy, Debug)]
+struct Asked {
     customers: u128,
     trucks: u8,
     incumbent: u64,
     gap: u64,
-) -> Cover {
+}
+
+fn cover(rt: &impl Abort, alloc: Global, columns: &[Column], asked: Asked) -> Cover {
     let mut budget = MUCH;
     let found = cheapest_cover(
         alloc,
         columns,
-        customers,
-        trucks,
-        incumbent,
-        gap,
+        asked.customers,
+        asked.trucks,
+        asked.incumbent,
+        asked.gap,
         &mut budget,
     );
     found
@@ -112,14 +120,7 @@ fn cover(
 }
 
 // Below the incumbent the parts are a choice of that cost; else there are none.
-fn assert_parts(
-    rt: &impl Abort,
-    alloc: Global,
-    found: &Cover,
-    customers: u128,
-    trucks: u8,
-    incumbent: u64,
-) {
+fn assert_parts(rt: &impl Abort, alloc: Global, found: &Cover, asked: Asked) {
     let mut routes = Vec::new(alloc);
     for column in &found.parts {
         let route = Route {
@@ -128,11 +129,11 @@ fn assert_parts(
         };
         routes.push(route).expect(rt, "memory");
     }
-    if found.cost < incumbent {
-        let cost = cost_of_choice(&routes, customers, trucks);
-        assert_same(rt, cost, Some(found.cost), customers);
+    if found.cost < asked.incumbent {
+        let cost = cost_of_choice(&routes, asked.customers, asked.trucks);
+        assert_same(rt, cost, Some(found.cost), asked.customers);
     } else {
-        assert_same(rt, routes.len(), 0, customers);
+        assert_same(rt, routes.len(), 0, asked.customers);
     }
 }
 
@@ -163,7 +164,8 @@ fn covers_beside_every_choice(rt: HostRuntime) {
     let mut random = Random(1);
     let mut solved = 0u32;
     for round in 0..60u32 {
-        let pool = random.pool(rt, alloc, 4 + round % 9, 4 + round % 3 * 50);
+        let (count, costs) = (4 + round % 9, 4 + round % 3 * 50);
+        let pool = random::pool(rt, alloc, &mut random, (count, u32::MAX), costs);
         let mut columns = Vec::new(alloc);
         for route in &pool {
             let column = Column {
@@ -173,11 +175,16 @@ fn covers_beside_every_choice(rt: HostRuntime) {
             };
             columns.push(column).expect(rt, "memory");
         }
-        let trucks = if round % 4 == 0 { 2 } else { 128 };
-        let wanted = least_cost(rt, &pool, all_customers(), trucks);
-        let found = cover(rt, alloc, &columns, all_customers(), trucks, MUCH, 0);
+        let asked = Asked {
+            customers: ALL_CUSTOMERS,
+            trucks: if round % 4 == 0 { 2 } else { 128 },
+            incumbent: MUCH,
+            gap: 0,
+        };
+        let wanted = least_cost(rt, &pool, asked.customers, asked.trucks);
+        let found = cover(rt, alloc, &columns, asked);
         assert_same(rt, found.cost, wanted.unwrap_or(MUCH), round);
-        assert_parts(rt, alloc, &found, all_customers(), trucks, MUCH);
+        assert_parts(rt, alloc, &found, asked);
         solved = solved.saturating_add(u32::from(wanted.is_some()));
     }
     assert!(rt;

@@ -50,21 +50,23 @@ const REDUCED: &[(u128, u32, i64)] = &[
     (0b1_0010, 9, 2),
 ];
 
+const TRIPLE: Cut = Cut {
+    set: THREE,
+    count: 0,
+    price: 2 * SCALE,
+};
+
+const TWO_TRUCKS: Cut = Cut {
+    set: THREE,
+    count: 2,
+    price: 3 * SCALE,
+};
+
 #[test]
 fn reduced_costs_by_hand(rt: HostRuntime) {
     let (rt, alloc) = (&rt, rt.alloc());
-    let triple = Cut {
-        set: THREE,
-        count: 0,
-        price: 2 * SCALE,
-    };
-    let visits = Cut {
-        set: THREE,
-        count: 2,
-        price: 3 * SCALE,
-    };
     let duals = [0, 5 * UNIT, 7 * UNIT, 8 * UNIT];
-    let mut offer = offer(rt, alloc, &duals, &[triple], &[visits]);
+    let mut offer = offer(rt, alloc, &duals, &[TRIPLE], &[TWO_TRUCKS]);
     offer.truck_price = SCALE;
     let prices = Prices::admit(offer, &[1u32; MOST_CUSTOMERS], CAPACITY, THREE).expect(
         rt, "prices",
@@ -179,129 +181,49 @@ const ADMITTED: &[(Offered, bool)] = &[
     ),
     (
         Offered {
-            subset_row: Cut {
-                set: THREE,
-                count: 0,
-                price: HIGHEST + 1,
-            },
-            ..GOOD
-        },
-        false,
-    ),
-    (
-        Offered {
-            subset_row: Cut {
-                set: 0b1111,
-                count: 0,
-                price: 1,
-            },
-            ..GOOD
-        },
-        false,
-    ),
-    (
-        Offered {
-            subset_row: Cut {
-                set: 1 << 127,
-                count: u32::MAX,
-                price: 1,
-            },
-            ..GOOD
-        },
-        true,
-    ),
-    (
-        Offered {
             capacity_cuts: 513,
             ..GOOD
         },
         false,
     ),
-    (
-        Offered {
-            capacity_cut: Cut {
-                set: THREE,
-                count: 2,
-                price: HIGHEST + 1,
-            },
-            ..GOOD
-        },
-        false,
-    ),
-    (
-        Offered {
-            capacity_cut: Cut {
-                set: THREE,
-                count: 3,
-                price: 1,
-            },
-            ..GOOD
-        },
-        false,
-    ),
-    (
-        Offered {
-            capacity_cut: Cut {
-                set: 0b0110,
-                count: 2,
-                price: 1,
-            },
-            ..GOOD
-        },
-        false,
-    ),
-    (
-        Offered {
-            capacity_cut: Cut {
-                set: 0b0110,
-                count: 1,
-                price: 1,
-            },
-            ..GOOD
-        },
-        true,
-    ),
-    (
-        Offered {
-            capacity_cut: Cut {
-                set: 0b0111,
-                count: 1,
-                price: 1,
-            },
-            ..GOOD
-        },
-        false,
-    ),
-    (
-        Offered {
-            capacity_cut: Cut {
-                set: 0,
-                count: 1,
-                price: 1,
-            },
-            ..GOOD
-        },
-        false,
-    ),
-    (
-        Offered {
-            capacity_cut: Cut {
-                set: 0,
-                count: 0,
-                price: 1,
-            },
-            ..GOOD
-        },
-        true,
-    ),
+];
+
+// Cuts of which a good offer has many: the set, the count, the price, and whether they are admitted.
+type Admitted = (u128, u32, u64, bool);
+
+const SUBSET_ROWS: &[Admitted] = &[
+    (THREE, 0, HIGHEST + 1, false),
+    (0b1111, 0, 1, false),
+    (1 << 127, u32::MAX, 1, true),
+];
+
+const CAPACITY_CUTS: &[Admitted] = &[
+    (THREE, 2, HIGHEST + 1, false),
+    (THREE, 3, 1, false),
+    (0b0110, 2, 1, false),
+    (0b0110, 1, 1, true),
+    (0b0111, 1, 1, false),
+    (0, 1, 1, false),
+    (0, 0, 1, true),
 ];
 
 #[test]
 fn prices_that_are_refused(rt: HostRuntime) {
     let (rt, alloc) = (&rt, rt.alloc());
     for &(offered, wanted) in ADMITTED {
-        let prices = admitted(rt, alloc, offered, &[1u32; MOST_CUSTOMERS], CAPACITY, THREE);
-        assert_same(rt, prices.is_some(), wanted, offered);
+        assert_admitted(rt, alloc, offered, wanted);
+    }
+    for &(set, count, price, wanted) in SUBSET_ROWS {
+        let subset_row = Cut { set, count, price };
+        assert_admitted(rt, alloc, Offered { subset_row, ..GOOD }, wanted);
+    }
+    for &(set, count, price, wanted) in CAPACITY_CUTS {
+        let capacity_cut = Cut { set, count, price };
+        let offered = Offered {
+            capacity_cut,
+            ..GOOD
+        };
+        assert_admitted(rt, alloc, offered, wanted);
     }
     let short = PriceOffer {
         duals: Vec::from_slice(alloc, &[0; 127]).expect(rt, "memory"),
@@ -312,6 +234,11 @@ fn prices_that_are_refused(rt: HostRuntime) {
     };
     let prices = Prices::admit(short, &[1u32; MOST_CUSTOMERS], CAPACITY, THREE);
     assert_same(rt, prices.is_some(), false, "127 duals");
+}
+
+fn assert_admitted(rt: &impl Abort, alloc: Global, offered: Offered, wanted: bool) {
+    let prices = admitted(rt, alloc, offered, &[1u32; MOST_CUSTOMERS], CAPACITY, THREE);
+    assert_same(rt, prices.is_some(), wanted, offered);
 }
 
 fn admitted(

@@ -1,33 +1,14 @@
 //! The routes of a canonical plan are in each pool for a limit that it doesn't exceed, and each route of a pool is one.
 
 use crate::assertion::assert_same;
-use crate::routes::instances::{FIVE, SQUARE, at_points, with_arcs};
+use crate::five_places::{DEMANDS, LEVEL, ONE_DIRECTION};
 use crate::routes::listed::{Setup, listed, pool_of};
-use crate::routes::slow::{Canonical, canonical_plan};
 use std::alloc::Global;
 use std::process::Abort;
 use std::thread::Threads;
+use test_fixtures::{Canonical, FIVE, SQUARE, at_points, canonical_plan, with_arcs};
 use vrp_model::Instance;
 use vrp_routes::RoutePool;
-
-const ONE_DIRECTION: &[u64] = &[
-    0, 3, 9, 4, 5, 8, 0, 2, 7, 6, 5, 6, 0, 1, 4, 9, 3, 8, 0, 2, 4, 4, 7, 3, 0,
-];
-
-// All arcs cost the same, so that the order of symbols decides.
-const LEVEL: &[u64] = &[
-    0, 1, 1, 1, 1, 1, 0, 1, 1, 1, 1, 1, 0, 1, 1, 1, 1, 1, 0, 1, 1, 1, 1, 1, 0,
-];
-
-// Tight and loose, with demands of 0, and with demands that units don't divide.
-const DEMANDS: &[([u64; 5], u64)] = &[
-    ([0, 1, 2, 1, 2], 3),
-    ([0, 3, 5, 4, 2], 9),
-    ([0, 3, 5, 4, 2], 20),
-    ([0, 0, 2, 0, 1], 2),
-    ([0, 0, 0, 0, 0], 0),
-    ([0, 7, 9, 1, 3], 10),
-];
 
 const SETUPS: &[Setup<'_>] = &[
     Setup {
@@ -78,13 +59,16 @@ const SETUPS: &[Setup<'_>] = &[
 fn canonical_plans_are_in_pools(rt: HostRuntime) {
     let mut pools = 0u64;
     for (demands, capacity) in DEMANDS {
-        let instance = at_points(&rt, rt.alloc(), FIVE, demands, *capacity);
+        let instance = at_points(rt.alloc(), FIVE, demands, *capacity).expect(&rt, "an instance");
         pools = pools.saturating_add(pools_of(&rt, rt.alloc(), &instance));
-        let instance = at_points(&rt, rt.alloc(), SQUARE, demands, *capacity);
+        let instance = at_points(rt.alloc(), SQUARE, demands, *capacity).expect(&rt, "an instance");
         pools = pools.saturating_add(pools_of(&rt, rt.alloc(), &instance));
-        let instance = with_arcs(&rt, rt.alloc(), LEVEL, demands, *capacity);
+        let instance = with_arcs(rt.alloc(), LEVEL, demands, *capacity).expect(&rt, "an instance");
         pools = pools.saturating_add(pools_of(&rt, rt.alloc(), &instance));
-        let instance = with_arcs(&rt, rt.alloc(), ONE_DIRECTION, demands, *capacity);
+        let instance = with_arcs(rt.alloc(), ONE_DIRECTION, demands, *capacity).expect(
+            &rt,
+            "an instance",
+        );
         pools = pools.saturating_add(pools_of(&rt, rt.alloc(), &instance));
         let few = instance.with_trucks(2);
         pools = pools.saturating_add(pools_of(&rt, rt.alloc(), &few));
@@ -94,7 +78,7 @@ fn canonical_plans_are_in_pools(rt: HostRuntime) {
 
 // How many pools there are, by all prices, for limits at the canonical plan's cost, above it and below it.
 fn pools_of<R: Abort + Threads + Sync>(rt: &R, alloc: Global, instance: &Instance) -> u64 {
-    let canonical = canonical_plan(rt, alloc, instance);
+    let canonical = canonical_plan(alloc, instance).expect(rt, "memory");
     let cost = canonical
         .as_ref()
         .map_or(30, |plan| plan.cost.min(1_000_000));

@@ -44,33 +44,38 @@ pub(crate) fn listed<R: Abort + Threads + Sync>(
     let made = Relaxation::new(alloc, instance, scale, unit, prices, &[]).expect(rt, "memory");
     let relaxation = made?;
     let ng_sets = NgSets::nearest(alloc, relaxation.relaxed(), near).expect(rt, "memory");
-    let found = by_ng_sets(
-        rt,
-        alloc,
-        &relaxation,
-        ng_sets,
-        limit,
-        workers,
+    let limits = Limits {
+        cost: limit,
         most_labels,
-        u64::MAX,
-    );
+        enough: u64::MAX,
+    };
+    let found = by_ng_sets(rt, alloc, &relaxation, ng_sets, workers, limits);
     Some(found.expect(rt, "memory"))
 }
 
-/// What comes of it where walks have these ng-sets, and the list is stopped once so many labels are told of.
+/// Where a list ends.
+#[derive(Clone, Copy, Debug)]
+pub(crate) struct Limits {
+    /// What the canonical plan costs at most.
+    pub(crate) cost: u64,
+    /// How many labels may be made.
+    pub(crate) most_labels: u32,
+    /// The list is stopped once so many labels are told of.
+    pub(crate) enough: u64,
+}
+
+/// What comes of it where walks have these ng-sets, within these limits.
 pub(crate) fn by_ng_sets<R: Threads + Sync>(
     rt: &R,
     alloc: Global,
     relaxation: &Relaxation<'_>,
     ng_sets: NgSets,
-    limit: u64,
     workers: u16,
-    most_labels: u32,
-    enough: u64,
+    limits: Limits,
 ) -> Result<Listed, NoMemory>
     requires places { ng_sets.places ≡ place_count relaxation.now.relaxed }
     requires few { place_count relaxation.now.problem ≤ 128 }
-    requires limit { limit ≤ NO_COST }
+    requires limit { limits.cost ≤ NO_COST }
     requires workers { 0 < workers }
 {
     let tables = NgTables::new(alloc, relaxation.relaxed(), ng_sets)?;
@@ -79,10 +84,10 @@ pub(crate) fn by_ng_sets<R: Threads + Sync>(
         alloc,
         relaxation,
         &tables,
-        limit,
+        limits.cost,
         workers,
-        most_labels,
-        &|labels| labels < enough,
+        limits.most_labels,
+        &|labels| labels < limits.enough,
     )
 }
 

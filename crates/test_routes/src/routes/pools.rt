@@ -2,11 +2,11 @@
 ghost use Rattle.std.specs.Prelude.{◌≤◌};
 
 use crate::assertion::assert_same;
-use crate::routes::instances::{FOUR, LINE, at_points, with_arcs};
-use crate::routes::listed::{Setup, by_ng_sets, listed, pool_of};
+use crate::routes::listed::{Limits, Setup, by_ng_sets, listed, pool_of};
 use std::alloc::Global;
 use std::process::Abort;
 use std::thread::Threads;
+use test_fixtures::{FOUR, LINE, at_points, with_arcs};
 use vrp_bound_ng::NgSets;
 use vrp_bound_prices::Relaxation;
 use vrp_model::{Instance, NO_COST};
@@ -41,7 +41,7 @@ const ON_A_LINE: &[(u64, usize, &[Told<'_>])] = &[
 
 #[test]
 fn three_nodes(rt: HostRuntime) {
-    let instance = at_points(&rt, rt.alloc(), LINE, &[0, 1, 1], 2);
+    let instance = at_points(rt.alloc(), LINE, &[0, 1, 1], 2).expect(&rt, "an instance");
     for &(limit, labels, routes) in ON_A_LINE {
         let pool = pool(&rt, rt.alloc(), &instance, NO_PRICES, limit);
         assert_pool(&rt, rt.alloc(), &pool, labels, routes);
@@ -60,7 +60,7 @@ const IN_A_PLANE: &[Told<'_>] = &[
 
 #[test]
 fn four_nodes(rt: HostRuntime) {
-    let instance = at_points(&rt, rt.alloc(), FOUR, &[0, 1, 2, 1], 3);
+    let instance = at_points(rt.alloc(), FOUR, &[0, 1, 2, 1], 3).expect(&rt, "an instance");
     let setup = Setup {
         prices: &[0, 0, 0, 0],
         ..NO_PRICES
@@ -109,7 +109,7 @@ fn rounds_of_three(rt: HostRuntime) {
         ..NO_PRICES
     };
     for &(arcs, routes) in ROUNDS {
-        let instance = with_arcs(&rt, rt.alloc(), arcs, &[0, 1, 1, 1], 3);
+        let instance = with_arcs(rt.alloc(), arcs, &[0, 1, 1, 1], 3).expect(&rt, "an instance");
         let pool = pool(&rt, rt.alloc(), &instance, setup, 1_000);
         assert_pool(&rt, rt.alloc(), &pool, 12, routes);
     }
@@ -173,7 +173,7 @@ const LIMITS: &[(u32, u64, Option<Limit>)] = &[
 #[test]
 fn limits_that_are_met(rt: HostRuntime) {
     let (rt, alloc) = (&rt, rt.alloc());
-    let instance = at_points(rt, alloc, LINE, &[0, 1, 1], 2);
+    let instance = at_points(alloc, LINE, &[0, 1, 1], 2).expect(rt, "an instance");
     for &(most, enough, wanted) in LIMITS {
         let met = met(rt, alloc, &instance, most, enough);
         assert_same(rt, met, wanted, (most, enough));
@@ -191,16 +191,12 @@ fn met<R: Abort + Threads + Sync>(
     let made = Relaxation::new(alloc, instance, 1, 1, &[0, 0, 0], &[]).expect(rt, "memory");
     let relaxation = made.expect(rt, "prices");
     let ng_sets = NgSets::nearest(alloc, relaxation.relaxed(), 0).expect(rt, "memory");
-    let found = by_ng_sets(
-        rt,
-        alloc,
-        &relaxation,
-        ng_sets,
-        1_000,
-        2,
+    let limits = Limits {
+        cost: 1_000,
         most_labels,
         enough,
-    );
+    };
+    let found = by_ng_sets(rt, alloc, &relaxation, ng_sets, 2, limits);
     match found.expect(rt, "memory") {
         Listed::Pool(_) => None,
         Listed::Met(limit) => Some(limit),
@@ -228,7 +224,7 @@ const ELEVEN: &[(i64, i64)] = &[
 fn pools_of_several_workers(rt: HostRuntime) {
     let (rt, alloc) = (&rt, rt.alloc());
     let demands = [0, 2, 1, 3, 2, 1, 1, 2, 3, 1, 2, 1];
-    let instance = at_points(rt, alloc, ELEVEN, &demands, 7);
+    let instance = at_points(alloc, ELEVEN, &demands, 7).expect(rt, "an instance");
     let alone = Setup {
         prices: &[0, 30, 20, 50, 10, 70, 60, 40, 45, 25, 35, 55],
         ..NO_PRICES
@@ -290,5 +286,5 @@ fn in_a_row(rt: &impl Abort, alloc: Global, places: u16) -> Instance {
         points.push((i64::from(place), 0)).expect(rt, "memory");
         demands.push(u64::from(place.min(1))).expect(rt, "memory");
     }
-    at_points(rt, alloc, &points, &demands, 1)
+    at_points(alloc, &points, &demands, 1).expect(rt, "an instance")
 }

@@ -1,12 +1,13 @@
 //! The cheapest choice by the guide, beside every choice of random pools.
 
 use crate::assertion::assert_same;
-use crate::simplex::random::{Random, all_customers};
-use crate::simplex::slow::{cost_of_choice, least_cost};
+use crate::random::{self, ALL_CUSTOMERS, repeated};
+use crate::slow::{cost_of_choice, least_cost};
 use std::alloc::Global;
 use std::process::Abort;
 use std::sync::atomic::{AtomicU64, Ordering};
 use std::thread::Threads;
+use test_fixtures::Random;
 use vrp_partition::{
     Ask, Chosen, Fleet, Found, MOST_CUSTOMERS, Route, Team, all_fit, cheapest_choice,
 };
@@ -57,17 +58,13 @@ fn choice<R: Abort + Threads + Sync>(
     pool: &[Route],
 ) -> Option<Chosen> {
     let demands = [1u32; MOST_CUSTOMERS];
-    assert!(rt; all_fit(pool, &demands, asked.capacity));
-    assert!(rt; asked.incumbent <= MUCH);
+    assert!(rt; all_fit(pool, &demands, asked.capacity) && asked.incumbent <= MUCH);
     let fleet = Fleet {
         demands: &demands,
         capacity: asked.capacity,
         trucks: asked.trucks,
     };
-    let mut known = Vec::new(alloc);
-    for route in pool.iter().take(1) {
-        known.push(route.set).expect(rt, "memory");
-    }
+    let known = known_sets(rt, alloc, pool);
     let ask = Until::new(asked.asks);
     let team = Team {
         rt,
@@ -77,13 +74,15 @@ fn choice<R: Abort + Threads + Sync>(
     };
     let guide = ProgramGuide::new(alloc, fleet, known, &ask);
     let mut budget = asked.budget;
+    let routes = Vec::from_slice(alloc, pool).expect(rt, "memory");
+    let (customers, incumbent) = (asked.customers, asked.incumbent);
     let found = cheapest_choice(
         &team,
         guide,
         &fleet,
-        Vec::from_slice(alloc, pool).expect(rt, "memory"),
-        asked.customers,
-        asked.incumbent,
+        routes,
+        customers,
+        incumbent,
         &mut budget,
     );
     match found.expect(rt, "memory") {
@@ -92,15 +91,23 @@ fn choice<R: Abort + Threads + Sync>(
     }
 }
 
+// The customers of the first route.
+fn known_sets(rt: &impl Abort, alloc: Global, pool: &[Route]) -> Vec<u128> {
+    let mut known = Vec::new(alloc);
+    for route in pool.iter().take(1) {
+        known.push(route.set).expect(rt, "memory");
+    }
+    known
+}
+
 // Below the incumbent the routes are a choice of that cost.
 fn assert_found(rt: &impl Abort, asked: &Asked, found: Option<Chosen>, least: Option<u64>) {
     let found = found.expect(rt, "a budget that suffices");
     let wanted = least.map_or(asked.incumbent, |least| least.min(asked.incumbent));
     assert_same(rt, found.cost, wanted, *asked);
     if found.cost < asked.incumbent {
-        let cost = cost_of_choice(&found.routes, asked.customers);
+        let cost = cost_of_choice(&found.routes, asked.customers, asked.trucks);
         assert_same(rt, cost, Some(found.cost), *asked);
-        assert!(rt; found.routes.len() <= usize::from(asked.trucks));
     }
 }
 
@@ -111,8 +118,14 @@ fn choices_beside_every_choice(rt: HostRuntime) {
     let mut random = Random(2);
     for round in 0..40u32 {
         let capacity = 2 + round % 3;
-        let pool = random.pool(rt, alloc, 4 + round % 9, capacity, 4 + round % 3 * 50);
-        let customers = [all_customers(), all_customers() & !1];
+        let pool = random::pool(
+            rt,
+            alloc,
+            &mut random,
+            (4 + round % 9, capacity),
+            4 + round % 3 * 50,
+        );
+        let customers = [ALL_CUSTOMERS, ALL_CUSTOMERS & !1];
         for customers in customers {
             for (trucks, incumbent) in [(128, MUCH), (3, MUCH), (2, 40), (128, 3)] {
                 let asked = Asked {
@@ -140,17 +153,17 @@ fn pools_that_are_branched_on(rt: HostRuntime) {
     let (rt, alloc) = (&rt, rt.alloc());
     let mut random = Random(3);
     for round in 0..6u32 {
-        let base = random.pool(rt, alloc, 10, 3, 10);
-        let pool = repeated(rt, alloc, &base, 320);
+        let base = random::pool(rt, alloc, &mut random, (10, 3), 10);
+        let pool = repeated(rt, alloc, &base, 320, 7);
         let asked = Asked {
             capacity: 3,
             trucks: 4,
-            customers: all_customers(),
+            customers: ALL_CUSTOMERS,
             incumbent: DEAR,
             asks: ENDLESS,
             budget: ENDLESS,
         };
-        let least = least_cost(rt, &base, all_customers(), 4);
+        let least = least_cost(rt, &base, ALL_CUSTOMERS, 4);
         let found = choice(rt, alloc, &asked, &pool);
         assert_found(rt, &asked, found, least);
         for (asks, budget) in [(0, ENDLESS), (1, 1), (0, 0)] {
@@ -164,19 +177,4 @@ fn pools_that_are_branched_on(rt: HostRuntime) {
             assert_same(rt, found.is_some(), false, (round, asks, budget));
         }
     }
-}
-
-// Each of the routes, and so many times the same at a higher cost.
-fn repeated(rt: &impl Abort, alloc: Global, base: &[Route], times: u32) -> Vec<Route> {
-    let mut pool = Vec::from_slice(alloc, base).expect(rt, "memory");
-    for time in 0..times {
-        for route in base {
-            let route = Route {
-                set: route.set,
-                cost: route.cost.saturating_add(590 + time % 7),
-            };
-            pool.push(route).expect(rt, "memory");
-        }
-    }
-    pool
 }

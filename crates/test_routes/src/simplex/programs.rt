@@ -1,17 +1,15 @@
 //! Small programs whose optima are known: they were found by trying every basis with fractions.
 
 use crate::assertion::assert_same;
+use crate::by_hand::{FOUR, Pair, THREE, pool_of};
 use crate::simplex::choices::Until;
 use std::alloc::Global;
 use std::process::Abort;
-use vrp_partition::{Fleet, MOST_CUSTOMERS, Route};
+use vrp_partition::{Fleet, MOST_CUSTOMERS};
 use vrp_simplex::{DualEnd, Program};
 
-// A route: its customers and its cost.
-type Told = (u128, u32);
-
 // Of three customers each two go together for 10, and each alone for 9.
-const TRIANGLE: &[Told] = &[
+const TRIANGLE: &[Pair] = &[
     (0b0110, 10),
     (0b1100, 10),
     (0b1010, 10),
@@ -21,27 +19,8 @@ const TRIANGLE: &[Told] = &[
     (0b1000, 9),
 ];
 
-const THREE: &[Told] = &[
-    (0b0010, 10),
-    (0b0100, 10),
-    (0b1000, 10),
-    (0b0110, 12),
-    (0b1100, 13),
-    (0b1010, 14),
-    (0b1110, 25),
-];
-
-const FOUR: &[Told] = &[
-    (0b00110, 5),
-    (0b11000, 5),
-    (0b01010, 4),
-    (0b10100, 7),
-    (0b10010, 3),
-    (0b01100, 6),
-];
-
 // Each part of a plan costs as much as its number of customers.
-const TIES: &[Told] = &[
+const TIES: &[Pair] = &[
     (0b00110, 2),
     (0b01100, 2),
     (0b11000, 2),
@@ -55,7 +34,7 @@ const TIES: &[Told] = &[
 ];
 
 // A ring of five customers, and each alone, dearly.
-const RING: &[Told] = &[
+const RING: &[Pair] = &[
     (0b000110, 6),
     (0b001100, 6),
     (0b011000, 6),
@@ -74,7 +53,7 @@ const UNIT: i64 = 1 << 20;
 const NEAR: i64 = UNIT / 8;
 
 // Routes, customers, trucks, and twice the optimum of the program over them.
-const OPTIMA: &[(&[Told], u128, u8, i64)] = &[
+const OPTIMA: &[(&[Pair], u128, u8, i64)] = &[
     (TRIANGLE, 0b1110, 3, 30),
     (TRIANGLE, 0b1110, 2, 30),
     (TRIANGLE, 0b1110, 1, 80),
@@ -107,11 +86,8 @@ fn optima_of_small_programs(rt: HostRuntime) {
     }
 }
 
-fn solved(rt: &impl Abort, alloc: Global, told: &[Told], customers: u128, trucks: u8) -> Program {
-    let mut pool = Vec::new(alloc);
-    for &(set, cost) in told {
-        pool.push(Route { set, cost }).expect(rt, "memory");
-    }
+fn solved(rt: &impl Abort, alloc: Global, told: &[Pair], customers: u128, trucks: u8) -> Program {
+    let pool = pool_of(rt, alloc, told);
     let program = Program::new(alloc, customers, trucks, pool.as_slice());
     let mut program = program.expect(rt, "memory");
     program
@@ -124,7 +100,7 @@ const MUCH: i64 = 1 << 50;
 
 // Routes, customers, trucks, a truck's capacity, each customer demanding 1, how many cuts there are at least, how the dual simplex
 // ends, and the bound by the cuts.
-const CUT: &[(&[Told], u128, u8, u32, usize, DualEnd, i64)] = &[
+const CUT: &[(&[Pair], u128, u8, u32, usize, DualEnd, i64)] = &[
     (TRIANGLE, 0b1110, 3, 3, 1, DualEnd::Feasible, 19),
     (TIES, 0b11110, 4, 2, 0, DualEnd::Feasible, 4),
     (RING, 0b111110, 5, 2, 1, DualEnd::Feasible, 112),

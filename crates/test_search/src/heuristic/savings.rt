@@ -5,33 +5,9 @@ use crate::assertion::assert_same;
 use crate::heuristic::fixture::{Told, by_matrix, by_points, scattered};
 use std::alloc::Global;
 use std::process::Abort;
+use test_fixtures::E_N22_K4_POINTS;
 use vrp_heuristic_savings::{Routes, savings_plan};
 use vrp_model::{Instance, MAX_CAPACITY, Metric, Plan};
-
-const E_N22_K4_POINTS: &[(i64, i64)] = &[
-    (145, 215),
-    (151, 264),
-    (159, 261),
-    (130, 254),
-    (128, 252),
-    (163, 247),
-    (146, 246),
-    (161, 242),
-    (142, 239),
-    (163, 236),
-    (148, 232),
-    (128, 231),
-    (156, 217),
-    (129, 214),
-    (146, 208),
-    (164, 208),
-    (141, 206),
-    (147, 193),
-    (164, 193),
-    (129, 189),
-    (155, 185),
-    (139, 182),
-];
 
 const E_N22_K4: Told<'_> = Told {
     demands: &[

@@ -6,12 +6,13 @@ ghost use Rattle.vrp_model.specs.Word.{IsPrefix};
 
 use crate::assertion::assert_same;
 use crate::search::fixture::{
-    at_points, board_with, on_a_line, piece_at, plan_of, singles, singles_prefix, three_on_a_line,
+    board_with, on_a_line, piece_at, plan_of, singles, singles_prefix, three_on_a_line,
     two_far_apart,
 };
 use crate::search::piece::own_tables;
 use std::alloc::Global;
 use std::process::Abort;
+use test_fixtures::at_points;
 use vrp_bound::Tables;
 use vrp_model::{Instance, MAX_NODES, NO_COST, NoMemory, Plan};
 use vrp_search::{Board, Cutting, Ended, Local, Piece, search};
@@ -86,7 +87,7 @@ fn opened_with_a_costly_plan(rt: HostRuntime) {
 // which needs more than 200,000 without the tree bound, or where that is tried below 20 unserved customers alone.
 #[test]
 fn pruned_by_trees(rt: HostRuntime) {
-    let instance = at_points(&rt, rt.alloc(), CIRCLE, ONE_EACH, 24);
+    let instance = at_points(rt.alloc(), CIRCLE, ONE_EACH, 24).expect(&rt, "an instance");
     let plan = plan_of(&rt, rt.alloc(), &instance, ROUND);
     assert_same(&rt, plan.cost(), 309, "the plan");
     let end = End::Finished(325, ROUND);

@@ -1,8 +1,7 @@
 //! What tests are made on: instances, whose first place is the depot, and pieces, cuttings and plans of them. What has no memory for
 //! them ends the test.
-ghost use Rattle.std.specs.Prelude.{All, IsTrue, length, ◌≡◌, ◌≤◌};
+ghost use Rattle.std.specs.Prelude.{length, ◌≡◌, ◌≤◌};
 ghost use Rattle.std.specs.Option.{ForSome};
-ghost use Rattle.vrp_model.specs.Grid.{IsCoordinate};
 ghost use Rattle.vrp_model.specs.Route.{IsPlanOf};
 ghost use Rattle.vrp_model.specs.Word.{IsPrefix};
 ghost use Rattle.vrp_search_tree.specs.Cutting.{IsCutting};
@@ -10,64 +9,18 @@ ghost use Rattle.vrp_search_tree.specs.declared.cutting.TheConstants.{MAX_REFINE
 
 use std::alloc::Global;
 use std::process::Abort;
-use vrp_model::{Instance, Layout, MAX_CAPACITY, MAX_NODES, Metric, Plan, Weights};
+use test_fixtures::{LINE, at_points, with_arcs};
+use vrp_model::{Instance, MAX_NODES, Plan};
 use vrp_search::{Cutting, Local, MAX_PIECES, Partial, Piece};
-
-/// Places at these points, a rounded Euclidean distance apart.
-pub(crate) fn at_points(
-    rt: &impl Abort,
-    alloc: Global,
-    points: &[(i64, i64)],
-    demands: &[u64],
-    capacity: u64,
-) -> Instance {
-    assert!(rt; 1 <= points.len() && points.len() <= usize::from(MAX_NODES));
-    assert!(rt; are_coordinates(points));
-    let weights = Weights::points(alloc, Metric::Euc2d, points).expect(rt, "memory");
-    instance_of(rt, alloc, weights, demands, capacity)
-}
-
-fn are_coordinates(points: &[(i64, i64)]) -> bool
-    ensures { IsTrue result → All (λ point. IsCoordinate point.0 × IsCoordinate point.1) points.now }
-{
-    points.iter().all(|&(east, north)| -100 <= east && east <= 100 && -100 <= north && north <= 100)
-}
-
-/// Places with the weights of a full matrix between them.
-pub(crate) fn with_arcs(
-    rt: &impl Abort,
-    alloc: Global,
-    arcs: &[u64],
-    demands: &[u64],
-    capacity: u64,
-) -> Instance {
-    assert!(rt; 1 <= demands.len() && demands.len() <= usize::from(MAX_NODES));
-    let nodes = demands.len() as u16;
-    assert!(rt; arcs.len() == Layout::FullMatrix.entries(nodes));
-    assert!(rt; arcs.iter().all(|&arc| arc <= 1_000_000_000));
-    let weights = Weights::matrix(alloc, Layout::FullMatrix, arcs, nodes).expect(rt, "memory");
-    instance_of(rt, alloc, weights, demands, capacity)
-}
-
-fn instance_of(
-    rt: &impl Abort,
-    alloc: Global,
-    weights: Weights,
-    demands: &[u64],
-    capacity: u64,
-) -> Instance {
-    assert!(rt; demands.len() == usize::from(weights.nodes()) && capacity <= MAX_CAPACITY);
-    Instance::new(alloc, weights, demands, capacity, &[1], None).expect(rt, "an instance")
-}
 
 /// The depot and two customers on a line, five apart.
 pub(crate) fn three_on_a_line(rt: &impl Abort, alloc: Global, capacity: u64) -> Instance {
-    at_points(rt, alloc, &[(0, 0), (3, 4), (6, 8)], &[0, 1, 1], capacity)
+    at_points(alloc, LINE, &[0, 1, 1], capacity).expect(rt, "an instance")
 }
 
 /// Two customers, each a step from the depot, and nine steps from one another.
 pub(crate) fn two_far_apart(rt: &impl Abort, alloc: Global) -> Instance {
-    with_arcs(rt, alloc, &[0, 1, 1, 1, 0, 9, 1, 9, 0], &[0, 1, 1], 2)
+    with_arcs(alloc, &[0, 1, 1, 1, 0, 9, 1, 9, 0], &[0, 1, 1], 2).expect(rt, "an instance")
 }
 
 /// This many nodes on a line, a step apart, the depot first. Each truck carries two customers.
@@ -79,10 +32,8 @@ pub(crate) fn on_a_line(rt: &impl Abort, alloc: Global, nodes: u16) -> Instance 
             arcs.push(arc).expect(rt, "memory");
         }
     }
-    let mut demands = vec![in alloc; 1u64; usize::from(nodes)].expect(rt, "memory");
-    assert!(rt; !demands.is_empty());
-    demands[0] = 0;
-    with_arcs(rt, alloc, &arcs, &demands, 2)
+    let demands = test_fixtures::one_each(alloc, usize::from(nodes)).expect(rt, "demands");
+    with_arcs(alloc, &arcs, &demands, 2).expect(rt, "an instance")
 }
 
 /// The plan of one truck for each customer, if there are as many.

@@ -3,9 +3,10 @@ ghost use Rattle.vrp_model.specs.Route.{IsPlanOf};
 ghost use Rattle.vrp_search.specs.Board.{KeepsPlanOf};
 
 use crate::assertion::assert_same;
-use crate::search::fixture::{board_with, one_each, plan_of, three_on_a_line, with_arcs};
+use crate::search::fixture::{board_with, one_each, plan_of, three_on_a_line};
 use std::alloc::Global;
 use std::process::Abort;
+use test_fixtures::with_arcs;
 use vrp_model::{Instance, NO_COST, Plan};
 use vrp_search::{Board, Local};
 
@@ -36,7 +37,7 @@ fn takes_a_plan_where_it_has_none(rt: HostRuntime) {
 #[test]
 fn keeps_the_earlier_word(rt: HostRuntime) {
     let arcs = [0, 1, 2, 2, 0, 1, 4, 2, 0];
-    let instance = with_arcs(&rt, rt.alloc(), &arcs, &[0, 1, 1], 2);
+    let instance = with_arcs(rt.alloc(), &arcs, &[0, 1, 1], 2).expect(&rt, "an instance");
     let earlier = plan_of(&rt, rt.alloc(), &instance, &[1, 2, 0]);
     let later = plan_of(&rt, rt.alloc(), &instance, &[2, 1, 0]);
     assert_same(&rt, (earlier.cost(), later.cost()), (6, 6), "costs");

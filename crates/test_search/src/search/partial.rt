@@ -1,9 +1,10 @@
 //! Partial plans beside counts and costs that were worked out by hand.
 
 use crate::assertion::assert_same;
-use crate::search::fixture::{at_points, partial_at, three_on_a_line};
+use crate::search::fixture::{partial_at, three_on_a_line};
 use std::alloc::Global;
 use std::process::Abort;
+use test_fixtures::{LINE, at_points};
 use vrp_model::Instance;
 use vrp_search::{Partial, Reserved};
 
@@ -51,7 +52,7 @@ const COUNTED: &[Counted] = &[(1, 5, 3, 4, 1), (2, 10, 7, 0, 1), (0, 20, 0, 0, 1
 
 #[test]
 fn counters_along_a_word(rt: HostRuntime) {
-    let instance = at_points(&rt, rt.alloc(), &[(0, 0), (3, 4), (6, 8)], &[0, 3, 4], 7);
+    let instance = at_points(rt.alloc(), LINE, &[0, 3, 4], 7).expect(&rt, "an instance");
     let mut partial = Partial::root(rt.alloc(), &instance).expect(&rt, "memory");
     assert_same(&rt, partial.rest(), 7, "the rest");
     for &counted in COUNTED {
@@ -104,7 +105,7 @@ fn in_one_place(rt: &impl Abort, alloc: Global, customers: usize) -> Instance {
     assert!(rt; customers <= 1_199);
     let points = Vec::from_elem(alloc, (0, 0), customers + 1).expect(rt, "memory");
     let demands = Vec::from_elem(alloc, 0, customers + 1).expect(rt, "memory");
-    at_points(rt, alloc, &points, &demands, 1)
+    at_points(alloc, &points, &demands, 1).expect(rt, "an instance")
 }
 
 const DEAD_WORDS: &[(&[u16], bool)] = &[

@@ -3,9 +3,10 @@ ghost use Rattle.std.specs.Prelude.{◌≡◌, IfOk};
 ghost use Rattle.vrp_model.specs.Word.{IsPrefix, unserved_in};
 
 use crate::assertion::assert_same;
-use crate::search::fixture::{at_points, piece_at};
+use crate::search::fixture::piece_at;
 use std::alloc::Global;
 use std::process::Abort;
+use test_fixtures::at_points;
 use vrp_bound::Tables;
 use vrp_model::{Instance, NoMemory};
 use vrp_search::Piece;
@@ -46,7 +47,7 @@ fn tables_where_no_demand_is_served(rt: HostRuntime) {
 // The depot and three customers on a line, five apart, the last of whom demands nothing.
 fn four_nodes(rt: &impl Abort, alloc: Global, capacity: u64) -> Instance {
     let points = [(0, 0), (3, 4), (6, 8), (9, 12)];
-    at_points(rt, alloc, &points, &[0, 1, 1, 0], capacity)
+    at_points(alloc, &points, &[0, 1, 1, 0], capacity).expect(rt, "an instance")
 }
 
 /// Tables over the customers that a piece leaves unserved.

@@ -3,9 +3,9 @@ ghost use Rattle.std.specs.Prelude.{true, ⊤};
 
 use crate::assertion::assert_same;
 use crate::search::depth_first::search_all;
-use crate::search::fixture::at_points;
 use std::alloc::Global;
 use std::process::Abort;
+use test_fixtures::{SCATTERED, at_points};
 use vrp_model::{Instance, NO_COST, NoMemory, Plan};
 use vrp_search::{Board, Ended};
 
@@ -50,9 +50,10 @@ const STOPS: &[(bool, u64, u64)] = &[
     (true, 200_000, 200_000),
 ];
 
+// Twenty customers, four to a truck.
 #[test]
 fn stops_where_the_board_says_so(rt: HostRuntime) {
-    let instance = at_points(&rt, rt.alloc(), SCATTERED, ONE_EACH, 4);
+    let instance = at_points(rt.alloc(), &SCATTERED, ONE_EACH, 4).expect(&rt, "an instance");
     for &(should_continue, budget, looked) in STOPS {
         assert_looked(
             &rt,
@@ -83,31 +84,6 @@ fn assert_looked(
     };
     assert_same(rt, spent, looked, (should_continue, budget));
 }
-
-// Twenty scattered customers, four to a truck.
-const SCATTERED: &[(i64, i64)] = &[
-    (50, 50),
-    (17, 72),
-    (97, 8),
-    (32, 15),
-    (63, 97),
-    (57, 60),
-    (83, 48),
-    (26, 12),
-    (62, 3),
-    (49, 55),
-    (77, 97),
-    (12, 34),
-    (88, 71),
-    (5, 90),
-    (41, 81),
-    (93, 29),
-    (70, 22),
-    (36, 39),
-    (2, 5),
-    (60, 35),
-    (80, 85),
-];
 
 const ONE_EACH: &[u64] = &[
     0, 1, 1, 1, 1, 1, 1, 1, 1, 1, 1, 1, 1, 1, 1, 1, 1, 1, 1, 1, 1,

@@ -1,7 +1,8 @@
 //! Guides that know nothing.
 
-use crate::partition::random::Random;
+use crate::random::{pair, some_customers};
 use std::alloc::{AllocError, Global};
+use test_fixtures::Random;
 use vrp_partition::{Ask, Cut, Guide, MOST_CUSTOMERS, PriceOffer, Route};
 
 /// Who is asked whether a search goes on.
@@ -46,11 +47,21 @@ pub(crate) const HABITS: &[Habit] = &[
     Habit::Refused,
 ];
 
+/// Which customers the cuts and the groups of a guide have.
+#[derive(Clone, Copy, Debug)]
+pub(crate) enum Among {
+    /// Some of random pools' customers; a group has two of them.
+    Pools,
+    /// Any of the first eight.
+    FirstEight,
+}
+
 /// A guide that answers so.
 #[derive(Drop)]
 pub(crate) struct Habitual {
     pub(crate) alloc: Global,
     pub(crate) habit: Habit,
+    pub(crate) among: Among,
     pub(crate) random: Random,
 }
 
@@ -73,11 +84,18 @@ impl Habitual {
         }
     }
 
+    fn some_customers(&mut self) -> u128 {
+        match self.among {
+            Among::Pools => some_customers(&mut self.random, u32::MAX),
+            Among::FirstEight => u128::from(self.random.next() % 256),
+        }
+    }
+
     fn cuts(&mut self, counts: u32) -> Result<Vec<Cut>, AllocError> {
         let mut cuts = Vec::new(self.alloc);
         for _ in 0..2 {
             let cut = Cut {
-                set: self.random.some_customers(),
+                set: self.some_customers(),
                 count: self.random.next() % counts.max(1),
                 price: self.price(),
             };
@@ -116,9 +134,11 @@ impl Guide for Habitual {
 
     fn group(&mut self, _pool: &[Route]) -> Result<u128, AllocError> {
         if self.habit == Habit::Idle {
-            Ok(0)
-        } else {
-            Ok(self.random.pair())
+            return Ok(0);
+        }
+        match self.among {
+            Among::Pools => Ok(pair(&mut self.random)),
+            Among::FirstEight => Ok(self.some_customers()),
         }
     }
 

@@ -1,0 +1,74 @@
+//! Random pools, the same in every run.
+
+use std::alloc::Global;
+use std::process::Abort;
+use test_fixtures::Random;
+use vrp_partition::Route;
+
+// The customers of random pools; the first and the last that a set may have are among them.
+const CUSTOMERS: &[u128] = &[1, 1 << 2, 1 << 63, 1 << 64, 1 << 100, 1 << 127];
+
+/// All customers of random pools.
+pub(crate) const ALL_CUSTOMERS: u128 = 1 | 1 << 2 | 1 << 63 | 1 << 64 | 1 << 100 | 1 << 127;
+
+/// At most so many of the customers of random pools.
+pub(crate) fn some_customers(random: &mut Random, most: u32) -> u128 {
+    let mut set = 0u128;
+    for customer in CUSTOMERS {
+        if set.count_ones() < most && random.next() % 5 < 2 {
+            set |= *customer;
+        }
+    }
+    set
+}
+
+/// Two of the customers of random pools.
+pub(crate) fn pair(random: &mut Random) -> u128 {
+    let first = random.next() as usize % CUSTOMERS.len();
+    let step = 1 + random.next() as usize % (CUSTOMERS.len() - 1);
+    CUSTOMERS[first] | CUSTOMERS[(first + step) % CUSTOMERS.len()]
+}
+
+/// So many routes of at most so many customers each, whose costs are below a number.
+pub(crate) fn pool(
+    rt: &impl Abort,
+    alloc: Global,
+    random: &mut Random,
+    (count, most): (u32, u32),
+    costs: u32,
+) -> Vec<Route> {
+    let mut pool = Vec::new(alloc);
+    for _ in 0..count {
+        let route = Route {
+            set: some_customers(random, most),
+            cost: random.next() % costs.max(1),
+        };
+        pool.push(route).expect(rt, "memory");
+    }
+    pool
+}
+
+// What a route costs more that is repeated, at least.
+const DEARER: u32 = 590;
+
+/// Each of the routes, and so many times the same at a higher cost; so many higher costs there are in turn.
+pub(crate) fn repeated(
+    rt: &impl Abort,
+    alloc: Global,
+    base: &[Route],
+    times: u32,
+    costs: u32,
+) -> Vec<Route> {
+    let mut pool = Vec::from_slice(alloc, base).expect(rt, "memory");
+    for time in 0..times {
+        let dearer = DEARER.saturating_add(time % costs.max(1));
+        for route in base {
+            let route = Route {
+                set: route.set,
+                cost: dearer.saturating_add(route.cost),
+            };
+            pool.push(route).expect(rt, "memory");
+        }
+    }
+    pool
+}
