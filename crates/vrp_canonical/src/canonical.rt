@@ -6,16 +6,13 @@ ghost use Rattle.vrp_canonical.specs.Reaching.{IsFleet, IsTask};
 ghost use Rattle.vrp_model.specs.Cheapest.{NoneCheaper};
 ghost use Rattle.vrp_model.specs.Order.{IsCanonical};
 ghost use Rattle.vrp_model.specs.Problem.{IsProblem, Problem, customers, place_count};
-ghost use Rattle.vrp_partition.specs.Pricing.{MarksWithin};
 ghost use Rattle.vrp_routes.specs.Label.{set_of};
 ghost use Rattle.vrp_routes.specs.Pool.{IsPool};
 
 use crate::everyone::all_customers;
 use crate::loads::Loads;
-use crate::ordered::{
-    ListedRoute, chosen_routes, in_order, kept_routes, marked_routes, routes_of, word_at,
-    word_of_choice,
-};
+use crate::narrowed::Narrowing;
+use crate::ordered::{ListedRoute, chosen_routes, routes_of, word_at, word_of_choice};
 use crate::plan_places::canonical_places;
 use crate::residual::Residual;
 use crate::searches::{Quiet, Searches, search_within};
@@ -23,7 +20,7 @@ use crate::trucks::fleet;
 use std::alloc::Global;
 use std::thread::Threads;
 use vrp_model::{Instance, NoMemory, Plan};
-use vrp_partition::{Ask, Found, Guide, Route, Team, all_fit, routes_within};
+use vrp_partition::{Ask, Found, Guide, Route, Team};
 use vrp_routes::RoutePool;
 
 /// What a search for the canonical plan came to.
@@ -72,10 +69,12 @@ pub fn canonical_plan<R: Threads + Sync, P: Guide + Send, A: Ask + Sync>(
     let within = whole_problem(instance, known.cost());
     // The guide keeps what it finds of the narrowed pool for the searches.
     let mut guide = guide.fork()?;
-    let Some(ordered) = narrowed_routes(
-        alloc, &mut guide, team.ask, &loads, pool, all, within, budget,
-    )?
-    else {
+    let narrowing = Narrowing {
+        alloc,
+        ask: team.ask,
+        loads: &loads,
+    };
+    let Some(ordered) = narrowing.narrowed_routes(&mut guide, pool, all, within, budget)? else {
         return unfinished(alloc);
     };
     let narrowed = routes_of(alloc, ordered.as_slice())?;
@@ -95,25 +94,18 @@ pub fn canonical_plan<R: Threads + Sync, P: Guide + Send, A: Ask + Sync>(
     let most = chosen.cost;
     let word = word_of_choice(alloc, pool, all, chosen.routes.as_slice())?;
     let whole = Residual { most, ..within };
-    let ask = team.ask;
-    let left = narrowed_again(
-        alloc, &mut guide, ask, &loads, ordered, within, whole, budget,
-    )?;
+    let left = narrowing.narrowed_again(&mut guide, ordered, within, whole, budget)?;
     let Some(ordered) = left else {
         let lower_bound = most;
         return Ok(PlanSearch::Unfinished { word, lower_bound });
     };
     let ordered = ordered.as_slice();
-    match plan_by_pass(
-        team,
-        instance,
-        &guide,
-        &loads,
-        chosen.routes,
-        ordered,
-        whole,
-        budget,
-    )? {
+    let begun = Begun {
+        guide: &guide,
+        loads: &loads,
+        known: chosen.routes,
+    };
+    match plan_by_pass(team, instance, begun, ordered, whole, budget)? {
         Some(plan) => Ok(PlanSearch::Canonical(plan)),
         None => Ok(PlanSearch::Unfinished {
             word,
@@ -149,97 +141,20 @@ fn whole_problem(instance: &Instance, most: u64) -> Residual
     }
 }
 
-// The routes of the pool that may stand in a choice that costs no more than it may, in the order of their stops. `routes` are those of
-// the pool, as a choice sees them.
-fn narrowed_routes<P: Guide, A: Ask>(
-    alloc: Global,
-    guide: &mut P,
-    ask: &A,
-    loads: &Loads,
-    pool: &RoutePool,
-    routes: &[Route],
-    whole: Residual,
-    budget: &mut u64,
-) -> Result<Option<Vec<ListedRoute>>, NoMemory>
-    requires { routes.now ≡ map chosen_of pool.now }
-    ensures ordered { IfOk result (λ found. IfSome found (λ ordered. (p : Problem) (limit : ℕ)
-        → IsPool p limit pool.now → IsFleet p whole.trucks → whole.unserved ≡ set_of (customers p) → whole.most ≤ limit
-        → AreOrdered p whole.most ordered.items)) }
-    ensures budget { budget.new ≤ budget.old }
-{
-    let Some(marks) = marks_within(alloc, guide, ask, loads, routes, whole, budget)? else {
-        return Ok(None);
-    };
-    let listed = marked_routes(alloc, pool, routes, marks.as_slice())?;
-    let ordered = in_order(listed)?;
-    Ok(ordered)
+// What a pass over routes begins with: a guide of its searches, what customers demand, and a choice that is known, which answers some
+// questions by itself.
+#[derive(Drop)]
+struct Begun<'a, P: Guide> {
+    guide: &'a P,
+    loads: &'a Loads,
+    known: Vec<Route>,
 }
 
-// Those of the routes that may stand in a choice that costs less than before, in the same order.
-fn narrowed_again<P: Guide, A: Ask>(
-    alloc: Global,
-    guide: &mut P,
-    ask: &A,
-    loads: &Loads,
-    ordered: Vec<ListedRoute>,
-    before: Residual,
-    whole: Residual,
-    budget: &mut u64,
-) -> Result<Option<Vec<ListedRoute>>, NoMemory>
-    ensures ordered { IfOk result (λ found. IfSome found (λ left. (p : Problem)
-        → AreOrdered p before.most ordered.items → IsFleet p whole.trucks → whole.unserved ≡ set_of (customers p)
-        → whole.most ≤ before.most → AreOrdered p whole.most left.items)) }
-    ensures budget { budget.new ≤ budget.old }
-{
-    if whole.most == before.most {
-        return Ok(Some(ordered));
-    }
-    let routes = routes_of(alloc, ordered.as_slice())?;
-    let routes = routes.as_slice();
-    // One round: the guide knows good prices.
-    let mut round = 1.min(*budget);
-    *budget -= round;
-    let Some(marks) = marks_within(alloc, guide, ask, loads, routes, whole, &mut round)? else {
-        return Ok(None);
-    };
-    let kept = kept_routes(alloc, ordered.as_slice(), marks.as_slice())?;
-    let left = in_order(kept)?;
-    Ok(left)
-}
-
-// For each route whether it may stand in a choice that costs no more than it may. `None` where an amount doesn't fit.
-fn marks_within<P: Guide, A: Ask>(
-    alloc: Global,
-    guide: &mut P,
-    ask: &A,
-    loads: &Loads,
-    routes: &[Route],
-    whole: Residual,
-    budget: &mut u64,
-) -> Result<Option<Vec<bool>>, NoMemory>
-    ensures marks { IfOk result (λ found. IfSome found (λ marks.
-        MarksWithin routes.now whole.unserved whole.trucks whole.most marks.items)) }
-    ensures budget { budget.new ≤ budget.old }
-{
-    let fleet = loads.fleet(whole.trucks);
-    let Ok(limit) = u32::try_from(whole.most) else {
-        return Ok(None);
-    };
-    if !all_fit(routes, fleet.demands, fleet.capacity) {
-        return Ok(None);
-    }
-    let customers = whole.unserved;
-    let marks = routes_within(alloc, guide, ask, &fleet, routes, customers, limit, budget)?;
-    Ok(Some(marks))
-}
-
-// The canonical plan, whose routes are among these, by a pass over them. A choice that is known answers some questions by itself.
+// The canonical plan, whose routes are among these, by a pass over them.
 fn plan_by_pass<R: Threads + Sync, P: Guide + Send, A: Ask + Sync>(
     team: &Team<'_, R, A>,
     instance: &Instance,
-    guide: &P,
-    loads: &Loads,
-    known: Vec<Route>,
+    begun: Begun<'_, P>,
     ordered: &[ListedRoute],
     whole: Residual,
     budget: &mut u64,
@@ -257,6 +172,11 @@ fn plan_by_pass<R: Threads + Sync, P: Guide + Send, A: Ask + Sync>(
         workers: team.workers,
         ask: &quiet,
     };
+    let Begun {
+        guide,
+        loads,
+        known,
+    } = begun;
     let mut searches = Searches::new(&team, guide, loads, *budget, known);
     let found = plan_among(alloc, instance, &mut searches, ordered, whole);
     // No search gives any back; it is said here, since the pass is proved for whoever answers.

@@ -9,6 +9,7 @@ mod known;
 mod law;
 mod loads;
 mod narrow;
+mod narrowed;
 mod ordered;
 mod part;
 mod plan_places;

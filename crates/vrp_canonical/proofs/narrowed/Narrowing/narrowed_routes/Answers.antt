@@ -12,7 +12,7 @@ use Rattle.vrp_model.specs.Problem.{Problem, customers}
 use Rattle.vrp_partition.specs.Pricing.{MarksWithin}
 use Rattle.vrp_routes.specs.Label.{set_of}
 use Rattle.vrp_routes.specs.Pool.{IsPool}
-use Rattle.vrp_canonical.proofs.canonical.narrowed_routes.Goals as goal
+use Rattle.vrp_canonical.proofs.narrowed.Narrowing.narrowed_routes.Goals as goal
 
 pub returns-clause-ordered : goal.returns-clause-ordered
 returns-clause-ordered g c =

@@ -1,6 +1,6 @@
 use Rattle.std.proofs.Common.{◌≡◌, subst, arith}
 use Rattle.vrp_partition.specs.Pricing.{MarksWithin}
-use Rattle.vrp_canonical.proofs.canonical.marks_within.Goals as goal
+use Rattle.vrp_canonical.proofs.narrowed.Narrowing.marks_within.Goals as goal
 
 pub returns-clause-marks : goal.returns-clause-marks
 returns-clause-marks g c =

@@ -12,7 +12,7 @@ use Rattle.vrp_model.specs.Problem.{Problem, customers}
 use Rattle.vrp_partition.specs.Pricing.{MarksWithin}
 use Rattle.vrp_partition.specs.declared.route.Route.{Route}
 use Rattle.vrp_routes.specs.Label.{set_of}
-use Rattle.vrp_canonical.proofs.canonical.narrowed_again.Goals as goal
+use Rattle.vrp_canonical.proofs.narrowed.Narrowing.narrowed_again.Goals as goal
 
 pub returns-then-whole-before-clause-ordered : goal.returns-then-whole-before-clause-ordered
 returns-then-whole-before-clause-ordered g c = λ p are fleet unserved within.

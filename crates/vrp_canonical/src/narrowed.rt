@@ -1,0 +1,106 @@
+//! The routes that may stand in a choice that costs no more than it may, in the order of their stops.
+ghost use Rattle.std.specs.Prelude.{◌≡◌, ◌≤◌, ℕ, IfOk, IfSome, map};
+ghost use Rattle.vrp_canonical.specs.Ordering.{AreOrdered, chosen_of};
+ghost use Rattle.vrp_canonical.specs.Reaching.{IsFleet};
+ghost use Rattle.vrp_model.specs.Problem.{Problem, customers};
+ghost use Rattle.vrp_partition.specs.Pricing.{MarksWithin};
+ghost use Rattle.vrp_routes.specs.Label.{set_of};
+ghost use Rattle.vrp_routes.specs.Pool.{IsPool};
+
+use crate::loads::Loads;
+use crate::ordered::{ListedRoute, in_order, kept_routes, marked_routes, routes_of};
+use crate::residual::Residual;
+use std::alloc::Global;
+use vrp_model::NoMemory;
+use vrp_partition::{Ask, Guide, Route, all_fit, routes_within};
+use vrp_routes::RoutePool;
+
+/// What routes are narrowed by: what customers demand and a truck carries, and who is asked whether more rounds are worth it.
+#[derive(Clone, Copy)]
+pub struct Narrowing<'a, A> {
+    pub alloc: Global,
+    pub ask: &'a A,
+    pub loads: &'a Loads,
+}
+
+impl<A: Ask> Narrowing<'_, A> {
+    /// The routes of the pool that may stand in a choice that costs no more than it may, in the order of their stops. `routes` are those of
+    /// the pool, as a choice sees them. `None` where an amount doesn't fit 32 bits. How much of the budget is spent is left open.
+    pub fn narrowed_routes<P: Guide>(
+        &self,
+        guide: &mut P,
+        pool: &RoutePool,
+        routes: &[Route],
+        whole: Residual,
+        budget: &mut u64,
+    ) -> Result<Option<Vec<ListedRoute>>, NoMemory>
+        requires { routes.now ≡ map chosen_of pool.now }
+        ensures ordered { IfOk result (λ found. IfSome found (λ ordered. (p : Problem) (limit : ℕ)
+            → IsPool p limit pool.now → IsFleet p whole.trucks → whole.unserved ≡ set_of (customers p) → whole.most ≤ limit
+            → AreOrdered p whole.most ordered.items)) }
+        ensures budget { budget.new ≤ budget.old }
+    {
+        let Some(marks) = self.marks_within(guide, routes, whole, budget)? else {
+            return Ok(None);
+        };
+        let listed = marked_routes(self.alloc, pool, routes, marks.as_slice())?;
+        let ordered = in_order(listed)?;
+        Ok(ordered)
+    }
+
+    /// Those of the routes that may stand in a choice that costs less than before, in the same order, by one round.
+    pub fn narrowed_again<P: Guide>(
+        &self,
+        guide: &mut P,
+        ordered: Vec<ListedRoute>,
+        before: Residual,
+        whole: Residual,
+        budget: &mut u64,
+    ) -> Result<Option<Vec<ListedRoute>>, NoMemory>
+        ensures ordered { IfOk result (λ found. IfSome found (λ left. (p : Problem)
+            → AreOrdered p before.most ordered.items → IsFleet p whole.trucks → whole.unserved ≡ set_of (customers p)
+            → whole.most ≤ before.most → AreOrdered p whole.most left.items)) }
+        ensures budget { budget.new ≤ budget.old }
+    {
+        if whole.most == before.most {
+            return Ok(Some(ordered));
+        }
+        let routes = routes_of(self.alloc, ordered.as_slice())?;
+        let routes = routes.as_slice();
+        // One round: the guide knows good prices.
+        let mut round = 1.min(*budget);
+        *budget -= round;
+        let Some(marks) = self.marks_within(guide, routes, whole, &mut round)? else {
+            return Ok(None);
+        };
+        let kept = kept_routes(self.alloc, ordered.as_slice(), marks.as_slice())?;
+        let left = in_order(kept)?;
+        Ok(left)
+    }
+
+    // For each route whether it may stand in a choice that costs no more than it may. `None` where an amount doesn't fit.
+    fn marks_within<P: Guide>(
+        &self,
+        guide: &mut P,
+        routes: &[Route],
+        whole: Residual,
+        budget: &mut u64,
+    ) -> Result<Option<Vec<bool>>, NoMemory>
+        ensures marks { IfOk result (λ found. IfSome found (λ marks.
+            MarksWithin routes.now whole.unserved whole.trucks whole.most marks.items)) }
+        ensures budget { budget.new ≤ budget.old }
+    {
+        let fleet = self.loads.fleet(whole.trucks);
+        let Ok(limit) = u32::try_from(whole.most) else {
+            return Ok(None);
+        };
+        if !all_fit(routes, fleet.demands, fleet.capacity) {
+            return Ok(None);
+        }
+        let customers = whole.unserved;
+        let marks = routes_within(
+            self.alloc, guide, self.ask, &fleet, routes, customers, limit, budget,
+        )?;
+        Ok(Some(marks))
+    }
+}
