@@ -1,7 +1,6 @@
 //! Tests of `vrp_pool` by values from outside.
 
-mod fixture;
+pub(crate) mod fixture;
 mod gatherer;
 mod seat_board;
-mod slow;
 mod solver;

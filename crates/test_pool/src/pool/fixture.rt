@@ -1,63 +1,29 @@
 //! The instances that tests are made on, and cuttings of them. What has no memory for them ends the test.
-ghost use Rattle.std.specs.Prelude.{All, IsTrue, length, ◌*◌, ◌≤◌};
-ghost use Rattle.vrp_model.specs.Grid.{IsCoordinate};
+ghost use Rattle.std.specs.Prelude.{length, ◌*◌, ◌≤◌};
 ghost use Rattle.vrp_search_tree.specs.Cutting.{IsCutting};
 ghost use Rattle.vrp_search_tree.specs.declared.cutting.TheConstants.{MAX_REFINED};
 
 use std::alloc::Global;
 use std::process::Abort;
-use vrp_model::{Instance, Layout, MAX_CAPACITY, MAX_NODES, Metric, Weights};
+use test_fixtures::{E_N22_K4_POINTS, LINE, SCATTERED, at_points, one_each, with_arcs};
+use vrp_model::Instance;
 use vrp_search::{Cutting, MAX_PIECES};
 
 /// Places at these points, the depot first, a rounded Euclidean distance apart. Each customer demands 1.
 fn alike(rt: &impl Abort, alloc: Global, points: &[(i64, i64)], capacity: u64) -> Instance {
-    let mut demands = vec![in alloc; 1u64; points.len()].expect(rt, "memory");
-    assert!(rt; !demands.is_empty());
-    demands[0] = 0;
-    at_points(rt, alloc, points, &demands, capacity)
-}
-
-// The same, with these demands.
-fn at_points(
-    rt: &impl Abort,
-    alloc: Global,
-    points: &[(i64, i64)],
-    demands: &[u64],
-    capacity: u64,
-) -> Instance {
-    assert!(rt; 1 <= points.len() && points.len() <= usize::from(MAX_NODES));
-    assert!(rt; are_coordinates(points));
-    let weights = Weights::points(alloc, Metric::Euc2d, points).expect(rt, "memory");
-    instance_of(rt, alloc, weights, demands, capacity)
-}
-
-fn are_coordinates(points: &[(i64, i64)]) -> bool
-    ensures { IsTrue result → All (λ point. IsCoordinate point.0 × IsCoordinate point.1) points.now }
-{
-    points.iter().all(|&(east, north)| 0 <= east && east <= 1_000 && 0 <= north && north <= 1_000)
-}
-
-fn instance_of(
-    rt: &impl Abort,
-    alloc: Global,
-    weights: Weights,
-    demands: &[u64],
-    capacity: u64,
-) -> Instance {
-    assert!(rt; demands.len() == usize::from(weights.nodes()) && capacity <= MAX_CAPACITY);
-    Instance::new(alloc, weights, demands, capacity, &[1], None).expect(rt, "an instance")
+    let demands = one_each(alloc, points.len()).expect(rt, "demands");
+    at_points(alloc, points, &demands, capacity).expect(rt, "an instance")
 }
 
 /// Three nodes at (0, 0), (3, 4) and (6, 8): two customers, whom one truck of capacity 2 can carry together.
 pub(crate) fn three_nodes(rt: &impl Abort, alloc: Global, capacity: u64) -> Instance {
-    alike(rt, alloc, &[(0, 0), (3, 4), (6, 8)], capacity)
+    alike(rt, alloc, LINE, capacity)
 }
 
 /// Two customers, for whom the words 1 2 0 and 2 1 0 cost 6 each.
 pub(crate) fn both_directions_equal(rt: &impl Abort, alloc: Global) -> Instance {
     let entries = [0, 1, 2, 2, 0, 1, 4, 2, 0];
-    let weights = Weights::matrix(alloc, Layout::FullMatrix, &entries, 3).expect(rt, "memory");
-    instance_of(rt, alloc, weights, &[0, 1, 1], 2)
+    with_arcs(alloc, &entries, &[0, 1, 1], 2).expect(rt, "an instance")
 }
 
 /// The depot alone.
@@ -113,19 +79,7 @@ pub(crate) fn seven_nodes(rt: &impl Abort, alloc: Global) -> Instance {
 
 /// Ten scattered nodes: nine customers, whom one truck can carry together, by 322.
 pub(crate) fn ten_nodes(rt: &impl Abort, alloc: Global) -> Instance {
-    let points = [
-        (17, 72),
-        (97, 8),
-        (32, 15),
-        (63, 97),
-        (57, 60),
-        (83, 48),
-        (26, 12),
-        (62, 3),
-        (49, 55),
-        (77, 97),
-    ];
-    alike(rt, alloc, &points, 9)
+    alike(rt, alloc, &SCATTERED[1..11], 9)
 }
 
 /// A grid of so many columns and rows, ten apart, whose middle place is the depot. The customers are numbered row by row.
@@ -160,34 +114,10 @@ fn place(number: u16, columns: u16) -> (i64, i64)
 
 /// E-n22-k4 of Christofides and Eilon (1969), in hundreds: 21 customers, whose cheapest plan costs 375.
 pub(crate) fn four_trucks(rt: &impl Abort, alloc: Global) -> Instance {
-    let points = [
-        (145, 215),
-        (151, 264),
-        (159, 261),
-        (130, 254),
-        (128, 252),
-        (163, 247),
-        (146, 246),
-        (161, 242),
-        (142, 239),
-        (163, 236),
-        (148, 232),
-        (128, 231),
-        (156, 217),
-        (129, 214),
-        (146, 208),
-        (164, 208),
-        (141, 206),
-        (147, 193),
-        (164, 193),
-        (129, 189),
-        (155, 185),
-        (139, 182),
-    ];
     let demands = [
         0, 11, 7, 8, 14, 21, 4, 8, 1, 5, 6, 12, 13, 13, 3, 9, 21, 10, 9, 25, 18, 7,
     ];
-    at_points(rt, alloc, &points, &demands, 60)
+    at_points(alloc, E_N22_K4_POINTS, &demands, 60).expect(rt, "an instance")
 }
 
 /// The tree, cut into this many pieces at least where it has as many.

@@ -9,6 +9,7 @@ use std::marker::Brand;
 use std::process::Abort;
 use std::sync::Wait;
 use std::sync::ledger::{Blank, Ledger};
+use test_fixtures::joined;
 use vrp_model::{Instance, Plan};
 use vrp_pool::{NoGate, SeatBoard};
 use vrp_pool_register::Register;
@@ -26,7 +27,7 @@ fn check_one_seat<L: Ledger, R: Wait + Abort>(rt: &R, alloc: Global, blank: Blan
     requires one { blank.parts ≡ 1 }
 {
     let instance = three_nodes(rt, alloc, 2);
-    let joined = joined(rt, alloc, &instance, 1);
+    let joined = joined(alloc, &instance, 1).expect(rt, "a plan");
     let singles = Plan::singles(alloc, &instance).expect(rt, "memory");
     let opened = Register::<L>::new(alloc, singles, blank, 1);
     let (register, mut callers) = opened.expect(rt, "memory");
@@ -62,8 +63,8 @@ fn check_ties_of<L: Ledger, R: Wait + Abort>(rt: &R, alloc: Global, blank: Blank
 {
     let instance = both_directions_equal(rt, alloc);
     assert!(rt; first <= 2);
-    let earlier = joined(rt, alloc, &instance, first);
-    let later = joined(rt, alloc, &instance, 3 - first);
+    let earlier = joined(alloc, &instance, first).expect(rt, "a plan");
+    let later = joined(alloc, &instance, 3 - first).expect(rt, "a plan");
     let opened = Register::<L>::new(alloc, None, blank, 1);
     let (register, mut callers) = opened.expect(rt, "memory");
     let Some(caller) = callers.pop() else {
@@ -75,22 +76,6 @@ fn check_ties_of<L: Ledger, R: Wait + Abort>(rt: &R, alloc: Global, blank: Blank
     let (_caller, best) = board.into_parts();
     let is_earlier = best.is_some_and(|plan| plan.word() == [1, 2, 0].as_slice());
     assert!(rt; is_earlier, "{first}");
-}
-
-// The plan of one truck that serves this one of two customers first, and then the other.
-fn joined(rt: &impl Abort, alloc: Global, instance: &Instance, first: u16) -> Plan
-    ensures { IsPlanOf instance.now result }
-{
-    assert!(rt; instance.customers() == 2);
-    assert!(rt; 1 <= first);
-    assert!(rt; first <= 2);
-    let second = 3 - first;
-    assert!(rt; instance.demand(first) + instance.demand(second) <= instance.capacity());
-    // Backward only where the other direction costs something else.
-    if first == 2 {
-        assert!(rt; !instance.symmetric());
-    }
-    Plan::of_word(alloc, instance, &[first, second, 0]).expect(rt, "memory")
 }
 
 // What a board answers once it was offered a plan.

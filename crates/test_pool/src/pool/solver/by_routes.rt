@@ -173,9 +173,9 @@ fn cheaper_choice(rt: HostRuntime) {
     }
 }
 
-// Asserts that one worker, two and eight find this plan by routes, with so many pieces and this budget, where a gate goes on from this
-// question on.
-fn assert_canonical_by_all<R: Abort + Threads + Wait + Sync>(
+/// Asserts that one worker, two and eight find this plan by routes, with so many pieces and this budget, where a gate goes on from this
+/// question on.
+pub(super) fn assert_canonical_by_all<R: Abort + Threads + Wait + Sync>(
     rt: &R,
     alloc: Global,
     instance: &Instance,

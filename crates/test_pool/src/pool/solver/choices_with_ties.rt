@@ -1,54 +1,10 @@
 //! Choices among useful routes where many plans cost as little: any number of workers finds the first of them.
-ghost use Rattle.std.specs.Prelude.{true};
 
+use super::by_routes::assert_canonical_by_all;
 use super::*;
 use crate::pool::fixture::grid;
-use crate::pool::slow::canonical_plan;
-use std::sync::atomic::{AtomicU64, Ordering};
+use test_fixtures::{Random, canonical_plan, one_each};
 use vrp_model::{Layout, MAX_CAPACITY, MAX_NODES, Weights};
-use vrp_pool::Event;
-
-// Remembers how many useful routes were chosen among, and how many pieces were searched. It says no until it was asked this often.
-#[derive(Drop)]
-struct Listener {
-    from: u64,
-    asked: AtomicU64,
-    routes: AtomicU64,
-    done: AtomicU64,
-}
-
-impl Listener {
-    fn from(from: u64) -> Listener {
-        Listener {
-            from,
-            asked: AtomicU64::new(0),
-            routes: AtomicU64::new(0),
-            done: AtomicU64::new(0),
-        }
-    }
-}
-
-impl Gate for Listener {
-    ghost may_stop = { λ _. true };
-
-    fn begins(&self, _worker: u32, _piece: u32) {}
-
-    fn on_event(&self, news: Event) {
-        match news {
-            Event::Choice(routes) => {
-                self.routes.fetch_max(routes, Ordering::SeqCst);
-            }
-            Event::Done | Event::LeftOpen => {
-                self.done.fetch_add(1, Ordering::SeqCst);
-            }
-            _ => {}
-        }
-    }
-
-    fn should_continue(&self) -> bool {
-        self.from <= self.asked.fetch_add(1, Ordering::SeqCst)
-    }
-}
 
 // Customers who demand 1 each, and what it costs to drive between them.
 #[derive(Clone, Copy, Debug)]
@@ -79,9 +35,10 @@ const SMALL: &[Given] = &[
 fn as_by_trying_all_plans(rt: HostRuntime) {
     for given in SMALL {
         let instance = instance_of(&rt, rt.alloc(), *given);
-        let canonical = canonical_plan(&rt, rt.alloc(), &instance).expect(&rt, "a plan");
-        let wanted = (canonical.cost, canonical.word.as_slice());
-        assert_chosen_by_all(&rt, rt.alloc(), &instance, NO_MOVES, wanted);
+        let canonical = canonical_plan(rt.alloc(), &instance).expect(&rt, "memory");
+        let canonical = canonical.expect(&rt, "a plan");
+        let (cost, word) = (canonical.cost, canonical.word.as_slice());
+        assert_canonical_by_all(&rt, rt.alloc(), &instance, NO_MOVES, cost, word);
     }
 }
 
@@ -143,7 +100,7 @@ const LARGER: &[(Given, u64, &[u16])] = &[
 fn larger_ones(rt: HostRuntime) {
     for &(given, cost, word) in LARGER {
         let instance = instance_of(&rt, rt.alloc(), given);
-        assert_chosen_by_all(&rt, rt.alloc(), &instance, STOPPED_MOVES, (cost, word));
+        assert_canonical_by_all(&rt, rt.alloc(), &instance, STOPPED_MOVES, cost, word);
     }
 }
 
@@ -189,58 +146,17 @@ fn by_chance(
     assert!(rt; entries.iter().all(|&entry| entry <= 1_000_000_000));
     assert!(rt; entries.len() == layout.entries(nodes));
     let weights = Weights::matrix(alloc, layout, &entries, nodes).expect(rt, "memory");
-    let mut demands = vec![in alloc; 1u64; usize::from(nodes)].expect(rt, "memory");
-    demands[0] = 0;
+    let demands = one_each(alloc, usize::from(nodes)).expect(rt, "demands");
+    assert!(rt; demands.len() == usize::from(nodes));
     Instance::new(alloc, weights, &demands, capacity, &[1], None).expect(rt, "an instance")
 }
 
 // The budget of a piece. So many partial plans of the whole tree are looked at first, which is not enough.
 const BUDGET: u64 = 1_000;
 
-// How many pieces there are at least, and from which question on the gate goes on. Of so few pieces there is no ruin and recreate.
-const NO_MOVES: (u32, u64) = (64, 0);
+// How many pieces there are at least, the budget of each, and from which question on the gate goes on. Of so few pieces there is no
+// ruin and recreate.
+const NO_MOVES: ((u32, u64), u64) = ((64, BUDGET), 0);
 
 // Four questions come from the four runs of ruin and recreate. These are stopped, so the heuristic plan comes by savings alone.
-const STOPPED_MOVES: (u32, u64) = (2_000, 4);
-
-// Asserts that one worker, two and eight choose the plan of this cost and word among routes, and search no piece.
-fn assert_chosen_by_all<R: Abort + Threads + Wait + Sync>(
-    rt: &R,
-    alloc: Global,
-    instance: &Instance,
-    (pieces, from): (u32, u64),
-    (wanted, word): (u64, &[u16]),
-) {
-    for workers in [1, 2, 8] {
-        let gate = Listener::from(from);
-        let answer = answer_behind(rt, alloc, instance, (workers, pieces, BUDGET), &gate);
-        assert!(rt;
-            matches!(answer, Answer::Proven(_)),
-            "{wanted}, by {workers}"
-        );
-        let routes = gate.routes.load(Ordering::SeqCst);
-        let done = gate.done.load(Ordering::SeqCst);
-        assert!(rt; 1 <= routes && done == 0, "{routes} {done}, by {workers}");
-        let cost = answer.plan().map(Plan::cost);
-        assert!(rt;
-            cost == Some(wanted),
-            "{cost:?} is not {wanted}, by {workers}"
-        );
-        let is_word = answer.plan().is_some_and(|plan| plan.word() == word);
-        assert!(rt; is_word, "another plan of cost {wanted}, by {workers}");
-    }
-}
-
-// Numbers that look random, the same in every run.
-#[derive(Clone, Copy, Debug)]
-struct Random(u64);
-
-impl Random {
-    fn next(&mut self) -> u32 {
-        self.0 = self
-            .0
-            .wrapping_mul(6_364_136_223_846_793_005)
-            .wrapping_add(1_442_695_040_888_963_407);
-        (self.0 >> 33) as u32
-    }
-}
+const STOPPED_MOVES: ((u32, u64), u64) = ((2_000, BUDGET), 4);

@@ -78,21 +78,29 @@ fn refined(rt: &impl Abort, alloc: Global, instance: &Instance, numbers: &[u32])
     cutting
 }
 
-// Asserts that this many workers, with this budget for each piece, prove a plan of this cost, and that no piece was held for nothing.
+// So many workers, with this budget for each piece, behind a gate.
+#[derive(Clone, Copy)]
+struct Team<'a> {
+    workers: u32,
+    budget: u64,
+    gate: &'a Holds,
+}
+
+// Asserts that a team proves a plan of this cost, and that no piece was held for nothing.
 fn assert_proven_behind<R: Abort + Threads + Wait + Sync>(
     rt: &R,
     alloc: Global,
     instance: &Instance,
     cutting: Cutting,
-    crew: (u32, u64),
-    gate: &Holds,
+    team: Team<'_>,
     cost: u64,
 )
     requires cutting { IsCutting instance.now cutting }
     requires few { length cutting ≤ 2 * MAX_REFINED }
 {
-    let answer = answer_of_pieces(rt, alloc, instance, cutting, crew, gate);
-    let let_go = gate.let_go.load(Ordering::SeqCst);
+    let crew = (team.workers, team.budget);
+    let answer = answer_of_pieces(rt, alloc, instance, cutting, crew, team.gate);
+    let let_go = team.gate.let_go.load(Ordering::SeqCst);
     assert!(rt; let_go == 0, "{let_go} were let go, at {crew:?}");
     let told = Told::by(&answer);
     assert!(rt; told == Told::Proven(cost), "{told:?}, at {crew:?}");
@@ -103,11 +111,16 @@ fn assert_proven_behind<R: Abort + Threads + Wait + Sync>(
 #[test]
 fn others_begin_while_one_is_held(rt: HostRuntime) {
     let instance = three_nodes(&rt, rt.alloc(), 2);
-    for crew in [(2, 1), (2, 11), (8, 1), (8, 11)] {
+    for (workers, budget) in [(2, 1), (2, 11), (8, 1), (8, 11)] {
         let cutting = refined(&rt, rt.alloc(), &instance, &[0, 0, 1, 2, 3]);
         assert_words(&rt, &cutting, &[&[1, 0], &[1, 2, 0], &[2, 0], &[2, 1]]);
         let gate = Holds::until(Held::First, 4);
-        assert_proven_behind(&rt, rt.alloc(), &instance, cutting, crew, &gate, 20);
+        let team = Team {
+            workers,
+            budget,
+            gate: &gate,
+        };
+        assert_proven_behind(&rt, rt.alloc(), &instance, cutting, team, 20);
     }
 }
 
@@ -126,7 +139,12 @@ fn plan_of_one_worker_serves_another(rt: HostRuntime) {
     let instance = seven_nodes(&rt, rt.alloc());
     let cutting = refined(&rt, rt.alloc(), &instance, &[0, 0]);
     let gate = Holds::until(Held::First, cutting.pieces().len() as u64);
-    assert_proven_behind(&rt, rt.alloc(), &instance, cutting, (2, 200), &gate, 312);
+    let team = Team {
+        workers: 2,
+        budget: 200,
+        gate: &gate,
+    };
+    assert_proven_behind(&rt, rt.alloc(), &instance, cutting, team, 312);
 }
 
 // A helper draws and searches as long as there are pieces.
@@ -135,7 +153,12 @@ fn one_helper_searches_all_others(rt: HostRuntime) {
     let instance = ring(&rt, rt.alloc());
     let cutting = cut_into(&rt, rt.alloc(), &instance, 10_000);
     let gate = Holds::until(Held::Lead, cutting.pieces().len() as u64);
-    assert_proven_behind(&rt, rt.alloc(), &instance, cutting, (2, ENOUGH), &gate, 100);
+    let team = Team {
+        workers: 2,
+        budget: ENOUGH,
+        gate: &gate,
+    };
+    assert_proven_behind(&rt, rt.alloc(), &instance, cutting, team, 100);
 }
 
 // As many work at once as are asked for: each holds its first piece until all have begun.
@@ -145,7 +168,11 @@ fn all_work_at_once(rt: HostRuntime) {
     for workers in [2, 3, 9, 64] {
         let cutting = cut_into(&rt, rt.alloc(), &instance, 1_000);
         let gate = Holds::until(Held::All, u64::from(workers));
-        let crew = (workers, ENOUGH);
-        assert_proven_behind(&rt, rt.alloc(), &instance, cutting, crew, &gate, 100);
+        let team = Team {
+            workers,
+            budget: ENOUGH,
+            gate: &gate,
+        };
+        assert_proven_behind(&rt, rt.alloc(), &instance, cutting, team, 100);
     }
 }
