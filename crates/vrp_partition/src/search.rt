@@ -282,10 +282,11 @@ fn spread_out<P: Guide>(alloc: Global, nodes: &mut Vec<Node<P>>) -> Result<(), A
     Ok(())
 }
 
-// The turn of a count among others: the greatest has rank 0, and turns go by ranks as Gray codes, whose last bit counts most. So each
-// half of the turns, and each quarter, has every other pair of ranks.
+// The turn of a count among others: the greatest has rank 0, equal ones the last of theirs, and turns go by ranks as Gray codes, whose
+// last bit counts most. So each half of the turns, and each quarter, has every other pair of ranks.
 fn turn_of(count: usize, counts: &[usize]) -> usize {
-    let rank = counts.iter().filter(|other| **other > count).count();
+    let no_less = counts.iter().filter(|other| **other >= count).count();
+    let rank = no_less.saturating_sub(1);
     (rank ^ rank >> 1).reverse_bits()
 }
 

@@ -341,7 +341,7 @@ fn helps(rt: HostRuntime) {
     );
     assert!(rt; long.as_str().contains("cvrp --workers 4 < FILE\n"));
     let version = help(&rt, rt.alloc(), &["--version"]);
-    assert_same(&rt, version.as_str(), "cvrp 0.1.0\n", "the version");
+    assert_same(&rt, version.as_str(), "cvrp 1.0.0\n", "the version");
 }
 
 #[test]

@@ -265,7 +265,7 @@ const BY_WORDS: &[(&str, &str, End<'static>)] = &[
     ("--depot 3", DEPOTS, (3, "", "cvrp: node 3: not a depot\n")),
     ("--trucks 2", THREE, (0, "NoPlan\n", "")),
     ("--trucks 3", THREE, (0, TWELVE, "")),
-    ("--version", SMALL, (0, "cvrp 0.1.0\n", "")),
+    ("--version", SMALL, (0, "cvrp 1.0.0\n", "")),
     ("a.vrp", SMALL, (2, "", NO_FILE)),
     ("--workers 0", SMALL, (2, "", NO_WORKERS)),
     // all options, and all but one: the first customers alone make four pieces, of at least 19, 20, 19 and 27; from the other
