@@ -16,7 +16,7 @@ use std::sync::Wait;
 use std::thread::Threads;
 use std::time::Clock;
 use std::{env, fs, str};
-use vrp_command::{MAX_PIECES, NoGate, Options, run, run_words};
+use vrp_command::{MAX_PIECES, NoGate, Options, Resources, run, run_words};
 
 // The whole tree; the fewest cuts; the pieces of a plain run.
 const CUTTINGS: [u32; 3] = [1, 2, 64];
@@ -56,14 +56,13 @@ fn print_run<R: Files + Print + Eprint + AllocGlobal + Clock + Threads + Wait + 
     let file = fs::read(rt, *name)?;
     let mut output = Vec::new(rt.alloc());
     let mut errors = Vec::new(rt.alloc());
+    let resources = Resources::new(rt, rt.alloc(), &NoGate);
     let status = run_words(
-        rt,
-        rt.alloc(),
+        &resources,
         words,
         &mut file.as_slice(),
         &mut output,
         &mut errors,
-        &NoGate,
     );
     let report = if errors.is_empty() && output == before {
         None

@@ -11,7 +11,7 @@ use std::rt::Files;
 use std::sync::Wait;
 use std::thread::Threads;
 use std::time::Clock;
-use vrp_command::{LineFault, NoGate, end_without_run, run_words, words_fault};
+use vrp_command::{LineFault, NoGate, Resources, end_without_run, run_words, words_fault};
 
 fn main(rt: HostRuntime) -> ExitCode {
     let status = match run_args(&rt, rt.stdin().is_terminal(), &mut rt.stderr()) {
@@ -33,13 +33,12 @@ fn run_args<
     };
     let args: Vec<String> = args.skip(1).collect(rt.alloc())?;
     let words: Vec<&str> = args.iter().map(String::as_str).collect(rt.alloc())?;
+    let resources = Resources::new(rt, rt.alloc(), &NoGate);
     Ok(run_words(
-        rt,
-        rt.alloc(),
+        &resources,
         &words,
         &mut Awaited::new(rt.reader(), at_terminal, rt),
         &mut io::writer(rt),
         errors,
-        &NoGate,
     ))
 }

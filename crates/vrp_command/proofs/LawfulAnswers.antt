@@ -7,7 +7,7 @@ use Rattle.vrp_model.specs.Cheapest.{NoneCheaper}
 use Rattle.vrp_model.specs.Order.{IsCanonical}
 use Rattle.vrp_model.specs.Problem.{Problem}
 use Rattle.vrp_model.specs.Route.{IsPlanOf, PricedPlan, plan_cost}
-use Rattle.vrp_pool_answer.specs.Finding.{FindingOf, bounded_finding, finding_of}
+use Rattle.vrp_pool_answer.specs.Finding.{FindingOf, bounded_finding}
 use Rattle.vrp_command.specs.Answer.{IsAnswerTo}
 use Rattle.vrp_command.specs.Found.{told_of}
 use Rattle.vrp_pool.specs.Answer.{known_plan}
@@ -19,18 +19,7 @@ answer_lawful p pieces budget may_stop (Proven plan) canonical = λ other same. 
 answer_lawful p pieces budget may_stop (Open plan low lowest) left = left.left_open.plan_of
 answer_lawful p pieces budget may_stop NoPlan nothing = λ other same. absurd (let never : None ≡ Some other = same in cc)
 
--- what is told of an answer is told of its plan
-told_plan : (found : Answer) → (finding_of found).plan ≡ known_plan found
-told_plan (Proven plan) = refl
-told_plan (Open plan low lowest) = refl
-told_plan NoPlan = refl
-
--- and so the plan that is told is feasible
-pub told_lawful : (p : Problem) (pieces budget : ℕ) (may_stop : Bool) (found : Answer) (told : FindingOf) → told ≡ finding_of found → IsAnswerTo p pieces budget may_stop found → ForSome told.plan (IsPlanOf p)
-told_lawful p pieces budget may_stop found told is answer =
-    subst (λ (plan : Option PricedPlan). ForSome plan (IsPlanOf p)) (sym (ap (λ (f : FindingOf). f.plan) is ∙ told_plan found)) (answer_lawful p pieces budget may_stop found answer)
-
--- and so it is where a bound is told too
+-- what is told of an answer, with a bound, is told of its plan
 told_of_plan : (seconds : Option ℕ) (found : Answer) (bound : ℕ) → (told_of seconds found bound).plan ≡ known_plan found
 told_of_plan None (Proven plan) bound = refl
 told_of_plan None (Open plan low lowest) bound = refl
@@ -39,6 +28,7 @@ told_of_plan (Some seconds) (Proven plan) bound = refl
 told_of_plan (Some seconds) (Open plan low lowest) bound = refl
 told_of_plan (Some seconds) NoPlan bound = refl
 
+-- and so the plan that is told is feasible
 pub told_of_lawful : (p : Problem) (pieces budget : ℕ) (may_stop : Bool) (seconds : Option ℕ) (found : Answer) (bound : ℕ) (told : FindingOf)
     → told ≡ told_of seconds found bound → IsAnswerTo p pieces budget may_stop found → ForSome told.plan (IsPlanOf p)
 told_of_lawful p pieces budget may_stop seconds found bound told is answer =

@@ -87,6 +87,13 @@ is_searched request may_stop p start found bound told unchecked answer no_costli
       best = best_none_cheaper p request.options.pieces request.options.budget may_stop request.seconds found bound told is answer none_below;
     })
 
+-- what is told of what was found was found, and its plan is feasible
+pub found_told : (request : Request) (may_stop : Bool) (p : Problem) (start : Option PricedPlan) (found told : FindingOf) → IsFoundBy request may_stop p start found → told ≡ found → IsFoundBy request may_stop p start told
+found_told request may_stop p start found told is same = subst (IsFoundBy request may_stop p start) (sym same) is
+
+pub plan_told : (p : Problem) (found told : FindingOf) → ForSome found.plan (IsPlanOf p) → told ≡ found → ForSome told.plan (IsPlanOf p)
+plan_told p found told is same = subst (λ (f : FindingOf). ForSome f.plan (IsPlanOf p)) (sym same) is
+
 -- ---- of the bytes that were read
 
 -- what is told with the name that was kept is told with that of the bytes

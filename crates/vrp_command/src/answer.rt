@@ -7,7 +7,7 @@ ghost use Rattle.vrp_pool_answer.specs.Answer.{known_plan};
 ghost use Rattle.vrp_command.specs.Answer.{IsAnswerTo};
 ghost use Rattle.vrp_command_request.specs.Options.{AreInRange};
 
-use std::alloc::Global;
+use crate::resources::Resources;
 use std::sync::Wait;
 use std::thread::Threads;
 use vrp_command_request::Options;
@@ -18,31 +18,29 @@ use vrp_search_tree::Cutting;
 /// Cuts the tree of an instance into as many pieces as the options say, and has each searched with their budget by their workers, who
 /// begin with a plan, if one is given.
 pub(crate) fn cut_and_solve<T: Threads + Wait + Sync, G: Gate + Sync>(
-    rt: &T,
-    alloc: Global,
+    resources: &Resources<'_, T, G>,
     instance: &Instance,
     start: Option<&Plan>,
     options: Options,
-    gate: &G,
 ) -> Result<Solved, SolveError>
     requires start { ForSome (option_map (λ plan. plan.now) start) (IsPlanOf instance.now) }
     requires options { AreInRange options }
     ensures answer { IfOk result (λ solved.
-        IsAnswerTo instance.now options.pieces options.budget (G.may_stop gate.now) solved.answer) }
+        IsAnswerTo instance.now options.pieces options.budget (G.may_stop resources.now.gate.now) solved.answer) }
     ensures no_costlier { IfOk result (λ solved. cost_of (known_plan solved.answer)
         ≤ cost_of (option_map (λ plan. plan.now) start.entry)) }
     ensures bound { IfOk result (λ solved. NoneCheaper instance.now solved.lower_bound) }
 {
-    let mut cutting = Cutting::whole(alloc, instance)?;
-    cutting.at_least(alloc, instance, options.pieces)?;
+    let mut cutting = Cutting::whole(resources.alloc, instance)?;
+    cutting.at_least(resources.alloc, instance, options.pieces)?;
     solve_from(
-        rt,
-        alloc,
+        resources.rt,
+        resources.alloc,
         instance,
         start,
         cutting,
         options.workers,
         options.budget,
-        gate,
+        resources.gate,
     )
 }

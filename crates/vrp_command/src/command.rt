@@ -6,23 +6,22 @@ ghost use Rattle.vrp_command.specs.Program.{OnRefusal, PrintsRequest, PrintsPart
 ghost use Rattle.vrp_command.specs.Run.{PrintsAnswer, PrintsPart, RefusesInput, OnRefusedFile};
 ghost use Rattle.vrp_command_streams.specs.Input.{TakesAtMost};
 
-use crate::answer::cut_and_solve;
-use crate::answering::answer_request;
+use crate::answering::{answer_request, answer_with};
 use crate::deadline::Deadline;
 use crate::fault::RequestError;
-use crate::form::{Form, print_finding};
 use crate::problem::read_problem;
 use crate::progress::Progress;
+use crate::resources::Resources;
 use crate::start::StartFile;
+use crate::task::Task;
 use std::alloc::Global;
-use std::io::{Eprint, Read, Write};
+use std::io::{self, Eprint, Read, Write};
 use std::sync::Wait;
 use std::thread::Threads;
 use std::time::Clock;
 use vrp_command_request::{Format, Options, Request};
 use vrp_command_streams::{RunError, Status};
 use vrp_pool::{Gate, NoGate};
-use vrp_pool_answer::Finding;
 use vrp_text::MAX_BYTES;
 
 /// Reads a CVRP file, and writes the report of a feasible plan of the problem that it means with the chosen node as its depot and
@@ -49,15 +48,13 @@ pub fn run<T: Threads + Wait + Sync, R: Read, W: Write>(
     ensures silent { IfErr result (λ fault. fault ≢ RunError.Write → Keeps
         (W.contents output.old) (W.contents output.new)) }
 {
-    let instance = read_problem(alloc, options, Format::Report, input)?.into_instance();
-    let solved = cut_and_solve(rt, alloc, &instance, None, options, &NoGate)?;
-    print_finding(
-        alloc,
-        &instance,
-        &Finding::of_answer(&solved.answer),
-        Form::Report,
-        output,
-    )
+    let problem = read_problem(alloc, options, Format::Report, input)?;
+    let resources = Resources::new(rt, alloc, &NoGate);
+    let task = Task::report(&problem, options);
+    // Beside a report nothing is told.
+    let printed = answer_with(&resources, &task, None, output, &mut io::sink());
+    drop(problem);
+    printed
 }
 
 /// Does what a request asks for: reads a CVRP file, and a plan to begin with from a second one, if there is one; then it writes, in
@@ -66,7 +63,7 @@ pub fn run<T: Threads + Wait + Sync, R: Read, W: Write>(
 /// search, and so may the gate, which is told before each piece.
 ///
 /// To `errors` goes that the second file states another cost than its plan's, that a solution has no plan to be printed, and the last
-/// line of how the run went; to `rt` the lines before it. What these say is left open.
+/// line of how the run went; to the system's standard error the lines before it. What these say is left open.
 pub fn run_request<
     T: Threads + Wait + Clock + Eprint + Sync,
     S: Read + Drop,
@@ -75,24 +72,24 @@ pub fn run_request<
     E: Write,
     G: Gate + Sync,
 >(
-    rt: &T,
-    alloc: Global,
+    resources: &Resources<'_, T, G>,
     request: Request<'_>,
     start: Option<StartFile<S>>,
     input: &mut R,
     output: &mut W,
     errors: &mut E,
-    gate: &G,
 ) -> Result<Status, RequestError>
     requires { AreInRange request.options }
-    ensures printed { IfOk result (PrintsRequest request.entry (may_stop_by request.entry.seconds (G.may_stop gate.now))
+    ensures printed { IfOk result (PrintsRequest request.entry
+        (may_stop_by request.entry.seconds (G.may_stop resources.now.gate.now))
         (λ file. S.remaining file) start (R.remaining input.old) (R.remaining input.new) (W.contents output.old) (W.contents output.new)) }
     ensures refused { IfErr result (λ error. OnRefusal error
         (RefusesInput request.entry.options.depot (R.remaining input.old) (R.remaining input.new))
         (RefusesStart request.entry (λ file. S.remaining file) start (R.remaining input.old) (R.remaining input.new))
         (request.entry.format ≡ Format.Picture)) }
     ensures begun { IfErr result (λ error. error ≡ RequestError.Run RunError.Write →
-        PrintsPartOfRequest request.entry (may_stop_by request.entry.seconds (G.may_stop gate.now)) (λ file. S.remaining file) start
+        PrintsPartOfRequest request.entry (may_stop_by request.entry.seconds (G.may_stop resources.now.gate.now))
+        (λ file. S.remaining file) start
         (R.remaining input.old) (R.remaining input.new) (W.contents output.old) (W.contents output.new)) }
     ensures failed { IfErr result (λ error. error ≡ RequestError.Run RunError.Read → TakesAtMost MAX_BYTES
         (R.remaining input.old) (R.remaining input.new)) }
@@ -100,9 +97,11 @@ pub fn run_request<
     ensures silent { IfErr result (λ error. error ≢ RequestError.Run RunError.Write → Keeps
         (W.contents output.old) (W.contents output.new)) }
 {
-    let deadline = Deadline::new(rt, request.seconds, gate);
+    let rt = resources.rt;
+    let deadline = Deadline::new(rt, request.seconds, resources.gate);
     let progress = Progress::new(rt, request.progress, &deadline);
-    let outcome = answer_request(rt, alloc, request, start, input, output, errors, &progress);
+    let told = Resources::new(rt, resources.alloc, &progress);
+    let outcome = answer_request(&told, request, start, input, output, errors);
     progress.tell_end(&outcome, errors);
     outcome
 }

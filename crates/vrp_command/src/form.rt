@@ -99,13 +99,14 @@ fn settings(request: &Request<'_>) -> Settings
 }
 
 /// Prints a finding in a form, and answers its verdict. On a fault other than `Write` nothing is written; on that one a part of the text
-/// is, from its first byte on.
-pub(crate) fn print_finding<W: Write>(
+/// is, from its first byte on. Where a solution is asked for and there is no plan, the text is empty and `errors` is told so.
+pub(crate) fn print_finding<W: Write, E: Write>(
     alloc: Global,
     instance: &Instance,
     finding: &Finding<'_>,
     form: Form<'_>,
     output: &mut W,
+    errors: &mut E,
 ) -> Result<Status, RunError>
     requires { ForSome (option_map (λ plan. plan.now) finding.now.plan) (IsPlanOf instance.now) }
     ensures status { IfOk result (λ status. status ≡ finding.now.status) }
@@ -119,6 +120,7 @@ pub(crate) fn print_finding<W: Write>(
 {
     let text = text_of(alloc, instance, finding, form)?;
     write_report(output, text.as_bytes())?;
+    tell_missing_plan(finding, form, errors);
     Ok(finding.status)
 }
 
@@ -140,9 +142,8 @@ fn text_of(
     }
 }
 
-/// Tells `errors` where a solution is asked for and there is no plan: the text is empty then. Where that can't be written nothing more is
-/// done.
-pub(crate) fn tell_missing_plan<E: Write>(finding: &Finding<'_>, form: Form<'_>, errors: &mut E) {
+// Tells `errors` where a solution is asked for and there is no plan. Where that can't be written nothing more is done.
+fn tell_missing_plan<E: Write>(finding: &Finding<'_>, form: Form<'_>, errors: &mut E) {
     if let (Form::Solution, None) = (form, finding.plan) {
         let _ = writeln!(errors, "cvrp: no plan to print: {}", finding.status);
     }

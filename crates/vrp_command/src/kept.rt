@@ -5,6 +5,7 @@ use crate::command::run_request;
 use crate::fault::{RequestError, end};
 use crate::hints::{tell_answer, tell_refusal};
 use crate::problem::limited;
+use crate::resources::Resources;
 use crate::start::{StartError, StartFile};
 use crate::strict::cost_status;
 use std::alloc::Global;
@@ -89,29 +90,26 @@ pub(crate) fn run_kept<
     E: Write,
     G: Gate + Sync,
 >(
-    rt: &T,
-    alloc: Global,
+    resources: &Resources<'_, T, G>,
     request: Request<'_>,
     input: &mut R,
     output: &mut W,
     errors: &mut E,
-    gate: &G,
 ) -> u8
     requires { AreInRange request.options }
 {
-    let kept = match Kept::read(rt, alloc, &request, input) {
+    let alloc = resources.alloc;
+    let kept = match Kept::read(resources.rt, alloc, &request, input) {
         Ok(kept) => kept,
         Err(error) => return end(alloc, &Err(error), errors),
     };
     let outcome = run_request(
-        rt,
-        alloc,
+        resources,
         request,
         kept.start_file(),
         &mut kept.input.as_slice(),
         output,
         errors,
-        gate,
     );
     let status = end(alloc, &outcome, errors);
     match outcome {

@@ -15,8 +15,10 @@ mod line;
 mod problem;
 mod program;
 mod progress;
+mod resources;
 mod start;
 mod strict;
+mod task;
 
 pub use command::{run, run_request};
 pub use deadline::Deadline;
@@ -24,6 +26,7 @@ pub use fault::{RequestError, end};
 pub use law::{one_answer, one_report};
 pub use line::{Line, LongRun, Stage};
 pub use program::{end_without_run, run_words};
+pub use resources::Resources;
 pub use start::{StartError, StartFile, open_start};
 pub use vrp_command_request::{
     Format, LineFault, MAX_BUDGET, MAX_SECONDS, Options, Request, VERSION, argument_fault,

@@ -23,15 +23,6 @@ pub(crate) struct Problem {
     pub(crate) beside: Beside,
 }
 
-impl Problem {
-    /// The instance alone.
-    pub(crate) fn into_instance(self) -> Instance
-        ensures { result ≡ self.instance }
-    {
-        self.instance
-    }
-}
-
 /// What a form needs of a file beside the instance.
 #[derive(Debug, Drop)]
 pub(crate) struct Beside {

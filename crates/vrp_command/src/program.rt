@@ -7,8 +7,8 @@ use crate::command::run_request;
 use crate::fault::end;
 use crate::hints::tell_hint;
 use crate::kept::run_kept;
+use crate::resources::Resources;
 use crate::start::open_start;
-use std::alloc::Global;
 use std::io::{Eprint, Read, Write};
 use std::rt::Files;
 use std::sync::Wait;
@@ -18,8 +18,9 @@ use vrp_command_request::{LineFault, line_status, parse_request, word_hint};
 use vrp_pool::Gate;
 
 /// Does what the words behind the program's name ask for, and answers the exit status: `parse_request` and then `run_request`, or
-/// `end_without_run`. Where hints are asked for they follow, and so they do where the words are refused. The report goes to `output`, and so do the help and the version; why there is no report goes to `errors`, and how
-/// the run goes, where that is asked for, to `rt`. Of itself it promises nothing.
+/// `end_without_run`. Where hints are asked for they follow, and so they do where the words are refused. The report goes to `output`,
+/// and so do the help and the version; why there is no report goes to `errors`, and how the run goes, where that is asked for, to the
+/// system's standard error. Of itself it promises nothing.
 pub fn run_words<
     T: Threads + Wait + Clock + Eprint + Files + Sync,
     R: Read,
@@ -27,24 +28,22 @@ pub fn run_words<
     E: Write,
     G: Gate + Sync,
 >(
-    rt: &T,
-    alloc: Global,
+    resources: &Resources<'_, T, G>,
     words: &[&str],
     input: &mut R,
     output: &mut W,
     errors: &mut E,
-    gate: &G,
 ) -> u8 {
-    let request = match parse_request(alloc, words) {
+    let request = match parse_request(resources.alloc, words) {
         Ok(request) => request,
         Err(fault) => return refuse(words, &fault, output, errors),
     };
     if request.explain || request.strict {
-        return run_kept(rt, alloc, request, input, output, errors, gate);
+        return run_kept(resources, request, input, output, errors);
     }
-    let start = request.start.map(|path| open_start(rt, path));
-    let outcome = run_request(rt, alloc, request, start, input, output, errors, gate);
-    end(alloc, &outcome, errors)
+    let start = request.start.map(|path| open_start(resources.rt, path));
+    let outcome = run_request(resources, request, start, input, output, errors);
+    end(resources.alloc, &outcome, errors)
 }
 
 // Ends where the words give no options, with a hint on them.

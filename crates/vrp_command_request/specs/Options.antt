@@ -1,5 +1,5 @@
 -- How a run is asked for where nothing is said, and what may be asked for.
-use Rattle.std.specs.Prelude.{◌≡◌, ◌≢◌, ◌≤◌, None}
+use Rattle.std.specs.Prelude.{◌≡◌, ◌≢◌, ◌≤◌, None, false}
 use Rattle.std.specs.Option.{ForSome}
 use Rattle.vrp_model.specs.declared.limits.TheConstants.{MAX_NODES}
 use Rattle.vrp_search_tree.specs.declared.cutting.TheConstants.{MAX_PIECES}
@@ -7,10 +7,15 @@ use Rattle.vrp_pool.specs.declared.solver.TheConstants.{MAX_WORKERS}
 use Rattle.vrp_command_request.specs.declared.options.Format.{Format}
 use Rattle.vrp_command_request.specs.declared.options.Format.TheVariants as format
 use Rattle.vrp_command_request.specs.declared.options.Options.{Options}
+use Rattle.vrp_command_request.specs.declared.options.Request.{Request}
 use Rattle.vrp_command_request.specs.declared.options.TheConstants.{MAX_BUDGET}
 
 abbrev pub IsDefault : Options → Type 0
 IsDefault options = options ≡ record { workers = 1; pieces = 64; budget = 10000000; depot = None; trucks = None }
+
+-- a report is asked for, by these options, and nothing else
+abbrev pub IsReport : Options → Request → Type 0
+IsReport options request = request ≡ record { options = options; states_budget = false; seconds = None; progress = false; start = None; check = false; strict = false; explain = false; format = format.Report }
 
 -- what may be asked for
 pub record AreInRange (options : Options) : Type 0 where

@@ -1,5 +1,5 @@
 //! How a run is asked for.
-ghost use Rattle.vrp_command_request.specs.Options.{IsDefault};
+ghost use Rattle.vrp_command_request.specs.Options.{IsDefault, IsReport};
 
 /// The most partial plans that may be looked at in each part.
 pub const MAX_BUDGET: u64 = 1_000_000_000_000;
@@ -72,4 +72,23 @@ pub struct Request<'a> {
     pub explain: bool,
     /// In which form the plan is printed.
     pub format: Format,
+}
+
+impl Request<'_> {
+    /// A report, by these options; nothing else is asked for.
+    pub fn report(options: Options) -> Request<'static>
+        ensures { IsReport options result }
+    {
+        Request {
+            options,
+            states_budget: false,
+            seconds: None,
+            progress: false,
+            start: None,
+            check: false,
+            strict: false,
+            explain: false,
+            format: Format::Report,
+        }
+    }
 }

@@ -67,9 +67,12 @@ pub fn json_text(
     let options = options_of(alloc, context.asked)?;
     let name = text_or_null(alloc, context.name)?;
     let gap = gap_of(instance, finding);
-    let document = document(
-        alloc, instance, finding, context, name, gap, routes, options,
-    )?;
+    let told = Told {
+        instance,
+        finding,
+        context,
+    };
+    let document = document(alloc, &told, name, gap, routes, options)?;
     Ok(line_of(alloc, document)?)
 }
 
@@ -84,22 +87,33 @@ fn line_of(alloc: Global, object: Value) -> Result<String, AllocError>
     Ok(text)
 }
 
+// What is told.
+#[derive(Clone, Copy)]
+struct Told<'a> {
+    instance: &'a Instance,
+    finding: &'a Finding<'a>,
+    context: Context<'a>,
+}
+
 // The object, with this name, this gap, these routes and options.
 fn document(
     alloc: Global,
-    instance: &Instance,
-    finding: &Finding<'_>,
-    context: Context<'_>,
+    told: &Told<'_>,
     name: Value,
     gap: Option<u64>,
     routes: Vec<Value>,
     options: Value,
 ) -> Result<Value, AllocError>
-    requires name { view name ≡ text_or_null (context_by context).name }
-    requires options { view options ≡ options_told context.asked }
-    ensures { IfOk result (λ value. view value
-        ≡ document_of instance.now (told_by finding.now) (context_by context.entry) gap (map view routes.items)) }
+    requires name { view name ≡ text_or_null (context_by told.now.context).name }
+    requires options { view options ≡ options_told told.now.context.asked }
+    ensures { IfOk result (λ value. view value ≡ document_of told.now.instance.now (told_by told.now.finding.now)
+        (context_by told.now.context) gap (map view routes.items)) }
 {
+    let Told {
+        instance,
+        finding,
+        context,
+    } = *told;
     let verdict = finding.status.as_str();
     let cost = or_null(cost_of(finding.plan));
     let lower_bound = or_null(finding.lower_bound);

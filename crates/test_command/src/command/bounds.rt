@@ -10,7 +10,7 @@ use std::sync::Wait;
 use std::sync::atomic::{AtomicU64, Ordering};
 use std::thread::Threads;
 use std::time::Clock;
-use vrp_command::{Event, Gate, run_words};
+use vrp_command::{Event, Gate, Resources, run_words};
 
 // Stops the search where routes are to be listed: prices are found by then, and each piece ends after one partial plan.
 #[derive(Drop)]
@@ -100,15 +100,8 @@ fn printed<R: Abort + Files + Threads + Wait + Clock + Eprint + Sync>(
     let mut input = PAIRS.as_bytes();
     let mut output = Vec::new(alloc);
     let mut errors = Vec::new(alloc);
-    let ended = run_words(
-        rt,
-        alloc,
-        words,
-        &mut input,
-        &mut output,
-        &mut errors,
-        &gate,
-    );
+    let resources = Resources::new(rt, alloc, &gate);
+    let ended = run_words(&resources, words, &mut input, &mut output, &mut errors);
     assert_same(rt, ended, 1, "the status");
     String::from_utf8(output).expect(rt, "text")
 }

@@ -6,7 +6,7 @@ use std::io;
 use std::io::{ErrorKind, Read, Write};
 use std::sync::Wait;
 use std::thread::Threads;
-use vrp_command::{NoGate, Options, RunError, Status, run, run_words};
+use vrp_command::{NoGate, Options, Resources, RunError, Status, run, run_words};
 use vrp_text::TextError;
 
 // Gives its bytes, this many at a time. One of its reads fails, and the next goes on behind it.
@@ -241,15 +241,8 @@ fn faults_are_told(rt: HostRuntime) {
         output.failing = failing_write;
         let mut errors = Vec::new(rt.alloc());
         let words = [word];
-        let ended = run_words(
-            &rt,
-            rt.alloc(),
-            &words,
-            &mut input,
-            &mut output,
-            &mut errors,
-            &NoGate,
-        );
+        let resources = Resources::new(&rt, rt.alloc(), &NoGate);
+        let ended = run_words(&resources, &words, &mut input, &mut output, &mut errors);
         assert_same(&rt, ended, status, (word, told));
         assert_same(&rt, errors.as_slice(), told.as_bytes(), word);
     }
@@ -261,14 +254,13 @@ fn refused_words_read_nothing(rt: HostRuntime) {
     let mut input = small_in_parts(70_000, 0, ErrorKind::Other);
     let mut output = takes(rt.alloc(), 70_000);
     let mut errors = Vec::new(rt.alloc());
+    let resources = Resources::new(&rt, rt.alloc(), &NoGate);
     let ended = run_words(
-        &rt,
-        rt.alloc(),
+        &resources,
         &["--pieces", "0"],
         &mut input,
         &mut output,
         &mut errors,
-        &NoGate,
     );
     assert_same(&rt, ended, 2, "the status");
     assert_same(&rt, input.reads, 0, "reads");

@@ -10,8 +10,8 @@ use std::sync::Wait;
 use std::thread::Threads;
 use std::time::Clock;
 use vrp_command::{
-    Format, NoGate, Options, Request, RequestError, RunError, StartError, StartFile, Status,
-    run_request,
+    Format, NoGate, Options, Request, RequestError, Resources, RunError, StartError, StartFile,
+    Status, run_request,
 };
 use vrp_plan_read::SolutionError;
 use vrp_text::TextError;
@@ -232,15 +232,14 @@ fn assert_request<R: Abort + Threads + Wait + Clock + Eprint + Sync>(
     let mut input = text.as_bytes();
     let mut output = Vec::new(alloc);
     let mut errors = Vec::new(alloc);
+    let resources = Resources::new(rt, alloc, &NoGate);
     let ended = run_request(
-        rt,
-        alloc,
+        &resources,
         request,
         start.file(),
         &mut input,
         &mut output,
         &mut errors,
-        &NoGate,
     );
     assert_same(rt, ended, *wanted, printed);
     assert_same(rt, output.as_slice(), printed.as_bytes(), printed);
@@ -284,15 +283,14 @@ fn assert_last_line<R: Abort + Threads + Wait + Clock + Eprint + Sync>(
     let mut input = SMALL.as_bytes();
     let mut output = Vec::new(alloc);
     let mut errors = Vec::new(alloc);
+    let resources = Resources::new(rt, alloc, &NoGate);
     let ended = run_request(
-        rt,
-        alloc,
+        &resources,
         request,
         Start::Nothing.file(),
         &mut input,
         &mut output,
         &mut errors,
-        &NoGate,
     );
     let told = str::from_utf8(&errors).expect(rt, "text");
     assert!(rt; ended.is_ok() && told.contains(wanted), "{told}");

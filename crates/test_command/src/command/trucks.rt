@@ -23,8 +23,11 @@ const APART: &str =
 const ALONE: &str =
     "TYPE : CVRP\nDIMENSION : 1\nEDGE_WEIGHT_TYPE : EUC_2D\nCAPACITY : 2\nNODE_COORD_SECTION\n1 0 0\nDEMAND_SECTION\n1 0\nDEPOT_SECTION\n1\n-1\nEOF\n";
 
-// A file, how many trucks there are, and the status and the report, whatever the pieces.
-const ENDINGS: &[(&str, Option<u16>, Status, &str)] = &[
+// A file, how many trucks there are, and the status and the report.
+type Ending<'a> = (&'a str, Option<u16>, Status, &'a str);
+
+// How runs end, whatever the pieces.
+const ENDINGS: &[Ending<'static>] = &[
     (THREE, Some(1), Status::NoPlan, "NoPlan\n"),
     (THREE, Some(2), Status::NoPlan, "NoPlan\n"),
     (
@@ -60,10 +63,10 @@ const ENDINGS: &[(&str, Option<u16>, Status, &str)] = &[
 
 #[test]
 fn endings(rt: HostRuntime) {
-    for &(text, trucks, status, report) in ENDINGS {
+    for &ending in ENDINGS {
         for pieces in [1, 2, 64, MAX_PIECES] {
             let given = (pieces, Options::default().budget);
-            assert_limited(&rt, rt.alloc(), text, trucks, given, status, report);
+            assert_limited(&rt, rt.alloc(), ending, given);
         }
     }
 }
@@ -71,7 +74,7 @@ fn endings(rt: HostRuntime) {
 // What is left open with a budget of one partial plan, or known at once.
 #[test]
 fn small_budgets(rt: HostRuntime) {
-    for (text, trucks, status, report) in [
+    for ending in [
         // no plan yet: the arcs into the customers, a step each, and three arcs home, by walks that may come twice
         (THREE, Some(2), Status::Open, "Open 6\n"),
         (HEAVY, Some(2), Status::NoPlan, "NoPlan\n"),
@@ -82,19 +85,16 @@ fn small_budgets(rt: HostRuntime) {
             "Route #1: 2\nRoute #2: 3\nRoute #3: 4\nCost 12\nOpen 6\n",
         ),
     ] {
-        assert_limited(&rt, rt.alloc(), text, trucks, (1, 1), status, report);
+        assert_limited(&rt, rt.alloc(), ending, (1, 1));
     }
 }
 
-// Asserts how a run over a text ends with this many trucks, pieces and partial plans for each, and all that it writes.
+// Asserts how a run ends with so many pieces and partial plans for each, and all that it writes.
 fn assert_limited<R: Abort + Threads + Wait + Sync>(
     rt: &R,
     alloc: Global,
-    text: &str,
-    trucks: Option<u16>,
+    (text, trucks, status, report): Ending<'_>,
     (pieces, budget): (u32, u64),
-    status: Status,
-    report: &str,
 ) {
     assert!(rt; 1 <= pieces && pieces <= MAX_PIECES);
     assert!(rt; 1 <= budget && budget <= MAX_BUDGET);

@@ -10,7 +10,7 @@ pub returns-in-Ok-clause-printed : goal.returns-in-Ok-clause-printed
 returns-in-Ok-clause-printed g c =
     let left = g.R.Read.remaining in
     let held = g.W.Write.contents in
-    let may_stop = g.G.Gate.may_stop c.args.gate.now in
+    let may_stop = g.G.Gate.may_stop c.args.resources.now.gate.now in
     let prints =
     prints_request c.args.request may_stop (λ file. g.S.Read.remaining file) c.args.start (left c.args.input.now) (left c.read_problem.new.input) (held c.args.output.now) (held c.answer_on-outcome.new.output)
     c.in-Ok.problem.instance (option_map string_bytes c.in-Ok.problem.beside.name) c.in-Ok.ensures.read in
@@ -20,7 +20,7 @@ pub returns-in-Ok-clause-begun : goal.returns-in-Ok-clause-begun
 returns-in-Ok-clause-begun g c =
     let left = g.R.Read.remaining in
     let held = g.W.Write.contents in
-    let may_stop = g.G.Gate.may_stop c.args.gate.now in
+    let may_stop = g.G.Gate.may_stop c.args.resources.now.gate.now in
     let part =
     prints_part_of_request c.args.request may_stop (λ file. g.S.Read.remaining file) c.args.start (left c.args.input.now) (left c.read_problem.new.input) (held c.args.output.now) (held c.answer_on-outcome.new.output)
     c.in-Ok.problem.instance (option_map string_bytes c.in-Ok.problem.beside.name) c.in-Ok.ensures.read in
