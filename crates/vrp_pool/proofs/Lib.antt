@@ -2,5 +2,6 @@ mod Closings
 mod Floors
 mod KeptOutcomes
 mod NewCallers
+mod Solvings
 mod Teams
 mod Works

@@ -7,6 +7,7 @@ ghost use Rattle.vrp_model.specs.Route.{IsPlanOf};
 ghost use Rattle.vrp_pool_pile.specs.Pile.{IsNewPile};
 ghost use Rattle.vrp_search_tree.specs.Cutting.{IsCutting};
 ghost use Rattle.vrp_search_tree.specs.declared.cutting.TheConstants.{MAX_REFINED};
+ghost use Rattle.vrp_pool.specs.Inner.Solving.{CanSolve, IsAnswered, IsSolved};
 ghost use Rattle.vrp_pool.specs.declared.solver.TheConstants.{MAX_WORKERS};
 ghost use Rattle.vrp_pool_answer.specs.Answer.{AnswersAll, IsAnswer, known_plan};
 ghost use Rattle.vrp_pool_answer.specs.Outcomes.{words_of};
@@ -112,15 +113,8 @@ fn solve_shared<R: Threads + Wait + Sync, G: Gate + Sync>(
     cutting: Cutting,
     workers: u32,
 ) -> Result<Solved, NoMemory>
-    requires cutting { IsCutting shared.now.problem cutting }
-    requires few { length cutting ≤ 2 * MAX_REFINED }
-    requires pieces { shared.now.pieces ≡ length cutting }
-    requires some_worker { 1 ≤ workers }
-    requires few_workers { workers ≤ MAX_WORKERS }
-    ensures answer { IfOk result (λ solved.
-        IsAnswer shared.now.problem cutting shared.now.budget shared.now.may_stop solved.answer) }
-    ensures no_costlier { IfOk result (λ solved. cost_of (known_plan solved.answer) ≤ cost_of shared.now.start_plan) }
-    ensures bound { IfOk result (λ solved. NoneCheaper shared.now.problem solved.lower_bound) }
+    requires { CanSolve shared.now cutting workers }
+    ensures { IfOk result (IsSolved shared.now cutting) }
 {
     report_plan(shared.gate, shared.start_plan);
     if let Some(answer) = looked_at(shared)? {
@@ -142,15 +136,8 @@ fn solve_prepared<R: Threads + Wait + Sync, G: Gate + Sync>(
     cutting: Cutting,
     workers: u32,
 ) -> Result<Solved, NoMemory>
-    requires cutting { IsCutting shared.now.problem cutting }
-    requires few { length cutting ≤ 2 * MAX_REFINED }
-    requires pieces { shared.now.pieces ≡ length cutting }
-    requires some_worker { 1 ≤ workers }
-    requires few_workers { workers ≤ MAX_WORKERS }
-    ensures answer { IfOk result (λ solved.
-        IsAnswer shared.now.problem cutting shared.now.budget shared.now.may_stop solved.answer) }
-    ensures no_costlier { IfOk result (λ solved. cost_of (known_plan solved.answer) ≤ cost_of shared.now.start_plan) }
-    ensures bound { IfOk result (λ solved. NoneCheaper shared.now.problem solved.lower_bound) }
+    requires { CanSolve shared.now cutting workers }
+    ensures { IfOk result (IsSolved shared.now cutting) }
 {
     match prices_found(shared)? {
         Some(
@@ -208,15 +195,8 @@ fn solve_by_prices<R: Threads + Wait + Sync, G: Gate + Sync>(
 ) -> Result<Solved, NoMemory>
     requires problem { relaxation.now.problem ≡ shared.now.problem }
     requires places { ng_sets.places ≡ place_count shared.now.problem }
-    requires cutting { IsCutting shared.now.problem cutting }
-    requires few { length cutting ≤ 2 * MAX_REFINED }
-    requires pieces { shared.now.pieces ≡ length cutting }
-    requires some_worker { 1 ≤ workers }
-    requires few_workers { workers ≤ MAX_WORKERS }
-    ensures answer { IfOk result (λ solved.
-        IsAnswer shared.now.problem cutting shared.now.budget shared.now.may_stop solved.answer) }
-    ensures no_costlier { IfOk result (λ solved. cost_of (known_plan solved.answer) ≤ cost_of shared.now.start_plan) }
-    ensures bound { IfOk result (λ solved. NoneCheaper shared.now.problem solved.lower_bound) }
+    requires can { CanSolve shared.now cutting workers }
+    ensures { IfOk result (IsSolved shared.now cutting) }
 {
     let copy = copied_ng_sets(shared.alloc, shared.instance, &ng_sets)?;
     let prices = Prices::new(shared.alloc, relaxation, ng_sets)?;
@@ -248,15 +228,8 @@ fn solve_by_routes<R: Threads + Wait + Sync, G: Gate + Sync>(
     requires problem { relaxation.now.problem ≡ shared.now.problem }
     requires prices { prices.now.problem ≡ shared.now.problem }
     requires places { IfSome ng_sets (λ ng_sets. ng_sets.places ≡ place_count shared.now.problem) }
-    requires cutting { IsCutting shared.now.problem cutting }
-    requires few { length cutting ≤ 2 * MAX_REFINED }
-    requires pieces { shared.now.pieces ≡ length cutting }
-    requires some_worker { 1 ≤ workers }
-    requires few_workers { workers ≤ MAX_WORKERS }
-    ensures answer { IfOk result (λ solved.
-        IsAnswer shared.now.problem cutting shared.now.budget shared.now.may_stop solved.answer) }
-    ensures no_costlier { IfOk result (λ solved. cost_of (known_plan solved.answer) ≤ cost_of shared.now.start_plan) }
-    ensures bound { IfOk result (λ solved. NoneCheaper shared.now.problem solved.lower_bound) }
+    requires can { CanSolve shared.now cutting workers }
+    ensures { IfOk result (IsSolved shared.now cutting) }
 {
     let RoutesAnswer {
         answer,
@@ -294,13 +267,8 @@ fn solve_by_coarse_prices<R: Threads + Wait + Sync, G: Gate + Sync>(
 ) -> Result<Answer, NoMemory>
     requires relaxation { IfSome found (λ prices. prices.relaxation.problem ≡ shared.now.problem) }
     requires ng_sets { IfSome found (λ prices. prices.ng_sets.places ≡ place_count shared.now.problem) }
-    requires cutting { IsCutting shared.now.problem cutting }
-    requires few { length cutting ≤ 2 * MAX_REFINED }
-    requires pieces { shared.now.pieces ≡ length cutting }
-    requires some_worker { 1 ≤ workers }
-    requires few_workers { workers ≤ MAX_WORKERS }
-    ensures answer { IfOk result (IsAnswer shared.now.problem cutting shared.now.budget shared.now.may_stop) }
-    ensures no_costlier { IfOk result (λ answer. cost_of (known_plan answer) ≤ cost_of shared.now.start_plan) }
+    requires can { CanSolve shared.now cutting workers }
+    ensures { IfOk result (IsAnswered shared.now cutting) }
 {
     let Some(
         FoundPrices {
@@ -328,13 +296,8 @@ fn solve_improved<R: Threads + Wait + Sync, G: Gate + Sync>(
     cutting: Cutting,
     workers: u32,
 ) -> Result<Answer, NoMemory>
-    requires cutting { IsCutting shared.now.problem cutting }
-    requires few { length cutting ≤ 2 * MAX_REFINED }
-    requires pieces { shared.now.pieces ≡ length cutting }
-    requires some_worker { 1 ≤ workers }
-    requires few_workers { workers ≤ MAX_WORKERS }
-    ensures answer { IfOk result (IsAnswer shared.now.problem cutting shared.now.budget shared.now.may_stop) }
-    ensures no_costlier { IfOk result (λ answer. cost_of (known_plan answer) ≤ cost_of shared.now.start_plan) }
+    requires { CanSolve shared.now cutting workers }
+    ensures { IfOk result (IsAnswered shared.now cutting) }
 {
     let better = better_plan(shared, workers)?;
     let answer = solve_pieces(&shared.with_plan(better.as_ref()), cutting, workers);
@@ -348,13 +311,8 @@ fn solve_pieces<R: Threads + Wait + Sync, G: Gate + Sync>(
     cutting: Cutting,
     workers: u32,
 ) -> Result<Answer, NoMemory>
-    requires cutting { IsCutting shared.now.problem cutting }
-    requires few { length cutting ≤ 2 * MAX_REFINED }
-    requires pieces { shared.now.pieces ≡ length cutting }
-    requires some_worker { 1 ≤ workers }
-    requires few_workers { workers ≤ MAX_WORKERS }
-    ensures answer { IfOk result (IsAnswer shared.now.problem cutting shared.now.budget shared.now.may_stop) }
-    ensures no_costlier { IfOk result (λ answer. cost_of (known_plan answer) ≤ cost_of shared.now.start_plan) }
+    requires { CanSolve shared.now cutting workers }
+    ensures { IfOk result (IsAnswered shared.now cutting) }
 {
     shared.gate.on_event(Event::Pieces(shared.pieces));
     let (owner, thieves) = Pile::new(shared.alloc, cutting, workers - 1)?;
