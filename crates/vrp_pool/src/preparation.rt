@@ -35,6 +35,9 @@ const MORE_STEPS: u64 = 5;
 
 const MORE_REMEMBERED: usize = 4;
 
+// More steps are not worth their time with fewer customers, however large the budget.
+const ENOUGH_STEPS: u64 = 640_000_000;
+
 // Prices that bound alone may take one part in so many of the time that is left.
 const PARTS_OF_TIME: u64 = 3;
 
@@ -191,7 +194,7 @@ fn steps_by_budget<R, G: Gate>(shared: &Shared<'_, R, G>) -> (usize, u64)
 {
     let budget = shared.budget_in_all();
     if shared.instance.customers() < MANY_FOR_ROUTES {
-        (MOST_REMEMBERED, budget)
+        (MOST_REMEMBERED, budget.min(ENOUGH_STEPS))
     } else {
         (MORE_REMEMBERED, budget.saturating_mul(MORE_STEPS))
     }
