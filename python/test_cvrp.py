@@ -183,7 +183,7 @@ class WithTheProgram(unittest.TestCase):
     def test_proven(self):
         found = cvrp.solve(SMALL, seconds=60, workers=2, start=[[1], [2], [3], [4], [5], [6]], program=PROGRAM)
         routes, nodes = [[1, 2, 3], [4, 5, 6]], [[2, 3, 4], [5, 6, 7]]
-        self.assertEqual(found, cvrp.Solution(routes, nodes, 114, 114, 0, True, "Proven", "E-n7-k2", None, "1.0.0"))
+        self.assertEqual(found, cvrp.Solution(routes, nodes, 114, 114, 114, 0, True, "Proven", "E-n7-k2", None, "1.0.0"))
 
     def test_no_plan(self):
         found = cvrp.solve(SMALL, trucks=1, program=PROGRAM)
