@@ -71,7 +71,7 @@ pub const SCATTERED: [(i64, i64); 21] = [
     (80, 85),
 ];
 
-/// Places at these points, a rounded Euclidean distance apart.
+/// Places at these points, a rounded Euclidean distance apart. No clause says so, here and below: tests alone are made on it.
 pub fn at_points(
     alloc: Global,
     points: &[(i64, i64)],
@@ -98,7 +98,7 @@ fn is_coordinate(value: i64) -> bool
     -MAX_COORDINATE <= value && value <= MAX_COORDINATE
 }
 
-/// Places with the weights of a full matrix between them.
+/// Places with the weights of a full matrix between them. No clause says so.
 pub fn with_arcs(
     alloc: Global,
     arcs: &[u64],
@@ -136,7 +136,7 @@ fn instance_of(
     Ok(Instance::new(alloc, weights, demands, capacity, &[1], None)?)
 }
 
-/// What so many nodes demand where each customer demands 1.
+/// What so many nodes demand where each customer demands 1. No clause says so.
 pub fn one_each(alloc: Global, nodes: usize) -> Result<Vec<u64>, FixtureError> {
     if nodes == 0 {
         return Err(FixtureError::OutOfRange);

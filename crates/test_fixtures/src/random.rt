@@ -5,7 +5,7 @@
 pub struct Random(pub u64);
 
 impl Random {
-    /// The next number.
+    /// The next number. Which it is, is left open.
     pub fn next(&mut self) -> u32 {
         self.0 = self
             .0

@@ -32,7 +32,8 @@ struct Search<'a> {
 // As many symbols as a plan of nine customers may have.
 const MOST_SYMBOLS: u16 = 18;
 
-/// The canonical plan, by cost and then symbol by symbol, if any is feasible and its word has no more than 18 symbols.
+/// The canonical plan, by cost and then symbol by symbol, if any is feasible and its word has no more than 18 symbols. No clause says
+/// so: it tries all plans, and is short enough to be read.
 pub fn canonical_plan(alloc: Global, instance: &Instance) -> Result<Option<Canonical>, AllocError> {
     let empty = Prefix {
         at: 0,

@@ -6,7 +6,7 @@ ghost use Rattle.vrp_canonical.specs.Asking.{IsReply, IsRight};
 ghost use Rattle.vrp_canonical.specs.Passing.{IsInside, route_in};
 
 use crate::asked::{Inquiry, Reply};
-use crate::narrow::likely_place;
+use crate::halving::likely_place;
 use crate::question::{Answered, Question};
 use crate::residual::Residual;
 use crate::run::run_from;

@@ -5,7 +5,7 @@ ghost use Rattle.vrp_canonical.specs.Reaching.{IsTask, plan_at};
 ghost use Rattle.vrp_model.specs.Order.{IsCanonical};
 ghost use Rattle.vrp_model.specs.Problem.{Problem};
 
-use crate::narrow::narrow;
+use crate::halving::narrow;
 use crate::question::{Answered, Question};
 use crate::residual::Residual;
 use crate::run::run_from;

@@ -1,7 +1,7 @@
 use Rattle.std.proofs.Common.{subst}
 use Rattle.std.proofs.lemmas.List.Elements.{All-contains}
 use Rattle.vrp_canonical.specs.Asking.{Answers, IsRight}
-use Rattle.vrp_canonical.proofs.narrow.answer_of.Goals as goal
+use Rattle.vrp_canonical.proofs.halving.answer_of.Goals as goal
 
 pub returns-in_ok-know : goal.returns-in_ok-know
 returns-in_ok-know g c =

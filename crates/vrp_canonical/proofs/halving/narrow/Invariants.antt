@@ -3,7 +3,7 @@ use Rattle.vrp_canonical.specs.Passing.{GoesBelow, IsBegun}
 use Rattle.vrp_canonical.specs.Reaching.{IsTask, routes_at}
 use Rattle.vrp_canonical.specs.declared.residual.Residual.{Residual}
 use Rattle.vrp_model.specs.Problem.{Problem}
-use Rattle.vrp_canonical.proofs.narrow.narrow.Given as goal
+use Rattle.vrp_canonical.proofs.halving.narrow.Given as goal
 
 abbrev pub invariant-loop-high : goal.invariant-loop-high
 invariant-loop-high g l = record {

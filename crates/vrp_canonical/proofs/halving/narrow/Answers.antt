@@ -2,7 +2,7 @@ use Rattle.std.proofs.Common.{◌≡◌, ◌+◌, IfSome, subst, arith}
 use Rattle.vrp_canonical.specs.Passing.{AllHave, GoesBelow, IsAnswer}
 use Rattle.vrp_canonical.specs.Reaching.{routes_at}
 use Rattle.vrp_canonical.proofs.Narrowing.{answered_no, answered_yes, narrowed}
-use Rattle.vrp_canonical.proofs.narrow.narrow.Goals as goal
+use Rattle.vrp_canonical.proofs.halving.narrow.Goals as goal
 
 pub returns-then-not-some-clause-next : goal.returns-then-not-some-clause-next
 returns-then-not-some-clause-next g c = λ p limit stops whole chosen task begun.
