@@ -1,22 +1,21 @@
-//! What the heuristic plans cost of instances whose cheapest plan is known. The command line says how many workers there are and
-//! how many moves a run makes; each further word is a file and what a cheapest plan costs, as `P-n16-k8.vrp:450`, or `none`; a
-//! number of trucks may stand behind the file, as `P-n16-k8.vrp/8:450`. Each line has such a word and what the heuristic plan
-//! costs. What the plan by savings costs, and how long each took, goes to standard error.
+//! The cost of heuristic plans for instances with known optima. The command line gives the number of workers and the moves of
+//! a run. Each further word is a file and its optimum, such as `P-n16-k8.vrp:450`, or `none`; the file may be followed by a
+//! number of trucks, as in `P-n16-k8.vrp/8:450`. Each line of output has such a word and the cost of the heuristic plan. The
+//! cost of the plan by savings and the times go to standard error.
 #![tactic(auto)]
 
-ghost use Rattle.std.specs.Prelude.{◌≤◌};
-
 use anyhow::{Context, Result, ensure};
+use bench_kit::read;
 use std::alloc::Global;
+use std::env;
 use std::rt::{Clock, Files};
 use std::thread::Threads;
 use std::time::Instant;
-use std::{env, fs};
 use vrp_heuristic::{Crew, Unhurried, heuristic_plan};
 use vrp_heuristic_savings::savings_plan;
 use vrp_model::{Instance, Plan};
 
-// The most trucks that may be asked for.
+// The greatest number of trucks.
 const MAX_TRUCKS: u16 = 1_200;
 
 fn main(rt: HostRuntime) -> Result<()> {
@@ -44,26 +43,18 @@ fn main(rt: HostRuntime) -> Result<()> {
     Ok(())
 }
 
-// The instance in a file.
-fn read<R: Files + AllocGlobal>(rt: &R, name: &str) -> Result<Instance> {
-    let bytes = fs::read(rt, name)?;
-    Ok(vrp_text::read(rt.alloc(), &bytes, None)?)
-}
-
 // The instance in a file with this many trucks.
 fn limited<R: Files + AllocGlobal>(rt: &R, name: &str, trucks: u16) -> Result<Instance> {
     ensure!(1 <= trucks && trucks <= MAX_TRUCKS, "{trucks} trucks");
     Ok(read(rt, name)?.with_trucks(trucks))
 }
 
-// Prints what the heuristic plans of an instance cost, and how long they took.
+// Prints the costs of the heuristic plans of an instance, and the times they took.
 fn print_costs<R: Clock + Print + Eprint + AllocGlobal + Threads + Sync>(
     crew: &Crew<'_, R, Unhurried>,
     word: &str,
     moves: u32,
-) -> Result<()>
-    requires { 1 ≤ crew.now.workers }
-{
+) -> Result<()> {
     let (rt, alloc) = (crew.rt, crew.alloc);
     let start = Instant::now(rt)?;
     let savings = cost(alloc, savings_plan(alloc, crew.instance)?)?;
@@ -77,7 +68,7 @@ fn print_costs<R: Clock + Print + Eprint + AllocGlobal + Threads + Sync>(
     Ok(())
 }
 
-// What a plan costs, as text.
+// The cost of a plan, as text.
 fn cost(alloc: Global, plan: Option<Plan>) -> Result<String> {
     match plan {
         Some(plan) => Ok(plan.cost().to_string(alloc)?),

@@ -14,7 +14,8 @@ use std::thread::Threads;
 use std::time::Instant;
 use std::{env, fs};
 use vrp_partition::{
-    Ask, Fleet, Found, Guide, MOST_CUSTOMERS, PriceOffer, Route, Team, all_fit, cheapest_choice,
+    Ask, Fleet, Found, Guide, MOST_CUSTOMERS, PriceOffer, Route, Task, Team, all_fit,
+    cheapest_choice,
 };
 use vrp_simplex::ProgramGuide;
 
@@ -37,6 +38,17 @@ struct Counts {
     looks: AtomicU64,
 }
 
+impl Counts {
+    fn new() -> Counts {
+        Counts {
+            nodes: AtomicU64::new(0),
+            primal_steps: AtomicU64::new(0),
+            dual_steps: AtomicU64::new(0),
+            looks: AtomicU64::new(0),
+        }
+    }
+}
+
 // A guide whose nodes are counted.
 #[derive(Drop)]
 struct Counted<'a> {
@@ -49,14 +61,9 @@ impl Guide for Counted<'_> {
         true
     }
 
-    fn offer(
-        &mut self,
-        pool: &[Route],
-        customers: u128,
-        incumbent: u64,
-    ) -> Result<PriceOffer, AllocError> {
+    fn offer(&mut self, pool: &[Route], task: &Task<'_>) -> Result<PriceOffer, AllocError> {
         let (primal, dual) = self.guide.steps();
-        let offer = self.guide.offer(pool, customers, incumbent)?;
+        let offer = self.guide.offer(pool, task)?;
         let (more_primal, more_dual) = self.guide.steps();
         let counts = self.counts;
         counts.nodes.fetch_add(1, Ordering::SeqCst);
@@ -155,14 +162,16 @@ fn choose<R: Clock + Print + Eprint + AllocGlobal + Threads + Sync>(
     workers: usize,
 ) -> Result<()> {
     let count = pool.routes.len();
-    let counts = Counts {
-        nodes: AtomicU64::new(0),
-        primal_steps: AtomicU64::new(0),
-        dual_steps: AtomicU64::new(0),
-        looks: AtomicU64::new(0),
+    let counts = Counts::new();
+    ensure!(workers > 0, "no worker");
+    let team = Team {
+        rt,
+        alloc: rt.alloc(),
+        workers,
+        ask: &Always,
     };
     let start = Instant::now(rt)?;
-    let found = search(rt, rt.alloc(), pool, budget, workers, &counts)?;
+    let found = search(&team, pool, budget, &counts)?;
     let milliseconds = start.elapsed(rt)?.as_millis();
     match found {
         Found::Cheapest(chosen) => {
@@ -180,13 +189,13 @@ fn choose<R: Clock + Print + Eprint + AllocGlobal + Threads + Sync>(
 
 // The cheapest choice of a pool, by a guide whose nodes are counted.
 fn search<R: Threads + Sync>(
-    rt: &R,
-    alloc: Global,
+    team: &Team<'_, R, Always>,
     pool: Pool,
     budget: u64,
-    workers: usize,
     counts: &Counts,
-) -> Result<Found> {
+) -> Result<Found>
+    requires { 1 ≤ team.now.workers }
+{
     let Pool {
         demands,
         customers,
@@ -195,7 +204,6 @@ fn search<R: Threads + Sync>(
         routes,
     } = pool;
     ensure!(known_cost <= 1 << 32, "the cost {known_cost}");
-    ensure!(workers > 0, "no worker");
     ensure!(
         all_fit(routes.as_slice(), &demands, capacity),
         "a route is too heavy"
@@ -205,24 +213,16 @@ fn search<R: Threads + Sync>(
         capacity,
         trucks: u8::MAX,
     };
-    let guide = ProgramGuide::new(alloc, fleet, Vec::new(alloc), &Always);
-    let team = Team {
-        rt,
-        alloc,
-        workers,
-        ask: &Always,
+    let known_routes = Vec::new(team.alloc);
+    let guide = ProgramGuide::new(team.alloc, fleet, known_routes, &Always);
+    let guide = Counted { guide, counts };
+    let task = Task {
+        fleet,
+        customers,
+        incumbent: known_cost,
     };
     let mut budget = budget;
-    let guide = Counted { guide, counts };
-    let found = cheapest_choice(
-        &team,
-        guide,
-        &fleet,
-        routes,
-        customers,
-        known_cost,
-        &mut budget,
-    )?;
+    let found = cheapest_choice(team, guide, &task, routes, &mut budget)?;
     Ok(found)
 }
 

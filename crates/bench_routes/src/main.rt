@@ -1,23 +1,23 @@
-//! How many useful routes there are, and how fast they are listed. The command line names a CVRP file, the steps that may be taken
-//! to find prices, the cost that the canonical plan has at most, 0 standing for what the heuristic plan of the program costs, and
-//! how many workers list. What was found goes to standard output, and how long it took to standard error.
+//! The number of useful routes, and the speed of their enumeration. The command line gives a CVRP file, the steps for finding
+//! prices, a limit on the canonical plan's cost, where 0 stands for the cost of the program's heuristic plan, and the number
+//! of workers. Results go to standard output, and times to standard error.
 #![tactic(auto)]
 
 ghost use Rattle.std.specs.Prelude.{◌≡◌, ◌+◌, ◌<◌, ◌≤◌, IfOk};
 ghost use Rattle.vrp_model.specs.Problem.{place_count};
 
 use anyhow::{Context, Result, ensure};
-use std::rt::{Clock, Files};
+use bench_kit::{plan_by_one, print_time, read};
+use std::env;
+use std::rt::Clock;
 use std::thread::Threads;
-use std::time::{Duration, Instant};
-use std::{env, fs};
+use std::time::Instant;
 use vrp_bound::NgTables;
 use vrp_bound_ascent::{FoundPrices, find_prices_for_routes};
-use vrp_heuristic::{Crew, ENOUGH_MOVES, Unhurried, heuristic_plan};
 use vrp_model::{Instance, NO_COST};
-use vrp_routes::{Listed, MOST_CUSTOMERS, can_list, list_routes};
+use vrp_routes::{Listed, Listers, MOST_CUSTOMERS, can_list, list_routes};
 
-// How many customers near each place walks remember.
+// The number of customers near each place.
 const NEAR: usize = 4;
 
 fn main(rt: HostRuntime) -> Result<()> {
@@ -33,33 +33,14 @@ fn main(rt: HostRuntime) -> Result<()> {
     let instance = read(&rt, name.as_str())?;
     ensure!(can_list(&instance), "more than {MOST_CUSTOMERS} customers");
     let limit = match limit {
-        0 => cost_of_heuristic(&rt, &instance)?,
+        0 => plan_by_one(&rt, &instance)?.cost(),
         limit => limit,
     };
     let found = timed_prices(&rt, &instance, limit, steps)?;
     print_routes(&rt, name.as_str(), found, limit.min(NO_COST), workers)
 }
 
-// The instance in a file.
-fn read<R: Files + AllocGlobal>(rt: &R, name: &str) -> Result<Instance> {
-    let bytes = fs::read(rt, name)?;
-    Ok(vrp_text::read(rt.alloc(), &bytes, None)?)
-}
-
-// What a heuristic plan costs.
-fn cost_of_heuristic<R: AllocGlobal + Threads + Sync>(rt: &R, instance: &Instance) -> Result<u64> {
-    let crew = Crew {
-        rt,
-        alloc: rt.alloc(),
-        instance,
-        workers: 1,
-        watch: &Unhurried,
-    };
-    let plan = heuristic_plan(&crew, ENOUGH_MOVES)?;
-    Ok(plan.context("no plan")?.cost())
-}
-
-// Prices, and prints how long they took.
+// Finds prices, and prints the time it took.
 fn timed_prices<'a, R: Clock + Eprint + AllocGlobal>(
     rt: &R,
     instance: &'a Instance,
@@ -75,7 +56,7 @@ fn timed_prices<'a, R: Clock + Eprint + AllocGlobal>(
     found.context("no prices")
 }
 
-// Lists the routes by these prices, and prints how many there are and how long it took.
+// Lists the routes by these prices, and prints their number and the time it took.
 fn print_routes<R: Clock + Print + Eprint + AllocGlobal + Threads + Sync>(
     rt: &R,
     name: &str,
@@ -94,16 +75,13 @@ fn print_routes<R: Clock + Print + Eprint + AllocGlobal + Threads + Sync>(
     } = found;
     let tables = NgTables::new(rt.alloc(), relaxation.relaxed(), ng_sets)?;
     let start = Instant::now(rt)?;
-    let listed = list_routes(
+    let listers = Listers {
         rt,
-        rt.alloc(),
-        &relaxation,
-        &tables,
-        limit,
+        alloc: rt.alloc(),
         workers,
-        u32::MAX,
-        &|_labels| true,
-    )?;
+        should_continue: &|_labels| true,
+    };
+    let listed = list_routes(&listers, &relaxation, &tables, limit, u32::MAX)?;
     print_time(rt, "routes", start.elapsed(rt)?)?;
     match listed {
         Listed::Pool(pool) => {
@@ -112,12 +90,5 @@ fn print_routes<R: Clock + Print + Eprint + AllocGlobal + Threads + Sync>(
         }
         Listed::Met(limit) => println!(rt; "{name}: {limit:?}")?,
     }
-    Ok(())
-}
-
-// Prints how long something took.
-fn print_time(rt: &impl Eprint, what: &str, time: Duration) -> Result<()> {
-    let milliseconds = time.as_millis();
-    eprintln!(rt; "{what}: {milliseconds} milliseconds")?;
     Ok(())
 }

@@ -1,7 +1,7 @@
-//! How fast the search looks: it searches the tree of the instance in a CVRP file, till its budget is spent. Both are named on the
-//! command line. What it found goes to standard output, and how long it took to standard error. More words may follow: the
-//! heuristic plan (`singles`, or `savings` as the command has it), how many pieces the tree is cut into (1), and whose tables a
-//! piece is searched with (`all` as the command does, or `own`).
+//! The speed of the search: searches the tree of the instance in a CVRP file until its budget is spent. The command line
+//! gives both. Results go to standard output, and times to standard error. More words may follow: the heuristic plan
+//! (`singles`, or `savings` as in the command), the number of pieces (1), and the tables that a piece is searched with (`all`
+//! as in the command, or `own`).
 #![tactic(auto)]
 
 ghost use Rattle.std.specs.Prelude.{◌≡◌, ◌≤◌, IfOk};
@@ -15,10 +15,11 @@ mod pieces;
 
 use crate::pieces::{Effort, Whose, search_pieces};
 use anyhow::{Context, Result, ensure};
+use bench_kit::{print_rate, read};
 use std::alloc::Global;
-use std::rt::{Clock, Files};
-use std::time::{Duration, Instant};
-use std::{env, fs};
+use std::env;
+use std::rt::Clock;
+use std::time::Instant;
 use vrp_bound::Tables;
 use vrp_heuristic_savings::savings_plan;
 use vrp_model::{Instance, NoMemory, Plan};
@@ -71,13 +72,7 @@ fn heuristic_plan(
     }
 }
 
-// The instance in a file.
-fn read<R: Files + AllocGlobal>(rt: &R, name: &str) -> Result<Instance> {
-    let bytes = fs::read(rt, name)?;
-    Ok(vrp_text::read(rt.alloc(), &bytes, None)?)
-}
-
-// Searches an instance, and prints what came of it.
+// Searches an instance, and prints the results.
 fn measure<R: Clock + Print + Eprint + AllocGlobal>(
     rt: &R,
     name: &str,
@@ -95,7 +90,7 @@ fn measure<R: Clock + Print + Eprint + AllocGlobal>(
     Ok(())
 }
 
-// The same, of the search alone.
+// Searches an instance with these tables, and prints the results.
 fn measure_search<R: Clock + Print + Eprint + AllocGlobal>(
     rt: &R,
     name: &str,
@@ -117,7 +112,7 @@ fn measure_search<R: Clock + Print + Eprint + AllocGlobal>(
     Ok(())
 }
 
-// Cuts the tree and searches all pieces, and answers how many partial plans were looked at.
+// Cuts the tree and searches all pieces, and answers the number of partial plans looked at.
 fn search_all(
     alloc: Global,
     instance: &Instance,
@@ -133,14 +128,4 @@ fn search_all(
     let mut cutting = Cutting::whole(alloc, instance)?;
     cutting.at_least(alloc, instance, setup.pieces)?;
     search_pieces(alloc, instance, tables, &cutting, setup.effort, board)
-}
-
-// Prints the time, and the rate in millions a second, to its first place behind the point.
-fn print_rate(rt: &impl Eprint, looked: u64, time: Duration) -> Result<()> {
-    let microseconds = u64::try_from(time.as_micros()).unwrap_or(u64::MAX).max(1);
-    let tenths = looked.saturating_mul(10) / microseconds;
-    let (seconds, thousandths) = (microseconds / 1_000_000, microseconds / 1_000 % 1_000);
-    let (millions, tenth) = (tenths / 10, tenths % 10);
-    eprintln!(rt; "{seconds}.{thousandths:03} seconds, {millions}.{tenth} million each second")?;
-    Ok(())
 }

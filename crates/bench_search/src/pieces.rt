@@ -12,26 +12,26 @@ use vrp_bound::Tables;
 use vrp_model::{Instance, NoMemory};
 use vrp_search::{Cutting, Ended, Local, Piece, search};
 
-// How many partial plans of a piece are looked at before it gets tables of its own.
+// The number of partial plans of a piece that are looked at before it gets its own tables.
 const FIRST_LOOK: u64 = 5_000;
 
-/// Which tables a piece is searched with.
+/// The tables that a piece is searched with.
 #[derive(Clone, Copy, PartialEq)]
 pub(crate) enum Whose {
-    /// Those over all customers.
+    /// The tables over all customers.
     All,
-    /// After a first look with those, the piece's own: over the customers that it leaves unserved.
+    /// After a first look with those tables, the piece's own, over its unserved customers.
     Own,
 }
 
-/// How a piece is searched: with whose tables, and at how many partial plans.
+/// The tables for a piece, and its budget.
 #[derive(Clone, Copy)]
 pub(crate) struct Effort {
     pub(crate) whose: Whose,
     pub(crate) budget: u64,
 }
 
-/// Searches each piece with this effort, and answers how many partial plans were looked at.
+/// Searches each piece with this effort, and answers the number of partial plans looked at.
 pub(crate) fn search_pieces(
     alloc: Global,
     instance: &Instance,
@@ -53,7 +53,7 @@ pub(crate) fn search_pieces(
     Ok(looked)
 }
 
-// Searches a piece, and answers how many partial plans were looked at.
+// Searches a piece, and answers the number of partial plans looked at.
 fn search_piece(
     alloc: Global,
     instance: &Instance,
@@ -85,7 +85,7 @@ fn search_piece(
     Ok(looked.saturating_add(looked_at(&ended)))
 }
 
-// Tables over the customers that a piece leaves unserved.
+// Tables over a piece's unserved customers.
 fn own_tables<'a>(
     alloc: Global,
     instance: &'a Instance,

@@ -1,12 +1,11 @@
-//! The program over files whose answers are known. Each line of standard input is a file and the words of a command line; printed
-//! are the exit status, the report, and what is told on standard error, or `the same` where the report is that of the line before,
-//! and nothing is told. So instances whose cheapest plan is known are solved over several cuttings of the tree by several workers
-//! and by one, with as many trucks as are wanted and with few; plans to begin with are feasible and refused; and plans are printed
-//! in all forms.
+//! Runs of the program with known answers. Each line of standard input is a file and the words of a command line. The output
+//! has the exit status, the report, and standard error, or `the same` if the report is that of the line before and standard
+//! error is empty. So instances with known optima are solved over several cuttings of the tree by several workers and by one,
+//! with free trucks and with few; start plans are feasible and refused; and plans are printed in all forms.
 //!
-//! Each word of the command line is a larger file and what a cheapest plan of it costs, as `P-n16-k8.vrp:450`. The search is given
-//! little, and each line says whether that cost lies between the bound and the cost that are printed; one line more has the cost that
-//! is printed where the budget is just enough for ruin and recreate.
+//! Each word of the command line is a larger file and its optimum, such as `P-n16-k8.vrp:450`. The search gets a small
+//! budget, and each line says whether the optimum lies between the printed bound and cost. One more line has the cost that is
+//! printed when the budget is just enough for ruin and recreate.
 #![tactic(auto)]
 
 use anyhow::{Context, Result, ensure};
@@ -18,16 +17,16 @@ use std::time::Clock;
 use std::{env, fs, str};
 use vrp_command::{MAX_PIECES, NoGate, Options, Resources, run, run_words};
 
-// The whole tree; the fewest cuts; the pieces of a plain run.
+// The numbers of pieces: the whole tree, the smallest cut, and a plain run's.
 const CUTTINGS: [u32; 3] = [1, 2, 64];
 
-// So few partial plans of a piece that the larger instances end soon.
+// A budget for each piece so small that the larger instances end soon.
 const LITTLE: u64 = 100;
 
-// The least budget in all with which the heuristic plan comes by ruin and recreate.
+// The least total budget with which the heuristic plan comes from ruin and recreate.
 const ENOUGH_FOR_MOVES: u64 = 100_000;
 
-// What a report says of the cost of a cheapest plan.
+// What a report says about the cost of a cheapest plan.
 #[derive(Clone, Copy)]
 struct Range {
     lower: u64,
@@ -45,7 +44,7 @@ fn main(rt: HostRuntime) -> Result<()> {
     Ok(())
 }
 
-// Prints what comes of a run, and answers its report.
+// Prints the outcome of a run, and answers its report.
 fn print_run<R: Files + Print + Eprint + AllocGlobal + Clock + Threads + Wait + Sync>(
     rt: &R,
     line: &str,
@@ -73,7 +72,7 @@ fn print_run<R: Files + Print + Eprint + AllocGlobal + Clock + Threads + Wait + 
     Ok(output)
 }
 
-// Prints the exit status of a run, its report, where it is another than before, and what is told on standard error.
+// Prints the exit status of a run, its report, if it differs from the last one, and standard error.
 fn print_outcome<R: Print>(
     rt: &R,
     line: &str,
@@ -90,8 +89,8 @@ fn print_outcome<R: Print>(
     Ok(())
 }
 
-// Prints for each number of pieces where the cost of a cheapest plan of a file lies, and what the plan of the file costs where
-// little is searched, and the heuristic plan is made with all effort.
+// Prints for each number of pieces where the optimum of a file lies, and the cost of the plan when little is searched and the
+// heuristic plan is made with all effort.
 fn print_ranges<R: Files + Print + AllocGlobal + Threads + Wait + Sync>(
     rt: &R,
     word: &str,
@@ -116,7 +115,7 @@ fn print_ranges<R: Files + Print + AllocGlobal + Threads + Wait + Sync>(
     Ok(())
 }
 
-// What the report on a file says by one worker, with this many pieces and this budget for each.
+// The range in the report on a file by one worker, with this many pieces and this budget for each.
 fn range_of<R: AllocGlobal + Threads + Wait + Sync>(
     rt: &R,
     mut file: &[u8],
@@ -140,7 +139,7 @@ fn range_of<R: AllocGlobal + Threads + Wait + Sync>(
     read_range(str::from_utf8(&report)?)
 }
 
-// What a report says: the cost of its plan, and no less than the bound. A plan that is proven costs the least.
+// The range in a report: the cost of its plan, and its bound. For a proven plan both are its cost.
 fn read_range(report: &str) -> Result<Range> {
     let (_, behind) = report.split_once("Cost ").context("no cost")?;
     let (cost, verdict) = behind.split_once('\n').context("no verdict")?;

@@ -8,11 +8,11 @@ use Rattle.vrp_model.specs.Grid.{IsCoordinate}
 use Rattle.vrp_text_lexer.specs.declared.limits.TheConstants.{MAX_BYTES, MAX_DEMAND}
 use Rattle.vrp_model.specs.declared.limits.TheConstants.{MAX_CAPACITY, MAX_NODES}
 
--- The lines of a file: what stands between its line feeds, and what stands behind the last of them.
+-- The lines of a file: the text between its line feeds, and the text behind the last one.
 abbrev pub lines_of : List ℕ → List (List ℕ)
 lines_of bytes = slice_split (λ byte. byte == 10) bytes
 
--- what stands between a line's spaces
+-- the text between a line's spaces
 abbrev pub tokens_of : List ℕ → List (List ℕ)
 tokens_of text = slice_split (λ byte. byte == 32) text
 
@@ -20,13 +20,13 @@ tokens_of text = slice_split (λ byte. byte == 32) text
 abbrev pub unsigned_number : List ℕ → Option ℕ
 unsigned_number text = if (all_ascii_digits text && nat_le 1 (length text)) && nat_le (length text) 10 then Some (digits_value 10 text) else None
 
--- one to ten digits, behind a minus sign or alone
+-- one to ten digits, with an optional minus sign
 abbrev pub number_of : List ℕ → Option ℤ
 number_of text = if slice_index text 0 == 45
     then option_map (λ n. neg_ℤ (pos n)) (unsigned_number (drop 1 text))
     else option_map pos (unsigned_number text)
 
--- the number that stands behind a keyword and is all that stands there
+-- the number behind a keyword, if nothing else follows
 abbrev pub number_after : List ℕ → List ℕ → Option ℤ
 number_after keyword text = if starts_with nat_eq text keyword then number_of (drop (length keyword) text) else None
 
@@ -34,7 +34,7 @@ number_after keyword text = if starts_with nat_eq text keyword then number_of (d
 abbrev pub is_remark : List ℕ → Bool
 is_remark text = starts_with nat_eq text (codes "NAME :") || starts_with nat_eq text (codes "COMMENT :")
 
--- the lines from the first on that is no remark
+-- the lines from the first on that is not a remark
 abbrev pub without_remarks : List (List ℕ) → List (List ℕ)
 without_remarks [] = []
 without_remarks (text ∷ lines) = if is_remark text then without_remarks lines else text ∷ lines
@@ -42,7 +42,7 @@ without_remarks (text ∷ lines) = if is_remark text then without_remarks lines 
 abbrev pub line : List (List ℕ) → ℕ → List ℕ
 line lines k = slice_index_or lines k []
 
--- what a plain file states: a point and a demand for each node by rising number, what a truck carries, and the depot's node
+-- the statements of a plain file: a point and a demand for each node by rising number, the capacity, and the depot's node
 pub record Statement : Type 0 where
   pub points : List (ℤ × ℤ)
   pub demands : List ℕ
@@ -81,7 +81,7 @@ pub record IsDemandSection (lines : List (List ℕ)) (demands : List ℕ) : Type
   pub name : line lines 0 ≡ codes "DEMAND_SECTION"
   pub each : (k demand : ℕ) → slice_get demands k ≡ Some demand → IsDemandLine (line lines (k + 1)) (k + 1) demand
 
--- the one depot, and the end: no line stands behind `EOF`, which a line feed ends
+-- the one depot, and the end: no line follows `EOF`, which ends with a line feed
 pub record IsTail (lines : List (List ℕ)) (nodes depot : ℕ) : Type 0 where
   pub name : line lines 0 ≡ codes "DEPOT_SECTION"
   pub depot_line : number_of (line lines 1) ≡ Some (pos depot)

@@ -1,4 +1,4 @@
-//! A second, short definition of plain CVRP files, and the law that they mean what stands in them.
+//! A second, short definition of plain CVRP files, and the law that they mean what they state.
 #![tactic(auto)]
 
 mod law;

@@ -1,6 +1,6 @@
-//! The distances of points, each by the inequality that names it.
+//! The distances of points, each by its defining inequality.
 
-/// What the weight between two points is.
+/// The metric of the weight between two points.
 #[derive(Clone, Copy, Debug)]
 pub(crate) enum Metric {
     Nearest,
@@ -12,7 +12,7 @@ pub(crate) enum Metric {
 
 type Point = (i64, i64);
 
-// The steps in which a distance is looked for. No distance is as great as ten times the first.
+// The steps of the search for a distance. No distance is as great as ten times the first.
 const STEPS: [u128; 9] = [
     100_000_000,
     10_000_000,
@@ -45,7 +45,7 @@ impl Metric {
         let mut k = 0u128;
         for step in STEPS {
             for _ in 0..10u8 {
-                // Where the step's last number is too small, all of them are.
+                // If the step's last number is too small, all of them are.
                 let next = k.saturating_add(step);
                 if self.is_too_small(next.saturating_sub(1), east, north) {
                     k = next;
@@ -55,9 +55,9 @@ impl Metric {
         u64::try_from(k).unwrap_or(u64::MAX)
     }
 
-    // Whether the weight is greater than k, by the differences of the coordinates. With s for the sum of their squares:
-    // the nearest number to the distance is the least k with 4 s < (2 k + 1)², the one rounded up the least with s <= k²,
-    // and the pseudo-Euclidean weight the least with s <= 10 k².
+    // Whether the weight is greater than k, given the differences of the coordinates. With s for the sum of their squares:
+    // the nearest number to the distance is the least k with 4 s < (2 k + 1)², the distance rounded up is the least k with s
+    // <= k², and the pseudo-Euclidean weight is the least k with s <= 10 k².
     fn is_too_small(self, k: u128, east: u128, north: u128) -> bool {
         let square = east
             .saturating_mul(east)
@@ -75,7 +75,7 @@ impl Metric {
     }
 }
 
-/// Whether the metrics of the command say the same of the points of a small square.
+/// Whether the metrics of the command agree with these on the points of a small square.
 pub(crate) fn agree_on_a_square() -> bool {
     let pairs = [
         (Metric::Nearest, vrp_model::Metric::Euc2d),

@@ -3,7 +3,7 @@
 use std::alloc::AllocError;
 use std::fmt;
 
-/// What is wrong with a line.
+/// The fault of a line.
 #[derive(Clone, Copy, Debug)]
 pub(crate) enum Wrong {
     DataOutside,

@@ -1,4 +1,4 @@
-//! Keywords: which there are, and what may stand behind each.
+//! The keywords, and what may follow each.
 
 use crate::distance::Metric;
 use crate::fault::Wrong;
@@ -6,7 +6,7 @@ use crate::layout::Layout;
 use crate::lines::{Line, first_with};
 use crate::number::whole;
 
-/// The keywords that stand at most once, in the order in which they are missed.
+/// The keywords that occur at most once, in the order in which a missing one is reported.
 pub(crate) const KEYS: [&str; 9] = [
     "TYPE",
     "DIMENSION",
@@ -55,7 +55,7 @@ pub(crate) fn is_section(keyword: &str) -> bool {
     is_one_of(keyword, &SECTIONS)
 }
 
-/// Whether a file needs a keyword, by whether its weights are listed or follow from points.
+/// Whether a file needs a keyword; this depends on whether its weights are listed or follow from points.
 pub(crate) fn is_needed(keyword: &str, is_explicit: bool) -> bool {
     match keyword {
         "EDGE_WEIGHT_FORMAT" | "EDGE_WEIGHT_SECTION" => is_explicit,
@@ -64,7 +64,7 @@ pub(crate) fn is_needed(keyword: &str, is_explicit: bool) -> bool {
     }
 }
 
-/// What is wrong with a keyword's line.
+/// The fault of a keyword's line.
 pub(crate) fn fault(lines: &[Line<'_>], line: Line<'_>, is_explicit: bool) -> Option<Wrong> {
     let is_key = is_one_of(line.keyword, &KEYS);
     if is_one_of(line.keyword, &REMARKS) {
@@ -87,7 +87,7 @@ fn is_repeated(lines: &[Line<'_>], line: Line<'_>) -> bool {
     first_with(lines, line.keyword).is_some_and(|first| first.number < line.number)
 }
 
-// What is wrong with the value of a keyword that is no section's.
+// The fault in the value of a keyword that is not a section's.
 fn value_fault(keyword: &str, value: &str, is_explicit: bool) -> Option<Wrong> {
     match keyword {
         "TYPE" if is_one_of(value, &TYPES_LEFT_OUT) => Some(Wrong::Unsupported),

@@ -2,7 +2,7 @@
 
 use std::alloc::{AllocError, Global};
 
-// Which cells a layout lists, beside or without those on the diagonal.
+// The cells that a layout lists, with or without those on the diagonal.
 #[derive(Clone, Copy, Debug)]
 enum Part {
     Above,
@@ -10,7 +10,7 @@ enum Part {
     Both,
 }
 
-/// How a matrix is listed.
+/// The form of a matrix.
 #[derive(Clone, Copy, Debug)]
 pub(crate) struct Layout {
     part: Part,
@@ -19,7 +19,7 @@ pub(crate) struct Layout {
 }
 
 impl Layout {
-    /// The layout that a word names.
+    /// The layout with this name.
     pub(crate) fn named(word: &str) -> Option<Layout> {
         let (part, has_diagonal, is_by_columns) = match word {
             "FULL_MATRIX" => (Part::Both, true, false),
@@ -40,7 +40,7 @@ impl Layout {
         })
     }
 
-    /// The cells of an n by n matrix in the order in which they are listed, each by its row and its column.
+    /// The cells of an n by n matrix in listing order, each by its row and its column.
     pub(crate) fn cells(self, alloc: Global, n: i64) -> Result<Vec<(i64, i64)>, AllocError> {
         let mut cells = Vec::new(alloc);
         for outer in 1..=n {

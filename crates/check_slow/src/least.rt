@@ -1,4 +1,4 @@
-//! The canonical plan, which is first by cost and then by word, by trying every plan.
+//! The canonical plan, the first by cost and then by word, found by trying every plan.
 
 use crate::problem::Problem;
 use crate::weights::find;
@@ -7,27 +7,27 @@ use std::alloc::{AllocError, Global};
 // With more customers there are too many plans to try.
 const MOST_CUSTOMERS: u8 = 7;
 
-// The problem, and the weight from each node to each other one.
+// The problem, and the weight from each node to each other.
 #[derive(Drop)]
 struct Arcs<'a> {
     problem: &'a Problem,
     weights: Vec<((i64, i64), u64)>,
 }
 
-/// A cheapest plan, and of those the one with the earliest word: compared stop by stop, the arc home before all customers.
+/// A cheapest plan, the first of these by word: compared stop by stop, the arc home before all customers.
 #[derive(Debug, Drop)]
 pub(crate) enum Cheapest {
     Plan { cost: u64, routes: Vec<Vec<i64>> },
-    /// The trucks are too few.
+    /// There are too few trucks.
     NoPlan,
     /// There are too many customers to say.
     Unknown,
 }
 
-// More than any plan costs.
+// More than the cost of any plan.
 const NO_PLAN: u64 = u64::MAX;
 
-// The truck on its way: where it is, what it carries, and how many may start after it.
+// The current truck: its place, its load, and how many trucks may start after it.
 #[derive(Clone, Copy)]
 struct Truck {
     at: i64,
@@ -35,7 +35,7 @@ struct Truck {
     left: u16,
 }
 
-// What the rest of a plan costs, and its stops, with a 0 for each arc home.
+// The cost of the rest of a plan, and its stops, with a 0 for each arc home.
 #[derive(Debug, Drop)]
 struct Rest {
     cost: u64,
@@ -43,13 +43,13 @@ struct Rest {
 }
 
 impl Rest {
-    // By cost and then by stops.
+    // Compares by cost and then by stops.
     fn is_before(&self, other: &Rest) -> bool {
         (self.cost, self.word.as_slice()) < (other.cost, other.word.as_slice())
     }
 }
 
-/// The canonical plan, where there are few customers.
+/// The canonical plan, if there are few customers.
 pub(crate) fn least(alloc: Global, problem: &Problem) -> Result<Cheapest, AllocError> {
     let mut customers = Vec::new(alloc);
     for node in 1..=problem.nodes {
@@ -80,7 +80,7 @@ pub(crate) fn least(alloc: Global, problem: &Problem) -> Result<Cheapest, AllocE
     })
 }
 
-// What stands between the arcs home.
+// The stops between the arcs home.
 fn routes_of(alloc: Global, word: &[i64]) -> Result<Vec<Vec<i64>>, AllocError> {
     let mut routes = Vec::new(alloc);
     for route in word.split(|stop| *stop == 0) {
@@ -91,7 +91,7 @@ fn routes_of(alloc: Global, word: &[i64]) -> Result<Vec<Vec<i64>>, AllocError> {
     Ok(routes)
 }
 
-// The weight from each node to each other one, looked up once.
+// The weight from each node to each other, looked up once.
 fn weights(alloc: Global, problem: &Problem) -> Result<Vec<((i64, i64), u64)>, AllocError> {
     let mut weights = Vec::new(alloc);
     for from in 1..=problem.nodes {
@@ -100,7 +100,7 @@ fn weights(alloc: Global, problem: &Problem) -> Result<Vec<((i64, i64), u64)>, A
     Ok(weights)
 }
 
-// Adds the weights from one node. An arc to the place where one is costs nothing, whatever a file says of it.
+// Adds the weights from one node. An arc from a node to itself costs nothing, whatever the file says.
 fn push_weights(
     weights: &mut Vec<((i64, i64), u64)>,
     problem: &Problem,
@@ -118,8 +118,8 @@ fn push_weights(
 }
 
 impl Arcs<'_> {
-    // The first way to serve the unserved customers and come home, where this truck is on its way. Each of them may be next: on
-    // the same truck where it has room, and on a new one where one is left. There are no more of them than `most`.
+    // The first way to serve the unserved customers and come home, from this truck on. Each of them may be next: on the same
+    // truck if it has room, and on a new one if one is left. There are at most `most` of them.
     fn first_from(
         &self,
         alloc: Global,
@@ -140,32 +140,39 @@ impl Arcs<'_> {
         for next in unserved {
             let at = *next;
             let others = without(alloc, unserved, at)?;
-            let demand = self.problem.demand(at);
-            if truck.left > 0 {
-                let left = truck.left - 1;
-                let new = Truck {
-                    at,
-                    load: demand,
-                    left,
-                };
+            if let Some(new) = self.on_a_new_truck(truck, at) {
                 let behind = self.first_from(alloc, new, &others, most - 1)?;
                 let start = home.saturating_add(self.weight(depot, at));
-                let rest = with(alloc, start, &[0, at], &behind)?;
-                if rest.is_before(&first) {
-                    first = rest;
-                }
+                keep_first(&mut first, with(alloc, start, &[0, at], &behind)?);
             }
-            let load = truck.load.saturating_add(demand);
-            if truck.at != depot && load <= self.problem.capacity {
-                let same = Truck { at, load, ..truck };
+            if let Some(same) = self.on_the_same_truck(truck, at) {
                 let behind = self.first_from(alloc, same, &others, most - 1)?;
-                let rest = with(alloc, self.weight(truck.at, at), &[at], &behind)?;
-                if rest.is_before(&first) {
-                    first = rest;
-                }
+                let start = self.weight(truck.at, at);
+                keep_first(&mut first, with(alloc, start, &[at], &behind)?);
             }
         }
         Ok(first)
+    }
+
+    // A new truck at a customer, if one is left.
+    fn on_a_new_truck(&self, truck: Truck, at: i64) -> Option<Truck> {
+        if truck.left == 0 {
+            return None;
+        }
+        Some(Truck {
+            at,
+            load: self.problem.demand(at),
+            left: truck.left - 1,
+        })
+    }
+
+    // The truck at its next customer, if it is out and has room.
+    fn on_the_same_truck(&self, truck: Truck, at: i64) -> Option<Truck> {
+        let load = truck.load.saturating_add(self.problem.demand(at));
+        if truck.at == self.problem.depot() || load > self.problem.capacity {
+            return None;
+        }
+        Some(Truck { at, load, ..truck })
     }
 
     fn weight(&self, from: i64, to: i64) -> u64 {
@@ -173,7 +180,13 @@ impl Arcs<'_> {
     }
 }
 
-// What costs so much and has these stops, and then goes on so.
+fn keep_first(first: &mut Rest, rest: Rest) {
+    if rest.is_before(first) {
+        *first = rest;
+    }
+}
+
+// The rest of a plan that begins with these stops at this cost, and continues with another rest.
 fn with(alloc: Global, cost: u64, stops: &[i64], behind: &Rest) -> Result<Rest, AllocError> {
     let mut word = Vec::from_slice(alloc, stops)?;
     word.extend_from_slice(&behind.word)?;
@@ -183,7 +196,7 @@ fn with(alloc: Global, cost: u64, stops: &[i64], behind: &Rest) -> Result<Rest, 
     })
 }
 
-// The customers without one.
+// The customers without this one.
 fn without(alloc: Global, customers: &[i64], left_out: i64) -> Result<Vec<i64>, AllocError> {
     let mut others = Vec::new(alloc);
     for customer in customers {

@@ -1,19 +1,19 @@
-//! The lines of a file, each with the keyword that it stands under.
+//! The lines of a file, each with its keyword.
 
 use std::alloc::{AllocError, Global};
 
 const BLANKS: [char; 3] = [' ', '\t', '\r'];
 
-/// A line that has more than blanks.
+/// A line that is not blank.
 #[derive(Clone, Copy, Debug)]
 pub(crate) struct Line<'a> {
-    /// Which line of the file it is, from 1.
+    /// The number of the line in the file, from 1.
     pub number: u64,
-    /// Its own keyword, or the last one before a line of data. Before the first keyword there is none: it is empty.
+    /// Its own keyword, or for a data line the last one before it. It is empty before the first keyword.
     pub keyword: &'a str,
     /// Whether the line has no keyword of its own.
     pub is_data: bool,
-    /// What stands behind its own keyword, or else the whole line.
+    /// The text behind its own keyword, or the whole line if it has none.
     pub text: &'a str,
 }
 
@@ -56,12 +56,12 @@ fn line_under<'a>(last: &'a str, number: u64, own: &'a str, line: &'a str) -> Li
     }
 }
 
-// The keyword under which a line of data stands that follows these lines.
+// The keyword for a data line that follows these lines.
 fn last_keyword<'a>(lines: &[Line<'a>]) -> &'a str {
     lines.last().map_or("", |line| line.keyword)
 }
 
-// The letters, digits and low lines at the front of a line that begins with a letter, and else an empty text.
+// The letters, digits and underscores at the front of a line that begins with a letter; otherwise an empty text.
 fn keyword_of(line: &str) -> &str {
     if line.starts_with(|first: char| first.is_ascii_alphabetic()) {
         line.strip_suffix(behind_word(line)).unwrap_or(line)
@@ -70,12 +70,12 @@ fn keyword_of(line: &str) -> &str {
     }
 }
 
-// What stands behind the letters, digits and low lines at the front.
+// The text behind the letters, digits and underscores at the front.
 fn behind_word(line: &str) -> &str {
     line.trim_start_matches(|next: char| next.is_ascii_alphanumeric() || next == '_')
 }
 
-// What stands behind the keyword and the one colon that may follow it.
+// The text behind the keyword and the one colon that may follow it.
 fn behind_keyword(line: &str) -> &str {
     let behind = behind_word(line).trim_start_matches(BLANKS);
     behind

@@ -1,8 +1,8 @@
-//! A plain slow evaluator: what the definitions say, computed the long way round from the text of a file, beside what
-//! the command prints for it: at a glance, and where there are few customers also given time. It prints one line on the
-//! metrics, and one for each word of its command line: a file, a file and a number of trucks, as `three-nodes.vrp/1`, or a file
-//! that is cut off after each of its bytes in turn, as `cut:three-nodes.vrp`. It has no clauses: the definitions are compared with
-//! it, so it does not lean on them.
+//! A plain slow evaluator: computes the meaning of a file from its text, the long way round, and compares it with what the
+//! command prints: at a glance and, if there are few customers, also given time. It prints one line on the metrics, and one
+//! for each word of its command line: a file, a file with a number of trucks, such as `three-nodes.vrp/1`, or a file that is
+//! cut off after each of its bytes in turn, such as `cut:three-nodes.vrp`. It has no clauses: it serves to check the
+//! definitions, so it does not use them.
 #![tactic(auto)]
 
 mod distance;
@@ -35,28 +35,28 @@ const REFUSED: u8 = 3;
 
 const MOST_TRUCKS: u16 = 1_200;
 
-// What the command answers to a file.
+// The command's answer to a file.
 #[derive(Debug, Drop)]
 struct Answer {
     outcome: Result<Status, RunError>,
     printed: Vec<u8>,
 }
 
-// What the command is given for each piece.
+// The command's budget for each piece.
 #[derive(Clone, Copy)]
 enum Time {
-    // A look at the empty partial plan alone: the command keeps the plan that it starts with, if any, and what it says of
-    // other plans is what it knows before it has made any.
+    // A look at the empty partial plan alone: the command keeps the plan that it starts with, if any, and its bound is the
+    // one known before the search.
     Glance,
     Enough,
 }
 
-// What there is to say of the plan that the command starts with.
+// The report and bounds of the plan that the command starts with.
 #[derive(Debug, Drop)]
 struct Start {
     said: String,
     cost: Option<u64>,
-    // The report of that plan, with the verdict that the command has printed.
+    // The report of that plan, with the verdict that the command printed.
     report: String,
 }
 
@@ -70,7 +70,7 @@ fn main(rt: HostRuntime) -> Result<()> {
     Ok(())
 }
 
-// What there is to say of a word of the command line.
+// The line printed for a word of the command line.
 fn finding<R: Files + AllocGlobal + Threads + Wait + Sync>(rt: &R, word: &str) -> Result<String> {
     if let Some(name) = word.strip_prefix("cut:") {
         return compare_cuts(rt, name);
@@ -81,8 +81,8 @@ fn finding<R: Files + AllocGlobal + Threads + Wait + Sync>(rt: &R, word: &str) -
     }
 }
 
-// How many cuts of a file there are, one after each of its bytes, how many of them the evaluator refuses, and whether the command
-// answers to each what the evaluator finds in it.
+// The number of cuts of a file, one after each of its bytes, how many of them the evaluator refuses, and whether the
+// command's answer to each agrees with the evaluator.
 fn compare_cuts<R: Files + AllocGlobal + Threads + Wait + Sync>(
     rt: &R,
     name: &str,
@@ -102,7 +102,7 @@ fn compare_cuts<R: Files + AllocGlobal + Threads + Wait + Sync>(
     Ok(format!(in alloc; "{cuts} cuts, {refusals} refused; {same}")?)
 }
 
-// Whether the evaluator refuses a file, and whether the command answers what the evaluator finds in it.
+// Whether the evaluator refuses a file, and whether the command's answer agrees with the evaluator.
 fn compare_cut<R: Threads + Wait + Sync>(rt: &R, alloc: Global, cut: &str) -> Result<(bool, bool)> {
     let (is_refused, finding) = match reading::read(alloc, cut) {
         Ok(problem) => (false, evaluated(rt, alloc, &problem, cut)?),
@@ -111,7 +111,7 @@ fn compare_cut<R: Threads + Wait + Sync>(rt: &R, alloc: Global, cut: &str) -> Re
     Ok((is_refused, finding.as_str().ends_with(agreement(true))))
 }
 
-// What the evaluator finds in a file, with this many trucks or as many as are wanted, and whether the command answers just that.
+// The evaluator's finding for a file, with this many trucks or no limit, and whether the command's answer agrees.
 fn compare<R: Files + AllocGlobal + Threads + Wait + Sync>(
     rt: &R,
     name: &str,
@@ -128,7 +128,7 @@ fn compare<R: Files + AllocGlobal + Threads + Wait + Sync>(
     }
 }
 
-// What there is to say of a file that states a problem.
+// The line for a file that states a problem.
 fn evaluated<R: Threads + Wait + Sync>(
     rt: &R,
     alloc: Global,
@@ -147,13 +147,13 @@ fn evaluated<R: Threads + Wait + Sync>(
     )
 }
 
-// What is known of a problem at a glance, and whether the command prints just that.
+// What is known of a problem at a glance, and whether the command prints exactly that.
 #[derive(Debug, Drop)]
 struct Glance {
     finding: String,
-    // No plan costs less, as the command says.
+    // The command's lower bound.
     lower: u64,
-    // What the plan costs that the command starts with.
+    // The cost of the plan that the command starts with.
     cost: Option<u64>,
     is_same: bool,
 }
@@ -177,7 +177,7 @@ fn at_a_glance<R: Threads + Wait + Sync>(
 }
 
 impl Glance {
-    // Whether no plan costs less than the command says, as far as one knows the cheapest.
+    // Whether the command's bound is valid, as far as the cheapest plan is known.
     fn is_bound(&self, cheapest: &Cheapest) -> bool {
         let cost = match cheapest {
             Cheapest::Unknown => self.cost.unwrap_or(report::NO_COST),
@@ -188,7 +188,7 @@ impl Glance {
     }
 }
 
-// Whether the command, given time, finds the cheapest plan, as far as one knows it.
+// Whether the command, given time, finds the cheapest plan, as far as that is known.
 fn is_found<R: Threads + Wait + Sync>(
     rt: &R,
     alloc: Global,
@@ -207,7 +207,7 @@ fn is_found<R: Threads + Wait + Sync>(
     }
 }
 
-// The finding, what a cheapest plan costs, as far as one knows it, and whether the command agrees.
+// The finding, the cost of a cheapest plan, as far as it is known, and whether the command agrees.
 fn told(alloc: Global, finding: &str, cheapest: &Cheapest, same: &str) -> Result<String> {
     match cheapest {
         Cheapest::Unknown => Ok(format!(in alloc; "{finding}; {same}")?),
@@ -216,7 +216,7 @@ fn told(alloc: Global, finding: &str, cheapest: &Cheapest, same: &str) -> Result
     }
 }
 
-// One truck for each customer, where there are this many.
+// The plan of one truck for each customer, if there are enough trucks.
 fn start_plan(alloc: Global, problem: &Problem, verdict: &str) -> Result<Start> {
     let routes = plan::singles(alloc, problem)?;
     let count = routes.len();
@@ -236,7 +236,7 @@ fn start_plan(alloc: Global, problem: &Problem, verdict: &str) -> Result<Start> 
     })
 }
 
-// How a run ends that prints this verdict.
+// The status of a run that prints this verdict.
 fn status(verdict: &str) -> Status {
     match verdict {
         report::PROVEN => Status::Proven,
@@ -245,7 +245,7 @@ fn status(verdict: &str) -> Status {
     }
 }
 
-// Whether the command, given time, prints just this report of a plan, and says that it is proven.
+// Whether the command, given time, prints exactly this report of a plan, as proven.
 fn is_solved<R: Threads + Wait + Sync>(
     rt: &R,
     alloc: Global,
@@ -269,7 +269,7 @@ fn has_no_plan<R: Threads + Wait + Sync>(
     Ok(answer.is(Status::NoPlan, wanted.as_str()))
 }
 
-// What there is to say of a file that is refused.
+// The line for a refused file.
 fn refused<R: Threads + Wait + Sync>(
     rt: &R,
     alloc: Global,
@@ -288,7 +288,7 @@ fn refused<R: Threads + Wait + Sync>(
     Ok(format!(in alloc; "{wanted}; {same}")?)
 }
 
-// The command's answer to a file, with this many trucks or as many as are wanted.
+// The command's answer to a file, with this many trucks or no limit.
 fn ask<R: Threads + Wait + Sync>(
     rt: &R,
     alloc: Global,
@@ -317,7 +317,7 @@ fn ask<R: Threads + Wait + Sync>(
 }
 
 impl Answer {
-    // Whether it is a report with this status and this text.
+    // Whether this is a report with this status and this text.
     fn is(&self, status: Status, text: &str) -> bool {
         self.outcome == Ok(status) && self.printed.as_slice() == text.as_bytes()
     }

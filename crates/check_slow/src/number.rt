@@ -26,7 +26,7 @@ pub(crate) fn whole(token: &str, low: i64, high: i64) -> Result<i64, Wrong> {
     }
 }
 
-// A numeral's digits as one number with the sign, and the power of ten that it is to be multiplied by.
+// A numeral's digits as one signed number, and the power of ten to multiply it by.
 fn digits_and_shift(token: &str) -> Option<(i128, i32)> {
     let (is_negative, unsigned) = sign(token);
     let (digits, power) = match unsigned.split_once(['e', 'E']) {
@@ -48,7 +48,7 @@ fn digits_and_shift(token: &str) -> Option<(i128, i32)> {
     Some((value, power.saturating_sub(places)))
 }
 
-// Whether a minus sign stands at the front, and what stands behind the one sign that may stand there.
+// Whether there is a minus sign at the front, and the text behind the optional sign.
 fn sign(text: &str) -> (bool, &str) {
     match text.strip_prefix('-') {
         Some(unsigned) => (true, unsigned),
@@ -76,7 +76,7 @@ fn are_digits(text: &str) -> bool {
     text.bytes().all(|byte| byte.is_ascii_digit())
 }
 
-// The number that the digits write behind those of a number.
+// The number that these digits write after those of another number.
 fn value_of(front: u64, digits: &str) -> u64 {
     let mut value = front;
     for digit in digits.bytes() {

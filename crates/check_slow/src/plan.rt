@@ -1,9 +1,9 @@
-//! Plans as lists of routes, each a list of node numbers, and what they have to be.
+//! Plans as lists of routes, each a list of node numbers, and when they are feasible.
 
 use crate::problem::Problem;
 use std::alloc::{AllocError, Global};
 
-/// A route of its own for each customer, by rising number.
+/// A route for each customer, by rising number.
 pub(crate) fn singles(alloc: Global, problem: &Problem) -> Result<Vec<Vec<i64>>, AllocError> {
     let mut routes = Vec::new(alloc);
     for node in 1..=problem.nodes {
@@ -28,7 +28,7 @@ pub(crate) fn is_lawful(problem: &Problem, routes: &[Vec<i64>]) -> bool {
         && routes.iter().all(|route| !route.is_empty() && load(problem, route) <= problem.capacity)
 }
 
-// How often a node stands in the routes.
+// How often a node occurs in the routes.
 fn times_served(routes: &[Vec<i64>], node: i64) -> u64 {
     let mut times = 0u64;
     for route in routes {
@@ -41,7 +41,7 @@ fn times_served(routes: &[Vec<i64>], node: i64) -> u64 {
     times
 }
 
-/// What the routes cost.
+/// The cost of the routes.
 pub(crate) fn cost(problem: &Problem, routes: &[Vec<i64>]) -> u64 {
     let mut cost = 0u64;
     for route in routes {
@@ -50,7 +50,7 @@ pub(crate) fn cost(problem: &Problem, routes: &[Vec<i64>]) -> u64 {
     cost
 }
 
-// From the depot through the stops, and back.
+// The cost from the depot through the stops and back.
 fn route_cost(problem: &Problem, route: &[i64]) -> u64 {
     let mut cost = 0u64;
     let mut at = problem.depot();

@@ -3,7 +3,7 @@
 use crate::fault::Fault;
 use crate::weights::{Weights, find};
 
-/// What a file states. The first of the depots is the one that is used.
+/// The statements of a file. The first of the depots is the one used.
 #[derive(Debug, Drop)]
 pub(crate) struct Problem {
     pub nodes: i64,
@@ -12,7 +12,7 @@ pub(crate) struct Problem {
     pub demands: Vec<(i64, i64)>,
     pub depots: Vec<i64>,
     pub weights: Weights,
-    /// Trucks, or else as many as are wanted. No file says how many there are.
+    /// The number of trucks; `None` for no limit. No file states it.
     pub trucks: Option<u16>,
 }
 
@@ -38,7 +38,7 @@ impl Problem {
             .is_none_or(|trucks| routes <= usize::from(trucks))
     }
 
-    /// The lowest depot that has a demand, or else the lowest customer whose demand no truck carries.
+    /// The lowest depot with a demand, or else the lowest customer who demands more than the capacity.
     pub(crate) fn fault(&self) -> Option<Fault> {
         for node in 1..=self.nodes {
             if self.is_depot(node) && self.demand(node) != 0 {

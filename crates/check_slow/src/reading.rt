@@ -1,4 +1,4 @@
-//! From the text of a file to the problem that it states, or to the first of its faults.
+//! Reads the problem that a file's text states, or the first of its faults.
 
 use crate::distance::Metric;
 use crate::fault::{Fault, Wrong};
@@ -13,7 +13,7 @@ use std::alloc::{AllocError, Global};
 
 const MOST_BYTES: usize = 16_777_216;
 
-/// Reads a file. The problem that it states has as many trucks as are wanted.
+/// Reads a file. The problem that it states has no limit on trucks.
 pub(crate) fn read(alloc: Global, text: &str) -> Result<Problem, Fault> {
     if text.len() > MOST_BYTES {
         return Err(Fault::TooLong);
@@ -22,7 +22,7 @@ pub(crate) fn read(alloc: Global, text: &str) -> Result<Problem, Fault> {
     read_lines(alloc, &lines)
 }
 
-// The same, of the lines of a file.
+// Reads the lines of a file.
 fn read_lines(alloc: Global, lines: &[Line<'_>]) -> Result<Problem, Fault> {
     let is_explicit = value(lines, "EDGE_WEIGHT_TYPE") == "EXPLICIT";
     for line in lines {
@@ -38,7 +38,7 @@ fn read_lines(alloc: Global, lines: &[Line<'_>]) -> Result<Problem, Fault> {
     }
 }
 
-// Whether each keyword that is needed is there.
+// Checks that each needed keyword is present.
 fn check_keys(lines: &[Line<'_>], is_explicit: bool) -> Result<(), Fault> {
     for key in KEYS {
         if is_needed(key, is_explicit) && first_with(lines, key).is_none() {
@@ -48,7 +48,7 @@ fn check_keys(lines: &[Line<'_>], is_explicit: bool) -> Result<(), Fault> {
     Ok(())
 }
 
-// What is wrong with a line.
+// The fault of a line.
 fn file_line_fault(
     alloc: Global,
     lines: &[Line<'_>],
@@ -62,12 +62,12 @@ fn file_line_fault(
     }
 }
 
-// The value of a keyword, empty where it stands nowhere.
+// The value of a keyword; empty if it is missing.
 fn value<'a>(lines: &[Line<'a>], keyword: &str) -> &'a str {
     first_with(lines, keyword).map_or("", |line| line.value())
 }
 
-// What lines without a fault state, where each section has the right count and names the right nodes.
+// The statements of lines without a fault, if each section has the right count and names the right nodes.
 fn stated(alloc: Global, lines: &[Line<'_>], is_explicit: bool) -> Result<Problem, Fault> {
     let nodes = number(value(lines, "DIMENSION"));
     let problem = Problem {
@@ -95,7 +95,7 @@ fn weights(
     }
 }
 
-// Whether each section names the right nodes.
+// Checks that each section names the right nodes.
 fn check_all_nodes(problem: &Problem) -> Result<(), Fault> {
     let nodes = problem.nodes;
     if let Weights::Points(_, points) = &problem.weights {
@@ -108,7 +108,7 @@ fn check_all_nodes(problem: &Problem) -> Result<(), Fault> {
     Ok(())
 }
 
-// A number that is known to be one.
+// The number of a token that is known to be one.
 fn number(token: &str) -> i64 {
     whole(token, i64::MIN, i64::MAX).unwrap_or(0)
 }
@@ -187,7 +187,7 @@ fn check_node(node: i64, nodes: i64, section: &'static str) -> Result<(), Fault>
     }
 }
 
-// Whether each number is a node's, and no earlier one is the same.
+// Checks that each number is a node's, and that none is repeated.
 fn check_nodes<V>(rows: &[(i64, V)], nodes: i64, section: &'static str) -> Result<(), Fault> {
     for (index, (node, _)) in rows.iter().enumerate() {
         check_node(*node, nodes, section)?;

@@ -1,18 +1,18 @@
-//! Reports: their text, and what their last line says.
+//! Reports: their text, and the meaning of their last line.
 
 use std::alloc::{AllocError, Global};
 
-/// The verdict on a plan that is known to be a cheapest one.
+/// The verdict on a cheapest plan.
 pub(crate) const PROVEN: &str = "Proven";
 
-/// The verdict where there is no plan.
+/// The verdict if there is no plan.
 pub(crate) const NO_PLAN: &str = "NoPlan";
 
-/// What a plan counts as that is missing: more than any plan costs.
+/// The cost counted for a missing plan: more than any plan costs.
 pub(crate) const NO_COST: u64 = 4_000_000_000_000;
 
-/// What each plan is said to cost at least by the verdict on a plan of this cost, or on none. A verdict that says nothing is
-/// taken for too much.
+/// The lower bound stated by the verdict on a plan of this cost, or on none. A verdict without a bound counts as too high a
+/// bound.
 pub(crate) fn lower(verdict: &str, cost: Option<u64>) -> u64 {
     match (verdict, cost) {
         (PROVEN, Some(cost)) => cost,

@@ -1,4 +1,4 @@
-//! Sections: the lines of data under a keyword, and the numbers in them.
+//! Sections: the data lines under a keyword, and the numbers in them.
 
 use crate::fault::{Fault, Wrong};
 use crate::keyword::is_section;
@@ -10,7 +10,7 @@ const MOST_COORDINATE: i64 = 100_000_000;
 
 const MOST: i64 = 1_000_000_000;
 
-// The least and the greatest number that may stand in a section behind this many others.
+// The least and the greatest number allowed in a section after this many others.
 fn range(section: &str, behind: usize) -> (i64, i64) {
     match section {
         "NODE_COORD_SECTION" if behind % 3 != 0 => (-MOST_COORDINATE, MOST_COORDINATE),
@@ -20,7 +20,7 @@ fn range(section: &str, behind: usize) -> (i64, i64) {
     }
 }
 
-// Whether the data of a section is not looked at.
+// Whether the data of a section are skipped.
 fn is_skipped(section: &str, is_explicit: bool) -> bool {
     match section {
         "NODE_COORD_SECTION" => is_explicit,
@@ -30,7 +30,7 @@ fn is_skipped(section: &str, is_explicit: bool) -> bool {
     }
 }
 
-/// What is wrong with a line of data.
+/// The fault of a data line.
 pub(crate) fn fault(
     alloc: Global,
     lines: &[Line<'_>],
@@ -54,7 +54,7 @@ pub(crate) fn fault(
     Ok(None)
 }
 
-// How many tokens stand in the line's section before it.
+// The number of tokens before this line in its section.
 fn tokens_before(alloc: Global, lines: &[Line<'_>], line: Line<'_>) -> Result<usize, AllocError> {
     let mut count = 0usize;
     for other in lines {

@@ -7,7 +7,7 @@ use crate::distance::Metric;
 pub(crate) enum Weights {
     /// A metric, and for each node its number and its point.
     Points(Metric, Vec<(i64, (i64, i64))>),
-    /// For each listed cell its row and its column, and its weight.
+    /// Each listed cell with its row, its column and its weight.
     Listed(Vec<((i64, i64), i64)>),
 }
 
@@ -19,7 +19,7 @@ impl Weights {
                 (Some(from), Some(to)) => Some(metric.distance(from, to)),
                 _ => None,
             },
-            // What is listed for one way alone holds for both.
+            // A weight listed for one direction holds for both.
             Weights::Listed(weights) => find(weights, (from, to))
                 .or(find(weights, (to, from)))
                 .and_then(|weight| u64::try_from(weight).ok()),
@@ -28,7 +28,7 @@ impl Weights {
     }
 }
 
-/// What a list has beside a key.
+/// The value for a key in a list.
 pub(crate) fn find<K: Copy + PartialEq, V: Copy>(pairs: &[(K, V)], key: K) -> Option<V> {
     for (other, value) in pairs {
         if *other == key {

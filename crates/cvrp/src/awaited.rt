@@ -1,10 +1,10 @@
-//! A reader that tells that its bytes are awaited.
+//! A reader that says when its bytes are awaited.
 ghost use Rattle.std.specs.Prelude.{◌≡◌};
 
 use std::io::{self, Eprint, Read};
 
-/// Reads from another reader. Before the first read it tells on standard error that the file is awaited, if it is to; where that can't be
-/// written the read goes on.
+/// Reads from another reader. Before the first read it writes on standard error that the file is awaited, if it is set to; if
+/// that fails, reading continues.
 #[derive(Drop)]
 pub(crate) struct Awaited<'a, R, T> {
     reader: R,
@@ -13,7 +13,7 @@ pub(crate) struct Awaited<'a, R, T> {
 }
 
 impl<'a, R: Read, T: Eprint> Awaited<'a, R, T> {
-    /// Nothing is read yet.
+    /// A reader that has read nothing yet.
     pub(crate) fn new(reader: R, tells: bool, rt: &'a T) -> Awaited<'a, R, T>
         ensures { result.reader ≡ reader }
     {

@@ -21,7 +21,7 @@ fn main(rt: HostRuntime) -> ExitCode {
     ExitCode::from(status)
 }
 
-// The exit status of what the words behind the program's name ask for, if they can be had. At a terminal the user is told that the file
+// The exit status for the words behind the program's name, if they can be had. At a terminal the user is told that the file
 // is awaited there.
 fn run_args<
     R: Env + AllocGlobal + Files + Input + Print + Eprint + Clock + Threads + Wait + Sync,

@@ -1,5 +1,5 @@
-//! How the solver is used as a library: a CVRP file is read on standard input, solved by two workers, and the plan is printed with its
-//! cost and the verdict on it. An answer that is `Proven` has a plan than which none costs less: so says the contract of `solve`.
+//! How to use the solver as a library: reads a CVRP file on standard input, solves it with two workers, and prints the plan
+//! with its cost and its verdict. The contract of `solve` says that no plan costs less than that of a `Proven` answer.
 #![tactic(auto)]
 
 use anyhow::Result;
@@ -11,7 +11,7 @@ use vrp_search_tree::Cutting;
 
 const WORKERS: u32 = 2;
 
-// How many partial plans a worker may look at before it leaves a piece of the search tree open.
+// The budget of partial plans for a piece of the search tree, before a worker leaves it open.
 const BUDGET: u64 = 100_000_000;
 
 fn main(rt: HostRuntime) -> Result<()> {
@@ -28,7 +28,7 @@ fn main(rt: HostRuntime) -> Result<()> {
     Ok(())
 }
 
-// Prints the customers of each route, and what all routes cost.
+// Prints the customers of each route, and the total cost.
 fn print_plan(rt: &impl Print, plan: &Plan) -> Result<()> {
     for index in 0..plan.routes() {
         println!(rt; "Route {}: {:?}", index + 1, plan.route(index))?;

@@ -1,5 +1,5 @@
-//! Tests of `vrp_bound_ng` and `vrp_bound` by hand, by values from outside, and beside plain slow programs. They are a crate of
-//! their own, since a crate with tests is proved twice.
+//! Tests of `vrp_bound_ng` and `vrp_bound` by hand, with values from outside, and compared with plain slow programs. They are
+//! a separate crate, since a crate with tests is proved twice.
 #![tactic(auto)]
 
 #[cfg(test)]

@@ -1,14 +1,15 @@
-//! Which customers are near, worked out by hand, and what walks remember, told stop by stop.
+//! The nearest customers, worked out by hand, and the memory of walks, followed stop by stop.
 ghost use Rattle.std.specs.Prelude.{◌≡◌, ◌≤◌, ◌<◌};
 
 use crate::assertion::assert_same;
 use std::alloc::Global;
 use std::process::Abort;
+use test_fixtures::with_arcs;
 use vrp_bound_ng::NgSets;
-use vrp_model::{Instance, Layout, MAX_NODES, Weights};
+use vrp_model::{Instance, MAX_NODES};
 
-// The customers near each place, of which an ng-set has the first few. In some the depot stands, one stands there twice, and one is
-// near itself.
+// The near customers of each place; an ng-set uses the first few. Some lists have the depot, one has a customer twice, and
+// one place is near itself.
 const NEAR: [[u16; 4]; 5] = [
     [2, 4, 1, 3],
     [3, 2, 0, 0],
@@ -17,10 +18,10 @@ const NEAR: [[u16; 4]; 5] = [
     [2, 0, 3, 1],
 ];
 
-// Each row is the arcs from a place. By the arcs to a place, all of the lists would be others.
+// Each row has the arcs from a place. By the arcs to a place, all lists would be different.
 const ONE_DIRECTION: [u64; 16] = [0, 5, 3, 9, 1, 0, 7, 7, 2, 4, 0, 8, 6, 3, 2, 0];
 
-// Arcs, how many customers are to be near, and who is.
+// Arcs, how many customers are near each place, and these customers.
 type Nearest<'a> = (&'a [u64], usize, &'a [u16]);
 
 const NEAREST: &[Nearest<'_>] = &[
@@ -85,7 +86,7 @@ const ON_A_LINE: &[(u16, u16, usize, u8)] = &[
     (1_199, 0, 0, 0),
 ];
 
-// It takes a second where it is built, as by `rt test`; `rt try` stops it at its limit of time.
+// It takes a second when compiled, as by `rt test`; `rt try` stops it at its limit of time.
 #[test]
 fn most_nodes(rt: HostRuntime) {
     let ng_sets = on_a_line(&rt, rt.alloc(), 4);
@@ -120,7 +121,7 @@ fn assert_none_near(rt: &impl Abort, none: &NgSets, stop: u16)
     assert_same(rt, none.before(1_199, stop), before.as_slice(), stop);
 }
 
-// Compares the ng-sets before a stop, where the walk behind it remembers these customers, and then those before longer walks.
+// Compares the ng-sets before a stop, when the walk behind it remembers these customers, and then those before longer walks.
 fn assert_told(
     rt: &impl Abort,
     alloc: Global,
@@ -144,7 +145,7 @@ fn assert_told(
     }
 }
 
-// Compares the ng-set at a place before a stop, where the ng-set there is `after`, and these are remembered from the stop on.
+// Compares the ng-set at a place before a stop, when the ng-set there is `after`, and these are remembered from the stop on.
 fn assert_before(
     rt: &impl Abort,
     ng_sets: &NgSets,
@@ -171,7 +172,7 @@ fn assert_before(
     assert_same(rt, found, Some(wanted), (at, stop, after));
 }
 
-// What a walk remembers that comes to this stop first: the stop, and of what is remembered behind it those that are near it.
+// The memory of a walk with this first stop: the stop, and the customers remembered behind it that are near it.
 fn remembered(rt: &impl Abort, alloc: Global, near: &[u16], stop: u16, behind: &[u16]) -> Vec<u16> {
     let mut remembered = vec![in alloc; stop; 1].expect(rt, "memory");
     for customer in behind {
@@ -182,7 +183,7 @@ fn remembered(rt: &impl Abort, alloc: Global, near: &[u16], stop: u16, behind: &
     remembered
 }
 
-// A bit for each of the customers near a place, set where it is remembered: the lowest is the first one's.
+// A bit for each near customer of a place, set if it is remembered; the first one's is the lowest.
 fn as_bits(near: &[u16], remembered: &[u16]) -> usize {
     let mut bits = 0;
     for (customer, bit) in near.iter().zip([1, 2, 4, 8]) {
@@ -193,7 +194,7 @@ fn as_bits(near: &[u16], remembered: &[u16]) -> usize {
     bits
 }
 
-// The ng-set where the first few of the customers near each place are near it.
+// The ng-sets with the first few near customers of each place.
 fn first_near(rt: &impl Abort, alloc: Global, size: usize) -> NgSets
     requires few { size ≤ 4 }
     ensures places { result.places ≡ 5 }
@@ -207,7 +208,7 @@ fn first_near(rt: &impl Abort, alloc: Global, size: usize) -> NgSets
     NgSets::new(alloc, 5, size, near).expect(rt, "memory")
 }
 
-// The first few of the customers near a place.
+// The first few of a place's near customers.
 fn near_to(place: u16, size: usize) -> &'static [u16]
     requires place { place < 5 }
     requires few { size ≤ 4 }
@@ -215,23 +216,13 @@ fn near_to(place: u16, size: usize) -> &'static [u16]
     &NEAR[usize::from(place)][..size]
 }
 
-// An instance by the full matrix of its weights.
+// An instance by the full matrix of its weights, without demands.
 fn by_matrix(rt: &impl Abort, alloc: Global, arcs: &[u64]) -> Instance {
-    let nodes = arcs.len().isqrt();
-    assert!(rt; 1 <= nodes && nodes <= usize::from(MAX_NODES));
-    let nodes = nodes as u16;
-    assert!(rt; arcs.len() == Layout::FullMatrix.entries(nodes));
-    assert!(rt; arcs.iter().all(|&arc| arc <= 1_200));
-    let weights = Weights::matrix(alloc, Layout::FullMatrix, arcs, nodes).expect(rt, "memory");
-    without_demands(rt, alloc, weights)
+    let demands = vec![in alloc; 0u64; arcs.len().isqrt()].expect(rt, "memory");
+    with_arcs(alloc, arcs, &demands, 1).expect(rt, "an instance")
 }
 
-fn without_demands(rt: &impl Abort, alloc: Global, weights: Weights) -> Instance {
-    let demands = vec![in alloc; 0u64; usize::from(weights.nodes())].expect(rt, "memory");
-    Instance::new(alloc, weights, &demands, 1, &[1], None).expect(rt, "an instance")
-}
-
-// The ng-set of this many nearest customers, of as many nodes as there may be on a line, a step apart, the depot first.
+// The ng-sets with this many nearest customers, for the greatest number of nodes on a line, a step apart, the depot first.
 fn on_a_line(rt: &impl Abort, alloc: Global, size: usize) -> NgSets
     requires few { size ≤ 4 }
     ensures places { result.places ≡ 1_200 }

@@ -1,5 +1,5 @@
-//! Tests of `vrp_command`, `vrp_plan_write` and `vrp_command_hints` by values from outside. They are a crate of their own, since a
-//! crate with tests is proved twice.
+//! Tests of `vrp_command`, `vrp_plan_write` and `vrp_command_hints` with values from outside. They are a separate crate,
+//! since a crate with tests is proved twice.
 #![tactic(auto)]
 
 #[cfg(test)]

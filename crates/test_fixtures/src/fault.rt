@@ -1,19 +1,19 @@
-//! Why a fixture is not made.
+//! Why a fixture can't be made.
 
 use std::alloc::AllocError;
 use thiserror::Error;
 use vrp_model::{InstanceError, NoMemory};
 
-/// Why a fixture is not made.
+/// Why a fixture can't be made.
 #[derive(Clone, Copy, Debug, PartialEq, Eq, Error)]
 pub enum FixtureError {
-    /// What it is made of lies outside the limits of an instance, or does not fit together.
+    /// Its parts are outside the limits of an instance, or do not fit together.
     #[error("out of range")]
     OutOfRange,
     /// The instance is refused.
     #[error("{0}")]
     Refused(InstanceError),
-    /// A growth was refused.
+    /// An allocation was refused.
     #[error("out of memory")]
     OutOfMemory,
 }

@@ -1,4 +1,4 @@
-//! The instances that tests are made on; the first place is the depot.
+//! Instances for tests; the first place is the depot.
 ghost use Rattle.std.specs.Prelude.{◌≤◌, All, IsTrue};
 ghost use Rattle.vrp_model.specs.Grid.{IsCoordinate};
 
@@ -46,6 +46,11 @@ pub const E_N22_K4_POINTS: &[(i64, i64)] = &[
     (139, 182),
 ];
 
+/// The demands of E-n22-k4 in hundreds, the depot's first. A truck takes 60.
+pub const E_N22_K4_DEMANDS: &[u64] = &[
+    0, 11, 7, 8, 14, 21, 4, 8, 1, 5, 6, 12, 13, 13, 3, 9, 21, 10, 9, 25, 18, 7,
+];
+
 /// The depot and twenty scattered customers.
 pub const SCATTERED: [(i64, i64); 21] = [
     (50, 50),
@@ -71,7 +76,7 @@ pub const SCATTERED: [(i64, i64); 21] = [
     (80, 85),
 ];
 
-/// Places at these points, a rounded Euclidean distance apart. No clause says so, here and below: tests alone are made on it.
+/// Places at these points, at rounded Euclidean distances. No clause says so, here and below, since only tests use it.
 pub fn at_points(
     alloc: Global,
     points: &[(i64, i64)],
@@ -98,10 +103,21 @@ fn is_coordinate(value: i64) -> bool
     -MAX_COORDINATE <= value && value <= MAX_COORDINATE
 }
 
-/// Places with the weights of a full matrix between them. No clause says so.
+/// Places with the weights of a full matrix between them; no clause says so.
 pub fn with_arcs(
     alloc: Global,
     arcs: &[u64],
+    demands: &[u64],
+    capacity: u64,
+) -> Result<Instance, FixtureError> {
+    in_layout(alloc, Layout::FullMatrix, arcs, demands, capacity)
+}
+
+/// Places with the weights that a file lists in this layout; no clause says so.
+pub fn in_layout(
+    alloc: Global,
+    layout: Layout,
+    entries: &[u64],
     demands: &[u64],
     capacity: u64,
 ) -> Result<Instance, FixtureError> {
@@ -109,10 +125,10 @@ pub fn with_arcs(
         return Err(FixtureError::OutOfRange);
     }
     let nodes = demands.len() as u16;
-    if arcs.len() != Layout::FullMatrix.entries(nodes) || !are_weights(arcs) {
+    if entries.len() != layout.entries(nodes) || !are_weights(entries) {
         return Err(FixtureError::OutOfRange);
     }
-    let weights = Weights::matrix(alloc, Layout::FullMatrix, arcs, nodes)?;
+    let weights = Weights::matrix(alloc, layout, entries, nodes)?;
     instance_of(alloc, weights, demands, capacity)
 }
 
@@ -136,7 +152,7 @@ fn instance_of(
     Ok(Instance::new(alloc, weights, demands, capacity, &[1], None)?)
 }
 
-/// What so many nodes demand where each customer demands 1. No clause says so.
+/// Demands of 1 for each customer, for this many nodes; no clause says so.
 pub fn one_each(alloc: Global, nodes: usize) -> Result<Vec<u64>, FixtureError> {
     if nodes == 0 {
         return Err(FixtureError::OutOfRange);

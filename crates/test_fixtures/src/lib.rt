@@ -1,6 +1,6 @@
-//! What several crates of tests are made on: instances, plans of two customers, numbers that look random, and a plain slow
-//! program for the canonical plan. It is proved as a library is, so it takes no handle by which a test ends: what can't be made is an
-//! `Err`, and the test expects none.
+//! Fixtures that several test crates share: instances, plans of two customers, pseudo-random numbers, and a plain slow
+//! program for the canonical plan. It is proved as a library, so it takes no handle by which a test ends: a fixture that
+//! can't be made is an `Err`, which the test unwraps.
 #![tactic(auto)]
 
 mod fault;
@@ -11,7 +11,8 @@ mod slow;
 
 pub use fault::FixtureError;
 pub use instances::{
-    E_N22_K4_POINTS, FIVE, FOUR, LINE, SCATTERED, SQUARE, at_points, one_each, with_arcs,
+    E_N22_K4_DEMANDS, E_N22_K4_POINTS, FIVE, FOUR, LINE, SCATTERED, SQUARE, at_points, in_layout,
+    one_each, with_arcs,
 };
 pub use plans::joined;
 pub use random::Random;

@@ -6,8 +6,8 @@ use crate::fault::FixtureError;
 use std::alloc::Global;
 use vrp_model::{Instance, Plan};
 
-/// The plan of one truck that serves this one of two customers first, and then the other. Where both directions cost the same it runs
-/// forward alone.
+/// The plan of one truck that serves this one of two customers first, and then the other. With symmetric weights only the
+/// plan that runs forward is made.
 pub fn joined(alloc: Global, instance: &Instance, first: u16) -> Result<Plan, FixtureError>
     ensures { IfOk result (IsPlanOf instance.now) }
 {

@@ -1,11 +1,11 @@
-//! Numbers that look random, the same in every run.
+//! Pseudo-random numbers, the same in every run.
 
 /// A generator, by its state.
 #[derive(Clone, Copy, Debug)]
 pub struct Random(pub u64);
 
 impl Random {
-    /// The next number. Which it is, is left open.
+    /// The next number. The contract leaves it open.
     pub fn next(&mut self) -> u32 {
         self.0 = self
             .0

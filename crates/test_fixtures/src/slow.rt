@@ -1,4 +1,5 @@
-//! A plain slow program: it tries every feasible plan, its routes by rising first customer and either way round, and keeps the first.
+//! A plain slow program: it tries every feasible plan, its routes by rising first customer and in both directions, and keeps
+//! the first.
 
 use std::alloc::{AllocError, Global};
 use vrp_model::Instance;
@@ -10,7 +11,7 @@ pub struct Canonical {
     pub word: Vec<u16>,
 }
 
-// A partial plan: where it is, the first customer of the last route, how many trucks are left, what the last one carries, and the cost.
+// A partial plan: its place, the first customer of the last route, the trucks left, the load of the last truck, and the cost.
 #[derive(Clone, Copy, Debug)]
 struct Prefix {
     at: u16,
@@ -20,7 +21,7 @@ struct Prefix {
     cost: u64,
 }
 
-// What is tried, and the first plan so far.
+// The state of the search, and the first plan so far.
 #[derive(Drop)]
 struct Search<'a> {
     alloc: Global,
@@ -29,11 +30,11 @@ struct Search<'a> {
     canonical: Option<Canonical>,
 }
 
-// As many symbols as a plan of nine customers may have.
+// The greatest number of symbols of a plan of nine customers.
 const MOST_SYMBOLS: u16 = 18;
 
-/// The canonical plan, by cost and then symbol by symbol, if any is feasible and its word has no more than 18 symbols. No clause says
-/// so: it tries all plans, and is short enough to be read.
+/// The canonical plan, by cost and then symbol by symbol, if any plan is feasible and its word has no more than 18 symbols.
+/// No clause says so: it tries all plans, and is short enough to read.
 pub fn canonical_plan(alloc: Global, instance: &Instance) -> Result<Option<Canonical>, AllocError> {
     let empty = Prefix {
         at: 0,
@@ -53,7 +54,7 @@ pub fn canonical_plan(alloc: Global, instance: &Instance) -> Result<Option<Canon
 }
 
 impl<'a> Search<'a> {
-    // Tries all plans that go on so, with this many symbols at most.
+    // Tries all plans that continue this one with at most this many symbols.
     fn extend(&mut self, prefix: Prefix, symbols: u16) -> Result<(), AllocError> {
         if symbols == 0 {
             return Ok(());
@@ -72,7 +73,7 @@ impl<'a> Search<'a> {
         Ok(())
     }
 
-    // What comes of one symbol more, if it is feasible.
+    // The partial plan with one more symbol, if it is feasible.
     fn after(&self, prefix: Prefix, symbol: u16) -> Option<Prefix> {
         let last = self.instance.customers();
         let (from, to) = (prefix.at.min(last), symbol.min(last));
@@ -105,7 +106,7 @@ impl<'a> Search<'a> {
         served == usize::from(self.instance.customers())
     }
 
-    // Keeps the plan where it is before the first one so far.
+    // Keeps the plan if it is before the first one so far.
     fn keep(&mut self, cost: u64) -> Result<(), AllocError> {
         let is_first = match &self.canonical {
             Some(known) => cost < known.cost || cost == known.cost && self.word < known.word,

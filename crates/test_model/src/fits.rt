@@ -1,4 +1,4 @@
-//! Plans of one instance beside another.
+//! Plans of one instance compared with another.
 use crate::assertion::assert_same;
 use crate::fixture::{Square, full_matrix};
 use crate::plan::singles;
@@ -7,7 +7,7 @@ use std::process::Abort;
 use test_fixtures::joined;
 use vrp_model::Plan;
 
-// Two customers: alone they cost 1 + 2 and 2 + 4, and on one route 1 + 1 + 4.
+// Two customers: separately they cost 1 + 2 and 2 + 4, and on one route 1 + 1 + 4.
 const ARCS: &[u64] = &[0, 1, 2, 2, 0, 1, 4, 2, 0];
 
 const DEMANDS: &[u64] = &[0, 1, 1];
@@ -16,11 +16,11 @@ const OWN: Square<'_> = (ARCS, DEMANDS, 2, &[1]);
 
 const DEPOT_ALONE: Square<'_> = (&[0], &[0], 2, &[1]);
 
-// An instance, how many trucks it has, and whether the plan of two routes is a plan of it, and whether that of one route is.
+// An instance, its number of trucks, whether the plan of two routes is a plan of it, and whether that of one route is.
 type Other<'a> = (Square<'a>, Option<u16>, bool, bool);
 
 const OTHERS: &[Other<'_>] = &[
-    // its own instance, and others where a truck carries more, or less than both customers demand
+    // its own instance, and others with more capacity, or with less than both customers demand
     (OWN, None, true, true),
     ((ARCS, DEMANDS, 9, &[1]), None, true, true),
     ((ARCS, DEMANDS, 1, &[1]), None, true, false),
@@ -29,7 +29,7 @@ const OTHERS: &[Other<'_>] = &[
     (OWN, Some(1), false, true),
     (OWN, Some(2), true, true),
     (OWN, Some(9), true, true),
-    // another weight of an arc that both take, of one that either takes alone, and of those that neither takes
+    // another weight: of an arc that both plans use, of one that only either plan uses, and of arcs that neither uses
     (
         (&[0, 1, 2, 2, 0, 1, 3, 2, 0], DEMANDS, 2, &[1]),
         None,
@@ -54,7 +54,7 @@ const OTHERS: &[Other<'_>] = &[
         true,
         true,
     ),
-    // no customer, one, and three, of whom the third lies at the first one's place and demands nothing
+    // no customer, one, and three, of whom the third is at the first one's place and demands nothing
     (DEPOT_ALONE, None, false, false),
     ((&[0, 1, 2, 0], &[0, 1], 2, &[1]), None, false, false),
     (
@@ -94,7 +94,7 @@ fn assert_fits(rt: &impl Abort, alloc: Global, apart: &Plan, together: &Plan, ot
     assert_same(rt, found, (two, one), square);
 }
 
-// A route that runs backward is feasible, also where both directions cost the same.
+// A route that runs backward is feasible, even if the weights are symmetric.
 #[test]
 fn a_route_may_run_backward(rt: HostRuntime) {
     let own = full_matrix(&rt, rt.alloc(), OWN);
@@ -105,7 +105,7 @@ fn a_route_may_run_backward(rt: HostRuntime) {
     assert!(rt; backward.fits(&other));
 }
 
-// The plan of no customer is feasible beside the depot alone.
+// The plan without customers is feasible for the depot alone.
 #[test]
 fn depot_alone(rt: HostRuntime) {
     let depot = full_matrix(&rt, rt.alloc(), DEPOT_ALONE);

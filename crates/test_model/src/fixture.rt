@@ -1,4 +1,4 @@
-//! The instances that tests are made on: three nodes at (0, 0), (3, 4) and (6, 8), or up to four nodes with a matrix.
+//! Instances for tests: three nodes at (0, 0), (3, 4) and (6, 8), or up to four nodes with a matrix.
 ghost use Rattle.std.specs.Prelude.{◌≡◌, ◌≤◌, length, All, IsTrue, ◌↔◌};
 ghost use Rattle.vrp_model.specs.Grid.{Grid};
 
@@ -6,7 +6,7 @@ use std::alloc::Global;
 use std::process::Abort;
 use vrp_model::{Instance, InstanceError, Layout, Metric, Weights};
 
-/// What an instance of the three nodes is made from, where a truck carries 2: the demands, the listed depots, and the chosen one.
+/// The parts of an instance of the three nodes with capacity 2: the demands, the listed depots, and the chosen one.
 pub(crate) type Case<'a> = ([u64; 3], &'a [u16], Option<u16>);
 
 /// The instance of a case.
@@ -14,7 +14,7 @@ pub(crate) fn three_nodes(rt: &impl Abort, alloc: Global, case: Case<'_>) -> Ins
     instance_of(rt, alloc, case).expect(rt, "an instance")
 }
 
-/// The instance of a case, or why there is none.
+/// The instance of a case, or the reason why there is none.
 pub(crate) fn instance_of(
     rt: &impl Abort,
     alloc: Global,
@@ -27,7 +27,7 @@ pub(crate) fn instance_of(
     Instance::new(alloc, weights, &demands, 2, depots, chosen)
 }
 
-/// What an instance of up to four nodes is made from: the weights of a full matrix, the demands, what a truck carries, and the listed
+/// The parts of an instance of up to four nodes: the weights of a full matrix, the demands, the capacity, and the listed
 /// depots.
 pub(crate) type Square<'a> = (&'a [u64], &'a [u64], u64, &'a [u16]);
 

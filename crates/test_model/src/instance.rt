@@ -6,7 +6,7 @@ use std::process::Abort;
 use vrp_model::InstanceError::{DemandOverCapacity, DepotDemand, NotADepot, OutOfMemory};
 use vrp_model::{Instance, InstanceError, MAX_CAPACITY, MAX_NODES};
 
-// A case, the node and the demand of each place, and what all demand.
+// A case, the node and the demand of each place, and the total demand.
 type Made<'a> = (Case<'a>, &'a [u16], &'a [u64], u64);
 
 const MADE: &[Made<'_>] = &[
@@ -38,7 +38,7 @@ fn assert_places(rt: &impl Abort, instance: &Instance, nodes: &[u16], demands: &
     }
 }
 
-// From one place to another, and the weight.
+// Two places, and the weight from the first to the second.
 const WEIGHTS: &[(u16, u16, u64)] = &[(0, 1, 5), (0, 2, 10), (1, 2, 5), (2, 1, 5), (2, 2, 0)];
 
 #[test]
@@ -51,10 +51,10 @@ fn weights_between_places(rt: HostRuntime) {
     }
 }
 
-// Two nodes, of which neither demands anything.
+// Two nodes without demands.
 const PAIR: Square<'_> = (&[0, 1, 2, 0], &[0, 0], 2, &[1]);
 
-// With this many trucks, nothing else of an instance changes.
+// A limit on trucks changes nothing else of an instance.
 #[test]
 fn so_many_trucks(rt: HostRuntime) {
     for trucks in [1, 2, 1_200] {
@@ -66,7 +66,7 @@ fn so_many_trucks(rt: HostRuntime) {
     }
 }
 
-// The same instance twice: one of them gets so many trucks.
+// The same instance twice: one of them gets this limit on trucks.
 fn assert_limited(rt: &impl Abort, free: &Instance, same: Instance, trucks: u16) {
     assert!(rt; 1 <= trucks && trucks <= 1_200);
     let limited = same.with_trucks(trucks);
@@ -119,19 +119,19 @@ const MIRRORED: &[Mirrored<'_>] = &[
     (2, &[0, 1, 1, 0], &[1], true),
     (2, &[0, 1, 2, 0], &[1], false),
     (3, &[0, 1, 1, 1, 0, 9, 1, 9, 0], &[1], true),
-    // the diagonal has no say
+    // the diagonal is ignored
     (3, &[3, 1, 1, 1, 4, 9, 1, 9, 5], &[1], true),
-    // the depot and the first customer, the depot and the last one, both customers
+    // asymmetric: between the depot and the first customer, the depot and the last one, both customers
     (3, &[0, 1, 1, 2, 0, 9, 1, 9, 0], &[1], false),
     (3, &[0, 1, 1, 1, 0, 9, 2, 9, 0], &[1], false),
     (3, &[0, 1, 1, 1, 0, 9, 1, 8, 0], &[1], false),
-    // each row and each column has the same sum
+    // each row and each column has the same sum, but the weights are asymmetric
     (3, &[0, 1, 2, 2, 0, 1, 1, 2, 0], &[1], false),
-    // a depot that is listed second is no place
+    // a depot that is listed second is not a place
     (3, &[0, 1, 1, 1, 0, 9, 2, 8, 0], &[1, 3], true),
     (3, &[0, 1, 1, 1, 0, 9, 2, 9, 0], &[3, 1], true),
     (3, &[0, 1, 1, 1, 0, 9, 1, 8, 0], &[3, 1], false),
-    // the same, its node lying between the depot's and the customers'
+    // a second depot, whose node is between the depot's and the customers'
     (
         4,
         &[0, 1, 2, 3, 7, 0, 7, 7, 2, 8, 0, 4, 3, 9, 4, 0],
@@ -163,11 +163,11 @@ const REFUSED: &[(Case<'_>, InstanceError)] = &[
     (([0, 0, 1], &[1, 2], Some(65_535)), NotADepot(65_535)),
     (([0, 3, 1], &[1], None), DemandOverCapacity(2)),
     (([0, 3, 3], &[1], None), DemandOverCapacity(2)),
-    // the first fault of two
+    // two faults: the first is reported
     (([5, 3, 1], &[1], None), DepotDemand(1)),
     (([5, 0, 1], &[1], Some(2)), DepotDemand(1)),
     (([0, 3, 1], &[1], Some(3)), NotADepot(3)),
-    // the lowest node, though another is listed first
+    // the lowest node is reported, though another is listed first
     (([1, 4, 0], &[2, 1], None), DepotDemand(1)),
 ];
 

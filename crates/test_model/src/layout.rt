@@ -1,4 +1,4 @@
-//! How many entries each layout has.
+//! The number of entries of each layout.
 use crate::assertion::assert_same;
 use vrp_model::Layout;
 

@@ -1,4 +1,4 @@
-//! Tests of `vrp_model` by values from outside. They are a crate of their own, since a crate with tests is proved twice.
+//! Tests of `vrp_model` with values from outside. They are a separate crate, since a crate with tests is proved twice.
 #![tactic(auto)]
 
 #[cfg(test)]

@@ -1,4 +1,4 @@
-//! What want of memory says.
+//! The text of the error for lack of memory.
 use crate::assertion::assert_same;
 use std::alloc::AllocError;
 use vrp_model::NoMemory;

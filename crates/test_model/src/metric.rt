@@ -1,9 +1,9 @@
-//! Distances beside known values.
+//! Distances compared with known values.
 use crate::assertion::assert_same;
 use vrp_model::Metric;
 use vrp_model::Metric::{Att, Ceil2d, Euc2d, Man2d, Max2d};
 
-// How far a point lies in the east and in the north, and the Euclidean distance, that rounded up, and the pseudo-Euclidean one.
+// The coordinate differences of two points, and the distance: Euclidean, rounded up, and pseudo-Euclidean.
 const BY_ROOTS: &[(u8, u8, [u64; 3])] = &[
     (0, 0, [0, 0, 0]),
     (0, 1, [1, 1, 1]),
@@ -32,7 +32,7 @@ fn distances_by_roots(rt: HostRuntime) {
     }
 }
 
-// From one corner to the one that lies farthest from it.
+// From one corner of the range to the farthest one.
 #[test]
 fn longest_distances(rt: HostRuntime) {
     let corner = (-100_000_000, -100_000_000);

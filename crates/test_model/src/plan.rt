@@ -9,7 +9,7 @@ use vrp_model::{Instance, Metric, NoMemory, Plan, Weights};
 // Two customers, of whom each demands one.
 const TWO: Case<'_> = ([0, 1, 1], &[1], None);
 
-// Asserts a plan's routes and what it costs.
+// Asserts a plan's routes and its cost.
 fn assert_plan(rt: &impl Abort, plan: &Plan, routes: &[&[u16]], cost: u64) {
     assert!(rt; plan.routes() == routes.len());
     for (route, stops) in routes.iter().enumerate() {
@@ -48,7 +48,7 @@ fn words(rt: HostRuntime) {
     assert_plan(&rt, &plan, &[&[1], &[2]], 30);
 }
 
-// Both customers are served by one truck, whose route runs forward.
+// One truck serves both customers, and its route runs forward.
 #[test]
 fn one_truck_for_all(rt: HostRuntime) {
     let instance = three_nodes(&rt, rt.alloc(), TWO);
@@ -57,10 +57,10 @@ fn one_truck_for_all(rt: HostRuntime) {
     assert_plan(&rt, &plan, &[&[1, 2]], 20);
 }
 
-// What a plan costs, and whether it is the first, the second or the third of three.
+// The cost of a plan, and whether it is the first, the second or the third of three.
 type Rank = (u64, u8);
 
-// The weights, and the ranks of the words 1 0 2 0, 1 2 0 and 2 1 0.
+// The weights, and the ranks of the plans with the words 1 0 2 0, 1 2 0 and 2 1 0.
 const RANKED: &[(&[u64], [Rank; 3])] = &[
     (&[0, 1, 2, 2, 0, 1, 4, 2, 0], [(9, 3), (6, 1), (6, 2)]),
     (&[0, 1, 2, 2, 0, 4, 1, 2, 0], [(6, 1), (6, 2), (6, 3)]),
@@ -83,7 +83,7 @@ fn assert_ranks(rt: &impl Abort, alloc: Global, instance: &Instance, ranks: [Ran
     assert_order(rt, &[(&apart, one), (&forward, other), (&backward, last)]);
 }
 
-// Asserts what each plan costs, and that it is before those of a later rank alone.
+// Asserts the cost of each plan, and that it is before exactly those of a later rank.
 fn assert_order(rt: &impl Abort, plans: &[(&Plan, Rank)]) {
     for (plan, (cost, rank)) in plans {
         assert_same(rt, plan.cost(), *cost, *rank);
@@ -94,7 +94,7 @@ fn assert_order(rt: &impl Abort, plans: &[(&Plan, Rank)]) {
     }
 }
 
-// A case, and how many routes the plan of one truck for each customer has, and what it costs.
+// A case, and the number of routes and the cost of the plan of one truck for each customer.
 const SINGLES: &[(Case<'_>, usize, u64)] = &[
     (([1, 0, 1], &[2], None), 2, 20),
     (([0, 0, 1], &[1, 2], Some(2)), 1, 10),
@@ -112,7 +112,7 @@ fn costs_of_singles(rt: HostRuntime) {
     }
 }
 
-// The listed depots, how many trucks there are, and the routes.
+// The listed depots, the limit on trucks, and the number of routes.
 const SO_MANY_TRUCKS: &[(&[u16], u16, Option<usize>)] = &[
     // two customers
     (&[1], 1, None),

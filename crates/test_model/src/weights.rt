@@ -77,9 +77,9 @@ fn assert_triangle(rt: &impl Abort, alloc: Global, layout: Layout, n: u16, cells
     }
 }
 
-// What else layouts list: their entries, and the weights of some cells.
+// Other layouts: their entries, and the weights of some cells.
 const SQUARES: &[(Layout, &[u64], &[Cell])] = &[
-    // A full matrix holds one way in each cell.
+    // In a full matrix each cell holds in one direction only.
     (
         Layout::FullMatrix,
         &[0, 1, 9, 9, 0, 1, 1, 9, 0],

@@ -1,4 +1,4 @@
-//! Piles of one thread and of two.
+//! Piles with one thread and with two.
 ghost use Rattle.std.specs.Prelude.{◌≡◌, ◌≤◌};
 ghost use Rattle.vrp_pool_pile.specs.declared.limits.TheConstants.{MAX_THIEVES};
 ghost use Rattle.vrp_search_tree.specs.declared.cutting.TheConstants.{MAX_PIECES};
@@ -7,12 +7,13 @@ use crate::assertion::assert_same;
 use std::alloc::Global;
 use std::process::Abort;
 use std::thread::{Threads, join_mut};
-use vrp_model::{Instance, Metric, Weights};
+use test_fixtures::{LINE, at_points};
+use vrp_model::Instance;
 use vrp_pool_pile::{Drawn, MAX_THIEVES, Owner, Pile, Thief, settle};
 use vrp_search_tree::Cutting;
 
 // Ten customers on a line.
-const LINE: [(i64, i64); 11] = [
+const LONG_LINE: [(i64, i64); 11] = [
     (0, 0),
     (1, 0),
     (2, 0),
@@ -26,23 +27,20 @@ const LINE: [(i64, i64); 11] = [
     (10, 0),
 ];
 
-// All words of two customers, cut as far as they can be: into four pieces.
+// All words of two customers, cut as far as possible: into four pieces.
 fn four_pieces(rt: &impl Abort, alloc: Global) -> Cutting {
-    let weights = Weights::points(alloc, Metric::Euc2d, &[(0, 0), (3, 4), (6, 8)]);
-    let weights = weights.expect(rt, "memory");
-    let instance = Instance::new(alloc, weights, &[0, 1, 1], 2, &[1], None);
-    cut(rt, alloc, &instance.expect(rt, "an instance"), 5)
+    let instance = at_points(alloc, LINE, &[0, 1, 1], 2).expect(rt, "an instance");
+    cut(rt, alloc, &instance, 5)
 }
 
 // The words of ten customers, cut into at least 65,536 pieces.
 fn many_pieces(rt: &impl Abort, alloc: Global) -> Cutting {
-    let weights = Weights::points(alloc, Metric::Euc2d, &LINE).expect(rt, "memory");
     let demands = [0, 1, 1, 1, 1, 1, 1, 1, 1, 1, 1];
-    let instance = Instance::new(alloc, weights, &demands, 10, &[1], None);
-    cut(rt, alloc, &instance.expect(rt, "an instance"), 65_536)
+    let instance = at_points(alloc, &LONG_LINE, &demands, 10).expect(rt, "an instance");
+    cut(rt, alloc, &instance, 65_536)
 }
 
-// A cutting into at least this many pieces, or as many as there can be.
+// A cutting into at least this many pieces, or as many as possible.
 fn cut(rt: &impl Abort, alloc: Global, instance: &Instance, pieces: u32) -> Cutting
     requires { pieces ≤ MAX_PIECES }
 {
@@ -66,7 +64,7 @@ fn drawn_in_turn(rt: HostRuntime) {
     assert_same(&rt, settle(owner, thieves), 0, "left");
 }
 
-// The owner and two thieves draw the four pieces, and find that there are no more.
+// The owner and two thieves draw the four pieces, and find no more.
 fn draw_in_turn(rt: &impl Abort, owner: &mut Owner, first: &mut Thief, second: &mut Thief)
     ensures pile { owner.new.pile ≡ owner.old.pile }
     ensures parts { owner.new.parts ≡ owner.old.parts }
@@ -101,14 +99,14 @@ fn steal(thief: &mut Thief) -> Option<u32>
     }
 }
 
-// Whether a thief is answered that nothing is left.
+// Whether a thief finds nothing.
 fn finds_nothing(thief: &mut Thief) -> bool
     ensures { thief.new.pile ≡ thief.old.pile }
 {
     matches!(thief.take(), Drawn::Empty)
 }
 
-// How many thieves there are, how often the owner draws from the four pieces, and how many are left.
+// The number of thieves, how often the owner draws from the four pieces, and how many are left.
 const LEFT: &[(u32, u32, u32)] = &[
     (0, 0, 4),
     (0, 4, 0),
@@ -127,7 +125,7 @@ fn left_at_the_end(rt: HostRuntime) {
     }
 }
 
-// How many thieves are made, and how many of four pieces are left after this many draws of the owner.
+// The number of thieves made, and how many of four pieces are left after this many draws of the owner.
 fn settled_after(rt: &impl Abort, alloc: Global, thieves: u32, draws: u32) -> (usize, u32)
     requires { thieves ≤ MAX_THIEVES }
 {
@@ -168,7 +166,7 @@ fn assert_each_once(
     assert!(rt; drawn.iter().all(|drawn| *drawn));
 }
 
-// Owner and thief draw, each in a thread of its own, until nothing is left: the numbers of the pieces that each drew.
+// Owner and thief draw, each in its own thread, until nothing is left; answers the numbers of the pieces that each drew.
 fn both_draw<R: Threads + Abort + Sync>(
     rt: &R,
     alloc: Global,
@@ -207,7 +205,7 @@ fn draw_all(rt: &impl Abort, alloc: Global, owner: &mut Owner, count: usize) -> 
     numbers
 }
 
-// The numbers of the pieces that a thief draws until nothing is left, where it is not busy too often.
+// The numbers of the pieces that a thief draws until nothing is left, unless it is busy too often.
 fn steal_all(rt: &impl Abort, alloc: Global, thief: &mut Thief) -> Vec<u32>
     ensures { thief.new.pile ≡ thief.old.pile }
 {
@@ -222,7 +220,7 @@ fn steal_all(rt: &impl Abort, alloc: Global, thief: &mut Thief) -> Vec<u32>
     numbers
 }
 
-// Marks these pieces, none of which was marked.
+// Marks these pieces, none of which may be marked before.
 fn mark(rt: &impl Abort, drawn: &mut [bool], numbers: &[u32]) {
     for number in numbers {
         let index = *number as usize;

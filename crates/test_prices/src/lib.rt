@@ -1,5 +1,5 @@
-//! Tests of `vrp_bound_prices`, `vrp_bound_walks` and `vrp_bound_ascent` by values from outside, and beside a program that tells
-//! each walk. They are a crate of their own, since a crate with tests is proved twice.
+//! Tests of `vrp_bound_prices`, `vrp_bound_walks` and `vrp_bound_ascent` with values from outside, and compared with a
+//! program that follows each walk. They are a separate crate, since a crate with tests is proved twice.
 #![tactic(auto)]
 
 #[cfg(test)]

@@ -1,4 +1,4 @@
-//! Tests of `vrp_bound_walks` by a program that tells each walk.
+//! Tests of `vrp_bound_walks` against a program that follows each walk.
 
 mod least_routes;
 mod ng_walks;

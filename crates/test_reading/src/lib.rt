@@ -1,5 +1,5 @@
-//! Tests of what reads by values from outside: `vrp_text_lexer`, `vrp_text` and `vrp_plan_read`. They are a crate of their own,
-//! since a crate with tests is proved twice.
+//! Tests of the reading crates with values from outside: `vrp_text_lexer`, `vrp_text` and `vrp_plan_read`. They are a
+//! separate crate, since a crate with tests is proved twice.
 #![tactic(auto)]
 
 #[cfg(test)]

@@ -1,8 +1,9 @@
-//! Solutions in many spellings, and those that are refused.
+//! Solutions in many spellings, and refused ones.
 use std::alloc::Global;
 use std::process::Abort;
 use std::test::*;
-use vrp_model::{Instance, Layout, MAX_NODES, Weights};
+use test_fixtures::with_arcs;
+use vrp_model::{Instance, MAX_NODES};
 use vrp_plan_read::{Solution, SolutionError};
 
 // Five nodes on a line, a step apart, the depot at one end.
@@ -10,15 +11,15 @@ const LINE: &[u64] = &[
     0, 1, 2, 3, 4, 1, 0, 1, 2, 3, 2, 1, 0, 1, 2, 3, 2, 1, 0, 1, 4, 3, 2, 1, 0,
 ];
 
-// The same, where a step back costs two more.
+// Five nodes on a line where a step back costs two more.
 const SLOPE: &[u64] = &[
     0, 1, 2, 3, 4, 3, 0, 1, 2, 3, 4, 3, 0, 1, 2, 5, 4, 3, 0, 1, 6, 5, 4, 3, 0,
 ];
 
-// The demands of four customers. A truck carries three.
+// The demands of four customers. The capacity is three.
 const ONE_EACH: &[u64] = &[0, 1, 1, 1, 1];
 
-// An instance by the full matrix of its weights, with trucks that carry three, as many as are wanted or this many.
+// An instance by the full matrix of its weights, with capacity three, and this limit on trucks, if any.
 fn instance(
     rt: &impl Abort,
     alloc: Global,
@@ -26,15 +27,7 @@ fn instance(
     demands: &[u64],
     trucks: Option<u16>,
 ) -> Instance {
-    let nodes = demands.len();
-    assert!(rt; 1 <= nodes && nodes <= usize::from(MAX_NODES));
-    assert!(rt; arcs.len() == Layout::FullMatrix.entries(nodes as u16));
-    assert!(rt; arcs.iter().all(|&arc| arc <= 100));
-    let weights = Weights::matrix(alloc, Layout::FullMatrix, arcs, nodes as u16).expect(
-        rt, "memory",
-    );
-    assert!(rt; usize::from(weights.nodes()) == nodes);
-    let instance = Instance::new(alloc, weights, demands, 3, &[1], None).expect(rt, "an instance");
+    let instance = with_arcs(alloc, arcs, demands, 3).expect(rt, "an instance");
     let Some(trucks) = trucks else {
         return instance;
     };
@@ -42,10 +35,10 @@ fn instance(
     instance.with_trucks(trucks)
 }
 
-// The word and the cost of the plan of a text, and whether it states another cost.
+// The word and the cost of a text's plan, and whether the text states a wrong cost.
 type Read<'a> = Result<(&'a [u16], u64, bool), SolutionError>;
 
-// Asserts what is read from a text.
+// Asserts the result of reading a text.
 fn assert_read(rt: &impl Abort, alloc: Global, instance: &Instance, text: &str, wanted: Read<'_>) {
     match Solution::read(alloc, text.as_bytes(), instance) {
         Ok(
@@ -64,7 +57,7 @@ fn assert_read(rt: &impl Abort, alloc: Global, instance: &Instance, text: &str, 
 
 const TWO: &[u16] = &[1, 2, 0, 3, 4, 0];
 
-// As people write them.
+// Spellings that people use.
 const SPELLINGS: &[(&str, bool)] = &[
     ("Route #1: 1 2\nRoute #2: 3 4\nCost 12\n", false),
     ("Route #1: 1 2\nRoute #2: 3 4\nCost 12", false),
@@ -101,7 +94,7 @@ fn spellings(rt: HostRuntime) {
     }
 }
 
-// Texts, and the costs that they state.
+// Texts, and their stated costs.
 const STATED: &[(&str, Option<u64>)] = &[
     ("Route #1: 1 2\nRoute #2: 3 4\nCost 12\n", Some(12)),
     ("cost: 1.3e1\nRoute #1: 1 2\nRoute #2: 3 4\n", Some(13)),
@@ -121,7 +114,7 @@ fn stated_costs(rt: HostRuntime) {
     }
 }
 
-// Texts that are no solution, or none of a feasible plan.
+// Texts that are not a solution, or not one of a feasible plan.
 const REFUSED: &[(&str, SolutionError, &str)] = &[
     (
         "Route #1: 1 2\nhello\n",
@@ -270,7 +263,7 @@ fn assert_told(rt: &impl Abort, alloc: Global, error: SolutionError, told: &str)
 
 #[test]
 fn one_direction(rt: HostRuntime) {
-    // Up costs a step, and down three: a route isn't turned.
+    // A step up costs one and a step down three, so a route isn't reversed.
     let instance = instance(&rt, rt.alloc(), SLOPE, ONE_EACH, None);
     let up = Ok(([1, 2, 0, 3, 4, 0].as_slice(), 16, false));
     assert_read(
@@ -296,7 +289,7 @@ fn no_customers(rt: HostRuntime) {
     assert_read(&rt, rt.alloc(), &instance, "Cost 0\n", Ok((&[], 0, false)));
 }
 
-// A text with a route for each of these customers, those with high numbers first.
+// A text with a route for each of these customers, high numbers first.
 fn singles(rt: &impl Abort, alloc: Global, customers: u16) -> String {
     let mut text = String::new(alloc);
     for customer in (1..customers).rev() {

@@ -1,6 +1,6 @@
-//! What instances of five places are made of.
+//! The parts of instances of five places.
 
-/// The arcs of a full matrix, where the reverse arc weighs another number.
+/// The arcs of a full matrix, with a different weight for each reverse arc.
 pub(crate) const ONE_DIRECTION: &[u64] = &[
     0, 3, 9, 4, 5, 8, 0, 2, 7, 6, 5, 6, 0, 1, 4, 9, 3, 8, 0, 2, 4, 4, 7, 3, 0,
 ];
@@ -10,7 +10,7 @@ pub(crate) const LEVEL: &[u64] = &[
     0, 1, 1, 1, 1, 1, 0, 1, 1, 1, 1, 1, 0, 1, 1, 1, 1, 1, 0, 1, 1, 1, 1, 1, 0,
 ];
 
-/// What the places demand and what a truck carries: tight and loose, with demands of 0, and with demands that units don't divide.
+/// The demands of the places and the capacity: tight and loose, with demands of 0, and with demands that units don't divide.
 pub(crate) const DEMANDS: &[([u64; 5], u64)] = &[
     ([0, 1, 2, 1, 2], 3),
     ([0, 3, 5, 4, 2], 9),

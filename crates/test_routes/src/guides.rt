@@ -3,9 +3,9 @@
 use crate::random::{pair, some_customers};
 use std::alloc::{AllocError, Global};
 use test_fixtures::Random;
-use vrp_partition::{Ask, Cut, Guide, MOST_CUSTOMERS, PriceOffer, Route};
+use vrp_partition::{Ask, Cut, Guide, MOST_CUSTOMERS, PriceOffer, Route, Task};
 
-/// Who is asked whether a search goes on.
+/// Answers whether a search continues.
 #[derive(Clone, Copy, Debug)]
 pub(crate) struct Asks {
     pub(crate) should_continue: bool,
@@ -17,7 +17,7 @@ impl Ask for Asks {
     }
 }
 
-/// What a guide answers.
+/// The answers of a guide.
 #[derive(Clone, Copy, Debug, PartialEq)]
 pub(crate) enum Habit {
     /// Prices of 0.
@@ -30,15 +30,15 @@ pub(crate) enum Habit {
     Lowest,
     /// Prices that are refused.
     Refused,
-    /// Prices of 0, and groups of nobody.
+    /// Prices of 0, and empty groups.
     Idle,
-    /// Prices of 0, and it would not go on.
+    /// Prices of 0, and a request to stop.
     Stopping,
-    /// No prices, since memory is refused.
+    /// No prices, for lack of memory.
     NoMemory,
 }
 
-/// All of them that branch.
+/// All habits that branch.
 pub(crate) const HABITS: &[Habit] = &[
     Habit::Zeros,
     Habit::Random,
@@ -47,7 +47,7 @@ pub(crate) const HABITS: &[Habit] = &[
     Habit::Refused,
 ];
 
-/// Which customers the cuts and the groups of a guide have.
+/// The customers in a guide's cuts and groups.
 #[derive(Clone, Copy, Debug)]
 pub(crate) enum Among {
     /// Some of random pools' customers; a group has two of them.
@@ -56,7 +56,7 @@ pub(crate) enum Among {
     FirstEight,
 }
 
-/// A guide that answers so.
+/// A guide with this habit.
 #[derive(Drop)]
 pub(crate) struct Habitual {
     pub(crate) alloc: Global,
@@ -110,12 +110,7 @@ impl Guide for Habitual {
         self.habit != Habit::Stopping
     }
 
-    fn offer(
-        &mut self,
-        _pool: &[Route],
-        _customers: u128,
-        _incumbent: u64,
-    ) -> Result<PriceOffer, AllocError> {
+    fn offer(&mut self, _pool: &[Route], _task: &Task<'_>) -> Result<PriceOffer, AllocError> {
         if self.habit == Habit::NoMemory {
             return Err(AllocError);
         }

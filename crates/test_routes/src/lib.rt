@@ -1,5 +1,5 @@
-//! Tests of `vrp_routes`, `vrp_canonical`, `vrp_partition` and `vrp_simplex` by values from outside. They are a crate of their own,
-//! since a crate with tests is proved twice.
+//! Tests of `vrp_routes`, `vrp_canonical`, `vrp_partition` and `vrp_simplex` with values from outside. They are a separate
+//! crate, since a crate with tests is proved twice.
 #![tactic(auto)]
 
 #[cfg(test)]

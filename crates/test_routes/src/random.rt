@@ -5,13 +5,13 @@ use std::process::Abort;
 use test_fixtures::Random;
 use vrp_partition::Route;
 
-// The customers of random pools; the first and the last that a set may have are among them.
+// The customers of random pools; they include the first and the last of a set.
 const CUSTOMERS: &[u128] = &[1, 1 << 2, 1 << 63, 1 << 64, 1 << 100, 1 << 127];
 
 /// All customers of random pools.
 pub(crate) const ALL_CUSTOMERS: u128 = 1 | 1 << 2 | 1 << 63 | 1 << 64 | 1 << 100 | 1 << 127;
 
-/// At most so many of the customers of random pools.
+/// At most this many of the customers of random pools.
 pub(crate) fn some_customers(random: &mut Random, most: u32) -> u128 {
     let mut set = 0u128;
     for customer in CUSTOMERS {
@@ -29,7 +29,7 @@ pub(crate) fn pair(random: &mut Random) -> u128 {
     CUSTOMERS[first] | CUSTOMERS[(first + step) % CUSTOMERS.len()]
 }
 
-/// So many routes of at most so many customers each, whose costs are below a number.
+/// This many routes of at most this many customers each, with costs below a number.
 pub(crate) fn pool(
     rt: &impl Abort,
     alloc: Global,
@@ -48,10 +48,10 @@ pub(crate) fn pool(
     pool
 }
 
-// What a route costs more that is repeated, at least.
+// The least extra cost of a repeated route.
 const DEARER: u32 = 590;
 
-/// Each of the routes, and so many times the same at a higher cost; so many higher costs there are in turn.
+/// Each of the routes, with this many copies at a higher cost; there are this many higher costs in turn.
 pub(crate) fn repeated(
     rt: &impl Abort,
     alloc: Global,

@@ -3,10 +3,10 @@
 use std::process::Abort;
 use vrp_partition::Route;
 
-// How many routes a pool may have here.
+// The greatest number of routes of a pool here.
 const MOST_ROUTES: usize = 12;
 
-/// The least cost of a choice of the pool with so many trucks, if there is one.
+/// The least cost of a choice of the pool with this many trucks, if there is one.
 pub(crate) fn least_cost(
     rt: &impl Abort,
     pool: &[Route],
@@ -24,7 +24,7 @@ pub(crate) fn least_cost(
     least
 }
 
-// What the routes of a part cost that has each customer once, and nobody else. The part has a bit for each of its routes.
+// The cost of a part that has each customer once, and nobody else. The part has a bit for each of its routes.
 fn cost_of_part(pool: &[Route], customers: u128, taken: u32) -> Option<u64> {
     let mut bits = taken;
     let mut unserved = customers;
@@ -42,7 +42,7 @@ fn cost_of_part(pool: &[Route], customers: u128, taken: u32) -> Option<u64> {
     (unserved == 0).then_some(cost)
 }
 
-/// What some routes cost together, if they have each of the customers once, and nobody else, and there are so many trucks.
+/// The total cost of these routes, if they have each of the customers once, and nobody else, and there are enough trucks.
 pub(crate) fn cost_of_choice(routes: &[Route], customers: u128, trucks: u8) -> Option<u64> {
     let cost = cost_of_part(routes, customers, u32::MAX);
     cost.filter(|_| routes.len() <= usize::from(trucks))

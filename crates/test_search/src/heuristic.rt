@@ -1,5 +1,5 @@
-//! The tests of `vrp_heuristic_savings`, `vrp_heuristic_recreate` and `vrp_heuristic`: plans by savings, runs of ruin and recreate,
-//! heuristic plans, and plans that are made better.
+//! Tests of `vrp_heuristic_savings`, `vrp_heuristic_recreate` and `vrp_heuristic`: plans by savings, runs of ruin and
+//! recreate, heuristic plans, and improved plans.
 
 mod fixture;
 mod improved;

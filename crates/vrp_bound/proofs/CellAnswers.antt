@@ -8,7 +8,7 @@ use Rattle.vrp_model.specs.Route.{load_of}
 use Rattle.vrp_bound.specs.declared.completions.Cells.{Cells}
 use Rattle.vrp_bound.specs.declared.completions.Shape.{Shape}
 use Rattle.vrp_bound.specs.Inner.Cells.{HasRelaxed, HasTours, IsLeastCell, mark}
-use Rattle.vrp_bound.specs.Inner.Filled.{AreCells, AreFilled}
+use Rattle.vrp_bound.specs.Inner.Filled.{AreCells, AreCellsMade, AreFilled}
 use Rattle.vrp_bound.specs.Tables.{AreMade}
 use Rattle.vrp_bound.specs.NgWalks.{IsNgBound}
 use Rattle.vrp_bound.specs.Inner.Units.{IsUnit, in_units}
@@ -16,7 +16,7 @@ use Rattle.vrp_bound.proofs.FirstTour.{bound_of_cell, least_at_depot, none_of_ce
 use Rattle.vrp_bound.proofs.InUnits.{IsLoadIn, least_in_units, load_floored, none_in_units}
 use Rattle.vrp_bound.proofs.WholeUnits.{same_units, units_rise, whole_load}
 
-pub filled_same : (p q : Problem) (near : ℕ → List ℕ) (among others : List ℕ) (cells : Option Cells) → q ≡ p → others ≡ among → IsStrictlyIncreasing others → All (Contains (customers q)) others → MatchOption cells (AreMade q others → ⊥) (AreCells q near others) → AreFilled p near among cells
+pub filled_same : (p q : Problem) (near : ℕ → List ℕ) (among others : List ℕ) (cells : Option Cells) → q ≡ p → others ≡ among → IsStrictlyIncreasing others → All (Contains (customers q)) others → MatchOption cells (AreMade q others → ⊥) (AreCellsMade q near others) → AreFilled p near among cells
 filled_same p q near among others cells same_problem same_list rising known filled =
     let there : AreFilled q near others cells = record { rising = rising; known = known; filled = filled } in
     subst (λ a. AreFilled p near a cells) same_list (subst (λ b. AreFilled b near others cells) same_problem there)
@@ -79,14 +79,14 @@ least_from_customer p q near among others unit other at load free rest carried w
     (subst (λ n. IsLeastCell (HasRelaxed (in_units unit p) near among at (p.capacity / unit - n) carried) cell) left moved) in
     least_in_units unit p near among at load (p.capacity / unit - (p.capacity - load) / unit) rest cell is (load_floored unit p.capacity load is.some light) (whole_rest unit other rest carried whole same_unit carried_is whole_is all) here
 
-pub answer_some : (p : Problem) (near : ℕ → List ℕ) (among : List ℕ) (cells : Cells) (at load rest cell : ℕ) → AreCells p near among cells → IsLeastCell (HasRelaxed p near among at load rest) cell → cell < mark → IsNgBound p near among at load rest (Some cell)
+pub answer_some : (p : Problem) (near : ℕ → List ℕ) (among : List ℕ) (cells : Cells) (at load rest cell : ℕ) → AreCellsMade p near among cells → IsLeastCell (HasRelaxed p near among at load rest) cell → cell < mark → IsNgBound p near among at load rest (Some cell)
 answer_some p near among cells at load rest cell are least small = record {
   made = λ _. bound_of_cell p near among at load rest cell least small;
   none_made = λ none. absurd (none are.made);
 }
 
-pub answer_none : (p : Problem) (near : ℕ → List ℕ) (among : List ℕ) (cells : Cells) (at load rest cell : ℕ) → AreCells p near among cells → rest ≤ load_of p among → IsLeastCell (HasRelaxed p near among at load rest) cell → mark ≤ cell → IsNgBound p near among at load rest None
+pub answer_none : (p : Problem) (near : ℕ → List ℕ) (among : List ℕ) (cells : Cells) (at load rest cell : ℕ) → AreCellsMade p near among cells → rest ≤ load_of p among → IsLeastCell (HasRelaxed p near among at load rest) cell → mark ≤ cell → IsNgBound p near among at load rest None
 answer_none p near among cells at load rest cell are within least large = record {
-  made = λ _. none_of_cell p near among at load rest cell are.scope within least large;
+  made = λ _. none_of_cell p near among at load rest cell are.are_cells.scope within least large;
   none_made = λ none. absurd (none are.made);
 }

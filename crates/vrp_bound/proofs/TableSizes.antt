@@ -12,7 +12,7 @@ use Rattle.vrp_model.specs.Route.{load_of}
 use Rattle.vrp_model.proofs.DistinctLists.{AreDistinct}
 use Rattle.vrp_model.proofs.DistinctWithin.{length_among}
 use Rattle.vrp_bound.specs.Inner.Scope.{IsScope}
-use Rattle.vrp_bound.specs.Tables.{AreMade, room_of}
+use Rattle.vrp_bound.specs.Tables.{AreMadeWithin, room_of}
 
 -- each element of a rising list is at least its index
 rising_from : (xs : List ℕ) (k : ℕ) → IsStrictlyIncreasing xs → k < length xs → k ≤ get_or xs k 0
@@ -47,9 +47,9 @@ fewer_than_places p among problem rising known =
     let distinct : AreDistinct among = λ i j d below within same. absurd (omega (arith, AllPairs-from_increasing among rising i j d below within, same)) in
     omega (arith, length_among among (customers p) distinct known, length-range_with_len 1 (place_count p - 1), problem.some_places)
 
-light_of : (p : Problem) (among : List ℕ) → IsProblem p → AreMade p among → load_of p among ≤ 200000000
-light_of p [] problem made = omega arith
-light_of p (customer ∷ others) problem made =
+light_of : (most : ℕ) (p : Problem) (among : List ℕ) → IsProblem p → AreMadeWithin most p among → load_of p among ≤ 200000000
+light_of most p [] problem made = omega arith
+light_of most p (customer ∷ others) problem made =
     let among = customer ∷ others in
     let some : 1 ≤ demand_of p customer = made.demands 0 customer (omega arith) in
     let load = sum_by-cons (demand_of p) customer others in
@@ -57,10 +57,10 @@ light_of p (customer ∷ others) problem made =
     omega (arith, mul-le (load_of p among) 1 (load_of p among) (room_of p among) (omega arith) room, made.tours)
 
 -- where tables are made the demand is moderate
-pub light_where_made : (p : Problem) (among : List ℕ) → IsProblem p → All (λ customer. customer < place_count p) among → AreMade p among → IsScope p among
-light_where_made p among problem places made = record {
+pub light_where_made : (most : ℕ) (p : Problem) (among : List ℕ) → IsProblem p → All (λ customer. customer < place_count p) among → AreMadeWithin most p among → IsScope p among
+light_where_made most p among problem places made = record {
   problem = problem;
   places = places;
   demands = made.demands;
-  light = light_of p among problem made;
+  light = light_of most p among problem made;
 }

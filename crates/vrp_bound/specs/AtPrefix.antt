@@ -1,4 +1,4 @@
--- The bounds at a prefix: from its last symbol, with what is on the truck of its open route, for what it leaves unserved.
+-- The bounds at a prefix: from its last symbol, with the load of its open route, for its unserved customers.
 use Rattle.std.specs.Prelude.{ℕ, ◌+◌, Option, List}
 use Rattle.vrp_model.specs.Prefix.{open_load, routes_left}
 use Rattle.vrp_model.specs.Problem.{Problem}
@@ -11,28 +11,28 @@ use Rattle.vrp_bound.specs.Tables.{IsBound}
 use Rattle.vrp_bound.specs.TreeBound.{IsTreeBound}
 use Rattle.vrp_bound.specs.Walk.{IsRelaxed, relaxed_cost}
 
--- what the customers demand together that a prefix leaves unserved
+-- the total demand of a prefix's unserved customers
 abbrev pub rest_at : Problem → List ℕ → ℕ
 rest_at p prefix = load_of p (unserved_in p prefix)
 
--- a walk home and tours that carry what a prefix leaves
+-- a walk home and tours that carry the rest of a prefix
 abbrev pub Completes : Problem → List ℕ → List ℕ → List ℕ → List (List ℕ) → Type 0
 Completes p among prefix home tours = IsRelaxed p among (last_symbol prefix) (open_load p prefix) (rest_at p prefix) home tours
 
--- the same of ng-walks
+-- a walk home and tours, all of them ng-walks, that carry the rest of a prefix
 abbrev pub CompletesByNgWalks : Problem → (ℕ → List ℕ) → List ℕ → List ℕ → List ℕ → List (List ℕ) → Type 0
 CompletesByNgWalks p near among prefix home tours =
     IsNgRelaxed p near among (last_symbol prefix) (open_load p prefix) (rest_at p prefix) home tours
 
--- what is paid along a prefix, and by a walk home and tours
+-- the cost along a prefix, plus a walk home and tours
 abbrev pub completed_cost : Problem → List ℕ → List ℕ → List (List ℕ) → ℕ
 completed_cost p prefix home tours = word_cost p prefix + relaxed_cost p (last_symbol prefix) home tours
 
--- what tables over some customers answer there
+-- the answer at a prefix of tables over some customers
 abbrev pub IsBoundAt : Problem → List ℕ → List ℕ → Option ℕ → Type 0
 IsBoundAt p among prefix answer = IsBound p among (last_symbol prefix) (open_load p prefix) (rest_at p prefix) answer
 
--- what tables of ng-walks answer there
+-- the answer at a prefix of tables of ng-walks
 abbrev pub IsNgBoundAt : Problem → (ℕ → List ℕ) → List ℕ → List ℕ → Option ℕ → Type 0
 IsNgBoundAt p near among prefix answer =
     IsNgBound p near among (last_symbol prefix) (open_load p prefix) (rest_at p prefix) answer
@@ -41,7 +41,7 @@ abbrev pub IsCapacityBoundAt : Problem → List ℕ → ℕ → ℕ → Type 0
 IsCapacityBoundAt p prefix inbound_sum bound =
     IsCapacityBound p (last_symbol prefix) (open_load p prefix) inbound_sum (rest_at p prefix) bound
 
--- with the trucks that the prefix leaves
+-- the lower bound at a prefix, with the trucks that it leaves
 abbrev pub IsLowerBoundAt : Problem → List ℕ → List ℕ → ℕ → Option ℕ → Type 0
 IsLowerBoundAt p among prefix inbound_sum answer =
     IsLowerBound p among (last_symbol prefix) (open_load p prefix) inbound_sum (rest_at p prefix) (routes_left p prefix) answer
@@ -50,6 +50,6 @@ abbrev pub IsTreeBoundAt : Problem → List ℕ → ℕ → Type 0
 IsTreeBoundAt p prefix bound =
     IsTreeBound p (last_symbol prefix) (open_load p prefix) (unserved_in p prefix) (rest_at p prefix) bound
 
--- the trucks that a prefix leaves can carry what it leaves
+-- the trucks that a prefix leaves can carry its rest
 abbrev pub CanCarryAt : Problem → List ℕ → Type 0
 CanCarryAt p prefix = CanCarry p (last_symbol prefix) (open_load p prefix) (rest_at p prefix) (routes_left p prefix)

@@ -5,8 +5,8 @@ use Rattle.vrp_model.specs.Problem.{Problem}
 use Rattle.vrp_bound.specs.Capacity.{CanCarry, IsCapacityBound}
 use Rattle.vrp_bound.specs.Tables.{IsBound}
 
--- What is at least still to pay: the greater of the least relaxed completion over some customers and the capacity bound. None
--- where there is no relaxed completion.
+-- A lower bound on what is still to pay: the greater of the least relaxed completion over some customers and the capacity
+-- bound. None if there is no relaxed completion.
 pub record IsGreater (p : Problem) (among : List ℕ) (at load inbound_sum rest : ℕ) (answer : Option ℕ) : Type 0 where
   pub relaxed : Option ℕ
   pub is_bound : IsBound p among at load rest relaxed
@@ -14,8 +14,8 @@ pub record IsGreater (p : Problem) (among : List ℕ) (at load inbound_sum rest 
   pub is_capacity : IsCapacityBound p at load inbound_sum rest capacity
   pub greater : answer ≡ option_map (λ least. max least capacity) relaxed
 
--- What is at least still to pay, where this many routes may still be opened: the greater of the two. None also where the trucks that
--- are left can't carry the rest.
+-- A lower bound on what is still to pay when this many routes may still be opened: the greater of the two bounds. None also
+-- if the trucks that are left can't carry the rest.
 pub record IsLowerBound (p : Problem) (among : List ℕ) (at load inbound_sum rest : ℕ) (left answer : Option ℕ) : Type 0 where
   pub enough : CanCarry p at load rest left → IsGreater p among at load inbound_sum rest answer
   pub too_few : (CanCarry p at load rest left → ⊥) → answer ≡ None

@@ -2,6 +2,7 @@ pub mod AtPrefix
 pub mod Bound
 pub mod Capacity
 pub mod Inner
+pub mod LowerBound
 pub mod NgWalks
 pub mod SpanningTree
 pub mod Tables

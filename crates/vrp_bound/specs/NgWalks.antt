@@ -1,15 +1,15 @@
--- Ng-walks, as in the ng-routes of Baldacci, Mingozzi and Roberti (2011): a walk may come to a customer again, but to none
--- whom it remembers.
+-- Ng-walks, as in the ng-routes of Baldacci, Mingozzi and Roberti (2011): a walk may visit a customer again, but none that it
+-- remembers.
 use Rattle.std.specs.Prelude.{◌≡◌, ◌≢◌, ℕ, ◌+◌, ◌≤◌, Option, Some, MatchOption, List, []}
 use Rattle.std.specs.List.{All, Contains, sum_by}
 use Rattle.vrp_model.specs.Problem.{Problem, customers}
 use Rattle.vrp_model.specs.Route.{load_of}
-use Rattle.vrp_bound_ng.specs.Near.{near_in}
+use Rattle.vrp_bound_ng.specs.Near.{NearOf, near_in}
 use Rattle.vrp_bound_ng.specs.NgWalks.{NoneRemembered}
 use Rattle.vrp_bound.specs.Tables.{AreMade, NgTablesOf}
 use Rattle.vrp_bound.specs.Walk.{relaxed_cost}
 
--- nobody is near any place: so a walk remembers its next stop alone
+-- no customer is near any place, so a walk remembers only its next stop
 abbrev pub nothing_near : ℕ → List ℕ
 nothing_near place = []
 
@@ -24,7 +24,7 @@ pub record IsNgTour (p : Problem) (near : ℕ → List ℕ) (among stops : List 
   pub walks : IsNgWalk p near among 0 stops
   pub fits : load_of p stops ≤ p.capacity
 
--- What carries the rest: the open truck's walk home, where one is out at a customer, and then tours.
+-- A relaxed completion: the open truck's walk home, if one is out at a customer, and tours.
 pub record IsNgRelaxed (p : Problem) (near : ℕ → List ℕ) (among : List ℕ) (at load rest : ℕ) (home : List ℕ) (tours : List (List ℕ)) : Type 0 where
   pub walks : IsNgWalk p near among at home
   pub none_out : at ≡ 0 → home ≡ []
@@ -32,7 +32,7 @@ pub record IsNgRelaxed (p : Problem) (near : ℕ → List ℕ) (among : List ℕ
   pub each : All (IsNgTour p near among) tours
   pub whole : load_of p home + sum_by (load_of p) tours ≡ rest
 
--- the least cost of what carries the rest
+-- the least cost of a relaxed completion
 pub record IsLeastNgRelaxed (p : Problem) (near : ℕ → List ℕ) (among : List ℕ) (at load rest cost : ℕ) : Type 0 where
   pub met : (home : List ℕ) × (tours : List (List ℕ)) × IsNgRelaxed p near among at load rest home tours × (relaxed_cost p at home tours ≡ cost)
   pub least : (home : List ℕ) (tours : List (List ℕ)) → IsNgRelaxed p near among at load rest home tours → cost ≤ relaxed_cost p at home tours
@@ -41,13 +41,21 @@ pub record IsLeastNgRelaxed (p : Problem) (near : ℕ → List ℕ) (among : Lis
 abbrev pub NoneNgRelaxed : Problem → (ℕ → List ℕ) → List ℕ → ℕ → ℕ → ℕ → Type 0
 NoneNgRelaxed p near among at load rest = (home : List ℕ) (tours : List (List ℕ)) → IsNgRelaxed p near among at load rest home tours → ⊥
 
--- What tables of ng-walks answer: the least cost of what carries the rest, or that nothing does. Where none are made, the
--- answer is 0, which is no more than any cost.
+-- The answer of tables of ng-walks: the least cost of a relaxed completion, or None if there is none. If no tables are made,
+-- the answer is 0, which is no more than any cost.
 pub record IsNgBound (p : Problem) (near : ℕ → List ℕ) (among : List ℕ) (at load rest : ℕ) (answer : Option ℕ) : Type 0 where
   pub made : AreMade p among → MatchOption answer (NoneNgRelaxed p near among at load rest) (IsLeastNgRelaxed p near among at load rest)
   pub none_made : (AreMade p among → ⊥) → answer ≡ Some 0
 
--- what such tables answer, over all customers
+-- the answer of such tables, over all customers
 abbrev pub IsNgTablesBound : NgTablesOf → ℕ → ℕ → ℕ → Option ℕ → Type 0
 IsNgTablesBound tables at load rest answer =
     IsNgBound tables.problem (near_in tables.near) (customers tables.problem) at load rest answer
+
+-- the least cost of tours that carry together what all customers demand
+abbrev pub AreLeastNgTours : Problem → NearOf → ℕ → Type 0
+AreLeastNgTours p near cost = IsLeastNgRelaxed p (near_in near) (customers p) 0 0 (load_of p (customers p)) cost
+
+-- no tours carry exactly that
+abbrev pub NoNgTours : Problem → NearOf → Type 0
+NoNgTours p near = NoneNgRelaxed p (near_in near) (customers p) 0 0 (load_of p (customers p))

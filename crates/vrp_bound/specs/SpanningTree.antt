@@ -1,4 +1,4 @@
--- Spanning trees, told step by step: from one place on, each step takes in a new place.
+-- Spanning trees as lists of steps: starting from one place, each step adds a new place.
 use Rattle.std.specs.Prelude.{◌≡◌, ℕ, ◌≤◌, min, List, [], ◌∷◌, map}
 use Rattle.std.specs.List.{Contains, sum_by}
 use Rattle.std.specs.List.Sorted.{IsPermutation}
@@ -8,17 +8,17 @@ use Rattle.vrp_model.specs.Problem.{Problem, weight_of}
 abbrev pub link_weight : Problem → ℕ → ℕ → ℕ
 link_weight p one other = min (weight_of p one other) (weight_of p other one)
 
--- a place is taken in, and joined to this one
+-- a place is added and linked to this one
 pub record Step : Type 0 where
   pub place : ℕ
   pub joined : ℕ
 
--- each step joins its place to one of those that are in: these, and the places of the steps before it
+-- each step links its place to one already in the tree: one of these, or a place of an earlier step
 abbrev pub Grows : List ℕ → List Step → Type 0
 Grows taken [] = Unit {0}
 Grows taken (step ∷ steps) = Contains taken step.joined × Grows (step.place ∷ taken) steps
 
--- the steps of a tree that joins places to those that are in already: each of the places is taken in once, and nothing else is
+-- the steps of a tree that links these places to those already in it: each is added once, and nothing else is
 pub record IsSpanningTree (taken places : List ℕ) (steps : List Step) : Type 0 where
   pub grows : Grows taken steps
   pub spans : IsPermutation (map (λ step. step.place) steps) places
@@ -26,7 +26,7 @@ pub record IsSpanningTree (taken places : List ℕ) (steps : List Step) : Type 0
 abbrev pub tree_weight : Problem → List Step → ℕ
 tree_weight p steps = sum_by (λ step. link_weight p step.joined step.place) steps
 
--- a tree has this weight, and none has less
+-- the weight of a minimum spanning tree
 pub record IsLeastTree (p : Problem) (taken places : List ℕ) (weight : ℕ) : Type 0 where
   pub met : (steps : List Step) × IsSpanningTree taken places steps × (tree_weight p steps ≡ weight)
   pub least : (steps : List Step) → IsSpanningTree taken places steps → weight ≤ tree_weight p steps

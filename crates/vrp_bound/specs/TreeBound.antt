@@ -1,4 +1,4 @@
--- The tree bound: a least spanning tree over the places that are still to be joined, and the least arcs home.
+-- The tree bound: a minimum spanning tree over the remaining places, plus the least arcs home.
 use Rattle.std.specs.Prelude.{◌≡◌, ℕ, zero, suc, ◌+◌, ◌-◌, ◌≤◌, max, min, List, [], ◌∷◌, ◌++◌, length}
 use Rattle.std.specs.List.{sum_by}
 use Rattle.std.specs.List.Sorted.{IsPermutation}
@@ -6,25 +6,25 @@ use Rattle.vrp_model.specs.Problem.{Problem, weight_of}
 use Rattle.vrp_bound.specs.Capacity.{IsTrucks, free_room}
 use Rattle.vrp_bound.specs.SpanningTree.{IsLeastTree}
 
--- what the tree joins to the last place: the unserved customers, and the depot where a route is open
+-- the places to link to the last place: the unserved customers, and the depot if a route is open
 abbrev pub to_join : ℕ → List ℕ → List ℕ
 to_join zero unserved = unserved
 to_join (suc k) unserved = 0 ∷ unserved
 
--- a route has yet to be opened, whatever is demanded: none is open, and a customer is unserved
+-- one route must still be opened, whatever the demand: none is open, and a customer is unserved
 abbrev pub first_route : ℕ → List ℕ → ℕ
 first_route zero [] = 0
 first_route zero (customer ∷ unserved) = 1
 first_route (suc k) unserved = 0
 
--- How many routes must still be opened: those that carry what the open one can't take, and at least one where none is open and a
--- customer is unserved
+-- The number of routes that must still be opened: enough for the rest that the open one can't take, and at least one if none
+-- is open and a customer is unserved.
 pub record IsLaterRoutes (p : Problem) (at load : ℕ) (unserved : List ℕ) (rest later : ℕ) : Type 0 where
   pub trucks : ℕ
   pub carry : IsTrucks p.capacity (rest - free_room p at load) trucks
   pub all : later ≡ max trucks (first_route at unserved)
 
--- this many of these customers, or all where there are fewer
+-- `most` of these customers, or all if there are fewer
 pub record AreSomeOf (customers : List ℕ) (most : ℕ) (chosen : List ℕ) : Type 0 where
   pub others : List ℕ
   pub parts : IsPermutation (chosen ++ others) customers
@@ -33,12 +33,12 @@ pub record AreSomeOf (customers : List ℕ) (most : ℕ) (chosen : List ℕ) : T
 abbrev pub arcs_home_cost : Problem → List ℕ → ℕ
 arcs_home_cost p chosen = sum_by (λ customer. weight_of p customer 0) chosen
 
--- this many customers' arcs home have this weight, and no others have less
+-- the least total weight of this many customers' arcs home
 pub record AreLeastArcsHome (p : Problem) (customers : List ℕ) (most weight : ℕ) : Type 0 where
   pub met : (chosen : List ℕ) × AreSomeOf customers most chosen × (arcs_home_cost p chosen ≡ weight)
   pub least : (chosen : List ℕ) → AreSomeOf customers most chosen → weight ≤ arcs_home_cost p chosen
 
--- the least tree, and an arc home for each route that must still be opened, from different customers
+-- a minimum spanning tree, plus an arc home for each route that must still be opened, from different customers
 pub record IsTreeBound (p : Problem) (at load : ℕ) (unserved : List ℕ) (rest bound : ℕ) : Type 0 where
   pub tree : ℕ
   pub least_tree : IsLeastTree p (at ∷ []) (to_join at unserved) tree

@@ -4,7 +4,7 @@ ghost use Rattle.std.specs.List.Sorted.{IsPermutation};
 
 use crate::arc::Arc;
 
-/// Takes out an arc of the least weight; the others may change their order.
+/// Removes an arc of the least weight; the order of the others may change.
 #[inline(always)]
 pub fn take_least(arcs: &mut Vec<Arc>) -> Arc
     requires { 0 < vec_len arcs.old }

@@ -1,4 +1,4 @@
-//! The capacity bound: each unserved customer is driven into, and enough trucks drive home.
+//! The capacity bound: a truck enters each unserved customer, and enough trucks drive home.
 ghost use Rattle.std.specs.Prelude.{◌≡◌, ◌*◌, ◌≤◌, ◌<◌};
 ghost use Rattle.vrp_model.specs.Problem.{customers, place_count};
 ghost use Rattle.vrp_model.specs.Route.{load_of};
@@ -6,8 +6,9 @@ ghost use Rattle.vrp_bound.specs.Capacity.{IsCapacityBound, IsTrucks};
 
 use vrp_model::{Instance, MAX_ARCS};
 
-/// What is at least still to pay from a place, with this load on the truck that is out there: `inbound_sum`, the sum of the least
-/// arcs into the unserved customers, and a least arc home for that truck and for each that carries what it can't take of the rest.
+/// The capacity bound from a place, with this load on the current truck: `inbound_sum`, the sum of the least arcs into the
+/// unserved customers, plus a least arc home for the current truck and for each truck that carries what it can't take of the
+/// rest.
 pub fn cap_bound(instance: &Instance, at: u16, load: u64, inbound_sum: u64, rest: u64) -> u64
     requires place { at < place_count instance.now }
     requires load { load ≤ instance.now.capacity }
@@ -25,7 +26,7 @@ pub fn cap_bound(instance: &Instance, at: u16, load: u64, inbound_sum: u64, rest
     inbound_sum + returns * home
 }
 
-/// The least number of trucks that carry so much.
+/// The least number of trucks that carry this amount.
 pub fn trucks_needed(capacity: u64, amount: u64) -> u64
     requires { 0 < amount → 0 < capacity }
     ensures { IsTrucks capacity amount result }
@@ -33,7 +34,7 @@ pub fn trucks_needed(capacity: u64, amount: u64) -> u64
     if amount == 0 {
         return 0;
     }
-    // Nearly always, and a division takes longer.
+    // The usual case; it avoids a division.
     if amount <= capacity {
         return 1;
     }

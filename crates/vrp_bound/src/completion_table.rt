@@ -10,22 +10,23 @@ use crate::walks::MARK;
 use std::alloc::Global;
 use vrp_model::NoMemory;
 
-// What stands where there is no completion: above every cost in the table.
+// The mark for "no completion": above every cost in the table.
 const SMALL_MARK: u32 = 4_000_000_000;
 
-// How many cells the table may have.
+// The greatest number of cells of the table.
 const MOST_CELLS: usize = 64_000_000;
 
-/// How often tables are looked into.
+/// How often tables will be looked up.
 #[derive(Clone, Copy)]
 pub(crate) enum Looks {
-    /// So often that the completion table pays.
+    /// Often enough for the completion table to pay.
     Many,
     Few,
 }
 
-/// The completion table, where it pays and can be made.
-pub(crate) fn completion_table_for(
+/// The cells, by place, then by room, then by rest. `None` if few looks don't pay for a table, if it would have too many cells, or if a
+/// cost is too large for one.
+pub(crate) fn completion_table(
     looks: Looks,
     alloc: Global,
     scope: UnitScope<'_>,
@@ -38,26 +39,9 @@ pub(crate) fn completion_table_for(
     requires room { room ≡ room_over scope }
     ensures { IfOk result (λ cells. IfSome cells (λ completion_table. IsCompletionTableOver scope.entry completion_table.items)) }
 {
-    match looks {
-        Looks::Many => completion_table(alloc, scope, walks, tours, room),
-        Looks::Few => Ok(None),
+    if let Looks::Few = looks {
+        return Ok(None);
     }
-}
-
-/// The cells, by place, of each place by room, and of each room by rest. `None` where there would be too many cells, or a
-/// cost is too large for one.
-fn completion_table(
-    alloc: Global,
-    scope: UnitScope<'_>,
-    walks: &[u64],
-    tours: &[u64],
-    room: u64,
-) -> Result<Option<Vec<u32>>, NoMemory>
-    requires walks { AreWalksOver scope walks.now }
-    requires tours { AreToursOver scope tours.now }
-    requires room { room ≡ room_over scope }
-    ensures { IfOk result (λ cells. IfSome cells (λ completion_table. IsCompletionTableOver scope.entry completion_table.items)) }
-{
     let rooms = room as usize + 1;
     let rows = scope.places * rooms;
     if rows > MOST_CELLS / tours.len() {
@@ -73,7 +57,7 @@ fn completion_table(
     Ok(Some(cells))
 }
 
-// Adds the cells of a place and a room, after those of less room. False: a cost is too large for a cell.
+// Adds the cells of a place and a room, after those of less room. False if a cost is too large for a cell.
 fn push_row(
     cells: &mut Vec<u32>,
     scope: UnitScope<'_>,
@@ -113,7 +97,7 @@ fn push_row(
     true
 }
 
-// The lesser of the cost with less room and that of a walk home that takes up the whole room. `None`: it is too large for a
+// The lesser of the cost with less room and that of a walk home that uses the whole room. `None` if it is too large for a
 // cell.
 fn lesser(less: u32, whole: u64) -> Option<u32>
     ensures none { IfSome result (λ cell. mark ≤ whole → cell ≡ less) }
@@ -129,26 +113,33 @@ fn lesser(less: u32, whole: u64) -> Option<u32>
     Some(less.min(whole as u32))
 }
 
-/// The same as `least_completion`, by one look into the table.
+/// A completion table, with the table of the tours and the room that its rows go by.
+#[derive(Clone, Copy)]
+pub(crate) struct CompletionTable<'a> {
+    pub(crate) cells: &'a [u32],
+    pub(crate) tours: &'a [u64],
+    pub(crate) room: u64,
+}
+
+/// The answer of `least_completion`, by one look-up in the table.
 #[inline(always)]
 pub(crate) fn lookup(
     scope: UnitScope<'_>,
-    cells: &[u32],
-    tours: &[u64],
-    room: u64,
+    table: CompletionTable<'_>,
     at: u16,
     free: u64,
     rest: u64,
 ) -> u64
-    requires completion_table { IsCompletionTableOver scope cells.now }
-    requires tours { AreToursOver scope tours.now }
-    requires room { room ≡ room_over scope }
+    requires completion_table { IsCompletionTableOver scope table.cells.now }
+    requires tours { AreToursOver scope table.tours.now }
+    requires room { table.room ≡ room_over scope }
     requires customer { at ≢ 0 }
     requires place { at < place_count scope.instance.now }
     requires free { free ≤ (scaled scope).capacity }
     requires rest { rest ≤ load_of (scaled scope) scope.customers.now }
     ensures { IsLeastCompletion scope.entry at free rest result }
 {
+    let CompletionTable { cells, tours, room } = table;
     let left = free.min(room) as usize;
     let row = usize::from(at) * (room as usize + 1) + left;
     let cell = cells[row * tours.len() + rest as usize];
@@ -159,8 +150,8 @@ pub(crate) fn lookup(
     }
 }
 
-/// The least cost of what carries the rest from a customer, where the open truck can still take up as much as is free: by
-/// what its walk home takes up.
+/// The least cost of carrying the rest from a customer, when the open truck has this much room, over the loads of its walk
+/// home.
 pub(crate) fn least_completion(
     scope: UnitScope<'_>,
     walks: &[u64],

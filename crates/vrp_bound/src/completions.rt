@@ -1,4 +1,4 @@
-//! What completes partial plans at the least cost, over some customers of an instance: filled once, and then looked up.
+//! The least completions of partial plans over some customers of an instance: filled once, then looked up.
 ghost use Rattle.std.specs.Prelude.{◌≡◌, ◌≤◌, ◌<◌, All, Contains, IfOk, IfSome, is_some};
 ghost use Rattle.std.specs.List.Sorted.{IsStrictlyIncreasing};
 ghost use Rattle.vrp_model.specs.Problem.{customers as customers_of, place_count};
@@ -6,11 +6,10 @@ ghost use Rattle.vrp_model.specs.Route.{load_of};
 ghost use Rattle.vrp_bound.specs.Inner.Filled.{AreCellsOver, AreHeld, IsHeldBound, IsLeastOver};
 ghost use Rattle.vrp_bound.specs.Inner.Scaled.{IsOfPlaces, near_with};
 ghost use Rattle.vrp_bound.specs.Inner.Scope.{IsScope};
-ghost use Rattle.vrp_bound.specs.Tables.{AreMade};
 
-use crate::completion_table::{Looks, completion_table_for, least_completion, lookup};
+use crate::completion_table::{CompletionTable, Looks, completion_table, least_completion, lookup};
 use crate::quotients::Quotients;
-use crate::scope::{Scope, are_made, demand_of_all};
+use crate::scope::{MOST_STEPS, Scope, are_made, demand_of_all};
 use crate::tours::tours;
 use crate::units::{UnitScope, demands_in_units, unit_of};
 use crate::walks::{MARK, walks};
@@ -23,24 +22,24 @@ use vrp_model::{Instance, NoMemory};
 pub(crate) struct Completions<'a> {
     pub(crate) instance: &'a Instance,
     pub(crate) customers: Vec<u16>,
-    // None where the tables would be too large, or a customer has no demand.
+    // None if the tables would be too large, or a customer has no demand.
     pub(crate) cells: Option<Cells>,
 }
 
-// Each cell is a least cost, or a mark where there is none.
+// The cells: each is a least cost, or a mark if there is none.
 #[derive(Debug, Drop)]
 pub(crate) struct Cells {
-    // Of which each customer demands a whole number. Loads, rests and the room are counted in units.
+    // Divides the demand of each customer. Loads, rests and the room are counted in units.
     pub(crate) unit: u64,
     pub(crate) quotients: Quotients,
-    // How much of the whole demand one truck can carry.
+    // The lesser of the whole demand and the capacity.
     room: u64,
-    // By load, and of each load by place.
+    // By load, then by place.
     walks: Vec<u64>,
-    // By what is carried.
+    // By the load carried.
     tours: Vec<u64>,
-    // By place, room and rest. None where that would be too many, or a cost is too large: then `walks` and `tours` are looked
-    // through.
+    // By place, room and rest. None if there would be too many cells or a cost is too large; then `walks` and `tours` are
+    // searched.
     pub(crate) completion_table: Option<Vec<u32>>,
 }
 
@@ -49,14 +48,14 @@ pub(crate) struct Cells {
 pub struct Shape {
     /// The unit that loads and rests are counted in.
     pub unit: u64,
-    /// How many amounts are looked up in units; those above are divided.
+    /// How many amounts have their units in a table; greater ones are divided.
     pub quotients: usize,
     /// Whether there is a completion table.
     pub has_completion_table: bool,
 }
 
 impl<'a> Completions<'a> {
-    /// Over these customers, by rising place, for this many looks. Walks have these ng-sets, if any.
+    /// Completions over these customers, by rising place, for this many looks. Walks have these ng-sets, if any.
     pub(crate) fn new(
         alloc: Global,
         instance: &'a Instance,
@@ -72,7 +71,7 @@ impl<'a> Completions<'a> {
         ensures customers { IfOk result (λ held. held.customers.items ≡ customers.now) }
     {
         let scope = Scope::new(instance, customers);
-        let cells = if are_made(scope) {
+        let cells = if are_made(scope, MOST_STEPS) {
             Some(Cells::fill(alloc, scope, ng_sets, looks)?)
         } else {
             None
@@ -84,8 +83,8 @@ impl<'a> Completions<'a> {
         })
     }
 
-    /// The least cost of what carries the rest from a place, where the open truck has this load. `None`: nothing carries exactly
-    /// the rest. 0 where there are no cells. The ng-sets are those of the walks.
+    /// The least cost of carrying the rest from a place, when the open truck has this load. `None` if nothing carries exactly
+    /// the rest; 0 if there are no cells. The ng-sets are those of the walks.
     #[inline(always)]
     pub(crate) fn bound(
         &self,
@@ -111,7 +110,7 @@ impl<'a> Completions<'a> {
         if least < MARK { Some(least) } else { None }
     }
 
-    /// How the cells are kept, where there are any.
+    /// How the cells are kept, if there are any.
     pub(crate) fn shape(&self) -> Option<Shape>
         ensures { is_some result ≡ is_some self.now.cells }
     {
@@ -127,14 +126,13 @@ impl<'a> Completions<'a> {
 }
 
 impl Cells {
-    // The cells over customers for whom tables are made.
-    fn fill(
+    // The cells over customers who demand something each, and not too much together.
+    pub(crate) fn fill(
         alloc: Global,
         scope: Scope<'_>,
         ng_sets: Option<&NgSets>,
         looks: Looks,
     ) -> Result<Cells, NoMemory>
-        requires made { AreMade scope.instance.now scope.customers.now }
         requires scope { IsScope scope.instance.now scope.customers.now }
         requires places { IsOfPlaces ng_sets scope.places }
         ensures { IfOk result (λ cells. AreCellsOver scope.entry (near_with ng_sets.entry) cells) }
@@ -145,7 +143,7 @@ impl Cells {
         let demands = demands_in_units(alloc, units)?;
         let walks = walks(alloc, units, &demands, room)?;
         let tours = tours(alloc, units, &walks, room, demand)?;
-        let completion_table = completion_table_for(looks, alloc, units, &walks, &tours, room)?;
+        let completion_table = completion_table(looks, alloc, units, &walks, &tours, room)?;
         let quotients = Quotients::up_to(alloc, units.unit, demand_of_all(scope))?;
         Ok(Cells {
             unit: units.unit,
@@ -157,10 +155,10 @@ impl Cells {
         })
     }
 
-    // The least cost of what carries the rest from a place, or the mark or more where nothing does. Every walk takes up a whole
-    // number of units: so nothing carries a rest that is none, and what the open truck can still take is floored.
+    // The least cost of carrying the rest from a place, or the mark or more if nothing does. The load of every walk is a
+    // whole number of units. So nothing carries a rest that is not whole, and the room of the open truck is rounded down.
     #[inline(always)]
-    fn least(
+    pub(crate) fn least(
         &self,
         scope: Scope<'_>,
         ng_sets: Option<&NgSets>,
@@ -187,15 +185,14 @@ impl Cells {
         }
         let free = self.quotients.whole_units(scope.instance.capacity() - load);
         match &self.completion_table {
-            Some(completion_table) => lookup(
-                units,
-                completion_table,
-                &self.tours,
-                self.room,
-                at,
-                free,
-                carried,
-            ),
+            Some(cells) => {
+                let table = CompletionTable {
+                    cells,
+                    tours: &self.tours,
+                    room: self.room,
+                };
+                lookup(units, table, at, free, carried)
+            }
             None => least_completion(units, &self.walks, &self.tours, at, free, carried),
         }
     }

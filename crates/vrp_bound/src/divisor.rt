@@ -1,7 +1,7 @@
 //! Divisors of two numbers.
 ghost use Rattle.std.specs.Int.{IsGcd};
 
-/// The greatest common divisor; of two zeros it is 0.
+/// The greatest common divisor; 0 for two zeros.
 pub fn gcd(one: u64, other: u64) -> u64
     ensures { IsGcd one other result }
 {

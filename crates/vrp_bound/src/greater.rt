@@ -1,4 +1,4 @@
-//! The bound that the search asks for: the greater of the two.
+//! The bound that the search uses: the greater of the two.
 ghost use Rattle.std.specs.Prelude.{◌≡◌, ◌≤◌, ◌<◌, IfSome};
 ghost use Rattle.vrp_model.specs.Problem.{customers, place_count};
 ghost use Rattle.vrp_model.specs.Route.{load_of};
@@ -9,9 +9,9 @@ use crate::tables::Tables;
 use crate::trucks_left::can_carry;
 use vrp_model::{Instance, MAX_ARCS};
 
-/// What is at least still to pay from a place, with this load on the truck that is out there, by both bounds: `inbound_sum` is the
-/// sum of the least arcs into the unserved customers, `rest` what they demand, `left` how many routes may still be opened. `None`
-/// where nothing carries exactly the rest, or the trucks that are left are too few: then there is no feasible plan.
+/// A lower bound on what is still to pay from a place, with this load on the current truck, by both bounds: `inbound_sum` is
+/// the sum of the least arcs into the unserved customers, `rest` their demand, `left` how many routes may still be opened.
+/// `None` if nothing carries exactly the rest, or if too few trucks are left: then there is no feasible plan.
 pub fn bound(
     tables: &Tables<'_>,
     instance: &Instance,

@@ -1,4 +1,4 @@
-//! What is true of the definitions, whatever the code does: the bounds are bounds.
+//! Laws about the definitions: the bounds are bounds.
 ghost use Rattle.std.specs.Prelude.{◌≡◌, ℕ, ◌+◌, ◌≤◌, Option, MatchOption, List, ◌++◌};
 ghost use Rattle.std.specs.List.{All, Contains};
 ghost use Rattle.vrp_model.specs.Problem.{IsProblem, Problem, customers};
@@ -9,8 +9,8 @@ ghost use Rattle.vrp_bound.specs.NgWalks.{IsNgRelaxed, IsNgWalk, nothing_near};
 ghost use Rattle.vrp_bound.specs.TreeBound.{IsTreeBound};
 ghost use Rattle.vrp_bound.specs.Walk.{IsRelaxed, IsWalk};
 
-/// What a feasible word adds to a partial plan that it begins with is a relaxed completion of the partial plan, of the same cost,
-/// over any customers among whom are all that the partial plan leaves unserved.
+/// The part of a feasible word behind a partial plan is a relaxed completion of that plan, of the same cost, over any
+/// customers that include all its unserved ones.
 pub fn relaxed_completions()
     ensures { (p : Problem) (prefix more among : List ℕ)
         → IsProblem p → IsLawfulWord p (prefix ++ more) → All (Contains among) (unserved_in p prefix)
@@ -18,7 +18,7 @@ pub fn relaxed_completions()
         × (completed_cost p prefix home tours ≡ word_cost p (prefix ++ more)) }
 {}
 
-/// The same of ng-walks, whoever is near which place.
+/// The part of a feasible word behind a partial plan is a completion by ng-walks too, for any lists of near customers.
 pub fn ng_completions()
     ensures { (p : Problem) (near : ℕ → List ℕ) (prefix more among : List ℕ)
         → IsProblem p → IsLawfulWord p (prefix ++ more) → All (Contains among) (unserved_in p prefix)
@@ -27,8 +27,8 @@ pub fn ng_completions()
         × (completed_cost p prefix home tours ≡ word_cost p (prefix ++ more)) }
 {}
 
-/// An ng-walk is a walk, and what such walks complete is completed by walks: so their bound is no lower. With nobody near
-/// they are the same.
+/// An ng-walk is a walk, so a completion by ng-walks is a completion by walks, and its bound is no lower. If no customer is
+/// near any place, the two are the same.
 pub fn ng_is_tighter()
     ensures walks { (p : Problem) (near : ℕ → List ℕ) (among : List ℕ) (at : ℕ) (stops : List ℕ)
         → IsNgWalk p near among at stops → IsWalk p among at stops }
@@ -40,7 +40,7 @@ pub fn ng_is_tighter()
         → IsWalk p among at stops → IsNgWalk p nothing_near among at stops }
 {}
 
-/// No feasible word that begins with a partial plan adds less to it than the lower bound; and where that is `None`, there is no
+/// No feasible word that begins with a partial plan adds less to it than the lower bound; if the bound is `None`, there is no
 /// such word.
 pub fn bounds_hold()
     ensures { (p : Problem) (prefix more among : List ℕ) (inbound_sum : ℕ) (answer : Option ℕ)
@@ -64,20 +64,20 @@ pub fn tree_bounds()
         → word_cost p prefix + bound ≤ word_cost p (prefix ++ more) }
 {}
 
-/// The tree bound is one number.
+/// The tree bound is unique.
 pub fn one_tree_bound()
     ensures { (p : Problem) (at load : ℕ) (unserved : List ℕ) (rest bound other : ℕ)
         → IsTreeBound p at load unserved rest bound → IsTreeBound p at load unserved rest other
         → bound ≡ other }
 {}
 
-/// Where a feasible word begins with a partial plan, the trucks that the partial plan leaves can carry what it leaves.
+/// If a feasible word begins with a partial plan, the trucks that are left there can carry the rest.
 pub fn trucks_left_carry()
     ensures { (p : Problem) (prefix more : List ℕ) → IsProblem p → IsLawfulWord p (prefix ++ more)
         → CanCarryAt p prefix }
 {}
 
-/// Tables over those customers alone that a partial plan leaves unserved bound no lower there than tables over all customers.
+/// Tables over the unserved customers of a partial plan bound no lower there than tables over all customers.
 pub fn fewer_customers()
     ensures { (p : Problem) (prefix : List ℕ) (least : ℕ) (own : Option ℕ)
         → IsProblem p → IsPrefix p prefix

@@ -1,4 +1,4 @@
-//! The least arcs home from this many of some customers.
+//! The least arcs home from a number of customers.
 ghost use Rattle.std.specs.Prelude.{◌≡◌, ◌*◌, ◌≤◌, ◌<◌, All, length, vec_capacity};
 ghost use Rattle.vrp_model.specs.Problem.{place_count};
 ghost use Rattle.vrp_model.specs.declared.limits.TheConstants.{MAX_NODES, MAX_WEIGHT};
@@ -9,8 +9,8 @@ use crate::arc::Arc;
 use crate::arcs::take_least;
 use vrp_model::Instance;
 
-/// What the least arcs home from this many of these customers cost together, or from all where there are fewer. The list has room
-/// for all of them.
+/// The total weight of the `most` least arcs home from these customers, or of all if there are fewer. The list has room for
+/// all of them.
 pub(crate) fn least_arcs_home(
     arcs: &mut Vec<Arc>,
     instance: &Instance,
@@ -33,7 +33,7 @@ pub(crate) fn least_arcs_home(
     weight
 }
 
-// The arc home from each customer; nothing else stays in the list.
+// Fills the list with the arc home from each customer, and nothing else.
 fn push_arcs_home(arcs: &mut Vec<Arc>, instance: &Instance, customers: &[u16])
     requires known { All (λ customer. customer < place_count instance.now) customers.now }
     requires room { length customers.now ≤ vec_capacity arcs.old }

@@ -1,5 +1,5 @@
-//! Lower bounds on what is still to pay on a partial plan: the q-routes of Christofides, Mingozzi and Toth (1981), a capacity
-//! bound, and the least spanning tree.
+//! Lower bounds on what is still to pay under a partial plan: the q-routes of Christofides, Mingozzi and Toth (1981), a
+//! capacity bound, and the minimum spanning tree.
 #![tactic(auto)]
 
 mod arc;
@@ -11,8 +11,10 @@ mod divisor;
 mod greater;
 mod law;
 mod least_arcs_home;
+mod lower_bound;
 mod ng_scope;
 mod ng_tables;
+mod ng_tours;
 mod ng_walks;
 mod quotients;
 mod scope;
@@ -34,7 +36,9 @@ pub use law::{
     bounds_hold, capacity_bounds, fewer_customers, ng_completions, ng_is_tighter, one_tree_bound,
     relaxed_completions, tree_bounds, trucks_left_carry,
 };
+pub use lower_bound::LowerBound;
 pub use ng_tables::NgTables;
+pub use ng_tours::least_ng_tours;
 pub use quotients::Quotients;
 pub use scope::Scope;
 pub use tables::Tables;

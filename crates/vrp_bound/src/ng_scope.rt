@@ -1,18 +1,18 @@
-//! What tables of ng-walks are over: some customers of an instance, in their unit, and what walks remember.
+//! The scope of tables of ng-walks: some customers of an instance, in their unit, and the ng-sets of the walks.
 ghost use Rattle.std.specs.Prelude.{◌≡◌, ◌^◌, ◌≤◌};
 ghost use Rattle.vrp_bound.specs.Inner.Scaled.{scaled};
 
 use crate::units::UnitScope;
 use vrp_bound_ng::NgSets;
 
-/// Some customers of an instance, and what walks through them remember.
+/// Some customers of an instance, and the ng-sets of walks through them.
 #[derive(Clone, Copy)]
 pub(crate) struct NgScope<'a> {
     pub(crate) units: UnitScope<'a>,
     pub(crate) ng_sets: &'a NgSets,
     // In units, by place.
     pub(crate) demands: &'a [u64],
-    // How many ng-sets there are at a place.
+    // The number of ng-sets at a place.
     pub(crate) masks: usize,
     ghost of_places: { ng_sets.now.places ≡ units.places },
     ghost amounts: { demands.now ≡ (scaled units).demands },
@@ -22,7 +22,7 @@ pub(crate) struct NgScope<'a> {
 }
 
 impl<'a> NgScope<'a> {
-    /// These customers, whose demands are by place.
+    /// The scope of these customers, whose demands are by place.
     pub(crate) fn new(units: UnitScope<'a>, ng_sets: &'a NgSets, demands: &'a [u64]) -> NgScope<'a>
         requires places { ng_sets.now.places ≡ units.places }
         requires demands { demands.now ≡ (scaled units).demands }

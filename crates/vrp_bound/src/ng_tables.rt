@@ -13,7 +13,7 @@ use std::marker::Model;
 use vrp_bound_ng::NgSets;
 use vrp_model::{Instance, NoMemory};
 
-/// Tables over all customers of an instance, of walks that come back to no customer whom they remember: so they bound more closely.
+/// Tables over all customers of an instance, of walks that return to no remembered customer. They bound more closely.
 #[derive(Debug, Drop)]
 pub struct NgTables<'a> {
     completions: Completions<'a>,
@@ -38,7 +38,7 @@ impl<'a> Model for NgTables<'a> {
 }
 
 impl<'a> NgTables<'a> {
-    /// Tables over all customers, of walks that have these ng-sets.
+    /// Tables over all customers, of walks with these ng-sets.
     pub fn new(
         alloc: Global,
         instance: &'a Instance,
@@ -61,8 +61,9 @@ impl<'a> NgTables<'a> {
         })
     }
 
-    /// The same as `Tables::q_bound`, where no walk comes back to a customer whom it remembers.
-    // Asked at each partial plan that is looked at.
+    /// The least cost of carrying the rest from a place, as in `Tables::q_bound`, with walks that return to no remembered
+    /// customer.
+    // Called at each partial plan.
     #[inline(always)]
     pub fn bound(&self, at: u16, load: u64, rest: u64) -> Option<u64>
         requires place { at < place_count self.now.problem }
@@ -75,7 +76,7 @@ impl<'a> NgTables<'a> {
         self.completions.bound(Some(&self.ng_sets), at, load, rest)
     }
 
-    /// How the tables are kept, where they are made.
+    /// How the tables are kept, if they are made.
     pub fn shape(&self) -> Option<Shape>
         ensures { let made = AreMade self.now.problem (customers self.now.problem) in
             MatchOption result (made → ⊥) (λ _. made) }

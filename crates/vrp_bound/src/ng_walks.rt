@@ -1,4 +1,4 @@
-//! The table of the ng-walks: the least cost of a walk from each place to the depot, by the load that it takes up.
+//! The table of the ng-walks: the least cost of a walk from each place to the depot, by its load.
 ghost use Rattle.std.specs.Prelude.{◌≡◌, ℕ, ◌+◌, ◌*◌, ◌≤◌, ◌<◌, ◌++◌, IfOk, SomeIndex, length, slice_index, vec_len, vec_capacity};
 ghost use Rattle.vrp_bound.specs.Inner.Cells.{mark};
 ghost use Rattle.vrp_bound.specs.Inner.NgCells.{ArePulled, IsRow};
@@ -10,7 +10,7 @@ use crate::walks::MARK;
 use std::alloc::Global;
 use vrp_model::NoMemory;
 
-/// The cells, by load and of each load by place, for loads up to what one truck can carry: the least over what is remembered.
+/// The cells, by load and then by place, for loads up to the capacity: the least over all ng-sets.
 pub(crate) fn walks_by_ng_set(
     alloc: Global,
     scope: NgScope<'_>,
@@ -23,7 +23,7 @@ pub(crate) fn walks_by_ng_set(
     least_walks(alloc, scope, &cells)
 }
 
-// The cells by load, of each load by place, and of each place by ng-set.
+// The cells by load, then by place, then by ng-set.
 fn ng_walks(alloc: Global, scope: NgScope<'_>, room: u64) -> Result<Vec<u64>, NoMemory>
     requires room { room ≡ room_over scope.units }
     ensures { IfOk result (λ cells. AreNgWalksOver scope.entry cells.items) }
@@ -37,7 +37,7 @@ fn ng_walks(alloc: Global, scope: NgScope<'_>, room: u64) -> Result<Vec<u64>, No
     Ok(cells)
 }
 
-// The least of the cells of each load and place, whatever is remembered.
+// The least of the cells of each load and place, over all ng-sets.
 fn least_walks(alloc: Global, scope: NgScope<'_>, cells: &[u64]) -> Result<Vec<u64>, NoMemory>
     requires cells { AreNgWalksOver scope cells.now }
     ensures { IfOk result (λ walks. AreLeastOverNgSets scope.entry walks.items) }
@@ -51,7 +51,7 @@ fn least_walks(alloc: Global, scope: NgScope<'_>, cells: &[u64]) -> Result<Vec<u
     Ok(walks)
 }
 
-// The least of these cells, or the mark where all are above it.
+// The least of these cells, or the mark if all are above it.
 fn least_of(row: &[u64]) -> u64
     ensures within { result ≤ mark }
     ensures low { (m : ℕ) → m < length row.now → result ≤ slice_index row.now m }
@@ -64,7 +64,7 @@ fn least_of(row: &[u64]) -> u64
     least
 }
 
-// Adds the cells of a load, after those of less.
+// Adds the cells of a load, after those of smaller loads.
 fn push_load(cells: &mut Vec<u64>, row: &mut [u64], scope: NgScope<'_>, load: usize)
     requires row { length row.old ≡ scope.masks }
     requires light { load ≤ 200000000 }
@@ -93,7 +93,7 @@ fn append(cells: &mut Vec<u64>, row: &[u64])
     }
 }
 
-// The cells of a load and a place, by ng-set: pulled from those of each stop for which the load has room.
+// The cells of a load and a place, by ng-set: pulled from those of each stop that fits in the load.
 fn fill_row(row: &mut [u64], scope: NgScope<'_>, cells: &[u64], load: usize, at: u16)
     requires place { at < place_count_of scope }
     requires row { length row.old ≡ scope.masks }
@@ -121,7 +121,7 @@ fn fill_row(row: &mut [u64], scope: NgScope<'_>, cells: &[u64], load: usize, at:
     }
 }
 
-// No walk is known yet.
+// Sets the row to "no walk".
 fn clear(row: &mut [u64])
     ensures len { length row.new ≡ length row.old }
     ensures marked { (m : ℕ) → m < length row.old → slice_index row.new m ≡ mark }
@@ -141,8 +141,7 @@ fn cells_of(cells: &[u64], place: usize, masks: usize) -> &[u64]
     &cells[start..start + masks]
 }
 
-// Each cell becomes the least of itself and of what the cells behind cost with this weight, where its ng-set is the one before
-// them.
+// Lowers each cell to the costs, plus this weight, of the cells behind whose ng-set leads to this cell's.
 fn pull(row: &mut [u64], weight: u64, behind: &[u64], before: &[u8])
     requires light { weight ≤ 1000000000 }
     requires small { (k : ℕ) → k < length row.old → slice_index behind.now k ≤ mark }

@@ -1,21 +1,21 @@
-//! Amounts in whole units, looked up: a search asks at each partial plan, and a division takes longer.
+//! A table of amounts in whole units: a search needs them at each partial plan, and a division takes longer.
 ghost use Rattle.std.specs.Prelude.{◌≡◌, ℕ, ◌≤◌, ◌<◌, ◌/◌, IfOk, length, slice_index, vec_len};
 
 use std::alloc::Global;
 use vrp_model::NoMemory;
 
-/// How many whole units an amount has.
+/// Converts amounts to whole units.
 #[derive(Debug, Drop)]
 pub struct Quotients {
     unit: u64,
-    // Of each amount up to some one; none are kept where the unit is 1.
+    // The units of each amount up to a limit; empty if the unit is 1.
     whole: Vec<u32>,
     ghost some: { 1 ≤ unit },
     ghost each: { (k : ℕ) → k < length whole.items → slice_index whole.items k ≡ k / unit },
 }
 
 impl Quotients {
-    /// In this unit, with a table of the amounts up to this one.
+    /// The quotients by this unit, with a table of the amounts up to this one.
     pub fn up_to(alloc: Global, unit: u64, most: u64) -> Result<Quotients, NoMemory>
         requires unit { 1 ≤ unit }
         requires most { most ≤ 200000000 }
@@ -29,7 +29,7 @@ impl Quotients {
         Ok(Quotients { unit, whole })
     }
 
-    /// How many whole units this amount has.
+    /// The whole units of this amount.
     #[inline(always)]
     pub fn whole_units(&self, amount: u64) -> u64
         ensures { result ≡ amount / self.now.unit }
@@ -43,7 +43,7 @@ impl Quotients {
         }
     }
 
-    /// How many amounts are looked up.
+    /// The number of amounts in the table.
     pub fn count(&self) -> usize
         ensures { result ≡ vec_len self.now.whole }
     {

@@ -1,17 +1,17 @@
-//! What tables are over: some customers of an instance.
+//! The scope of tables: some customers of an instance.
 ghost use Rattle.std.specs.Prelude.{◌≡◌, ◌+◌, ◌*◌, ◌≤◌, ◌<◌, ◌↔◌, All, Contains, IsTrue, length};
 ghost use Rattle.std.specs.List.Sorted.{IsStrictlyIncreasing};
 ghost use Rattle.vrp_model.specs.Problem.{customers as customers_of, place_count, IsProblem};
 ghost use Rattle.vrp_model.specs.Route.{load_of};
-ghost use Rattle.vrp_bound.specs.Tables.{AllDemand, AreMade};
+ghost use Rattle.vrp_bound.specs.Tables.{AllDemand, AreMadeWithin};
 ghost use Rattle.vrp_model.specs.declared.limits.TheConstants.{MAX_CAPACITY, MAX_NODES};
 
 use vrp_model::Instance;
 
-// How large the table of the walks and that of the tours may be, by the steps that it takes to fill them.
-const MOST_STEPS: u64 = 200_000_000;
+/// The greatest number of steps to fill the table of the tours, and that of the walks if partial plans are looked up in it.
+pub(crate) const MOST_STEPS: u64 = 200_000_000;
 
-/// Some customers of an instance, and how many places it has.
+/// Some customers of an instance, and its number of places.
 #[derive(Clone, Copy)]
 pub struct Scope<'a> {
     pub(crate) instance: &'a Instance,
@@ -39,9 +39,9 @@ impl<'a> Scope<'a> {
     }
 }
 
-/// Whether tables are made over these customers.
-pub(crate) fn are_made(scope: Scope<'_>) -> bool
-    ensures { IsTrue result ↔ AreMade scope.entry.instance.now scope.entry.customers.now }
+/// Whether tables are made over these customers, where those of the walks may take so many steps to fill.
+pub(crate) fn are_made(scope: Scope<'_>, most_steps: u64) -> bool
+    ensures { IsTrue result ↔ AreMadeWithin most_steps scope.entry.instance.now scope.entry.customers.now }
 {
     if !all_demand(scope) {
         return false;
@@ -49,10 +49,10 @@ pub(crate) fn are_made(scope: Scope<'_>) -> bool
     let demand = demand_of_all(scope);
     let room = scope.instance.capacity().min(demand);
     let customers = scope.customers.len() as u64;
-    (room + 1) * customers * customers <= MOST_STEPS && demand.saturating_mul(room) <= MOST_STEPS
+    (room + 1) * customers * customers <= most_steps && demand.saturating_mul(room) <= MOST_STEPS
 }
 
-// Whether each of them has a demand.
+// Whether each of these customers has a demand.
 fn all_demand(scope: Scope<'_>) -> bool
     ensures { IsTrue result ↔ AllDemand scope.entry.instance.now scope.entry.customers.now }
 {
@@ -64,7 +64,7 @@ fn all_demand(scope: Scope<'_>) -> bool
     true
 }
 
-/// What they demand together.
+/// The total demand of these customers.
 pub(crate) fn demand_of_all(scope: Scope<'_>) -> u64
     ensures value { result ≡ load_of scope.entry.instance.now scope.entry.customers.now }
     ensures small { result ≤ MAX_CAPACITY * length scope.entry.customers.now }

@@ -1,4 +1,4 @@
-//! The least spanning tree over some places, by Prim's algorithm (1957).
+//! The minimum spanning tree over some places, by Prim's algorithm (1957).
 ghost use Rattle.std.specs.Prelude.{◌≡◌, ◌*◌, ◌≤◌, ◌<◌, [], ◌∷◌, All, length, map, vec_capacity};
 ghost use Rattle.vrp_model.specs.Problem.{place_count};
 ghost use Rattle.vrp_model.specs.declared.limits.TheConstants.{MAX_NODES, MAX_WEIGHT};
@@ -10,7 +10,8 @@ use crate::arc::Arc;
 use crate::arcs::take_least;
 use vrp_model::Instance;
 
-/// The weight of a least spanning tree over a place, these customers and the depot. The list has room for all but that place.
+/// The weight of a minimum spanning tree over a place, these customers and the depot. The list has room for all but that
+/// place.
 pub(crate) fn least_tree(arcs: &mut Vec<Arc>, instance: &Instance, at: u16, unserved: &[u16]) -> u64
     requires place { at < place_count instance.now }
     requires known { All (λ customer. customer < place_count instance.now) unserved.now }
@@ -30,7 +31,8 @@ pub(crate) fn least_tree(arcs: &mut Vec<Arc>, instance: &Instance, at: u16, unse
     weight
 }
 
-// The link from a place to each of the customers, and to the depot where that is another place; nothing else stays in the list.
+// Fills the list with the link from a place to each of the customers, and to the depot if that is another place, and nothing
+// else.
 fn push_links(arcs: &mut Vec<Arc>, instance: &Instance, at: u16, unserved: &[u16])
     requires place { at < place_count instance.now }
     requires known { All (λ customer. customer < place_count instance.now) unserved.now }
@@ -48,7 +50,7 @@ fn push_links(arcs: &mut Vec<Arc>, instance: &Instance, at: u16, unserved: &[u16
     }
 }
 
-// A place has been taken in: those that wait may be linked to it too.
+// A place was added to the tree: the remaining places may be linked to it too.
 #[inline(always)]
 fn join(arcs: &mut [Arc], instance: &Instance, taken: u16)
     requires place { taken < place_count instance.now }
@@ -62,7 +64,7 @@ fn join(arcs: &mut [Arc], instance: &Instance, taken: u16)
     }
 }
 
-// A place that waits, with its link to one that is taken: the lesser of the two arcs.
+// A remaining place with its link to a place in the tree: the lesser of the two arcs.
 #[inline(always)]
 fn link_between(instance: &Instance, taken: u16, place: u16) -> Arc
     requires taken { taken < place_count instance.now }

@@ -1,4 +1,4 @@
-//! The tables over some customers of an instance, and what they answer.
+//! The tables over some customers of an instance, and their answers.
 ghost use Rattle.std.specs.Prelude.{◌≡◌, ◌≤◌, ◌<◌, All, Contains, IfOk, IfSome, MatchOption};
 ghost use Rattle.std.specs.List.Sorted.{IsStrictlyIncreasing};
 ghost use Rattle.vrp_model.specs.Problem.{customers, place_count};
@@ -11,7 +11,7 @@ use std::alloc::Global;
 use std::marker::Model;
 use vrp_model::{Instance, NoMemory};
 
-/// Tables over some customers of an instance, from which the cost of what is still to pay is bounded from below.
+/// Tables over some customers of an instance that give a lower bound on what is still to pay.
 #[derive(Debug, Drop)]
 pub struct Tables<'a> {
     completions: Completions<'a>,
@@ -44,7 +44,7 @@ impl<'a> Tables<'a> {
         Ok(Tables { completions })
     }
 
-    /// The same tables, made in less time and room: each answer takes longer.
+    /// Tables with the same answers, made in less time and memory; each answer takes longer.
     pub fn for_few_looks(
         alloc: Global,
         instance: &'a Instance,
@@ -66,10 +66,10 @@ impl<'a> Tables<'a> {
         Tables::build(alloc, instance, &customers)
     }
 
-    /// The least cost of what carries the rest from a place: the walk home of the open truck with this load, where one is out
-    /// at a customer, and tours. A walk may come to a customer again, but not straight from itself. `None`: nothing carries
-    /// exactly the rest. Where a customer has no demand, or the tables would be too large, the answer is 0.
-    // Asked at each partial plan that is looked at.
+    /// The least cost of carrying the rest from a place: the walk home of the open truck with this load, if one is out at a
+    /// customer, and tours. A walk may visit a customer again, but not twice in a row. `None` if nothing carries exactly the
+    /// rest. If a customer has no demand, or the tables would be too large, the answer is 0.
+    // Called at each partial plan.
     #[inline(always)]
     pub fn q_bound(&self, at: u16, load: u64, rest: u64) -> Option<u64>
         requires place { at < place_count self.now.problem }
@@ -82,7 +82,7 @@ impl<'a> Tables<'a> {
         self.completions.bound(None, at, load, rest)
     }
 
-    /// How the tables are kept, where they are made.
+    /// How the tables are kept, if they are made.
     pub fn shape(&self) -> Option<Shape>
         ensures { let made = AreMade self.now.problem self.now.among in
             MatchOption result (made → ⊥) (λ _. made) }

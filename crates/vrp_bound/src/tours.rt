@@ -1,4 +1,4 @@
-//! The table of the tours: the least cost of closed walks of one truck each, by what they carry together.
+//! The table of the tours: the least cost of closed walks of one truck each, by their total load.
 ghost use Rattle.std.specs.Prelude.{◌≡◌, ◌≤◌, IfOk, length};
 ghost use Rattle.vrp_model.specs.Route.{load_of};
 ghost use Rattle.vrp_bound.specs.Inner.Cells.{mark};
@@ -9,7 +9,7 @@ use crate::walks::MARK;
 use std::alloc::Global;
 use vrp_model::NoMemory;
 
-/// The cells, by what is carried, up to the whole demand.
+/// The cells, by load, up to the whole demand.
 pub(crate) fn tours(
     alloc: Global,
     scope: UnitScope<'_>,
@@ -31,7 +31,8 @@ pub(crate) fn tours(
     Ok(cells)
 }
 
-// The least cost of tours that carry as much as there are cells: by the load of the first tour, and the tours behind it.
+// The least cost of tours that carry as much as there are cells: over the load of the first tour, plus the tours for the
+// rest.
 fn least_tours(scope: UnitScope<'_>, walks: &[u64], cells: &[u64], room: usize) -> u64
     requires walks { AreWalksOver scope walks.now }
     requires so_far { AreToursOverSoFar scope cells.now }

@@ -1,4 +1,4 @@
-//! The tree bound: what is still to pay joins all places that are left, and each later route drives home.
+//! The tree bound: the remaining arcs connect all places that are left, and each later route drives home.
 ghost use Rattle.std.specs.Prelude.{◌≡◌, ◌*◌, ◌≤◌, ◌<◌, All, Contains, IfOk};
 ghost use Rattle.std.specs.List.Sorted.{IsStrictlyIncreasing};
 ghost use Rattle.vrp_model.specs.Problem.{IsProblem, customers, place_count};
@@ -13,7 +13,7 @@ use std::alloc::Global;
 use std::marker::Model;
 use vrp_model::{Instance, MAX_ARCS, NoMemory};
 
-/// Room in which least trees and least arcs home are found, so that no bound asks for memory. As a value: for how many places.
+/// Memory for minimum spanning trees and least arcs home, so that no bound allocates. As a value: for how many places.
 #[derive(Debug, Drop)]
 pub struct TreeScratch {
     arcs: Vec<Arc>,
@@ -28,7 +28,7 @@ impl Model for TreeScratch {
 }
 
 impl TreeScratch {
-    /// Room for all places of an instance.
+    /// Memory for all places of an instance.
     pub fn new(alloc: Global, instance: &Instance) -> Result<TreeScratch, NoMemory>
         ensures { IfOk result (λ room. place_count instance.now ≤ room) }
     {
@@ -38,10 +38,10 @@ impl TreeScratch {
         })
     }
 
-    /// What is at least still to pay from a place, with this load on the truck that is out there: the weight of a least spanning
-    /// tree over the last place, the unserved customers and the depot, where the weight between two places is the lesser of the
-    /// two arcs; and for each route that must still be opened an arc home, the least ones from different customers. `unserved` is
-    /// by rising place, and `rest` what they demand. No route is open where the place is the depot.
+    /// The tree bound from a place, with this load on the current truck: the weight of a minimum spanning tree over the last
+    /// place, the unserved customers and the depot, where the weight between two places is the lesser of the two arcs; plus
+    /// an arc home for each route that must still be opened, the least ones from different customers. `unserved` is by rising
+    /// place, and `rest` is its demand. No route is open if the place is the depot.
     pub fn tree_bound(
         &mut self,
         instance: &Instance,
@@ -66,16 +66,16 @@ impl TreeScratch {
     }
 }
 
-// How many routes must still be opened.
+// The number of routes that must still be opened.
 fn later_routes(instance: &Instance, at: u16, load: u64, unserved: &[u16], rest: u64) -> u64
     requires load { load ≤ instance.now.capacity }
     requires place { at < place_count instance.now }
     requires rest { rest ≤ load_of instance.now (customers instance.now) }
     ensures later { IsLaterRoutes instance.now at load unserved.now rest result }
-    // What is known of every instance.
+    // An invariant of every instance.
     ensures problem { IsProblem instance.now }
 {
-    // The number of customers comes with what is known of every instance.
+    // The invariant of an instance gives the number of customers.
     prove!(at <= instance.customers());
     let capacity = instance.capacity();
     let room = if at == 0 { 0 } else { capacity - load };

@@ -1,4 +1,4 @@
-//! Demands counted in a unit: the greater it is, the smaller the tables are.
+//! Demands counted in a unit: the greater the unit, the smaller the tables.
 ghost use Rattle.std.specs.Prelude.{◌≡◌, ◌≤◌, ◌/◌, IfOk};
 ghost use Rattle.std.specs.Option.{ForSome};
 ghost use Rattle.vrp_model.specs.Problem.{place_count};
@@ -11,7 +11,7 @@ use std::alloc::Global;
 use vrp_bound_ng::NgSets;
 use vrp_model::{Instance, NoMemory};
 
-/// Some customers of an instance, what walks through them remember, if anything, and a unit that divides each of their demands.
+/// Some customers of an instance, the ng-sets of walks through them, if any, and a unit that divides each of their demands.
 #[derive(Clone, Copy)]
 pub(crate) struct UnitScope<'a> {
     pub(crate) instance: &'a Instance,
@@ -45,7 +45,7 @@ impl<'a> UnitScope<'a> {
         }
     }
 
-    /// How many whole units an amount has.
+    /// The whole units of an amount.
     pub(crate) fn whole_units(self, amount: u64) -> u64
         ensures { result ≡ amount / self.entry.unit }
     {
@@ -56,7 +56,7 @@ impl<'a> UnitScope<'a> {
     }
 }
 
-/// The greatest unit that divides each of these customers' demands; 1 where none of them has a demand.
+/// The greatest unit that divides each of these customers' demands; 1 if none of them has a demand.
 pub fn unit_of(scope: Scope<'_>) -> u64
     ensures { IsGreatestUnit scope.entry.instance.now scope.entry.customers.now result }
 {

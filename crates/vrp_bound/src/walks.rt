@@ -1,4 +1,4 @@
-//! The table of the walks: the least cost of a walk from each place to the depot, by the load that it takes up.
+//! The table of the walks: the least cost of a walk from each place to the depot, by its load.
 ghost use Rattle.std.specs.Prelude.{◌≡◌, ◌+◌, ◌*◌, ◌≤◌, ◌<◌, IfOk, length, vec_len, vec_capacity};
 ghost use Rattle.vrp_model.specs.Problem.{place_count};
 ghost use Rattle.vrp_bound.specs.Inner.Cells.{mark};
@@ -10,10 +10,10 @@ use crate::units::UnitScope;
 use std::alloc::Global;
 use vrp_model::NoMemory;
 
-/// What stands where there is no walk or no tours: above every cost, and twice of it still fits.
+/// The mark for "no walk" or "no tours": above every cost, and twice it still fits.
 pub(crate) const MARK: u64 = 4_000_000_000_000_000_000;
 
-/// The cells, by load and of each load by place, for loads up to what one truck can carry. `demands` is by place.
+/// The cells, by load and then by place, for loads up to the capacity. `demands` is by place.
 pub(crate) fn walks(
     alloc: Global,
     scope: UnitScope<'_>,
@@ -33,7 +33,7 @@ pub(crate) fn walks(
     }
 }
 
-// The same where a walk remembers its next stop alone.
+// The cells of walks that remember only their next stop, by load and then by place.
 fn plain_walks(
     alloc: Global,
     scope: UnitScope<'_>,
@@ -52,7 +52,7 @@ fn plain_walks(
     Ok(cells)
 }
 
-// Adds the cells of a load, after those of less.
+// Adds the cells of a load, after those of smaller loads.
 fn push_row(cells: &mut Vec<u64>, scope: UnitScope<'_>, demands: &[u64], load: usize)
     requires demands { demands.now ≡ (scaled scope).demands }
     requires so_far { ArePlainWalksSoFar scope cells.old.items }
@@ -68,7 +68,7 @@ fn push_row(cells: &mut Vec<u64>, scope: UnitScope<'_>, demands: &[u64], load: u
     }
 }
 
-// The least cost of a walk from a place that takes up this load: by its first stop, and the walk from there.
+// The least cost of a walk from a place with this load: over its first stop, plus the walk from there.
 fn least_walk(scope: UnitScope<'_>, demands: &[u64], cells: &[u64], load: usize, at: u16) -> u64
     requires demands { demands.now ≡ (scaled scope).demands }
     requires so_far { ArePlainWalksSoFar scope cells.now }

@@ -1,9 +1,9 @@
-//! How often each arc is used by the tours of the rounds so far: a mean that leans to the newest.
+//! The mean flow on each arc: how often the tours of the rounds so far use it, with the newest rounds weighted most.
 use std::alloc::Global;
 use vrp_bound_walks::{UsedArc, WHOLE_TOUR};
 use vrp_model::NoMemory;
 
-/// The use of an arc by a whole tour counts so much.
+/// The weight of one use of an arc by a whole tour.
 pub(crate) const USE: i64 = 1_024;
 
 // The newest round has one part in this many.
@@ -15,7 +15,7 @@ pub(crate) struct Flow {
     places: usize,
     // By place, and of each by place.
     mean: Vec<i64>,
-    // Those of the newest round, where a whole tour counts `WHOLE_TOUR`.
+    // The uses in the newest round; a whole tour counts `WHOLE_TOUR`.
     uses: Vec<i64>,
 }
 
@@ -30,7 +30,7 @@ impl Flow {
         })
     }
 
-    /// Takes in the arcs that a round used.
+    /// Adds the arcs that a round used.
     pub(crate) fn add(&mut self, used: &[UsedArc]) {
         self.uses.as_mut_slice().fill(0);
         for arc in used {

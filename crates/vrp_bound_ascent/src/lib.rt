@@ -1,5 +1,5 @@
-//! How prices are found by which a relaxation bounds well: rounds of filling tables and stepping towards a higher bound. Any prices
-//! bound, so nothing of an answer rests on this.
+//! The search for prices that bound well: each round fills tables and steps towards a higher bound. Any prices bound, so no answer
+//! depends on this.
 #![tactic(auto)]
 
 mod flow;
@@ -12,6 +12,6 @@ mod step;
 mod stepped_cuts;
 mod unit;
 
-pub use purpose::MOST_SEARCHED;
+pub use purpose::{MAX_BOUND_TABLE, MOST_SEARCHED};
 pub use remembered::{Remembered, is_affordable};
 pub use rounds::{FoundPrices, find_prices, find_prices_for_routes};

@@ -1,46 +1,50 @@
-//! What prices are sought for, and how large tables may be for that.
+//! The purpose of a search for prices, and how large its tables may be.
 ghost use Rattle.std.specs.Prelude.{◌≤◌};
 
 use vrp_bound_walks::Size;
 use vrp_model::Instance;
 
-/// Of so many customers prices are sought for a search, of more for what they bound alone: there a search ends nothing, and what they
-/// bound is worth more than how fast it is looked up.
+/// With up to this many customers prices serve a search; with more they only bound. A search would not end there, so a good bound is
+/// worth more than a fast look-up.
 pub const MOST_SEARCHED: u16 = 127;
 
-/// The most steps that one round of filling tables takes for a search.
+/// The most steps of a round if prices serve a search.
 pub(crate) const MAX_ROUND: u64 = 20_000_000;
 
 // The most cells of a table by place, room and rest.
 const MAX_COMPLETION_TABLE: u64 = 40_000_000;
 
-// The greatest tables that bound: vrp_bound makes none by more steps.
-const MAX_BOUND_TABLE: u64 = 200_000_000;
+// The largest tables for look-ups, by the steps that fill them: vrp_bound makes no larger ones.
+const MAX_LOOKUP_TABLE: u64 = 200_000_000;
 
-// The most steps by which those are filled whose walks remember. They take up to a second, in which nothing can be stopped.
-const MAX_REMEMBERING_TABLE: u64 = 400_000_000;
+/// The largest tables for a single look, by the steps that fill them. That takes up to a few seconds, and nothing can stop it; so these
+/// steps are a small part of all steps.
+pub const MAX_BOUND_TABLE: u64 = 4_000_000_000;
 
-// For a search, fewer rounds would prune less than what prices stand in for.
+// The most steps that tables of walks with ng-sets may take: beyond that, more rounds gain more.
+const MAX_NG_TABLE: u64 = 400_000_000;
+
+// With fewer rounds a search would prune less than without prices.
 const LEAST_ROUNDS: u64 = 100;
 
 const LEAST_BOUNDING_ROUNDS: u64 = 20;
 
-// Finer units pay where so many rounds are left.
+// Finer units pay if they leave this many rounds.
 const LEAST_FINE_ROUNDS: u64 = 300;
 
-/// What prices are sought for.
+/// The purpose of prices.
 #[derive(Clone, Copy, Debug)]
 pub(crate) enum Purpose {
     /// To prune partial plans: each is looked up in a completion table.
     Search,
-    /// To list routes: their beginnings are looked up in the tables that bound, which are smaller.
+    /// To list routes: their beginnings are looked up in the bounding tables, which are smaller.
     Routes,
-    /// To bound what every plan costs: one look at the tours.
+    /// To bound every plan: one look at the tours.
     Bound,
 }
 
 impl Purpose {
-    /// That of an instance.
+    /// The purpose for an instance.
     pub(crate) fn of(instance: &Instance) -> Purpose {
         if instance.customers() <= MOST_SEARCHED {
             Purpose::Search
@@ -65,15 +69,22 @@ impl Purpose {
         }
     }
 
-    /// Whether tables of this size are small enough, where so many steps may be taken in all.
+    /// Whether tables of this size are small enough for this many steps in all.
     pub(crate) fn allows(self, size: Size, steps: u64) -> bool {
         match self {
             Purpose::Search => can_search(size),
             Purpose::Routes => {
                 can_search(size)
-                    || (size.steps() <= MAX_ROUND.min(steps / LEAST_FINE_ROUNDS) && can_bound(size))
+                    || (size.steps() <= MAX_ROUND.min(steps / LEAST_FINE_ROUNDS)
+                        && bound_table(size) <= MAX_LOOKUP_TABLE
+                        && can_tour(size))
             }
-            Purpose::Bound => can_bound(size) && size.steps() <= steps / LEAST_BOUNDING_ROUNDS,
+            Purpose::Bound => {
+                let most = steps / LEAST_BOUNDING_ROUNDS;
+                size.steps() <= most
+                    && bound_table(size) <= MAX_BOUND_TABLE.min(most)
+                    && can_tour(size)
+            }
         }
     }
 }
@@ -83,17 +94,17 @@ fn can_search(size: Size) -> bool {
     size.steps() <= MAX_ROUND && completion_table(size) <= MAX_COMPLETION_TABLE
 }
 
-// Whether the tables that bound are small enough.
-fn can_bound(size: Size) -> bool {
-    bound_table(size) <= MAX_BOUND_TABLE && size.whole.saturating_mul(size.room) <= MAX_BOUND_TABLE
+// Whether the table of tours is small enough.
+fn can_tour(size: Size) -> bool {
+    size.whole.saturating_mul(size.room) <= MAX_LOOKUP_TABLE
 }
 
-/// How many customers near each place walks remember where prices bound, of this many at most: as many as let the table that bounds be
-/// filled in as many steps as a round may have.
+/// The number of near customers of each place if prices only bound, at most this many: as many as keep the bounding table within the
+/// steps of a round.
 pub(crate) fn remembered_for_bound(size: Size, most: usize, steps: u64) -> usize
     ensures { result ≤ most }
 {
-    let allowed = MAX_REMEMBERING_TABLE.min(steps / LEAST_BOUNDING_ROUNDS);
+    let allowed = MAX_NG_TABLE.min(steps / LEAST_BOUNDING_ROUNDS);
     let mut table = bound_table(size);
     for near in 0..most {
         table = table.saturating_mul(2);
@@ -104,14 +115,14 @@ pub(crate) fn remembered_for_bound(size: Size, most: usize, steps: u64) -> usize
     most
 }
 
-// How many cells a table by place, room and rest has.
+// The number of cells of a table by place, room and rest.
 fn completion_table(size: Size) -> u64 {
     size.places
         .saturating_mul(size.room.saturating_add(1))
         .saturating_mul(size.whole.saturating_add(1))
 }
 
-// How many steps it takes to fill the table that bounds, where walks remember nobody.
+// The number of steps that fill the bounding table, without ng-sets.
 fn bound_table(size: Size) -> u64 {
     size.places
         .saturating_mul(size.places)

@@ -1,4 +1,4 @@
-//! How much the walks of the rounds remember: as much as short rounds, and enough of them, allow.
+//! The ng-sets of the walks in the rounds: as large as short rounds, and enough of them, allow.
 ghost use Rattle.std.specs.Prelude.{◌≡◌, ◌≤◌, ◌/◌, ◌↔◌, IfOk, IsTrue, max};
 ghost use Rattle.vrp_bound_ng.specs.declared.ng_sets.TheConstants.{MOST_NEAR};
 ghost use Rattle.vrp_model.specs.Problem.{place_count};
@@ -9,24 +9,23 @@ use vrp_bound_ng::{MOST_NEAR, NgSets};
 use vrp_bound_walks::{NearLooks, Size};
 use vrp_model::{Instance, NoMemory};
 
-// With fewer rounds prices gain more by more rounds than by ng-sets.
+// With fewer rounds than this, more rounds gain more than ng-sets.
 const LEAST_REMEMBERING_ROUNDS: u64 = 150;
 
-/// What walks remember, the looks that follow, and how large the tables are.
+/// The ng-sets, the looks that follow from them, and the size of the tables.
 #[derive(Debug, Drop)]
 pub struct Remembered {
-    /// Who is near each place, and what follows of that for what walks remember.
+    /// The near customers of each place, and the ng-sets.
     pub ng_sets: NgSets,
-    /// The looks of that ng-set.
+    /// The looks by these ng-sets.
     pub looks: NearLooks,
-    /// How large the tables are with these looks.
+    /// The size of the tables with these looks.
     pub size: Size,
 }
 
 impl Remembered {
-    /// The largest ng-set, of at most this many customers near each place, with which rounds over tables of this size are
-    /// affordable (`is_affordable`) by so many steps; the one of nobody if there is no other. The size is one of the instance, with
-    /// no looks.
+    /// The largest ng-sets, with at most this many customers near each place, whose rounds are affordable (`is_affordable`) within
+    /// this many steps; ng-sets of nobody if there are no others. The size is that of the instance, without looks.
     pub fn largest(
         alloc: Global,
         instance: &Instance,
@@ -46,7 +45,7 @@ impl Remembered {
         Remembered::new(alloc, instance, size, 0)
     }
 
-    /// The ng-set for prices that are sought for this purpose.
+    /// The ng-sets for prices of this purpose.
     pub(crate) fn for_purpose(
         alloc: Global,
         instance: &Instance,
@@ -69,7 +68,7 @@ impl Remembered {
         }
     }
 
-    // Where this many customers are near each place.
+    // The ng-sets if this many customers are near each place.
     fn new(
         alloc: Global,
         instance: &Instance,
@@ -90,7 +89,8 @@ impl Remembered {
     }
 }
 
-// How many customers to try first, of this many at most: no more than there are beside one, and none where rounds are too long without.
+// The number of near customers to try first, at most this many: no more than there are others, and none if rounds are too long even
+// without ng-sets.
 fn most_to_try(instance: &Instance, size: Size, most: usize, steps: u64) -> usize
     ensures { result ≤ most }
 {
@@ -101,8 +101,7 @@ fn most_to_try(instance: &Instance, size: Size, most: usize, steps: u64) -> usiz
     }
 }
 
-/// Whether a round that takes so many steps is short enough for ng-walks, 20,000,000 steps at most, and all the steps are
-/// enough for 150 such rounds.
+/// Whether a round of this many steps is short enough for ng-walks, at most 20,000,000, and all the steps suffice for 150 such rounds.
 pub fn is_affordable(round: u64, steps: u64) -> bool
     ensures { IsTrue result ↔ (round ≤ 20000000) × (150 ≤ steps / max round 1) }
 {

@@ -1,4 +1,4 @@
-//! How prices are found: rounds of filling tables and stepping towards a higher bound.
+//! The rounds of a search for prices: each fills tables and steps towards a higher bound.
 ghost use Rattle.std.specs.Prelude.{◌≡◌, ◌≤◌, All, IfOk, IfSome, vec_len};
 ghost use Rattle.vrp_bound_ng.specs.declared.ng_sets.TheConstants.{MOST_NEAR};
 ghost use Rattle.vrp_model.specs.Problem.{place_count};
@@ -17,26 +17,27 @@ use vrp_bound_prices::{Cut, MAX_SCALE, Relaxation};
 use vrp_bound_walks::{Size, Walks};
 use vrp_model::{Instance, NoMemory};
 
-// What a plan should cost at most by the scale.
+// The cost of a plan, after scaling, is about this.
 const SCALED_COST: u64 = 1_000_000_000;
 
-/// Prices that were found, and what walks remember by which they bound well.
+/// Prices, and the ng-sets with which they bound well.
 #[derive(Debug, Drop)]
 pub struct FoundPrices<'a> {
     /// The relaxation by the prices and cut prices.
     pub relaxation: Relaxation<'a>,
-    /// The ng-sets of the walks by whose least tours the prices were found.
+    /// The ng-sets of the walks in the rounds.
     pub ng_sets: NgSets,
 }
 
-/// Prices and cut prices that bound the instance's plans well, where a plan of it costs so much, and the ng-sets of the walks in
-/// their rounds: the ng-routes of Baldacci, Mingozzi and Roberti (2011). At most this many steps are taken to find them: looks from
-/// one cell of a table at another, and looks at an arc for a cut with a price. Walks remember up to this many customers near each
-/// place, and fewer where rounds would be long or few. Before each round it is asked whether to go on. Of up to 127 customers they
-/// are prices to search by, with demands in units so coarse that there can be a completion table; of more, prices that bound alone,
-/// and so in finer units. `None` where the steps are too few for a hundred rounds of walks that remember nothing, or for twenty
-/// where prices bound alone, or no unit makes the tables small, or the prices are out of range. Which prices they are, and which
-/// ng-sets, is left open: any bound the instance's plans.
+/// Finds prices and cut prices that bound the instance's plans well, with the ng-sets of the walks in the rounds (the ng-routes of
+/// Baldacci, Mingozzi and Roberti 2011). `cost` is the cost of a plan, at which the bound aims. At most `steps` steps are taken: looks
+/// from one cell of a table at another, and looks at an arc for a cut with a price. Up to `near` customers are near each place, fewer if
+/// rounds would be long or few. `should_continue` is asked before each round.
+///
+/// With up to 127 customers the prices serve a search, so demands are counted in a unit that is coarse enough for a completion table.
+/// With more they only bound, in finer units. `None` if the steps don't suffice for a hundred rounds without ng-sets (twenty if prices
+/// only bound), if no unit makes the tables small enough, or if the prices are out of range. The contract leaves open which prices and
+/// ng-sets are found: any prices bound.
 pub fn find_prices<'a, F: Fn() -> bool>(
     alloc: Global,
     instance: &'a Instance,
@@ -52,15 +53,14 @@ pub fn find_prices<'a, F: Fn() -> bool>(
     ensures ng_sets { IfOk result (λ found.
         IfSome found (λ prices. prices.ng_sets.places ≡ place_count instance.now)) }
 {
-    let purpose = Purpose::of(instance);
-    prices_for(alloc, instance, purpose, cost, near, steps, should_continue)
+    let aim = Aim { cost, near, steps };
+    prices_for(alloc, instance, Purpose::of(instance), aim, should_continue)
 }
 
-/// Prices and cut prices to list the routes of an instance of at most 127 customers by, where a plan of it costs so much, and the
-/// ng-sets of the walks in their rounds. Where at most this many steps allow 300 rounds, demands are counted in finer units than
-/// `find_prices` has for a search, since there need be no completion table; else all is as there. Before each round it is asked whether
-/// to go on. `None` where the steps are too few for a hundred rounds, no unit makes the tables small, or the prices are out of range.
-/// Which prices they are, which units and which ng-sets, is left open: any bound the instance's plans.
+/// Finds prices and cut prices for listing the routes of an instance of at most 127 customers, with the ng-sets of the walks in the
+/// rounds. The arguments are those of `find_prices`. If the steps suffice for 300 rounds, demands are counted in finer units than there,
+/// since no completion table is needed. `None` if the steps don't suffice for a hundred rounds, if no unit makes the tables small
+/// enough, or if the prices are out of range. The contract leaves open which prices, units and ng-sets are found: any prices bound.
 pub fn find_prices_for_routes<'a, F: Fn() -> bool>(
     alloc: Global,
     instance: &'a Instance,
@@ -76,15 +76,19 @@ pub fn find_prices_for_routes<'a, F: Fn() -> bool>(
     ensures ng_sets { IfOk result (λ found.
         IfSome found (λ prices. prices.ng_sets.places ≡ place_count instance.now)) }
 {
-    prices_for(
-        alloc,
-        instance,
-        Purpose::Routes,
-        cost,
-        near,
-        steps,
-        should_continue,
-    )
+    let aim = Aim { cost, near, steps };
+    prices_for(alloc, instance, Purpose::Routes, aim, should_continue)
+}
+
+// The aim of a search for prices, and its limits.
+#[derive(Clone, Copy)]
+struct Aim {
+    // The cost of a plan.
+    cost: u64,
+    // The most customers near each place.
+    near: usize,
+    steps: u64,
+    ghost few: { near ≤ MOST_NEAR },
 }
 
 // Prices and cuts for a purpose.
@@ -92,39 +96,36 @@ fn prices_for<'a, F: Fn() -> bool>(
     alloc: Global,
     instance: &'a Instance,
     purpose: Purpose,
-    cost: u64,
-    near: usize,
-    steps: u64,
+    aim: Aim,
     should_continue: &F,
 ) -> Result<Option<FoundPrices<'a>>, NoMemory>
-    requires near { near ≤ MOST_NEAR }
     requires should_continue { F.IsAlwaysCallable should_continue.now }
     ensures relaxation { IfOk result (λ found.
         IfSome found (λ prices. prices.relaxation.problem ≡ instance.now)) }
     ensures ng_sets { IfOk result (λ found.
         IfSome found (λ prices. prices.ng_sets.places ≡ place_count instance.now)) }
 {
-    let Some(unit) = unit_for(instance, purpose, steps) else {
+    let Some(unit) = unit_for(instance, purpose, aim.steps) else {
         return Ok(None);
     };
-    let scale = (SCALED_COST / cost.max(1)).clamp(1, MAX_SCALE);
+    let scale = (SCALED_COST / aim.cost.max(1)).clamp(1, MAX_SCALE);
     let size = Size::in_units(instance, unit);
-    if steps / size.steps().max(1) < purpose.least_rounds() {
+    if aim.steps / size.steps().max(1) < purpose.least_rounds() {
         return Ok(None);
     }
-    let remembered = Remembered::for_purpose(alloc, instance, purpose, size, near, steps)?;
-    let (ng_sets, size) = (remembered.ng_sets, remembered.size);
-    let mut walks = Walks::new(alloc, instance, scale, unit, size, remembered.looks)?;
-    let best = best_prices(
-        alloc,
-        instance,
-        &mut walks,
-        scale,
-        cost,
+    let Remembered {
+        ng_sets,
+        looks,
         size,
-        steps,
-        should_continue,
-    )?;
+    } = Remembered::for_purpose(alloc, instance, purpose, size, aim.near, aim.steps)?;
+    let walks = Walks::new(alloc, instance, scale, unit, size, looks)?;
+    let mut rounds = Rounds {
+        instance,
+        walks,
+        size,
+        scale,
+    };
+    let best = rounds.best_prices(alloc, aim, should_continue)?;
     match Relaxation::new(alloc, instance, scale, unit, &best.prices, &best.cuts)? {
         Some(relaxation) => Ok(Some(FoundPrices {
             relaxation,
@@ -134,113 +135,105 @@ fn prices_for<'a, F: Fn() -> bool>(
     }
 }
 
-// Prices, a price for each place, and cuts with their prices.
+// A price for each place, and cuts with their prices.
 #[derive(Drop)]
 struct BestPrices {
     prices: Vec<i64>,
     cuts: Vec<Cut>,
 }
 
-// Those by which the highest bound was found.
-fn best_prices<F: Fn() -> bool>(
-    alloc: Global,
-    instance: &Instance,
-    walks: &mut Walks,
-    scale: u64,
-    cost: u64,
+// What all rounds share: the tables that they fill, the size of these, and the scale of the weights.
+#[derive(Drop)]
+struct Rounds<'a> {
+    instance: &'a Instance,
+    walks: Walks,
     size: Size,
-    steps: u64,
-    should_continue: &F,
-) -> Result<BestPrices, NoMemory>
-    requires { F.IsAlwaysCallable should_continue.now }
-    ensures one_each { IfOk result (λ best. vec_len best.prices ≡ place_count instance.now) }
-    ensures cuts { IfOk result (λ best. All (IsCut instance.now) best.cuts.items) }
-    ensures few { IfOk result (λ best. vec_len best.cuts ≤ MAX_CUTS) }
-{
-    let mut ascent = new_ascent(alloc, instance, walks, scale, cost)?;
-    ascend(
-        alloc,
-        instance,
-        walks,
-        &mut ascent,
-        size,
-        steps,
-        should_continue,
-    )?;
-    let (prices, cuts) = ascent.into_best();
-    let prices = lifted(alloc, instance, walks, &prices, &cuts)?;
-    let cuts = cuts.into_cuts(alloc, instance)?;
-    Ok(BestPrices { prices, cuts })
+    scale: u64,
 }
 
-// Begins with no prices. Where prices bound alone, and arcs cost the same there and back, steps go by the least route through each
-// customer.
-fn new_ascent(
-    alloc: Global,
-    instance: &Instance,
-    walks: &Walks,
-    scale: u64,
-    cost: u64,
-) -> Result<Ascent, NoMemory> {
-    let places = usize::from(instance.customers()) + 1;
-    let scale = i64::try_from(scale).unwrap_or(1);
-    let aim = i64::try_from(cost).unwrap_or(i64::MAX);
-    let shares = match Purpose::of(instance) {
-        Purpose::Bound if instance.symmetric() => Some(Shares::new(alloc, walks)?),
-        _ => None,
-    };
-    Ascent::new(alloc, places, scale, aim, shares)
-}
+impl Rounds<'_> {
+    // The prices with the highest bound.
+    fn best_prices<F: Fn() -> bool>(
+        &mut self,
+        alloc: Global,
+        aim: Aim,
+        should_continue: &F,
+    ) -> Result<BestPrices, NoMemory>
+        requires { F.IsAlwaysCallable should_continue.now }
+        ensures one_each { IfOk result (λ best. vec_len best.prices ≡ place_count self.old.instance.now) }
+        ensures cuts { IfOk result (λ best. All (IsCut self.old.instance.now) best.cuts.items) }
+        ensures few { IfOk result (λ best. vec_len best.cuts ≤ MAX_CUTS) }
+    {
+        let mut ascent = self.new_ascent(alloc, aim.cost)?;
+        self.ascend(alloc, &mut ascent, aim.steps, should_continue)?;
+        let (prices, cuts) = ascent.into_best();
+        let prices = self.lifted(alloc, &prices, &cuts)?;
+        let cuts = cuts.into_cuts(alloc, self.instance)?;
+        Ok(BestPrices { prices, cuts })
+    }
 
-// Fills the tables and steps, till the steps are taken, or no more are worth it, or it is told to stop.
-fn ascend<F: Fn() -> bool>(
-    alloc: Global,
-    instance: &Instance,
-    walks: &mut Walks,
-    ascent: &mut Ascent,
-    size: Size,
-    steps: u64,
-    should_continue: &F,
-) -> Result<(), NoMemory>
-    requires { F.IsAlwaysCallable should_continue.now }
-{
-    let mut left = steps;
-    for _ in 0..Purpose::of(instance).most_rounds() {
-        let round = size
-            .steps()
-            .saturating_add(size.cut_prices(ascent.priced_cuts()));
-        if left < round || !should_continue() {
-            break;
-        }
-        left -= round;
-        let Some(tours) = ascent.fill(walks) else {
-            break;
+    // Starts without prices. If prices only bound, and costs are symmetric, steps go by the least route through each customer.
+    fn new_ascent(&self, alloc: Global, cost: u64) -> Result<Ascent, NoMemory> {
+        let places = usize::from(self.instance.customers()) + 1;
+        let scale = i64::try_from(self.scale).unwrap_or(1);
+        let aim = i64::try_from(cost).unwrap_or(i64::MAX);
+        let shares = match Purpose::of(self.instance) {
+            Purpose::Bound if self.instance.symmetric() => Some(Shares::new(alloc, &self.walks)?),
+            _ => None,
         };
-        if !ascent.step(alloc, instance, walks, tours)? {
-            break;
-        }
+        Ascent::new(alloc, places, scale, aim, shares)
     }
-    Ok(())
-}
 
-// The same prices, and so much more for each unit of a customer's demand that no arc costs less than nothing. All walks of a load
-// pay the same for it.
-fn lifted(
-    alloc: Global,
-    instance: &Instance,
-    walks: &mut Walks,
-    prices: &[i64],
-    cuts: &SteppedCuts,
-) -> Result<Vec<i64>, NoMemory>
-    ensures { IfOk result (λ lifted. vec_len lifted ≡ place_count instance.now) }
-{
-    cuts.enter(walks, prices);
-    let lift = walks.least_lift();
-    let mut lifted = Vec::with_capacity(alloc, usize::from(instance.customers()) + 1)?;
-    for place in 0..instance.customers() + 1 {
-        let demand = i64::try_from(walks.demand(usize::from(place))).unwrap_or(0);
-        let price = prices.get(usize::from(place)).copied().unwrap_or(0);
-        lifted.push(price.wrapping_add(lift.wrapping_mul(demand)))?;
+    // Fills the tables and steps until the steps are spent, more of them are not worth it, or it is stopped.
+    fn ascend<F: Fn() -> bool>(
+        &mut self,
+        alloc: Global,
+        ascent: &mut Ascent,
+        steps: u64,
+        should_continue: &F,
+    ) -> Result<(), NoMemory>
+        requires { F.IsAlwaysCallable should_continue.now }
+        ensures { self.new.instance ≡ self.old.instance }
+    {
+        let mut left = steps;
+        for _ in 0..Purpose::of(self.instance).most_rounds() {
+            let round = self
+                .size
+                .steps()
+                .saturating_add(self.size.cut_prices(ascent.priced_cuts()));
+            if left < round || !should_continue() {
+                break;
+            }
+            left -= round;
+            let Some(tours) = ascent.fill(&mut self.walks) else {
+                break;
+            };
+            if !ascent.step(alloc, self.instance, &mut self.walks, tours)? {
+                break;
+            }
+        }
+        Ok(())
     }
-    Ok(lifted)
+
+    // Raises each customer's price in proportion to its demand, until no arc has a negative cost. All walks of the same load pay the
+    // same for that.
+    fn lifted(
+        &mut self,
+        alloc: Global,
+        prices: &[i64],
+        cuts: &SteppedCuts,
+    ) -> Result<Vec<i64>, NoMemory>
+        ensures instance { self.new.instance ≡ self.old.instance }
+        ensures one_each { IfOk result (λ lifted. vec_len lifted ≡ place_count self.old.instance.now) }
+    {
+        cuts.enter(&mut self.walks, prices);
+        let lift = self.walks.least_lift();
+        let mut lifted = Vec::with_capacity(alloc, usize::from(self.instance.customers()) + 1)?;
+        for place in 0..self.instance.customers() + 1 {
+            let demand = i64::try_from(self.walks.demand(usize::from(place))).unwrap_or(0);
+            let price = prices.get(usize::from(place)).copied().unwrap_or(0);
+            lifted.push(price.wrapping_add(lift.wrapping_mul(demand)))?;
+        }
+        Ok(lifted)
+    }
 }

@@ -1,4 +1,4 @@
-//! Separation: sets of customers whose border the mean flow crosses less often than the trucks must that serve them.
+//! Separation: sets of customers whose border the mean flow crosses less often than the trucks that serve them must.
 ghost use Rattle.std.specs.Prelude.{◌<◌};
 
 use crate::flow::{Flow, USE};
@@ -6,13 +6,13 @@ use std::alloc::Global;
 use vrp_bound::trucks_needed;
 use vrp_model::{Instance, NoMemory};
 
-// A set grows to no more customers.
+// The most customers of a set.
 const MOST_GROWN: u16 = 127;
 
-// A set counts where this many crossings are wanting: a fifth of one.
+// A set is violated if at least this much of a crossing is missing: a fifth of one.
 const LEAST_WANTING: i64 = USE / 5;
 
-/// A set of customers, how many trucks must serve it, and how many crossings of its border are wanting in the flow.
+/// A set of customers, the trucks that must serve it, and the crossings of its border that the flow lacks.
 #[derive(Debug, Drop)]
 pub(crate) struct ViolatedCut {
     pub(crate) inside: Vec<bool>,
@@ -20,7 +20,7 @@ pub(crate) struct ViolatedCut {
     pub(crate) wanting: i64,
 }
 
-/// The sets with most crossings wanting of those that grow from each customer, most first.
+/// The most violated sets that grow from each customer, the most violated first.
 pub(crate) fn violated_cuts(
     alloc: Global,
     instance: &Instance,
@@ -38,7 +38,7 @@ pub(crate) fn violated_cuts(
     Ok(violated)
 }
 
-// A set that grows by the customer that most of the flow joins to it.
+// A set that grows by the customer with the largest flow into it.
 #[derive(Drop)]
 struct GrowingSet<'a> {
     instance: &'a Instance,
@@ -46,7 +46,7 @@ struct GrowingSet<'a> {
     inside: Vec<bool>,
     // The flow between the set and each place.
     joins: Vec<i64>,
-    // That across the border.
+    // The flow across the border.
     crossings: i64,
     load: u64,
     trucks: i64,
@@ -71,7 +71,7 @@ impl<'a> GrowingSet<'a> {
         })
     }
 
-    // The set on the way to nearly all customers, or to many, that has most crossings wanting, where they are enough.
+    // The most violated set on the way to many or nearly all customers, if it is violated enough.
     fn most_wanting(mut self, alloc: Global) -> Result<Option<ViolatedCut>, NoMemory> {
         let mut most = LEAST_WANTING;
         let mut found = None;
@@ -96,7 +96,7 @@ impl<'a> GrowingSet<'a> {
         Ok(found)
     }
 
-    // The customer outside to whom most of the flow goes.
+    // The customer outside with the largest flow into the set.
     fn most_joined(&self) -> Option<usize> {
         let mut most = i64::MIN;
         let mut joined = None;
@@ -109,7 +109,7 @@ impl<'a> GrowingSet<'a> {
         joined
     }
 
-    // Takes a customer in.
+    // Adds a customer.
     fn take_in(&mut self, customer: usize) {
         let flow = self.flow.of(customer);
         let own = self.joins.get(customer).copied().unwrap_or(0);
@@ -130,7 +130,7 @@ impl<'a> GrowingSet<'a> {
     }
 }
 
-// What a customer demands; nothing where there is no such customer.
+// The demand of a customer, 0 if there is no such customer.
 fn demand(instance: &Instance, customer: usize) -> u64 {
     if customer <= usize::from(instance.customers()) {
         instance.demand(customer as u16)

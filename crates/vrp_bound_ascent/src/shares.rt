@@ -1,5 +1,5 @@
-//! What each customer pays of the least route through it: by so many routes as there are customers a round tells more than by the
-//! least tours, which are mostly one tour over and over. After Baldacci, Christofides and Mingozzi (2008).
+//! Shares: each customer pays a part of the least route through it. A round learns more from one route for each customer than from the
+//! least tours, which are mostly one tour repeated. After Baldacci, Christofides and Mingozzi (2008).
 use std::alloc::Global;
 use vrp_bound_walks::{LeastRoute, LeastRoutes, UsedArc, Walks};
 use vrp_model::NoMemory;
@@ -12,7 +12,7 @@ pub(crate) struct Shares {
 }
 
 impl Shares {
-    /// None yet.
+    /// No routes yet.
     pub(crate) fn new(alloc: Global, walks: &Walks) -> Result<Shares, NoMemory> {
         Ok(Shares {
             finder: LeastRoutes::new(alloc, walks)?,
@@ -20,9 +20,9 @@ impl Shares {
         })
     }
 
-    /// Finds the least route through each customer in the tables that were filled by these prices, and lets the customer pay its
-    /// share of what that costs, by what it demands of its load. Then no route costs less than nothing, so the prices alone bound:
-    /// half of a share is paid on the inbound arc, and half on the outbound arc.
+    /// Finds the least route through each customer in the tables filled by these prices, and adds its share of that route's cost to the
+    /// customer's price, in proportion to its demand in the route's load. Then no route has a negative cost, so the prices alone bound.
+    /// Half of a share is paid on the inbound arc, and half on the outbound arc.
     pub(crate) fn settle(&mut self, walks: &Walks, prices: &mut [i64]) -> Result<(), NoMemory> {
         self.routes.clear();
         for (place, price) in prices.iter_mut().enumerate() {
@@ -37,7 +37,7 @@ impl Shares {
         Ok(())
     }
 
-    /// Lists the arcs of those routes, in place of what stands there.
+    /// Replaces the contents of a list by the arcs of those routes.
     pub(crate) fn list_used(&self, walks: &Walks, used: &mut Vec<UsedArc>) -> Result<(), NoMemory> {
         used.clear();
         for route in &self.routes {

@@ -7,10 +7,10 @@ use std::alloc::Global;
 use vrp_bound_walks::{UsedArc, WHOLE_TOUR, Walks};
 use vrp_model::{Instance, NoMemory};
 
-// A visit or a crossing too many or too few counts so much in a direction.
+// The weight of one visit or crossing too many or too few in a direction.
 const UNIT: i64 = 256;
 
-// The pace of the first step, in 1024ths, and the one below which no more are made.
+// The pace of the first step, in 1024ths, and the least pace of a step.
 const FIRST_PACE: i64 = 1_024;
 
 const LAST_PACE: i64 = 4;
@@ -18,26 +18,26 @@ const LAST_PACE: i64 = 4;
 // The least pace with which new cuts begin.
 const PACE_OF_NEW_CUTS: i64 = 300;
 
-// After this many rounds without a better bound the pace slackens.
+// After this many rounds without a better bound the pace falls.
 const PATIENCE: u32 = 15;
 
-// By the routes of all customers a step is surer: so the first is shorter, and the pace slackens sooner.
+// Steps by the routes of all customers are surer: so the first is shorter, and the pace falls sooner.
 const FIRST_PACE_BY_SHARES: i64 = 400;
 
 const PATIENCE_BY_SHARES: u32 = 3;
 
-// Where the pace has come to its end they begin again from the best prices, with twice the patience, up to this.
+// When the pace has fallen to its least, steps begin again from the best prices with twice the patience, up to this.
 const MOST_PATIENCE: u32 = 24;
 
-/// Prices and cut prices on their way, and the best so far.
+/// The current prices and cut prices, and the best so far.
 #[derive(Debug, Drop)]
 pub(crate) struct Ascent {
-    // What the plan costs that the bound is to come up to, by the scale.
+    // The scaled cost of the plan at which the bound aims.
     aim: i64,
     scale: i64,
     prices: Vec<i64>,
     cuts: SteppedCuts,
-    // Where steps go by the least route through each customer, and not by the least tours.
+    // Present if steps go by the least route through each customer, and not by the least tours.
     shares: Option<Shares>,
     // The direction of the last step.
     direction: Vec<i64>,
@@ -47,13 +47,13 @@ pub(crate) struct Ascent {
     // The bound by the best prices.
     low: Option<i64>,
     pace: i64,
-    // How many rounds there were without a better bound, and how many there may be.
+    // The number of rounds without a better bound, and the most there may be.
     stale: u32,
     patience: u32,
 }
 
 impl Ascent {
-    /// From no prices at all. Steps go by the least routes through customers, if these are given.
+    /// Starts without prices. Steps go by the least routes through customers, if these are given.
     pub(crate) fn new(
         alloc: Global,
         places: usize,
@@ -82,8 +82,8 @@ impl Ascent {
         })
     }
 
-    /// Fills the tables with the prices and cut prices that are to be tried next. What the least tours cost together, if there are
-    /// any: where they are not needed, nothing.
+    /// Fills the tables by the prices and cut prices to be tried next, and answers the cost of the least tours, if there are any; 0 if
+    /// tours are not needed.
     pub(crate) fn fill(&self, walks: &mut Walks) -> Option<i64> {
         self.cuts.enter(walks, &self.prices);
         match &self.shares {
@@ -95,7 +95,7 @@ impl Ascent {
         }
     }
 
-    /// How many cuts have a price.
+    /// The number of cuts with a price.
     pub(crate) fn priced_cuts(&self) -> u64 {
         self.cuts.priced_cuts()
     }
@@ -106,7 +106,7 @@ impl Ascent {
         (self.best, self.cuts)
     }
 
-    /// Steps on from the tables that were filled last, where `fill` answered so much; false where no more steps are worth it.
+    /// Steps on from the tables filled last, for which `fill` gave this answer; false if no more steps are worth it.
     pub(crate) fn step(
         &mut self,
         alloc: Global,
@@ -130,7 +130,7 @@ impl Ascent {
         Ok(self.go_on(bound))
     }
 
-    // Whether the pace has come to its end, and it doesn't pay to begin again from the best prices. If it does, that is done.
+    // Whether the pace has fallen to its least, and it doesn't pay to begin again from the best prices; if it does pay, begins again.
     fn is_over(&mut self) -> bool {
         if self.pace >= LAST_PACE {
             return false;
@@ -146,7 +146,7 @@ impl Ascent {
         false
     }
 
-    // What each plan costs at least, where the least tours cost so much. Where each customer pays its share the prices change first, and
+    // The lower bound on each plan, if the least tours cost this much. If each customer pays its share, the prices change first, and
     // then tours cost nothing.
     fn bound(&mut self, walks: &Walks, tours: i64) -> Result<i64, NoMemory> {
         if let Some(shares) = &mut self.shares {
@@ -160,7 +160,7 @@ impl Ascent {
         )
     }
 
-    // Takes the step by the arcs that were used; false where all visits and crossings are as they should be.
+    // Takes a step by the arcs that were used; false if all visits and crossings are as they should be.
     fn go_on(&mut self, bound: i64) -> bool {
         count_visits(self.visits.as_mut_slice(), &self.used);
         turn(self.direction.as_mut_slice(), &self.visits);
@@ -183,7 +183,7 @@ impl Ascent {
         true
     }
 
-    // Keeps the prices where they give the best bound. A gain of less than a twenty-thousandth doesn't count as one.
+    // Keeps the prices if they give the best bound. A gain of less than a twenty-thousandth doesn't count.
     fn keep(&mut self, bound: i64) {
         let gain = match self.low {
             Some(low) if bound <= low => false,
@@ -207,13 +207,13 @@ impl Ascent {
     }
 }
 
-/// A direction: three tenths of the last one, and seven of what is too many, or wanting, now, where a whole tour counts `WHOLE_TOUR`.
+/// A direction: three tenths of the last one, and seven tenths of the current excess or lack; a whole tour counts `WHOLE_TOUR`.
 pub(crate) fn deflected(last: i64, now: i64) -> i64 {
     let now = now / (WHOLE_TOUR / UNIT);
     last.wrapping_mul(3).wrapping_add(now.wrapping_mul(7)) / 10
 }
 
-// Counts the visits of each customer, `WHOLE_TOUR` by a whole tour. The depot counts as visited once, so that it keeps no price.
+// Counts the visits of each customer; a whole tour counts `WHOLE_TOUR`. The depot counts as visited once, so it keeps no price.
 fn count_visits(visits: &mut [i64], used: &[UsedArc]) {
     visits.fill(0);
     for arc in used {
@@ -233,7 +233,7 @@ fn turn(direction: &mut [i64], visits: &[i64]) {
     }
 }
 
-// A step along the direction, as long as the pace tells by the direction's length.
+// A step along the direction; the pace and the direction's length give its size.
 fn go(prices: &mut [i64], direction: &[i64], pace: i64, length: i64)
     requires { pos 0 <ℤ length }
 {

@@ -1,4 +1,4 @@
-//! Cuts whose prices are stepped beside the prices.
+//! Cuts whose prices step along with the prices of customers.
 ghost use Rattle.std.specs.Prelude.{◌≤◌, All, IfOk, pos, ◌<ℤ◌, vec_len};
 ghost use Rattle.vrp_bound_prices.specs.Cut.{IsCut};
 ghost use Rattle.vrp_bound_prices.specs.declared.limits.TheConstants.{MAX_CUTS};
@@ -16,10 +16,10 @@ const FIRST_ROUNDS: u32 = 30;
 
 const ROUNDS_BETWEEN: u32 = 15;
 
-// At most this many are taken at once.
+// At most this many are added at once.
 const MOST_AT_ONCE: usize = 8;
 
-// A cut on its way.
+// A cut with its current price.
 #[derive(Debug, Drop)]
 struct SteppedCut {
     inside: Vec<bool>,
@@ -37,7 +37,7 @@ impl SteppedCut {
         self.direction > 0 || self.cut_price > 0
     }
 
-    // How often the arcs cross its border, where a whole tour counts `WHOLE_TOUR`.
+    // How often the arcs cross its border; a whole tour counts `WHOLE_TOUR`.
     fn crossings(&self, used: &[UsedArc]) -> i64 {
         let mut crossings = 0i64;
         for arc in used {
@@ -53,17 +53,17 @@ impl SteppedCut {
     }
 }
 
-/// The cuts that were found so far, and the flow in which more are looked for.
+/// The cuts found so far, and the flow in which more are sought.
 #[derive(Debug, Drop)]
 pub(crate) struct SteppedCuts {
     cuts: Vec<SteppedCut>,
     flow: Flow,
-    // Rounds until cuts are looked for.
+    // The rounds until cuts are sought again.
     wait: u32,
 }
 
 impl SteppedCuts {
-    /// None yet.
+    /// No cuts yet.
     pub(crate) fn new(alloc: Global, places: usize) -> Result<SteppedCuts, NoMemory> {
         Ok(SteppedCuts {
             cuts: Vec::new(alloc),
@@ -82,7 +82,7 @@ impl SteppedCuts {
         }
     }
 
-    /// How many have a cut price.
+    /// The number of cuts with a price.
     pub(crate) fn priced_cuts(&self) -> u64 {
         let mut priced_cuts = 0u64;
         for cut in &self.cuts {
@@ -93,7 +93,7 @@ impl SteppedCuts {
         priced_cuts
     }
 
-    /// What the cut prices take off each plan at least.
+    /// The least amount that the cut prices take off each plan.
     pub(crate) fn rewards(&self) -> i64 {
         let mut rewards = 0i64;
         for cut in &self.cuts {
@@ -103,7 +103,7 @@ impl SteppedCuts {
         rewards
     }
 
-    /// Takes in the arcs that a round used, and looks for new cuts now and then; whether any were found.
+    /// Adds the arcs that a round used, and looks for new cuts now and then; answers whether any were found.
     pub(crate) fn look_for_more(
         &mut self,
         alloc: Global,
@@ -170,7 +170,7 @@ impl SteppedCuts {
         }
     }
 
-    /// Goes back to the cut prices of the best prices.
+    /// Returns to the cut prices of the best prices.
     pub(crate) fn go_back(&mut self) {
         for cut in self.cuts.iter_mut() {
             cut.cut_price = cut.best;

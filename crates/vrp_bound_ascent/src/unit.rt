@@ -1,4 +1,4 @@
-//! The unit that demands are counted in while prices are looked for: one by which the tables are small.
+//! The unit of demands in the search for prices: one that makes the tables small enough.
 ghost use Rattle.std.specs.Prelude.{◌≤◌, IfSome};
 
 use crate::purpose::Purpose;
@@ -9,11 +9,11 @@ use vrp_model::Instance;
 // More halvings than any capacity has.
 const HALVINGS: u32 = 40;
 
-// So many rises lead from 1 to above any capacity.
+// This many rises lead from 1 to above any capacity.
 const RISES: u32 = 400;
 
-/// The greatest common divisor of the demands, where that makes tables that are small enough for so many steps; else a unit that does,
-/// about the least. `None` where none is found.
+/// The greatest common divisor of the demands, if that makes tables small enough for this many steps; otherwise about the least unit
+/// that does. `None` if none is found.
 pub(crate) fn unit_for(instance: &Instance, purpose: Purpose, steps: u64) -> Option<u64>
     ensures { IfSome result (λ unit. 1 ≤ unit) }
 {
@@ -27,7 +27,7 @@ pub(crate) fn unit_for(instance: &Instance, purpose: Purpose, steps: u64) -> Opt
     }
 }
 
-// The least unit above this one, as if tables only got smaller with a greater one.
+// The least unit above this one that makes the tables small enough, found as if larger units always made smaller tables.
 fn least_by_halving(instance: &Instance, purpose: Purpose, divisor: u64, steps: u64) -> Option<u64>
     ensures { IfSome result (λ unit. 1 ≤ unit) }
 {
@@ -47,8 +47,8 @@ fn least_by_halving(instance: &Instance, purpose: Purpose, divisor: u64, steps: 
     Some(high.max(1))
 }
 
-// The first of the units above this one that rise by a sixteenth, or by one. Of many customers a large unit is no better: each of those
-// who demand less gives a truck room for one more.
+// The first suitable unit above this one, in rises by a sixteenth, or by one. A large unit weakens the bound: each customer who demands
+// less than a unit adds one to the capacity.
 fn first_of_rising(instance: &Instance, divisor: u64, steps: u64) -> Option<u64>
     ensures { IfSome result (λ unit. 1 ≤ unit) }
 {
@@ -62,7 +62,7 @@ fn first_of_rising(instance: &Instance, divisor: u64, steps: u64) -> Option<u64>
     None
 }
 
-// The greatest common divisor of the demands; 0 where nobody demands anything.
+// The greatest common divisor of the demands; 0 if nobody demands anything.
 fn common_divisor(instance: &Instance) -> u64 {
     let mut divisor = 0;
     for index in 0..instance.customers() {

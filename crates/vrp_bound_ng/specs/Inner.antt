@@ -1,2 +1,2 @@
--- What inner contracts alone cite: nobody has to believe it.
+-- Cited only by inner contracts; no reader has to believe it.
 pub mod Before

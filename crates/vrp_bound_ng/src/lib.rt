@@ -1,4 +1,5 @@
-//! What walks remember, so that they come back to fewer customers: the ng-routes of Baldacci, Mingozzi and Roberti (2011).
+//! The memory of walks, which keeps them from returning to some customers: the ng-routes of Baldacci, Mingozzi and Roberti
+//! (2011).
 #![tactic(auto)]
 
 mod law;

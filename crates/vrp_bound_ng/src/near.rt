@@ -12,8 +12,8 @@ struct Arc {
     to: u16,
 }
 
-/// This many customers of each place, one place after another: those whose arc there weighs least, and of equal weights the least
-/// places. The depot stands where there are too few.
+/// For each place, one after another, this many customers: those with the least arcs from it, and for equal weights the least
+/// places. The depot fills up lists that are too short.
 pub(crate) fn nearest_customers(
     alloc: Global,
     instance: &Instance,
@@ -46,7 +46,7 @@ fn list_arcs(arcs: &mut Vec<Arc>, instance: &Instance, from: u16) -> Result<(), 
     Ok(())
 }
 
-// Adds the first ones of these, and the depot for those that are wanting.
+// Adds the first of these, and the depot for those that are missing.
 fn push_nearest(near: &mut Vec<u16>, arcs: &[Arc], size: usize) -> Result<(), NoMemory>
     ensures len { OnOk result (vec_len near.new ≡ vec_len near.old + size) }
 {

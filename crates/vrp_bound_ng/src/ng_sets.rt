@@ -1,4 +1,4 @@
-//! What walks remember: the customers near each place, and how an ng-set follows from that at the next stop.
+//! Ng-sets: the customers near each place, and how an ng-set follows from that at the next stop.
 ghost use Rattle.std.specs.Prelude.{◌≡◌, ◌*◌, ◌^◌, ◌<◌, ◌≤◌, IfOk, length, vec_len};
 ghost use Rattle.vrp_model.specs.Problem.{place_count};
 ghost use Rattle.vrp_bound_ng.specs.Inner.Before.{AreBefore};
@@ -10,20 +10,20 @@ use std::alloc::Global;
 use std::marker::Model;
 use vrp_model::{Instance, NoMemory};
 
-/// How many customers are near each place, at most.
+/// The greatest number of customers near a place.
 pub const MOST_NEAR: usize = 4;
 
-/// The customers near each place, and what follows of them for what walks remember.
+/// The customers near each place, and the ng-sets that follow from them.
 #[derive(Debug, Drop)]
 pub struct NgSets {
     places: usize,
-    // How many customers are near each place.
+    // The number of customers near each place.
     size: usize,
-    // How many ng-sets there are: a bit for each customer near a place.
+    // The number of ng-sets: there is a bit for each customer near a place.
     masks: usize,
-    // Of each place, one place after another.
+    // The near customers of each place, one place after another.
     near: Vec<u16>,
-    // By place, of each place by stop, and of each stop by the ng-set there: the ng-set before it.
+    // By place, then by stop, then by the ng-set at the stop: the ng-set before it.
     before: Vec<u8>,
 }
 
@@ -39,7 +39,7 @@ impl Model for NgSets {
 }
 
 impl NgSets {
-    /// The ng-sets of walks where these customers are near the places: of each place this many, one place after another.
+    /// The ng-sets of walks with these near customers: `size` for each place, one place after another.
     pub fn new(
         alloc: Global,
         places: usize,
@@ -62,9 +62,9 @@ impl NgSets {
         })
     }
 
-    /// The ng-sets of walks where this many customers of an instance are near each place: those whose arc there weighs least, and
-    /// of equal weights the least places. Where there are too few, the depot stands for those that are wanting. Which customers are
-    /// near is left open here; any make walks that every route is one of.
+    /// The ng-sets of walks with this many near customers for each place of an instance: those with the least arcs from it,
+    /// and for equal weights the least places. The depot fills up lists that are too short. The contract leaves open which
+    /// customers are near; every route is an ng-walk for any of them.
     pub fn nearest(alloc: Global, instance: &Instance, size: usize) -> Result<NgSets, NoMemory>
         requires few { size ≤ MOST_NEAR }
         ensures places { IfOk result (λ ng_sets. ng_sets.places ≡ place_count instance.now) }
@@ -74,21 +74,21 @@ impl NgSets {
         NgSets::new(alloc, usize::from(instance.customers()) + 1, size, near)
     }
 
-    /// How many customers are near each place.
+    /// The number of customers near each place.
     pub fn size(&self) -> usize
         ensures { result ≡ self.now.size }
     {
         self.size
     }
 
-    /// The customers near each place, one place after another, of each as many as `size` says. Public for tests alone.
+    /// The customers near each place, `size` of them, one place after another. Public for tests alone.
     pub fn near(&self) -> &[u16]
         ensures { result.now ≡ self.now.listed }
     {
         self.near.as_slice()
     }
 
-    /// How many ng-sets there are at a place: one for each set of the customers near it.
+    /// The number of ng-sets at a place: one for each set of the customers near it.
     pub fn masks(&self) -> usize
         ensures value { result ≡ 2 ^ self.now.size }
         ensures some { 1 ≤ result }
@@ -97,7 +97,7 @@ impl NgSets {
         self.masks
     }
 
-    /// By the ng-set at a stop: the ng-set at the place from which a walk goes on to it, or `masks` where it may not.
+    /// Indexed by the ng-set at a stop: the ng-set at the place from which a walk continues to it, or `masks` if it may not.
     pub fn before(&self, at: u16, stop: u16) -> &[u8]
         requires at { at < self.now.places }
         requires stop { stop < self.now.places }
@@ -109,7 +109,7 @@ impl NgSets {
     }
 }
 
-// By place, of each place by stop, and of each stop by the ng-set there.
+// The ng-sets before, by place, then by stop, then by the ng-set at the stop.
 fn ng_sets_before(
     alloc: Global,
     places: usize,
@@ -158,7 +158,7 @@ fn near_of(near: &[u16], size: usize, places: usize, place: usize) -> &[u16]
     &near[start..start + size]
 }
 
-// The ng-set at a place, from which the walk goes on to this stop, with this ng-set there.
+// The ng-set at a place from which the walk continues to this stop with this ng-set there.
 fn ng_set_from(
     near_at: &[u16],
     near_stop: &[u16],
@@ -185,7 +185,7 @@ fn ng_set_from(
     bits
 }
 
-// Whether a walk that comes to this stop first, with this ng-set there, remembers a customer.
+// Whether a walk with this first stop and this ng-set there remembers a customer.
 fn recalled(near: &[u16], stop: u16, ng_set: usize, customer: u16) -> bool
     ensures { result ≡ recalls near.now stop ng_set customer }
 {

@@ -1,5 +1,5 @@
 -- A relaxation bounds what a feasible word costs that begins with a prefix.
-use Rattle.std.proofs.Common.{◌≡◌, ℕ, ◌+◌, ◌*◌, ◌≤◌, ◌<◌, inl, inr, Option, None, Some, MatchOption, List, ◌++◌, arith}
+use Rattle.std.proofs.Common.{◌≡◌, ℕ, ◌+◌, ◌*◌, ◌≤◌, ◌<◌, inl, inr, Option, None, Some, MatchOption, List, [], ◌++◌, subst, arith}
 use Rattle.std.specs.List.{All, Contains}
 use Rattle.std.proofs.lemmas.Bool.{cases_lt}
 use Rattle.std.proofs.lemmas.Nat.{mul-le}
@@ -9,11 +9,12 @@ use Rattle.vrp_model.specs.Route.{load_of}
 use Rattle.vrp_model.specs.Word.{IsLawfulWord, last_symbol, unserved_in, word_cost}
 use Rattle.vrp_bound.specs.Bound.{IsLowerBound}
 use Rattle.vrp_bound.specs.Capacity.{IsInboundSumOf}
-use Rattle.vrp_bound.specs.NgWalks.{IsNgBound, IsNgRelaxed}
+use Rattle.vrp_bound.specs.NgWalks.{AreLeastNgTours, IsNgBound, IsNgRelaxed}
 use Rattle.vrp_bound.specs.Walk.{relaxed_cost}
+use Rattle.vrp_bound_ng.specs.Near.{NearOf, near_in}
 use Rattle.vrp_bound.proofs.BothBounds.{none_below}
 use Rattle.vrp_bound.proofs.NgCompletions.{ng_completion}
-use Rattle.vrp_model.proofs.UnservedCustomers.{unserved_are_customers}
+use Rattle.vrp_model.proofs.UnservedCustomers.{all_unserved, unserved_are_customers}
 use Rattle.vrp_bound_prices.specs.Relaxation.{Bounds, IsAbove, IsLimit, IsRelaxation, RelaxationOf}
 
 -- what bounds the word in the relaxation bounds it in the problem
@@ -79,3 +80,13 @@ pub no_word : (r : RelaxationOf) (near : ℕ → List ℕ) (prefix more : List �
     → IsNgBound r.relaxed near (customers r.relaxed) (last_symbol prefix) (open_load r.relaxed prefix) (load_of r.relaxed (unserved_in r.relaxed prefix)) None → ⊥
 no_word r near prefix more bounds problem lawful bound =
     none_below_walks r.problem r.relaxed r.scale r.charges r.rewards near prefix more (customers r.relaxed) None bounds problem lawful (unserved_are_customers r.relaxed prefix) bound
+
+-- the least tours that carry all demands in the relaxation bound each word
+pub tours_below : (r : RelaxationOf) (near : NearOf) (word : List ℕ) (least : ℕ) → Bounds r → IsProblem r.relaxed → IsLawfulWord r.problem word → AreLeastNgTours r.relaxed near least
+    → least + r.rewards ≤ r.scale * word_cost r.problem word + r.charges
+tours_below r near word least bounds problem lawful least_tours =
+    let q = r.relaxed in
+    let (home, tours, relaxed, costs) = ng_completion q (near_in near) [] word (customers q) problem (bounds.lawful word lawful) (unserved_are_customers q []) in
+    let whole = subst (λ (among : List ℕ). IsNgRelaxed q (near_in near) (customers q) 0 0 (load_of q among) home tours) (all_unserved q) relaxed in
+    let low : least ≤ relaxed_cost q 0 home tours = least_tours.least home tours whole in
+    omega (arith, low, costs, bounds.cheaper word lawful)

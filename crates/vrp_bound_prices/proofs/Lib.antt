@@ -3,6 +3,7 @@ pub mod Crossed
 pub mod CustomerSums
 pub mod CutSums
 pub mod CutsByTest
+pub mod Hundredths
 pub mod InUnits
 pub mod LawfulPrices
 pub mod MadeRelaxation

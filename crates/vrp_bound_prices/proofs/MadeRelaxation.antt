@@ -39,9 +39,10 @@ by_prices p q unit scale charges rewards prices cuts priced charged rewarded = r
 }
 
 pub kept_when_made : (p q : Problem) (unit scale charges rewards : ℕ) (prices : List ℤ) (cuts : List Cut) → IsProblem p → IsPriced p q unit scale (price_in prices) (rebate_in prices) cuts → charges ≡ charges_of p (price_in prices) → rewards ≡ rewards_of p (rebate_in prices) cuts
-    → scale ≤ MAX_SCALE → charges ≤ MAX_CHARGES → rewards ≤ MAX_REWARDS → IsSmallRelaxation (record { problem = p; relaxed = q; scale = scale; charges = charges; rewards = rewards })
-kept_when_made p q unit scale charges rewards prices cuts problem priced charged rewarded small_scale small_charges small_rewards = record {
+    → 1 ≤ scale → scale ≤ MAX_SCALE → charges ≤ MAX_CHARGES → rewards ≤ MAX_REWARDS → IsSmallRelaxation (record { problem = p; relaxed = q; scale = scale; charges = charges; rewards = rewards })
+kept_when_made p q unit scale charges rewards prices cuts problem priced charged rewarded some_scale small_scale small_charges small_rewards = record {
   bounds = rw (charged, rewarded) (priced_relaxation p q unit scale (price_in prices) (rebate_in prices) cuts problem priced);
+  some_scale = some_scale;
   small_scale = small_scale;
   small_charges = small_charges;
   small_rewards = small_rewards;

@@ -9,8 +9,8 @@ use Rattle.vrp_bound_prices.specs.Relaxation.{RelaxationOf}
 use Rattle.vrp_bound_prices.specs.Units.{IsRounded}
 use Rattle.vrp_bound_prices.specs.declared.limits.TheConstants.{MAX_SCALE}
 
--- Each arc between two places costs `scale` times as much, more by the prices of its two ends, and less by their rebates and by
--- the prices of the cuts that it crosses. The depot has no price and no rebate.
+-- Each arc between two places costs `scale` times as much, plus the prices of its two ends, minus their rebates and the
+-- prices of the cuts that it crosses. The depot has no price and no rebate.
 pub record HasPrices (p q : Problem) (scale : ℕ) (price rebate : ℕ → ℕ) (cuts : List Cut) : Type 0 where
   pub some : 1 ≤ scale
   pub free_depot : price 0 ≡ 0
@@ -19,20 +19,21 @@ pub record HasPrices (p q : Problem) (scale : ℕ) (price rebate : ℕ → ℕ) 
   pub weights : (from to : ℕ) → from < place_count p → to < place_count p → from ≢ to
       → weight_of q from to + cut_prices_of cuts from to + rebate from + rebate to ≡ scale * weight_of p from to + price from + price to
 
--- with demands in units, and with prices
+-- the problem with prices, and with demands in units
 pub record IsPriced (p q : Problem) (unit scale : ℕ) (price rebate : ℕ → ℕ) (cuts : List Cut) : Type 0 where
   pub rounded : IsRounded p q unit
   pub priced : HasPrices p q scale price rebate cuts
 
--- what the prices add to each plan: each customer is entered and left once
+-- the amount that prices add to each plan: each customer is entered and left once
 abbrev pub charges_of : Problem → (ℕ → ℕ) → ℕ
 charges_of p price = 2 * sum_by price (customers p)
 
--- what rebates and cut prices take off each plan at least: each truck that serves some inside a cut crosses its border twice
+-- the least amount that rebates and cut prices take off a plan: each truck that serves customers of a cut crosses its border
+-- twice
 abbrev pub rewards_of : Problem → (ℕ → ℕ) → List Cut → ℕ
 rewards_of p rebate cuts = 2 * sum_by rebate (customers p) + 2 * sum_by (λ cut. cut.cut_price * cut.trucks) cuts
 
--- ---- signed prices: what is below 0 is a rebate
+-- ---- signed prices: a negative price is a rebate
 
 abbrev pub above_nothing : ℤ → ℕ
 above_nothing (pos n) = n
@@ -42,33 +43,33 @@ abbrev pub below_nothing : ℤ → ℕ
 below_nothing (pos n) = 0
 below_nothing (negsuc n) = suc n
 
--- what a customer's price adds to each of its arcs, by a list with a price for each place; the depot has none, whatever stands
--- there
+-- the amount that a customer's price adds to each of its arcs, from a list with a price for each place; the depot's entry is
+-- ignored
 abbrev pub price_in : List ℤ → ℕ → ℕ
 price_in prices zero = 0
 price_in prices (suc k) = above_nothing (slice_index_or prices (suc k) (pos 0))
 
--- and what its rebate takes off
+-- the amount that a customer's rebate takes off each of its arcs
 abbrev pub rebate_in : List ℤ → ℕ → ℕ
 rebate_in prices zero = 0
 rebate_in prices (suc k) = below_nothing (slice_index_or prices (suc k) (pos 0))
 
--- what an arc costs before rebates and cut prices are taken off
+-- the cost of an arc before rebates and cut prices are taken off
 abbrev pub costly_arc : Problem → ℕ → List ℤ → ℕ → ℕ → ℕ
 costly_arc p scale prices from to = scale * weight_of p from to + price_in prices from + price_in prices to
 
--- what rebates and cut prices take off it
+-- the rebates and cut prices taken off an arc
 abbrev pub taken_off : List ℤ → List Cut → ℕ → ℕ → ℕ
 taken_off prices cuts from to = rebate_in prices from + rebate_in prices to + cut_prices_of cuts from to
 
--- with these prices and cut prices each arc costs something from 0 up to the greatest weight
+-- with these prices and cut prices each arc costs between 0 and the greatest weight
 pub record AreLawfulPrices (p : Problem) (scale : ℕ) (prices : List ℤ) (cuts : List Cut) : Type 0 where
   pub no_less : (from to : ℕ) → from < place_count p → to < place_count p → from ≢ to
       → taken_off prices cuts from to ≤ costly_arc p scale prices from to
   pub no_more : (from to : ℕ) → from < place_count p → to < place_count p → from ≢ to
       → costly_arc p scale prices from to ≤ MAX_WEIGHT + taken_off prices cuts from to
 
--- at no scale that is small enough are the prices feasible
+-- no small enough scale makes the prices lawful
 abbrev pub NoneAreLawful : Problem → List ℤ → List Cut → Type 0
 NoneAreLawful p prices cuts = (scale : ℕ) → scale ≤ MAX_SCALE → AreLawfulPrices p scale prices cuts → ⊥
 

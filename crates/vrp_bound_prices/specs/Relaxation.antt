@@ -3,8 +3,8 @@ use Rattle.std.specs.Prelude.{◌≡◌, ℕ, ◌+◌, ◌*◌, ◌≤◌, ◌<�
 use Rattle.vrp_model.specs.Problem.{Problem, place_count}
 use Rattle.vrp_model.specs.Word.{IsPrefix, IsLawfulWord, word_cost}
 
--- The same places and trucks. Each prefix of p is one of q, and so is each feasible word, which costs there no more than this many
--- times as much, the charges and the rewards counted.
+-- The same places and trucks. Each prefix of p is a prefix of q. Each feasible word of p is feasible in q, and its cost there
+-- plus the rewards is at most `scale` times its cost in p plus the charges.
 pub record IsRelaxation (p q : Problem) (scale charges rewards : ℕ) : Type 0 where
   pub same_places : place_count q ≡ place_count p
   pub same_trucks : q.trucks ≡ p.trucks
@@ -12,7 +12,7 @@ pub record IsRelaxation (p q : Problem) (scale charges rewards : ℕ) : Type 0 w
   pub lawful : (word : List ℕ) → IsLawfulWord p word → IsLawfulWord q word
   pub cheaper : (word : List ℕ) → IsLawfulWord p word → word_cost q word + rewards ≤ scale * word_cost p word + charges
 
--- a problem, and one that bounds it
+-- a problem and a relaxation of it
 pub record RelaxationOf : Type 0 where
   pub problem : Problem
   pub relaxed : Problem
@@ -20,17 +20,17 @@ pub record RelaxationOf : Type 0 where
   pub charges : ℕ
   pub rewards : ℕ
 
--- a problem, and one that bounds it so
+-- a problem and its relaxation with this scale, these charges and rewards
 abbrev pub relaxation_of : Problem → Problem → ℕ → ℕ → ℕ → RelaxationOf
 relaxation_of problem relaxed scale charges rewards =
     record { problem = problem; relaxed = relaxed; scale = scale; charges = charges; rewards = rewards }
 
--- what is known of every relaxation that is made
+-- an invariant of every relaxation that is made
 abbrev pub Bounds : RelaxationOf → Type 0
 Bounds r = IsRelaxation r.problem r.relaxed r.scale r.charges r.rewards
 
--- What a feasible word costs in the relaxed problem at most, where it costs no more than this in the other. None: no feasible word
--- costs so little
+-- The greatest cost in the relaxation of a feasible word that costs at most this in the problem. None: no feasible word costs
+-- so little.
 abbrev pub IsLimit : RelaxationOf → ℕ → Option ℕ → Type 0
 IsLimit r cost limit = MatchOption limit (r.scale * cost + r.charges < r.rewards) (λ most. most + r.rewards ≡ r.scale * cost + r.charges)
 

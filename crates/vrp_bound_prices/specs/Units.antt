@@ -1,26 +1,26 @@
--- Demands, and what one truck can carry, in a coarser unit.
+-- Demands and capacity in a coarser unit.
 use Rattle.std.specs.Prelude.{◌≡◌, ℕ, ◌+◌, ◌/◌, ◌≤◌, max, nat_lt, if◌then◌else◌}
 use Rattle.std.specs.List.{All, sum_by}
 use Rattle.vrp_model.specs.Problem.{Problem, customers, demand_of, place_count}
 
--- how many whole units an amount has, and one where it has none
+-- the whole units of an amount, at least one
 abbrev pub units_of : ℕ → ℕ → ℕ
 units_of unit amount = max 1 (amount / unit)
 
--- 1 for a customer that demands less than a unit
+-- 1 for a customer who demands less than a unit
 abbrev pub light_one : Problem → ℕ → ℕ → ℕ
 light_one p unit customer = if nat_lt (demand_of p customer) unit then 1 else 0
 
--- how many customers demand less than a unit
+-- the number of customers who demand less than a unit
 abbrev pub light_count : Problem → ℕ → ℕ
 light_count p unit = sum_by (light_one p unit) (customers p)
 
--- What one truck can carry is rounded down, and is one more for each customer that demands less than a unit: each of them counts
--- as a whole one
+-- The capacity is rounded down, plus one for each customer who demands less than a unit, since each of them counts as a whole
+-- one.
 abbrev pub rounded_capacity : Problem → ℕ → ℕ
 rounded_capacity p unit = p.capacity / unit + light_count p unit
 
--- The same places and trucks, with demands in units: what each customer demands is rounded down, and is at least 1
+-- The same places and trucks with demands in units: each customer's demand is rounded down, and is at least 1.
 pub record IsRounded (p q : Problem) (unit : ℕ) : Type 0 where
   pub some : 1 ≤ unit
   pub same_places : place_count q ≡ place_count p

@@ -1,4 +1,4 @@
-//! Demands, and what one truck can carry, in a coarser unit.
+//! Demands and capacity in a coarser unit.
 ghost use Rattle.std.specs.Prelude.{◌≡◌, ℕ, ◌≤◌, ◌<◌, All, IfOk, slice_index, vec_len};
 ghost use Rattle.vrp_model.specs.Problem.{customers, demand_of, place_count};
 ghost use Rattle.vrp_model.specs.declared.limits.TheConstants.{MAX_NODES};
@@ -7,7 +7,7 @@ ghost use Rattle.vrp_bound_prices.specs.Units.{light_count, rounded_capacity, un
 use std::alloc::Global;
 use vrp_model::{Instance, NoMemory};
 
-/// What each place demands in units: rounded down, and at least 1 for a customer. None is above what one truck can carry then.
+/// The demand of each place in units: rounded down, and at least 1 for a customer. None is above the capacity in units.
 pub(crate) fn demands_in_units(
     alloc: Global,
     instance: &Instance,
@@ -29,7 +29,7 @@ pub(crate) fn demands_in_units(
     Ok(demands)
 }
 
-/// What a customer demands in units: rounded down, and at least 1.
+/// A customer's demand in units: rounded down, and at least 1.
 pub fn demand_in_units(instance: &Instance, unit: u64, customer: u16) -> u64
     requires some { 1 ≤ unit }
     requires within { customer < place_count instance.now }
@@ -38,7 +38,7 @@ pub fn demand_in_units(instance: &Instance, unit: u64, customer: u16) -> u64
     (instance.demand(customer) / unit).max(1)
 }
 
-/// What one truck can carry in units: rounded down, and one more for each customer that demands less than a unit.
+/// The capacity in units: rounded down, plus one for each customer who demands less than a unit.
 pub fn capacity_in_units(instance: &Instance, unit: u64) -> u64
     requires some { 1 ≤ unit }
     ensures { result ≡ rounded_capacity instance.now unit }
@@ -46,7 +46,7 @@ pub fn capacity_in_units(instance: &Instance, unit: u64) -> u64
     instance.capacity() / unit + light_customers(instance, unit)
 }
 
-// How many customers demand less than a unit.
+// The number of customers who demand less than a unit.
 fn light_customers(instance: &Instance, unit: u64) -> u64
     ensures value { result ≡ light_count instance.now unit }
     ensures few { result ≤ MAX_NODES }

@@ -11,7 +11,7 @@ use crate::prices::{price_at, rebate_at};
 use std::alloc::Global;
 use vrp_model::{Instance, MAX_WEIGHT, NoMemory};
 
-/// The weights with prices and cut prices, row by row. `None` where one would be below 0 or above the greatest weight.
+/// The weights with prices and cut prices, row by row. `None` if one would be negative or above the greatest weight.
 pub(crate) fn priced_weights(
     alloc: Global,
     instance: &Instance,
@@ -40,7 +40,7 @@ pub(crate) fn priced_weights(
     Ok(Some(weights))
 }
 
-// Enters the weights from one place to each, after the rows of the places before it; false where one is infeasible.
+// Enters the weights from one place to each, after the rows of the places before it; false if one is infeasible.
 fn push_row(
     weights: &mut Vec<u32>,
     instance: &Instance,
@@ -73,8 +73,8 @@ fn push_row(
     true
 }
 
-// What the arc from one place to another costs with prices and cut prices; 0 from a place to itself. `None` where that is below 0
-// or above the greatest weight.
+// The cost of the arc from one place to another with prices and cut prices; 0 from a place to itself. `None` if it is
+// negative or above the greatest weight.
 fn priced_arc(
     instance: &Instance,
     scale: u64,

@@ -1,4 +1,4 @@
-//! Cuts: some customers, whose border the trucks cross that serve them, and a price for each arc across it.
+//! Cuts: a set of customers whose border is crossed by the trucks that serve them, and a price for each arc across it.
 ghost use Rattle.std.specs.Prelude.{◌≡◌, ◌≤◌, vec_len, length};
 ghost use Rattle.vrp_bound.specs.Capacity.{IsTrucks};
 ghost use Rattle.vrp_model.specs.Problem.{place_count};
@@ -12,12 +12,11 @@ use std::marker::Model;
 use vrp_bound::trucks_needed;
 use vrp_model::Instance;
 
-/// Some customers, how many trucks are needed to carry what they demand, and a cut price: what each arc is cheaper by that crosses
-/// their border, where one of its ends is among them and the other isn't (the rounded capacity inequalities of Laporte and Nobert
-/// 1983).
+/// A set of customers, the number of trucks that their demand needs, and a cut price: the amount taken off each arc that
+/// crosses the border, with exactly one end inside (the rounded capacity inequalities of Laporte and Nobert 1983).
 #[derive(Debug, Drop)]
 pub struct Cut {
-    // By place.
+    // A mark for each place.
     inside: Vec<bool>,
     trucks: u64,
     cut_price: u64,
@@ -37,7 +36,7 @@ impl Model for Cut {
 }
 
 impl Cut {
-    /// The cut of the customers that are marked, with a mark for each place; the depot's is not looked at.
+    /// The cut of the marked customers, with a mark for each place; the depot's mark is ignored.
     pub fn new(instance: &Instance, inside: Vec<bool>, cut_price: u64) -> Cut
         requires one_each { vec_len inside ≡ place_count instance.now }
         requires small { cut_price ≤ MAX_CUT_PRICE }
@@ -53,7 +52,7 @@ impl Cut {
         }
     }
 
-    /// How many trucks are needed to carry what its customers demand.
+    /// The number of trucks that its customers' demand needs.
     pub fn trucks(&self) -> u64
         ensures value { result ≡ self.now.trucks }
         ensures few { result ≤ MAX_NODES }
@@ -61,7 +60,7 @@ impl Cut {
         self.trucks
     }
 
-    /// What each arc is cheaper by that crosses its border.
+    /// The amount taken off each arc that crosses its border.
     pub fn cut_price(&self) -> u64
         ensures value { result ≡ self.now.cut_price }
         ensures small { result ≤ MAX_CUT_PRICE }
@@ -88,7 +87,7 @@ impl Cut {
     }
 }
 
-// How many trucks are needed to carry what the marked customers demand.
+// The number of trucks that the marked customers' demand needs.
 fn trucks_for(instance: &Instance, inside: &[bool]) -> u64
     requires one_each { length inside.now ≡ place_count instance.now }
     ensures carry { let load = load_of instance.now (marked inside.now) in

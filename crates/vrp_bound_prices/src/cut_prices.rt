@@ -1,4 +1,4 @@
-//! The prices of cuts: what they take off an arc, and together off a plan.
+//! The prices of cuts: the amounts they take off an arc, and off a plan.
 ghost use Rattle.std.specs.Prelude.{◌≡◌, ◌*◌, ◌≤◌, length};
 ghost use Rattle.std.specs.List.{sum_by};
 ghost use Rattle.vrp_bound_prices.specs.Cut.{cut_prices_of};
@@ -6,7 +6,7 @@ ghost use Rattle.vrp_bound_prices.specs.declared.limits.TheConstants.{MAX_CUTS, 
 
 use crate::cut::Cut;
 
-/// What an arc is cheaper by: the prices of the cuts that it crosses.
+/// The amount taken off an arc: the prices of the cuts that it crosses.
 pub(crate) fn cut_prices(cuts: &[Cut], from: u16, to: u16) -> u64
     requires few { length cuts.now ≤ MAX_CUTS }
     ensures value { result ≡ cut_prices_of cuts.now from to }
@@ -21,7 +21,7 @@ pub(crate) fn cut_prices(cuts: &[Cut], from: u16, to: u16) -> u64
     whole
 }
 
-/// What cut prices take off each plan at least: each truck that a cut needs crosses its border twice.
+/// The least amount that cut prices take off a plan: each truck that a cut needs crosses its border twice.
 pub(crate) fn cut_rewards(cuts: &[Cut]) -> u64
     requires few { length cuts.now ≤ MAX_CUTS }
     ensures value { result ≡ 2 * sum_by (λ cut. cut.cut_price * cut.trucks) cuts.now }

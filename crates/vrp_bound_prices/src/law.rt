@@ -1,4 +1,4 @@
-//! What is true of the definitions, whatever code does: a relaxation bounds what a plan costs, and prices and cut prices make one.
+//! Laws about the definitions: a relaxation bounds the cost of a plan, and prices and cut prices make one.
 ghost use Rattle.std.specs.Prelude.{◌≡◌, ℕ, Bool, false, ◌+◌, ◌*◌, ◌≤◌, ◌<◌, ◌↔◌, Option, None, Some, MatchOption, List, ◌++◌};
 ghost use Rattle.std.specs.List.{All, Contains, filter, sum_by};
 ghost use Rattle.vrp_model.specs.Prefix.{routes_left};
@@ -7,13 +7,15 @@ ghost use Rattle.vrp_model.specs.Route.{load_of};
 ghost use Rattle.vrp_model.specs.Word.{IsPrefix, IsLawfulWord, stands_in, unserved_in, word_cost};
 ghost use Rattle.vrp_bound.specs.AtPrefix.{IsLowerBoundAt, IsNgBoundAt};
 ghost use Rattle.vrp_bound.specs.Capacity.{IsInboundSumOf, IsTrucks};
+ghost use Rattle.vrp_bound.specs.NgWalks.{AreLeastNgTours};
+ghost use Rattle.vrp_bound_ng.specs.Near.{NearOf};
 ghost use Rattle.vrp_bound_prices.specs.Cut.{Cut, IsCut, crossings, cut_prices_along};
 ghost use Rattle.vrp_bound_prices.specs.Priced.{HasPrices, IsPriced, charges_of, rewards_of};
 ghost use Rattle.vrp_bound_prices.specs.Relaxation.{Bounds, IsAbove, IsLimit, IsRelaxation, RelaxationOf};
 ghost use Rattle.vrp_bound_prices.specs.Units.{IsRounded};
 
-/// No feasible word of the problem that begins with a partial plan adds less to it than the relaxation's lower bound there; and
-/// where that is `None`, there is no such word.
+/// No feasible word of the problem that begins with a partial plan adds less to it than the relaxation's lower bound there;
+/// if that is `None`, there is no such word.
 pub fn relaxations_bound()
     ensures { (p q : Problem) (scale charges rewards : ℕ)
         → (prefix more among : List ℕ) (inbound_sum : ℕ) (answer : Option ℕ)
@@ -24,7 +26,8 @@ pub fn relaxations_bound()
         word_cost q prefix + least + rewards ≤ scale * word_cost p (prefix ++ more) + charges) }
 {}
 
-/// The same of the least completion by ng-walks, whoever is near which place.
+/// No feasible word of the problem that begins with a partial plan adds less to it than the least completion by ng-walks in
+/// the relaxation, for any lists of near customers; if there is no completion, there is no such word.
 pub fn walks_bound()
     ensures { (p q : Problem) (scale charges rewards : ℕ)
         → (near : ℕ → List ℕ) (prefix more among : List ℕ) (answer : Option ℕ)
@@ -35,9 +38,9 @@ pub fn walks_bound()
         word_cost q prefix + least + rewards ≤ scale * word_cost p (prefix ++ more) + charges) }
 {}
 
-/// So where a partial plan and its least completion by such walks cost more in the relaxation than what is the limit for a cost,
-/// each feasible word of the problem that begins with the partial plan costs more than that; and where there is no completion,
-/// there is no such word.
+/// If a partial plan and its least completion by ng-walks cost more in the relaxation than the limit for a cost, each
+/// feasible word of the problem that begins with the partial plan costs more than that cost; if there is no completion, there
+/// is no such word.
 pub fn costly_prefixes()
     ensures costly { (r : RelaxationOf) (cost : ℕ) (limit : Option ℕ)
         → (near : ℕ → List ℕ) (prefix more : List ℕ) (least : ℕ)
@@ -51,7 +54,16 @@ pub fn costly_prefixes()
         → IsNgBoundAt r.relaxed near (customers r.relaxed) prefix None → ⊥ }
 {}
 
-/// What a partial plan leaves is the same in the relaxation: the unserved customers, and the routes that may still be opened.
+/// So a feasible word of the problem costs no less than the least ng-tours allow that carry all demands in the relaxation, for any
+/// near customers.
+pub fn tours_bound()
+    ensures { (r : RelaxationOf) (near : NearOf) (word : List ℕ) (least : ℕ)
+        → Bounds r → IsProblem r.relaxed → IsLawfulWord r.problem word
+        → AreLeastNgTours r.relaxed near least
+        → least + r.rewards ≤ r.scale * word_cost r.problem word + r.charges }
+{}
+
+/// A partial plan has the same unserved customers in the relaxation, and as many routes may still be opened.
 pub fn relaxed_prefixes()
     ensures unserved { (p q : Problem) (scale charges rewards : ℕ) (prefix : List ℕ)
         → IsRelaxation p q scale charges rewards → unserved_in q prefix ≡ unserved_in p prefix }
@@ -59,14 +71,14 @@ pub fn relaxed_prefixes()
         → IsRelaxation p q scale charges rewards → routes_left q prefix ≡ routes_left p prefix }
 {}
 
-/// A feasible word crosses the border of a cut at least twice for each truck that is needed to carry what its customers demand.
+/// A feasible word crosses the border of a cut at least twice for each truck that its customers' demand needs.
 pub fn cuts_are_crossed()
     ensures { (p : Problem) (word : List ℕ) (cut : Cut)
         → IsProblem p → IsLawfulWord p word → IsCut p cut
         → 2 * cut.trucks ≤ crossings cut.inside 0 word }
 {}
 
-/// A test that picks customers, as marks do, makes a cut; and a place is inside exactly where the test picks it.
+/// A test that picks customers, like marks, makes a cut; a place is inside exactly if the test picks it.
 pub fn cuts_by_test()
     ensures cuts { (p : Problem) (test : ℕ → Bool) (trucks cut_price : ℕ)
         → IsTrucks p.capacity (load_of p (filter test (customers p))) trucks
@@ -76,8 +88,8 @@ pub fn cuts_by_test()
         → stands_in (filter test (customers p)) place ≡ test place }
 {}
 
-/// What a feasible word costs with prices: this many times its cost, more by twice the price of each customer, and less by twice
-/// its rebate and by the prices of the cuts that it crosses.
+/// The cost of a feasible word with prices: `scale` times its cost, plus twice the price of each customer, minus twice its
+/// rebate and the prices of the cuts that it crosses.
 pub fn costs_with_prices()
     ensures { (p q : Problem) (scale : ℕ) (price rebate : ℕ → ℕ) (cuts : List Cut) (word : List ℕ)
         → IsProblem p → HasPrices p q scale price rebate cuts → IsLawfulWord p word
@@ -85,7 +97,7 @@ pub fn costs_with_prices()
         ≡ scale * word_cost p word + 2 * sum_by price (customers p) }
 {}
 
-/// Where demands and what one truck can carry are counted in units, a feasible word is feasible, and a partial plan is one.
+/// With demands and capacity counted in units, a feasible word stays feasible, and a partial plan stays a partial plan.
 pub fn rounded_words()
     ensures words { (p q : Problem) (unit : ℕ) (word : List ℕ) → IsRounded p q unit
         → (IsSymmetric q → IsSymmetric p) → IsLawfulWord p word → IsLawfulWord q word }
@@ -93,14 +105,14 @@ pub fn rounded_words()
         → (IsSymmetric q → IsSymmetric p) → IsPrefix p prefix → IsPrefix q prefix }
 {}
 
-/// With prices there and back cost the same exactly where they do without.
+/// With prices the problem is symmetric exactly if it is without.
 pub fn same_symmetry()
     ensures { (p q : Problem) (scale : ℕ) (price rebate : ℕ → ℕ) (cuts : List Cut)
         → place_count q ≡ place_count p → HasPrices p q scale price rebate cuts
         → (IsSymmetric p ↔ IsSymmetric q) }
 {}
 
-/// So a problem with prices, and with demands in units, is a relaxation.
+/// A problem with prices, and with demands in units, is a relaxation.
 pub fn prices_relax()
     ensures { (p q : Problem) (unit scale : ℕ) (price rebate : ℕ → ℕ) (cuts : List Cut)
         → IsProblem p → IsPriced p q unit scale price rebate cuts

@@ -1,5 +1,5 @@
-//! A second problem beside an instance, whose arcs have prices and whose demands are counted in a coarser unit: what a plan costs
-//! there bounds what it costs.
+//! A second problem beside an instance, whose arcs have prices and whose demands are counted in a coarser unit: the cost of a
+//! plan there bounds its cost in the instance.
 #![tactic(auto)]
 
 mod amounts;
@@ -15,7 +15,7 @@ pub use amounts::{capacity_in_units, demand_in_units};
 pub use cut::Cut;
 pub use law::{
     costly_prefixes, costs_with_prices, cuts_are_crossed, cuts_by_test, prices_relax,
-    relaxations_bound, relaxed_prefixes, rounded_words, same_symmetry, walks_bound,
+    relaxations_bound, relaxed_prefixes, rounded_words, same_symmetry, tours_bound, walks_bound,
 };
 pub use limits::{MAX_CUT_PRICE, MAX_CUTS, MAX_SCALE};
 pub use relaxation::Relaxation;

@@ -1,4 +1,4 @@
-//! Prices of places: what they add to an arc, or take off, and together to or off a plan.
+//! Prices of places: the amounts they add to an arc or take off, and to or off a plan.
 ghost use Rattle.std.specs.Prelude.{◌≡◌, ◌*◌, ◌≤◌, ◌<◌, IsTrue, false, length};
 ghost use Rattle.std.specs.List.{sum_by};
 ghost use Rattle.vrp_model.specs.Problem.{IsProblem, customers, place_count};
@@ -11,7 +11,7 @@ use crate::cut_prices::cut_prices;
 use crate::limits::MAX_REBATE;
 use vrp_model::{Instance, MAX_WEIGHT};
 
-/// What a place's price adds to each of its arcs; 0 where it is a rebate.
+/// The amount that a place's price adds to each of its arcs; 0 if it is a rebate.
 pub(crate) fn price_at(prices: &[i64], place: u16) -> u64
     requires { place < length prices.now }
     ensures { result ≡ price_in prices.now place }
@@ -24,7 +24,7 @@ pub(crate) fn price_at(prices: &[i64], place: u16) -> u64
     }
 }
 
-/// What a place's rebate takes off each of its arcs; 0 where it is a price.
+/// The amount that a place's rebate takes off each of its arcs; 0 if it is a price.
 pub(crate) fn rebate_at(prices: &[i64], place: u16) -> u64
     requires { place < length prices.now }
     ensures { result ≡ rebate_in prices.now place }
@@ -37,14 +37,14 @@ pub(crate) fn rebate_at(prices: &[i64], place: u16) -> u64
     }
 }
 
-/// Whether no price is above what an arc may cost and what cut prices take off the arc from the depot, and no rebate above what an
-/// arc costs before. Any others are refused.
+/// Whether no price is above the greatest weight plus the cut prices on the arc from the depot, and no rebate is above the
+/// greatest cost of an arc before rebates. Other prices are refused.
 pub(crate) fn are_moderate(instance: &Instance, prices: &[i64], cuts: &[Cut]) -> bool
     requires one_each { length prices.now ≡ place_count instance.now }
     requires few { length cuts.now ≤ MAX_CUTS }
     ensures moderate { IsTrue result → AreModerate prices.now }
     ensures unlawful { result ≡ false → NoneAreLawful instance.now prices.now cuts.now }
-    // What is known of every instance.
+    // An invariant of every instance.
     ensures problem { IsProblem instance.now }
 {
     for place in 0..instance.customers() + 1 {
@@ -56,7 +56,7 @@ pub(crate) fn are_moderate(instance: &Instance, prices: &[i64], cuts: &[Cut]) ->
     true
 }
 
-/// What prices add to each plan: each customer is entered and left once.
+/// The amount that prices add to each plan: each customer is entered and left once.
 pub(crate) fn charges(instance: &Instance, prices: &[i64]) -> u64
     requires one_each { length prices.now ≡ place_count instance.now }
     requires moderate { AreModerate prices.now }
@@ -70,7 +70,7 @@ pub(crate) fn charges(instance: &Instance, prices: &[i64]) -> u64
     2 * whole
 }
 
-/// What rebates take off each plan.
+/// The amount that rebates take off each plan.
 pub(crate) fn rebate_rewards(instance: &Instance, prices: &[i64]) -> u64
     requires one_each { length prices.now ≡ place_count instance.now }
     requires moderate { AreModerate prices.now }

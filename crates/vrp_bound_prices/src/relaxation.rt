@@ -1,6 +1,10 @@
 //! A relaxation of an instance by prices and cut prices.
-ghost use Rattle.std.specs.Prelude.{◌≡◌, ◌≤◌, All, IfNone, IfOk, IfSome, length};
-ghost use Rattle.vrp_model.specs.Problem.{place_count};
+ghost use Rattle.std.specs.Prelude.{◌≡◌, ℕ, ◌+◌, ◌*◌, ◌≤◌, ◌<◌, List, [], All, IfNone, IfOk, IfSome, MatchOption, length};
+ghost use Rattle.vrp_model.specs.Problem.{customers, place_count};
+ghost use Rattle.vrp_model.specs.Word.{NoneCheaperUnder};
+ghost use Rattle.vrp_bound.specs.LowerBound.{rounded_up};
+ghost use Rattle.vrp_bound.specs.NgWalks.{NoNgTours};
+ghost use Rattle.vrp_bound.specs.Tables.{AreMadeWithin};
 ghost use Rattle.vrp_model.specs.declared.limits.TheConstants.{MAX_CAPACITY, NO_COST};
 ghost use Rattle.vrp_bound_prices.specs.Cut.{IsCut};
 ghost use Rattle.vrp_bound_prices.specs.Priced.{AreLawfulPrices, IsByPrices};
@@ -11,11 +15,14 @@ use crate::amounts::{capacity_in_units, demands_in_units};
 use crate::arcs::priced_weights;
 use crate::cut::Cut;
 use crate::cut_prices::cut_rewards;
+use crate::law::tours_bound;
 use crate::limits::{MAX_CUTS, MAX_SCALE};
 use crate::prices::{are_moderate, charges, rebate_rewards};
 use std::alloc::Global;
 use std::marker::Model;
-use vrp_model::{Instance, MAX_CAPACITY, NoMemory};
+use vrp_bound::{LowerBound, least_ng_tours};
+use vrp_bound_ng::NgSets;
+use vrp_model::{Instance, MAX_CAPACITY, NO_COST, NoMemory};
 
 /// An instance, and a second one whose plans bound its plans.
 #[derive(Debug, Drop)]
@@ -41,10 +48,10 @@ impl<'a> Model for Relaxation<'a> {
 
 impl<'a> Relaxation<'a> {
     /// The relaxation by a price for each place and by the prices of some cuts of the instance, in whole units of the scaled
-    /// weights; a price below 0 is a rebate, and the depot's is not looked at. Each arc costs `scale` times as much, more by the
-    /// prices of its two ends, and less by the prices of the cuts that it crosses. Demands, and what one truck can carry, are
-    /// counted in units. `None` where an arc would cost less than 0 or more than 1,000,000,000, or one truck would carry more than
-    /// that in units.
+    /// weights. A negative price is a rebate, and the depot's price is ignored. Each arc costs `scale` times as much, plus
+    /// the prices of its two ends, minus the prices of the cuts that it crosses. Demands and capacity are counted in units.
+    /// `None` if an arc would cost less than 0 or more than 1,000,000,000, or if the capacity in units would be more than
+    /// that.
     pub fn new(
         alloc: Global,
         instance: &'a Instance,
@@ -86,23 +93,23 @@ impl<'a> Relaxation<'a> {
         }))
     }
 
-    /// The instance that is relaxed.
+    /// The instance.
     pub fn problem(&self) -> &'a Instance
         ensures { result.now ≡ self.now.problem }
     {
         self.problem
     }
 
-    /// The instance whose plans bound those of the other.
+    /// The relaxed instance, whose plans bound those of the instance.
     pub fn relaxed(&self) -> &Instance
         ensures value { result.now ≡ self.now.relaxed }
-        // What is known of every relaxation.
+        // An invariant of every relaxation.
         ensures bounds { Bounds self.now }
     {
         &self.relaxed
     }
 
-    /// How many times as much each arc costs in the relaxed instance, before prices.
+    /// The factor on the cost of each arc in the relaxed instance, before prices.
     pub fn scale(&self) -> u64
         ensures value { result ≡ self.now.scale }
         ensures small { result ≤ MAX_SCALE }
@@ -110,12 +117,12 @@ impl<'a> Relaxation<'a> {
         self.scale
     }
 
-    /// What a feasible word costs in the relaxed instance at most, where it costs no more than this in the other. `None`: no
+    /// The greatest cost in the relaxed instance of a feasible word that costs at most this in the instance. `None`: no
     /// feasible word costs so little.
     pub fn limit(&self, cost: u64) -> Option<u64>
         requires { cost ≤ NO_COST }
         ensures limit { IsLimit self.now cost result }
-        // What is known of every relaxation.
+        // An invariant of every relaxation.
         ensures bounds { Bounds self.now }
     {
         let costly = self.scale * cost + self.charges;
@@ -124,5 +131,61 @@ impl<'a> Relaxation<'a> {
         } else {
             Some(costly - self.rewards)
         }
+    }
+
+    /// What a plan costs at least that costs no less than this in the relaxed instance: rounded up to a hundredth, and `NO_COST`
+    /// where it would be more.
+    pub fn lower_bound_by(&self, least: u64) -> LowerBound
+        requires small { least < 4000000000000000000 }
+        ensures low { (cost : ℕ) → least + self.now.rewards ≤ self.now.scale * cost + self.now.charges → rounded_up result ≤ cost }
+        ensures reached { rounded_up result < NO_COST
+            → least + self.now.rewards ≤ self.now.scale * rounded_up result + self.now.charges }
+        ensures least { (hundredths : ℕ)
+            → 100 * (least + self.now.rewards) ≤ self.now.scale * hundredths + 100 * self.now.charges
+            → result.hundredths ≤ hundredths }
+        ensures enough { result.hundredths < 100 * NO_COST
+            → 100 * (least + self.now.rewards) ≤ self.now.scale * result.hundredths + 100 * self.now.charges }
+    {
+        let scaled = (least + self.rewards).saturating_sub(self.charges);
+        quotient(scaled, self.scale)
+    }
+
+    /// What every plan costs at least, by the least ng-tours in the relaxed instance that carry all demands. `None`: there are no such
+    /// tours, a customer has no demand in units, or it would take more than so many steps to fill their tables.
+    pub fn lower_bound(
+        &self,
+        alloc: Global,
+        ng_sets: &NgSets,
+        most_steps: u64,
+    ) -> Result<Option<LowerBound>, NoMemory>
+        requires places { ng_sets.now.places ≡ place_count self.now.problem }
+        ensures bound { IfOk result (λ found. MatchOption found
+            (AreMadeWithin most_steps self.now.relaxed (customers self.now.relaxed) → NoNgTours self.now.relaxed ng_sets.entry.now)
+            (λ bound. NoneCheaperUnder self.now.problem [] (rounded_up bound))) }
+    {
+        tours_bound();
+        match least_ng_tours(alloc, &self.relaxed, ng_sets, most_steps)? {
+            Some(least) => Ok(Some(self.lower_bound_by(least))),
+            None => Ok(None),
+        }
+    }
+}
+
+// An amount over a scale, rounded up to a hundredth; `NO_COST` where it would be more.
+fn quotient(scaled: u64, scale: u64) -> LowerBound
+    requires some { 1 ≤ scale }
+    requires small { scale ≤ MAX_SCALE }
+    ensures low { (cost : ℕ) → scaled ≤ scale * cost → rounded_up result ≤ cost }
+    ensures reached { rounded_up result < NO_COST → scaled ≤ scale * rounded_up result }
+    ensures least { (hundredths : ℕ) → 100 * scaled ≤ scale * hundredths → result.hundredths ≤ hundredths }
+    ensures enough { result.hundredths < 100 * NO_COST → 100 * scaled ≤ scale * result.hundredths }
+{
+    let cost = scaled / scale;
+    if cost >= NO_COST {
+        return LowerBound::of_cost(NO_COST);
+    }
+    let rest = scaled % scale;
+    LowerBound {
+        hundredths: 100 * cost + (100 * rest).div_ceil(scale),
     }
 }

@@ -1,22 +1,22 @@
-//! The table of the least walks home, by what they carry, by what they remember, and by where they begin.
+//! The table of the least walks home, by load, by ng-set, and by starting place.
 use crate::near_looks::{BITS, NearLook};
 use std::alloc::Global;
 use vrp_model::NoMemory;
 
-/// What stands where there is no walk.
+/// The mark for "no walk".
 pub(crate) const FAR: i64 = 2_000_000_000_000_000_000;
 
-/// No walk costs as much; what stands where there is none is no less.
+/// More than the cost of any walk; the mark for "no walk" is no less.
 pub const NO_WALK: i64 = 1_000_000_000_000_000_000;
 
 /// The least walks home.
 #[derive(Debug, Drop)]
 pub(crate) struct Cells {
     places: usize,
-    // How many ng-sets there are.
+    // The number of ng-sets.
     masks: usize,
-    // By load, of each load by ng-set, and of each ng-set by place: the least of the walks home that carry the load behind the
-    // place, and remember no more there. At the depot a tour, with no ng-sets.
+    // By load, then by ng-set, then by place: the least of the walks home that carry this load behind the place and remember
+    // no more than the ng-set there. At the depot a tour, without ng-sets.
     cells: Vec<i64>,
 }
 
@@ -36,7 +36,7 @@ impl Cells {
         })
     }
 
-    /// Only the walks that carry nothing: they go straight home by these arcs.
+    /// Enters only the walks without load: they go straight home by these arcs.
     pub(crate) fn begin(&mut self, arcs: &[i64]) {
         self.cells.as_mut_slice().fill(FAR);
         if let Some(row) = self.cells.as_mut_slice().get_mut(0..self.places) {
@@ -44,7 +44,7 @@ impl Cells {
         }
     }
 
-    /// Lets the walks of a load that remember less stand for those that may remember more.
+    /// Lets the walks of a load that remember less also count for larger ng-sets.
     pub(crate) fn widen(&mut self, load: usize) {
         let size = self.masks.saturating_mul(self.places);
         let start = load.saturating_mul(size);
@@ -67,24 +67,25 @@ impl Cells {
         Some((walks.get(start..)?, larger))
     }
 
-    /// How many cells each load has.
+    /// The number of cells of each load.
     pub(crate) fn of_load(&self) -> usize {
         self.masks.saturating_mul(self.places)
     }
 
-    /// The least cost of a walk home from a place, which carries this load behind it and remembers no more there.
+    /// The least cost of a walk home from a place that carries this load behind it and remembers no more than this ng-set
+    /// there.
     pub(crate) fn cell(&self, load: usize, place: usize, ng_set: usize) -> i64 {
         let row = load.saturating_mul(self.masks).saturating_add(ng_set);
         let cell = row.saturating_mul(self.places).saturating_add(place);
         self.cells.get(cell).copied().unwrap_or(FAR)
     }
 
-    /// Where the walks of a load begin that may remember all.
+    /// The beginning of a load's row for the greatest ng-set.
     pub(crate) fn most_row(&self) -> usize {
         self.most().saturating_mul(self.places)
     }
 
-    /// The ng-set of all.
+    /// The greatest ng-set.
     pub(crate) fn most(&self) -> usize {
         self.masks.saturating_sub(1)
     }
@@ -110,8 +111,8 @@ fn widen_row(rows: &mut [i64], ng_set: usize, places: usize) {
     }
 }
 
-/// Lowers each cell to the walk by its arc, where that costs less. Here nearly all of the time goes: without a branch the loop
-/// takes several cells at once.
+/// Lowers each cell to the walk by its arc, if that costs less. Nearly all of the time is spent here: without a branch, the
+/// loop handles several cells at once.
 #[inline(always)]
 pub(crate) fn lower(row: &mut [i64], arcs: &[i64], cost: i64) {
     for (cell, &arc) in row.iter_mut().zip(arcs) {
@@ -119,8 +120,8 @@ pub(crate) fn lower(row: &mut [i64], arcs: &[i64], cost: i64) {
     }
 }
 
-/// Lowers the cells of a load to the walks by these looks before a stop, where they cost less. They go on to the walks from there,
-/// which are those of the load without the stop.
+/// Lowers the cells of a load to the walks by these looks before a stop, if they cost less. They continue with the walks from
+/// the stop, which have the load without the stop.
 pub(crate) fn lower_near(
     rows: &mut [i64],
     looks: &[NearLook],

@@ -1,10 +1,9 @@
-//! Entering prices and cut prices into the arcs.
+//! Enters prices and cut prices into the arcs.
 use crate::walks::{Walks, at};
 
 impl Walks {
-    /// Enters the arcs anew: each costs its scaled weight and the prices of its two ends. There is one price for each place, by the
-    /// scale; the cut prices that were taken off before are gone. The tables stay as they were filled last. What arcs cost is left
-    /// open.
+    /// Enters the arcs anew: each costs its scaled weight plus the prices of its two ends. There is one scaled price for each
+    /// place; earlier cut prices are gone. The tables keep their last contents. The contract leaves open what arcs cost.
     pub fn enter(&mut self, prices: &[i64]) {
         for to in 0..self.places() {
             let own = at(prices, to);
@@ -14,8 +13,8 @@ impl Walks {
         }
     }
 
-    /// Takes a cut price, by the scale, off each arc between a place that is marked and one that isn't. There is one mark for each
-    /// place. The tables stay as they were filled last. What arcs cost is left open.
+    /// Takes a scaled cut price off each arc between a marked and an unmarked place. There is one mark for each place. The
+    /// tables keep their last contents. The contract leaves open what arcs cost.
     pub fn take_off(&mut self, inside: &[bool], cut_price: i64) {
         for to in 0..self.places() {
             let own = inside.get(to).copied().unwrap_or(false);
@@ -33,7 +32,7 @@ fn enter_prices(arcs: &mut [i64], weights: &[i64], prices: &[i64], own: i64) {
     }
 }
 
-// Takes a cut price off the arcs into a place that come from the other side.
+// Takes a cut price off the arcs into a place that come from the other side of the border.
 fn take_off(arcs: &mut [i64], inside: &[bool], own: bool, cut_price: i64) {
     for (arc, &other) in arcs.iter_mut().zip(inside) {
         if other != own {

@@ -7,21 +7,21 @@ use crate::near_looks::{NearLook, NearLooks};
 use std::alloc::Global;
 use vrp_model::{Instance, NoMemory};
 
-/// The arcs between all places, and what is remembered on them.
+/// The arcs between all places, and where ng-sets matter on them.
 #[derive(Debug, Drop)]
 pub(crate) struct Growth {
     places: usize,
     // The scaled weight of the arc into each place, from each; a mark from a place to itself.
     weights: Vec<i64>,
-    // The same with prices and cut prices.
+    // The arcs with prices and cut prices, in the same order.
     arcs: Vec<i64>,
-    // The same with a mark where ng-sets count.
+    // The arcs with prices and cut prices, and a mark where ng-sets matter.
     far_arcs: Vec<i64>,
     looks: NearLooks,
 }
 
 impl Growth {
-    /// No prices yet, and these looks where ng-sets count.
+    /// Arcs without prices, and these looks where ng-sets matter.
     pub(crate) fn new(
         alloc: Global,
         instance: &Instance,
@@ -48,7 +48,7 @@ impl Growth {
         Some((arcs, weights))
     }
 
-    /// Copies the arcs, as they were entered, and leaves out those where ng-sets count.
+    /// Copies the entered arcs, without those where ng-sets matter.
     pub(crate) fn mark_near(&mut self) {
         let arcs = self.arcs.iter().zip(self.looks.far());
         for (far_arc, (&arc, &is_far)) in self.far_arcs.iter_mut().zip(arcs) {
@@ -61,24 +61,24 @@ impl Growth {
         self.arcs.as_slice().get(0..self.places).unwrap_or(&[])
     }
 
-    /// What an arc costs.
+    /// The cost of an arc.
     pub(crate) fn arc(&self, from: usize, to: usize) -> i64 {
         let cell = to.saturating_mul(self.places).saturating_add(from);
         self.arcs.get(cell).copied().unwrap_or(FAR)
     }
 
-    /// The looks before a stop where ng-sets count.
+    /// The looks before a stop where ng-sets matter.
     pub(crate) fn near_looks(&self, stop: usize) -> &[NearLook] {
         self.looks.of(stop)
     }
 
-    /// Whether ng-sets don't count between a place and the stop after it.
+    /// Whether ng-sets don't matter between a place and the stop after it.
     pub(crate) fn is_far(&self, place: usize, stop: usize) -> bool {
         self.looks.is_far(place, stop)
     }
 
-    /// Puts each place before the walks from a stop. They are among the walks of one load, and the least costs so much; the rows are
-    /// those of the load with the stop.
+    /// Extends the walks from a stop by each place before it. These are walks of one load, and the least of them has this
+    /// cost; the rows are those of the load that includes the stop.
     #[inline(always)]
     pub(crate) fn extend(&self, walks: &[i64], stop: usize, cost: i64, rows: &mut [i64]) {
         let start = stop.saturating_mul(self.places);

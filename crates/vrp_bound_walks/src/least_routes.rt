@@ -1,4 +1,4 @@
-//! The least route through each customer: two walks home from it that remember nobody in common, of which one is gone back.
+//! The least route through each customer: two walks home from it that remember no customer in common, one of them reversed.
 ghost use Rattle.std.specs.Prelude.{pos, ◌<ℤ◌};
 
 use crate::cells::NO_WALK;
@@ -8,10 +8,10 @@ use std::alloc::Global;
 use std::mem;
 use vrp_model::NoMemory;
 
-// Costs for each unit are counted in parts of so many.
+// Costs per unit are counted in this many parts.
 const PARTS: i64 = 1_024;
 
-// So often a route is looked for that costs less for each unit; mostly two or three times are enough.
+// The greatest number of searches for a route of lower cost per unit; two or three are mostly enough.
 const MOST_TURNS: u32 = 6;
 
 /// A route through a customer.
@@ -19,22 +19,23 @@ const MOST_TURNS: u32 = 6;
 pub struct LeastRoute {
     /// The customer.
     pub customer: usize,
-    /// What the route costs.
+    /// The route's cost.
     pub cost: i64,
-    /// What it carries, in units.
+    /// The route's load, in units.
     pub load: usize,
-    // What each half of it carries, without the customer, and what may be remembered of it at the customer.
+    // The load of each half of the route, without the customer, and the greatest ng-set of that half at the customer.
     there: Half,
     back: Half,
 }
 
 impl LeastRoute {
-    // What it costs for each unit that it carries, in parts.
+    // The route's cost per unit of load, in parts.
     fn per_unit(&self) -> i64 {
         self.cost.saturating_mul(PARTS) / units(self.load)
     }
 
-    /// The part that falls to a customer who demands so much, of an amount that falls to the whole load. Its value is left open.
+    /// The share of an amount for the whole load that falls to a customer with this demand. The contract leaves its value
+    /// open.
     pub fn share(&self, amount: i64, demand: usize) -> i64 {
         amount.saturating_mul(units(demand)) / units(self.load)
     }
@@ -47,20 +48,20 @@ struct Half {
     load: usize,
 }
 
-// A walk home, and by how much it costs more than its load does by what a unit costs, in parts.
+// A walk home, and its cost minus the price of its load, in parts.
 #[derive(Clone, Copy, Debug)]
 struct PricedHalf {
     half: Half,
     excess: i64,
 }
 
-// None that could be a half.
+// A value that stands for no half.
 const NO_HALF: PricedHalf = PricedHalf {
     half: Half { ng_set: 0, load: 0 },
     excess: i64::MAX,
 };
 
-// Two halves, and by how much they cost more than their load does.
+// Two halves, and their cost minus the price of their load.
 #[derive(Clone, Copy, Debug)]
 struct Pair {
     there: Half,
@@ -74,30 +75,30 @@ const NO_PAIR: Pair = Pair {
     excess: i64::MAX,
 };
 
-// Through whom a route is looked for.
+// The parameters of a search for a route through a customer.
 #[derive(Clone, Copy, Debug)]
 struct Search {
     customer: usize,
     demand: usize,
-    // The ng-set of all that can be remembered.
+    // The greatest ng-set.
     most: usize,
-    // What a unit costs, in parts.
+    // The price of a unit, in parts.
     per_unit: i64,
 }
 
-/// Looks for least routes in tables that were filled.
+/// Searches filled tables for least routes.
 #[derive(Debug, Drop)]
 pub struct LeastRoutes {
     loads: usize,
-    // What the walks home from the customer cost, by ng-set and of each by load: copied out of the tables, where they lie far
+    // The costs of the walks home from the customer, by ng-set and then by load: copied from the tables, where they are far
     // apart.
     costs: Vec<i64>,
-    // By load: the best half of this load at most.
+    // By load: the best half of at most this load.
     lighter: Vec<PricedHalf>,
 }
 
 impl LeastRoutes {
-    /// For tables of this size. What is looked for is left open.
+    /// A search over tables of this size. The contract leaves open what it finds.
     pub fn new(alloc: Global, walks: &Walks) -> Result<LeastRoutes, NoMemory> {
         let loads = walks.loads();
         let rows = walks.most().saturating_add(1);
@@ -108,8 +109,8 @@ impl LeastRoutes {
         })
     }
 
-    /// The route through a customer that costs least for each unit that it carries, where arcs cost the same there and back; `None`
-    /// where there is none. Which it is is left open.
+    /// The route through a customer with the least cost per unit of load, if arcs are symmetric; `None` if there is none. The
+    /// contract leaves open which route it is.
     pub fn through(&mut self, walks: &Walks, customer: usize) -> Option<LeastRoute> {
         self.copy_costs(walks, customer);
         let mut search = Search {
@@ -140,8 +141,8 @@ impl LeastRoutes {
         }
     }
 
-    // The one whose cost is least above what its load costs. Of two ng-sets that have nobody in common the one is tried with the
-    // other, there or back.
+    // The route with the least cost above the price of its load. For two disjoint ng-sets, each is tried for one half and the
+    // other for the other.
     fn cheapest(&mut self, search: Search) -> Option<LeastRoute> {
         let mut best = NO_PAIR;
         for ng_set in 0..(search.most / 2).saturating_add(1) {
@@ -158,7 +159,7 @@ impl LeastRoutes {
         }
     }
 
-    // The best pair of a half with this ng-set and one of those that are kept.
+    // The best pair of a half with this ng-set and one of those kept.
     fn best_pair(&self, search: Search, ng_set: usize) -> Pair {
         let mut best = NO_PAIR;
         for (load, &cost) in self.row(ng_set).iter().enumerate() {
@@ -177,13 +178,13 @@ impl LeastRoutes {
         best
     }
 
-    // Keeps the best half with this ng-set, by the load that it has at most.
+    // Keeps the best half with this ng-set for each greatest load.
     fn keep_best(&mut self, search: Search, ng_set: usize) {
         let costs = row_of(&self.costs, self.loads, ng_set);
         lighten(self.lighter.as_mut_slice(), costs, search, ng_set);
     }
 
-    // The best half for which there is room beside the customer and this load.
+    // The best half that fits beside the customer and this load.
     fn beside(&self, search: Search, load: usize) -> PricedHalf {
         let taken = load.saturating_add(search.demand);
         match self.loads.checked_sub(taken.saturating_add(1)) {
@@ -214,14 +215,14 @@ impl LeastRoutes {
     }
 }
 
-// What walks with this ng-set cost, by load.
+// The costs of walks with this ng-set, by load.
 fn row_of(costs: &[i64], loads: usize, ng_set: usize) -> &[i64] {
     let start = ng_set.saturating_mul(loads);
     let end = start.saturating_add(loads);
     costs.get(start..end).unwrap_or(&[])
 }
 
-// The best half of walks that cost so much by load, for each load at most.
+// The best half for each greatest load, from walks with these costs by load.
 fn lighten(lighter: &mut [PricedHalf], costs: &[i64], search: Search, ng_set: usize) {
     let mut best = NO_HALF;
     for (load, lighter) in lighter.iter_mut().enumerate() {
@@ -235,7 +236,7 @@ fn lighten(lighter: &mut [PricedHalf], costs: &[i64], search: Search, ng_set: us
     }
 }
 
-// What the walks home from a customer cost with this ng-set, by load.
+// Copies the costs of the walks home from a customer with this ng-set, by load.
 fn copy_row(row: &mut [i64], walks: &Walks, customer: usize, ng_set: usize) {
     for (load, cost) in row.iter_mut().enumerate() {
         *cost = walks.cell(load, customer, ng_set);
@@ -243,9 +244,9 @@ fn copy_row(row: &mut [i64], walks: &Walks, customer: usize, ng_set: usize) {
 }
 
 impl Walks {
-    /// Adds the arcs of a route, in some order, of which so much is used as falls to its customer. The tables are those in which it
-    /// was found; in others they are any arcs. Where memory is refused, the first of them are added. Which arcs they are is left
-    /// open.
+    /// Adds the arcs of a route, in some order, each with the part of use that falls to the route's customer. The tables must
+    /// be those in which it was found; otherwise the arcs are arbitrary. If memory is refused, only the first of them are
+    /// added. The contract leaves open which arcs they are.
     pub fn list_route(&self, route: &LeastRoute, used: &mut Vec<UsedArc>) -> Result<(), NoMemory> {
         let part = route.share(WHOLE_TOUR, self.demand(route.customer));
         let start = used.len();
@@ -257,7 +258,7 @@ impl Walks {
     }
 }
 
-// Lets each arc be gone the other way round.
+// Reverses each arc.
 fn turn_round(arcs: &mut [UsedArc]) {
     for arc in arcs {
         mem::swap(&mut arc.from, &mut arc.to);
@@ -273,7 +274,7 @@ fn standing(route: &LeastRoute, half: Half) -> Standing {
     }
 }
 
-// A half that costs so much, priced; `None` where there is none.
+// A half with this cost, priced; `None` if there is none.
 fn price_half(cost: i64, search: Search, half: Half) -> Option<PricedHalf> {
     if cost >= NO_WALK {
         return None;

@@ -1,5 +1,5 @@
-//! The least walks home and the least tours that carry all, by arcs with prices and cut prices, which may cost less than nothing.
-//! Walks remember whom they met nearby. Nothing of an answer rests on these tables: where numbers grow too large, sums wrap.
+//! The least walks home, and the least tours that carry the whole demand, over arcs with prices and cut prices, which may be
+//! negative. Walks have ng-sets. No answer depends on these tables: if numbers grow too large, sums wrap.
 #![tactic(auto)]
 
 mod cells;

@@ -1,10 +1,9 @@
-//! How much is to be added for each unit of demand, so that no arc costs less than nothing.
+//! The amount to add per unit of demand so that no arc is negative.
 use crate::walks::Walks;
 
 impl Walks {
-    /// The least number that, added to each arc once for each unit that its two ends demand together, lets no arc cost less than
-    /// nothing; by the arcs as they were entered last. 0 where none does. The number is left
-    /// open.
+    /// The least number such that no entered arc is negative once the number is added to it for each unit that its two ends
+    /// demand together. 0 if no arc is negative. The contract leaves the number open.
     pub fn least_lift(&self) -> i64 {
         let mut lift = 0;
         for to in 0..self.places() {
@@ -13,7 +12,7 @@ impl Walks {
         lift
     }
 
-    // That for the arcs into a place.
+    // The least lift for the arcs into a place.
     fn lift_into(&self, to: usize) -> i64 {
         let mut lift = 0;
         for from in 0..self.places() {
@@ -24,7 +23,7 @@ impl Walks {
     }
 }
 
-// That for an arc between places that demand so much together.
+// The least lift for an arc between places that together demand this many units.
 fn lift_of(arc: i64, units: usize) -> i64 {
     let units = i64::try_from(units).unwrap_or(i64::MAX).max(1);
     let short = arc.saturating_neg().max(0);

@@ -1,5 +1,5 @@
-//! Where it counts what a walk remembers: before each stop the places from which ng-sets forbid to go on, or has something left
-//! there.
+//! Where ng-sets matter: before each stop, the places from which ng-sets forbid the arc to it, or which leave something
+//! remembered.
 ghost use Rattle.std.specs.Prelude.{◌≡◌, ◌<◌};
 ghost use Rattle.vrp_model.specs.Problem.{place_count};
 
@@ -7,35 +7,35 @@ use std::alloc::Global;
 use vrp_bound_ng::{MOST_NEAR, NgSets};
 use vrp_model::{Instance, NoMemory};
 
-/// What the customers near a place stand for in an ng-set, as a number whose bits they are.
+/// The bits of the customers near a place in an ng-set.
 pub(crate) const BITS: [usize; MOST_NEAR] = [1, 2, 4, 8];
 
-/// An arc to go on to a stop.
+/// An arc to a stop.
 #[derive(Clone, Copy, Debug)]
 pub(crate) struct NearLook {
-    /// The place from which it is gone on.
+    /// The place where the arc begins.
     pub(crate) at: u16,
-    /// What is remembered there.
+    /// The ng-set there.
     pub(crate) ng_set: u8,
-    /// The most that may be remembered at the stop, so that no more is at the place.
+    /// The greatest ng-set at the stop that leads to no more than this one at the place.
     pub(crate) most: u8,
 }
 
-/// The looks that take ng-sets into account, by stop: what tables need of an ng-set of an instance's walks.
+/// The looks that take ng-sets into account, by stop: what the tables need of the ng-sets of an instance's walks.
 #[derive(Debug, Drop)]
 pub struct NearLooks {
     places: usize,
-    // How many ng-sets there are.
+    // The number of ng-sets.
     masks: usize,
     looks: Vec<NearLook>,
-    // Where the looks of each stop begin, and at last where all end.
+    // Where the looks of each stop begin, and finally where all end.
     starts: Vec<usize>,
-    // By stop, and of each by place: whether the stop can be gone on to whatever is remembered there, and leaves nothing to remember.
+    // By stop, then by place: whether the arc to the stop is allowed for any ng-set there and leaves nothing remembered.
     far: Vec<bool>,
 }
 
 impl NearLooks {
-    /// Those of an ng-set of an instance's walks. Which they are is left open.
+    /// The looks of the ng-sets of an instance's walks. The contract leaves open which they are.
     pub fn new(alloc: Global, instance: &Instance, ng_sets: &NgSets) -> Result<NearLooks, NoMemory>
         requires places { ng_sets.now.places ≡ place_count instance.now }
     {
@@ -54,7 +54,7 @@ impl NearLooks {
         Ok(near)
     }
 
-    // Adds the looks before a stop. A tour needs no memory at the depot, and a walk that is home has none.
+    // Adds the looks before a stop. A tour needs no ng-set at the depot, and a walk that is home has none.
     fn push_stop(
         &mut self,
         instance: &Instance,
@@ -76,7 +76,7 @@ impl NearLooks {
         Ok(())
     }
 
-    // Adds the looks from a place, by what is remembered there before the stop with each ng-set.
+    // Adds the looks from a place, by the ng-set there for each ng-set at the stop.
     fn push_looks(&mut self, at: u16, before: &[u8]) -> Result<(), NoMemory> {
         for (most, &ng_set) in before.iter().enumerate() {
             if usize::from(ng_set) < self.masks && is_most(before, most, ng_set) {
@@ -97,24 +97,24 @@ impl NearLooks {
             .unwrap_or(&[])
     }
 
-    /// By stop, and of each by place: whether ng-sets don't count between the place and the stop.
+    /// By stop, then by place: whether ng-sets don't matter between the place and the stop.
     pub(crate) fn far(&self) -> &[bool] {
         self.far.as_slice()
     }
 
-    /// Whether ng-sets don't count between a place and the stop after it.
+    /// Whether ng-sets don't matter between a place and the stop after it.
     pub(crate) fn is_far(&self, place: usize, stop: usize) -> bool {
         let pair = stop.saturating_mul(self.places).saturating_add(place);
         self.far.get(pair).copied().unwrap_or(false)
     }
 
-    /// How many ng-sets there are.
+    /// The number of ng-sets.
     pub(crate) fn masks(&self) -> usize {
         self.masks
     }
 
-    /// How many looks ng-sets take of each load: those here, and from each ng-set of each place at those with one customer less.
-    /// None where walks remember nothing. The number is left open.
+    /// The number of looks that ng-sets take for each load: those here, plus those from each ng-set of each place to the ones
+    /// with one customer less. 0 if walks remember nothing. The contract leaves the number open.
     pub fn count(&self) -> u64 {
         let size = u64::from(self.masks.trailing_zeros());
         let lesser = (self.masks as u64)
@@ -125,7 +125,7 @@ impl NearLooks {
     }
 }
 
-// Whether no larger ng-set than this leads to the same ng-sets before.
+// Whether no ng-set larger than this one leads to the same ng-set before.
 fn is_most(before: &[u8], most: usize, ng_set: u8) -> bool {
     for bit in BITS {
         if most & bit == 0 && before.get(most | bit) == Some(&ng_set) {

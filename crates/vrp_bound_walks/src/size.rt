@@ -1,25 +1,25 @@
-//! How large the tables are, and how many steps they take.
+//! The size of the tables, and the number of steps to fill them.
 ghost use Rattle.std.specs.Prelude.{◌≡◌, ◌≤◌};
 ghost use Rattle.vrp_model.specs.Problem.{place_count};
 
 use vrp_bound_prices::{capacity_in_units, demand_in_units};
 use vrp_model::Instance;
 
-/// How large the tables are, by demands in units.
+/// The size of the tables, by demands in units.
 #[derive(Clone, Copy, Debug)]
 pub struct Size {
-    /// How many places there are, the depot among them.
+    /// The number of places, the depot included.
     pub places: u64,
-    /// How much of the whole demand one truck can carry, in units.
+    /// The lesser of the whole demand and the capacity, in units.
     pub room: u64,
-    /// What all customers demand together, in units.
+    /// The total demand of all customers, in units.
     pub whole: u64,
-    /// How many looks ng-sets take, of each load.
+    /// The number of looks for ng-sets, for each load.
     pub looks: u64,
 }
 
 impl Size {
-    /// That of an instance by this unit, where walks remember nothing. How much all customers demand in units is left open.
+    /// The size for an instance in this unit, without ng-sets. The contract leaves the whole demand in units open.
     pub fn in_units(instance: &Instance, unit: u64) -> Size
         requires some { 1 ≤ unit }
         ensures places { result.places ≡ place_count instance.now }
@@ -35,15 +35,15 @@ impl Size {
         }
     }
 
-    /// The same where ng-set takes this many looks of each load.
+    /// The size with this many looks for ng-sets of each load.
     pub fn with_looks(self, looks: u64) -> Size
         ensures { result ≡ record self { looks = looks } }
     {
         Size { looks, ..self }
     }
 
-    /// How many steps it takes to fill the tables once: looks from one of their cells at another; `u64::MAX` where they are more. The
-    /// number is left open.
+    /// The number of steps to fill the tables once, where a step is a look from one cell at another; `u64::MAX` if there are
+    /// more. The contract leaves the number open.
     pub fn steps(self) -> u64 {
         let loads = self.room.saturating_add(1);
         let of_one = self
@@ -54,14 +54,14 @@ impl Size {
         loads.saturating_mul(of_one)
     }
 
-    /// How many steps it takes to enter the cut prices of this many cuts: a look at each arc for each; `u64::MAX` where they are
-    /// more. The number is left open.
+    /// The number of steps to enter the prices of this many cuts, where a step is a look at an arc; `u64::MAX` if there are
+    /// more. The contract leaves the number open.
     pub fn cut_prices(self, cuts: u64) -> u64 {
         cuts.saturating_mul(self.places).saturating_mul(self.places)
     }
 }
 
-// What all customers demand in units.
+// The total demand of all customers in units.
 fn whole_in_units(instance: &Instance, unit: u64) -> u64
     requires some { 1 ≤ unit }
 {

@@ -1,9 +1,9 @@
-//! The arcs that the least tours use, by going back through the tables.
+//! The arcs that the least tours use, traced back through the tables.
 use crate::near_looks::NearLook;
 use crate::walks::Walks;
 use vrp_model::NoMemory;
 
-/// What the use of an arc by a whole tour counts.
+/// The use of an arc by a whole tour.
 pub const WHOLE_TOUR: i64 = 65_536;
 
 /// A use of the arc from one place to another.
@@ -13,25 +13,25 @@ pub struct UsedArc {
     pub from: usize,
     /// The place that it goes to.
     pub to: usize,
-    /// What the use counts: `WHOLE_TOUR` by a whole tour, less by a part of one.
+    /// The amount of use: `WHOLE_TOUR` for a whole tour, less for a part of one.
     pub part: i64,
 }
 
-/// Where a walk home has come to.
+/// A position on a walk home.
 #[derive(Clone, Copy, Debug)]
 pub(crate) struct Standing {
     pub(crate) place: usize,
-    /// What may be remembered there, at most, of what is still to come.
+    /// The greatest ng-set there for the rest of the walk.
     pub(crate) ng_set: usize,
-    /// What is still to be carried.
+    /// The load still to be carried.
     pub(crate) left: usize,
 }
 
 impl Walks {
-    /// Lists the arcs of the least tours that carry the whole demand, in place of what stands there: tour after tour, each from the
-    /// depot and back to it. They are those of the tables as they were filled last, where that answered a cost and no arcs were
-    /// entered since; else any arcs. Where memory is refused, the first of them are left in the list. Which
-    /// arcs they are is left open.
+    /// Replaces the list by the arcs of the least tours that carry the whole demand: tour after tour, each from the depot and
+    /// back to it. They are right if the last filling of the tables answered a cost and no arcs were entered since; otherwise
+    /// they are arbitrary. If memory is refused, the list has only the first of them. The contract leaves open which arcs
+    /// they are.
     pub fn list_used(&self, used: &mut Vec<UsedArc>) -> Result<(), NoMemory> {
         used.clear();
         let mut rest = self.whole();
@@ -50,19 +50,19 @@ impl Walks {
         Ok(())
     }
 
-    // What the last of the least tours carries, of those that carry the rest; `None` where nothing is left.
+    // The load of the last of the least tours that carry the rest; `None` if nothing is left.
     fn last_load(&self, rest: usize) -> Option<usize> {
         let cost = self.tours_cost(rest);
         (1..self.loads()).find(|&load| load <= rest && self.is_split(cost, load, rest))
     }
 
-    // Whether one tour of this load and those of what it leaves cost so much together.
+    // Whether one tour of this load and tours for the remaining rest have this cost together.
     fn is_split(&self, cost: i64, load: usize, rest: usize) -> bool {
         let others = self.tours_cost(rest.saturating_sub(load));
         self.cell(load, 0, 0).wrapping_add(others) == cost
     }
 
-    /// Adds the arcs of the least walk home from there, of which so large a part is used.
+    /// Adds the arcs of the least walk home from there, each with this part of use.
     pub(crate) fn list_walk(
         &self,
         from: Standing,
@@ -89,7 +89,7 @@ impl Walks {
         Ok(())
     }
 
-    // Where the least walk home goes on to; `None` where nothing is left to carry.
+    // The next stop of the least walk home; `None` if nothing is left to carry.
     fn next_stop(&self, here: Standing) -> Option<Standing> {
         if here.left == 0 {
             return None;
@@ -98,7 +98,7 @@ impl Walks {
         (1..self.places()).find_map(|stop| self.going_on(here, cost, stop))
     }
 
-    // Where the walk is then that goes on to this stop, if that explains what it costs.
+    // The position after continuing to this stop, if that explains the cost.
     fn going_on(&self, here: Standing, cost: i64, stop: usize) -> Option<Standing> {
         let left = here.left.checked_sub(self.demand(stop))?;
         let rest = cost.wrapping_sub(self.arc(here.place, stop));
@@ -124,13 +124,13 @@ impl Walks {
         None
     }
 
-    // What the least walk home costs from there.
+    // The cost of the least walk home from there.
     fn cost(&self, here: Standing) -> i64 {
         self.cell(here.left, here.place, here.ng_set)
     }
 }
 
-// Whether a look is from this place, and remembers no more there.
+// Whether a look is from this place, with no larger ng-set there.
 fn leads(look: NearLook, here: Standing) -> bool {
     let more = usize::from(look.ng_set) & !here.ng_set;
     usize::from(look.at) == here.place && more == 0

@@ -1,5 +1,5 @@
-//! The least walks home from each place of each load, over arcs that may cost less than nothing; and the least tours. Walks
-//! remember.
+//! The least walks home from each place with each load, over arcs that may be negative, and the least tours. Walks have
+//! ng-sets.
 ghost use Rattle.std.specs.Prelude.{◌≤◌};
 
 use crate::cells::{Cells, FAR, NO_WALK};
@@ -10,25 +10,25 @@ use std::alloc::Global;
 use vrp_bound_prices::demand_in_units;
 use vrp_model::{Instance, NoMemory};
 
-/// The tables of one problem with prices, made once and filled in each round: the least walks home and the least tours. Costs are
-/// by the scale, and may be below 0; loads and demands are in units. Sums of costs wrap, where prices are so large.
+/// The tables of one problem with prices, made once and filled in each round: the least walks home and the least tours. Costs
+/// are scaled and may be negative; loads and demands are in units. With large prices, sums of costs may wrap.
 #[derive(Debug, Drop)]
 pub struct Walks {
     places: usize,
-    // What each place demands in units; the depot nothing.
+    // The demand of each place in units; 0 for the depot.
     demands: Vec<usize>,
     growth: Growth,
     cells: Cells,
     // The least tour of each load.
     tour: Vec<i64>,
-    // The least tours by what they carry together.
+    // The least tours by their total load.
     tours: Vec<i64>,
 }
 
 impl Walks {
-    /// Empty tables of this size, of walks that remember what these looks tell. The size is that of the instance by this unit, with
-    /// these looks, which are of the same instance. There are no arcs until prices are entered; then an arc's weight counts `scale`
-    /// times. What is in the tables is left open.
+    /// Empty tables of this size, for walks with the ng-sets of these looks. The size is that of the instance in this unit,
+    /// with these looks, which belong to the same instance. There are no arcs until prices are entered; then an arc's weight
+    /// counts `scale` times. The contract leaves the contents open.
     pub fn new(
         alloc: Global,
         instance: &Instance,
@@ -51,8 +51,8 @@ impl Walks {
         })
     }
 
-    /// Fills the tables by the arcs as they were entered last. What the least tours cost together that carry the whole demand;
-    /// `None` where no tours do. The cost is left open.
+    /// Fills the tables from the arcs that were entered last. Answers the least cost of tours that carry the whole demand;
+    /// `None` if no tours do. The contract leaves the cost open.
     pub fn fill(&mut self) -> Option<i64> {
         self.fill_walks();
         self.keep_tours();
@@ -61,8 +61,8 @@ impl Walks {
         if whole < NO_WALK { Some(whole) } else { None }
     }
 
-    /// Fills the table of the walks by the arcs as they were entered last, and leaves the tours as they are. What is in it is left
-    /// open.
+    /// Fills the table of the walks from the arcs that were entered last, and leaves the tours unchanged. The contract leaves
+    /// the contents open.
     pub fn fill_walks(&mut self) {
         self.growth.mark_near();
         self.cells.begin(self.growth.arcs_home());
@@ -71,7 +71,7 @@ impl Walks {
         }
     }
 
-    // Puts another place before each walk that carries a load.
+    // Extends each walk that carries a load by a place before it.
     fn extend_load(&mut self, load: usize) {
         self.cells.widen(load);
         let (size, most) = (self.cells.of_load(), self.cells.most_row());
@@ -89,14 +89,14 @@ impl Walks {
         }
     }
 
-    // The least tours stand in the depot's cells.
+    // Copies the least tours from the depot's cells.
     fn keep_tours(&mut self) {
         for (load, tour) in self.tour.iter_mut().enumerate() {
             *tour = self.cells.cell(load, 0, 0);
         }
     }
 
-    // The least tours that carry more and more.
+    // Computes the least tours for rising loads.
     fn join_tours(&mut self) {
         for rest in 0..self.tours.len() {
             let cost = if rest == 0 {
@@ -115,40 +115,42 @@ impl Walks {
         self.growth.arcs_into(to)
     }
 
-    // How many places there are.
+    // The number of places.
     pub(crate) fn places(&self) -> usize {
         self.places
     }
 
-    /// How many loads there are, 0 among them: one more than what a truck can carry of the whole demand. The number is left open.
+    /// The number of loads, 0 included: one more than the lesser of the whole demand and the capacity. The contract leaves
+    /// the number open.
     pub fn loads(&self) -> usize {
         self.tour.len()
     }
 
-    /// What all customers demand together. The number is left open.
+    /// The total demand of all customers. The contract leaves the number open.
     pub fn whole(&self) -> usize {
         self.tours.len().saturating_sub(1)
     }
 
-    // The least cost of tours that carry this together.
+    // The least cost of tours with this total load.
     pub(crate) fn tours_cost(&self, rest: usize) -> i64 {
         at(&self.tours, rest)
     }
 
-    /// What a place demands; nothing where it is the depot, or no place. The number is left open.
+    /// The demand of a place; 0 for the depot and for a number that is not a place. The contract leaves the number open.
     pub fn demand(&self, place: usize) -> usize {
         self.demands.get(place).copied().unwrap_or(0)
     }
 
-    /// What the least walk home costs from a place which carries this load behind it, and remembers no more there than this ng-set
-    /// says: the bits of a number, the lowest for the nearest customer. It is that of the tables as they were filled last. At the
-    /// depot, with ng-set 0, it is the least tour of the load. No less than `NO_WALK` where there is none. The load is below
-    /// `loads`, and the ng-set has no more bits than customers are near. The cost is left open.
+    /// The cost of the least walk home from a place that carries this load behind it and remembers no more than this ng-set
+    /// there. The ng-set is the bits of a number, the lowest for the nearest customer. The answer comes from the last
+    /// filling. At the depot, with ng-set 0, it is the least tour of the load. It is at least `NO_WALK` if there is none. The
+    /// load is below `loads`, and the ng-set has no more bits than there are near customers. The contract leaves the cost
+    /// open.
     pub fn cell(&self, load: usize, place: usize, ng_set: usize) -> i64 {
         self.cells.cell(load, place, ng_set)
     }
 
-    // The ng-set of all that can be remembered.
+    // The greatest ng-set.
     pub(crate) fn most(&self) -> usize {
         self.cells.most()
     }
@@ -158,23 +160,23 @@ impl Walks {
         self.growth.near_looks(stop)
     }
 
-    // Whether ng-sets don't count between a place and the stop after it.
+    // Whether ng-sets don't matter between a place and the stop after it.
     pub(crate) fn is_far(&self, place: usize, stop: usize) -> bool {
         self.growth.is_far(place, stop)
     }
 
-    // What an arc costs.
+    // The cost of an arc.
     pub(crate) fn arc(&self, from: usize, to: usize) -> i64 {
         self.growth.arc(from, to)
     }
 }
 
-/// The number that stands at a place of a list; 0 past its end.
+/// The number at a position of a list; 0 past its end.
 pub(crate) fn at(values: &[i64], place: usize) -> i64 {
     values.get(place).copied().unwrap_or(0)
 }
 
-// What each place demands in units.
+// The demand of each place in units.
 fn demands(alloc: Global, instance: &Instance, unit: u64) -> Result<Vec<usize>, NoMemory>
     requires some { 1 ≤ unit }
 {
@@ -186,7 +188,7 @@ fn demands(alloc: Global, instance: &Instance, unit: u64) -> Result<Vec<usize>, 
     Ok(demands)
 }
 
-// The least cost of tours that carry the rest: one, and tours that carry what it leaves.
+// The least cost of tours that carry the rest: one tour, plus tours for what it leaves.
 fn least_split(tour: &[i64], tours: &[i64], rest: usize) -> i64 {
     let mut least = FAR;
     let most = rest.min(tour.len().saturating_sub(1));

@@ -1,4 +1,4 @@
-//! Questions that are asked ahead, several at a time: those that come up if the choice that is known is the canonical plan.
+//! Questions asked ahead, several at a time: those that will come up if the known choice is the canonical plan.
 ghost use Rattle.std.specs.Prelude.{◌<◌, ◌≤◌, IfOk, IfSome, length};
 ghost use Rattle.std.specs.Int.{bit_at};
 ghost use Rattle.std.specs.List.{All};
@@ -15,11 +15,11 @@ use std::alloc::AllocError;
 use std::thread::Threads;
 use vrp_partition::{Ask, Guide, Route, Team};
 
-// So many questions are asked ahead at most, whoever works: so a search takes the same steps for every number of workers.
+// The most questions asked ahead, for any number of workers: so a search takes the same steps with every number of them.
 const MOST_AHEAD: usize = 8;
 
-// A step of the pass through the pool, if the known choice is the canonical plan: what is asked, and what is left to be done from
-// which place on.
+// A step of the pass through the pool, if the known choice is the canonical plan: the question, the residual problem after it, and the
+// place to go on from.
 #[derive(Clone, Copy, Debug)]
 struct Step {
     question: Question,
@@ -28,8 +28,8 @@ struct Step {
 }
 
 impl<R: Threads + Sync, P: Guide + Send, A: Ask + Sync> Searches<'_, R, P, A> {
-    /// Answers to the questions that come up from a place on if the choice that is known is the canonical plan, up to the first
-    /// yes, by which it is not. Which questions these are is left open, and so is how much of the budget is spent.
+    /// Answers the questions that will come up from a place on if the known choice is the canonical plan, up to the first yes, which
+    /// shows that it is not. The contract leaves open which questions these are, and how much of the budget is spent.
     pub fn ask_ahead(
         &mut self,
         pool: &[Route],
@@ -55,7 +55,7 @@ impl<R: Threads + Sync, P: Guide + Send, A: Ask + Sync> Searches<'_, R, P, A> {
         self.take_replies(pool, replies)
     }
 
-    // The answers up to the first yes, as far as they are known and the budget goes.
+    // The answers up to the first yes, as far as they are known and the budget lasts.
     fn take_replies(
         &mut self,
         pool: &[Route],
@@ -87,7 +87,7 @@ impl<R: Threads + Sync, P: Guide + Send, A: Ask + Sync> Searches<'_, R, P, A> {
         Ok(answers)
     }
 
-    // The questions that come up from a place on if the choice that is known is the canonical plan. Nothing is promised of them.
+    // The questions that will come up from a place on if the known choice is the canonical plan. No clause pins them.
     fn likely_questions(
         &self,
         pool: &[Route],
@@ -114,7 +114,7 @@ impl<R: Threads + Sync, P: Guide + Send, A: Ask + Sync> Searches<'_, R, P, A> {
         Ok(questions)
     }
 
-    // The next step from a place on. `None` where there is none.
+    // The next step from a place on. `None` if there is none.
     fn likely_step(&self, pool: &[Route], rest: Residual, index: usize) -> Option<Step>
         requires index { index < length pool.now }
         requires inside { IsInside pool.now rest.unserved index }

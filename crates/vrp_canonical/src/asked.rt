@@ -1,10 +1,10 @@
-//! Questions that several workers search answers to: whoever is free takes the next one that nobody has taken.
+//! Questions that several workers search answers to: a free worker takes the next question that nobody has taken.
 ghost use Rattle.std.specs.Prelude.{◌≤◌, IfOk};
 ghost use Rattle.std.specs.List.{All};
 ghost use Rattle.vrp_canonical.specs.Asking.{IsReply};
 
 use crate::loads::Loads;
-use crate::part::part_between;
+use crate::part::part_of;
 use crate::question::{Answered, Question};
 use crate::searches::search_within;
 use std::alloc::{AllocError, Global};
@@ -12,17 +12,17 @@ use std::sync::atomic::{AtomicUsize, Ordering};
 use std::thread::{Threads, for_each_mut};
 use vrp_partition::{Ask, Found, Guide, Route, Team};
 
-/// What came of a question: its answer, where it is known, and how much of the budget was spent.
+/// The reply to a question: its answer, if it is known, and the part of the budget that was spent.
 #[derive(Debug, Drop)]
 pub struct Reply {
-    /// The place of the question among those that were asked.
+    /// The position of the question among those asked.
     pub place: usize,
     pub answer: Option<Answered>,
     pub spent: u64,
 }
 
 impl Reply {
-    // Whether replies to later questions are of no use: the known choice is not the canonical plan, or nothing is known.
+    // Whether replies to later questions are useless: the known choice is not the canonical plan, or nothing is known.
     fn is_last(&self) -> bool {
         match &self.answer {
             Some(answered) => answered.yes,
@@ -31,7 +31,7 @@ impl Reply {
     }
 }
 
-/// Questions about a pool, each to be searched for within a budget, by workers who search alone.
+/// Questions about a pool. Each is answered by a search within a budget, by one worker.
 #[derive(Clone, Copy)]
 pub struct Inquiry<'a, R, A> {
     pub team: Team<'a, R, A>,
@@ -41,12 +41,12 @@ pub struct Inquiry<'a, R, A> {
     pub questions: &'a [Question],
 }
 
-// Which question is whose. It only guides: a worker who takes a question twice, or none, searches for what is right all the same.
+// The turns of the workers. They only guide: a worker who takes a question twice, or none, still finds right answers.
 #[derive(Drop)]
 struct Turns {
-    // The first place that nobody has taken.
+    // The first position that nobody has taken.
     next: AtomicUsize,
-    // Replies behind this place are of no use.
+    // Replies behind this position are useless.
     last: AtomicUsize,
 }
 
@@ -58,26 +58,26 @@ impl Turns {
         }
     }
 
-    // The next place, which is the caller's from now on.
+    // The next position, which belongs to the caller from now on.
     fn take(&self) -> usize {
         self.next.fetch_add(1, Ordering::SeqCst)
     }
 
-    // From now on replies behind this place are of no use.
+    // From now on replies behind this position are useless.
     fn end_at(&self, place: usize) {
-        // Who writes a later place in between spares others less work, and changes no answer.
+        // If another worker writes a later position in between, more work is done, but no answer changes.
         if self.is_of_use(place) {
             self.last.store(place, Ordering::SeqCst);
         }
     }
 
-    // Whether a reply at this place may be of use.
+    // Whether a reply at this position may be useful.
     fn is_of_use(&self, place: usize) -> bool {
         place <= self.last.load(Ordering::SeqCst)
     }
 }
 
-// Who is asked whether the search for one answer goes on: only as long as the reply may be of use.
+// The watch of the search for one answer: it continues only as long as the reply may be useful.
 #[derive(Clone, Copy)]
 struct Turn<'a, A> {
     ask: &'a A,
@@ -91,7 +91,7 @@ impl<A: Ask> Ask for Turn<'_, A> {
     }
 }
 
-// One who searches: a guide for the searches, and what came of the questions that were taken: an error before that.
+// A worker: a guide for its searches, and its replies to the questions that it took; an error until it has worked.
 #[derive(Drop)]
 struct Worker<P: Guide> {
     guide: P,
@@ -99,7 +99,7 @@ struct Worker<P: Guide> {
 }
 
 impl<P: Guide + Send> Worker<P> {
-    // Takes questions as long as some are left that are of use, and searches for the answers.
+    // Takes questions as long as useful ones are left, and searches for the answers.
     fn work<R: Threads + Sync, A: Ask>(&mut self, inquiry: &Inquiry<'_, R, A>, turns: &Turns)
         requires workers { 1 ≤ inquiry.now.team.workers }
         ensures { IfOk self.new.replies (λ replies. All (IsReply inquiry.now.pool.now) replies.items) }
@@ -107,7 +107,7 @@ impl<P: Guide + Send> Worker<P> {
         self.replies = self.taken_replies(inquiry, turns);
     }
 
-    // What comes of the questions that are taken.
+    // The replies to the questions that are taken.
     fn taken_replies<R: Threads + Sync, A: Ask>(
         &self,
         inquiry: &Inquiry<'_, R, A>,
@@ -136,7 +136,7 @@ impl<P: Guide + Send> Worker<P> {
         Ok(replies)
     }
 
-    // What comes of a question by a search alone.
+    // The reply to a question, by one search.
     fn reply_to<R: Threads + Sync, A: Ask>(
         &self,
         inquiry: &Inquiry<'_, R, A>,
@@ -146,20 +146,14 @@ impl<P: Guide + Send> Worker<P> {
         requires workers { 1 ≤ inquiry.now.team.workers }
         ensures { IfOk result (IsReply inquiry.now.pool.now) }
     {
-        let Question {
-            rest,
-            customer,
-            low,
-            high,
-        } = question;
+        let rest = question.rest;
         let team = Team {
             rt: inquiry.team.rt,
             alloc: inquiry.team.alloc,
             workers: inquiry.team.workers,
             ask: turn,
         };
-        let (alloc, pool) = (inquiry.team.alloc, inquiry.pool);
-        let part = part_between(alloc, pool, rest.unserved, customer, low, high)?;
+        let part = part_of(inquiry.team.alloc, inquiry.pool, question)?;
         let part = part.as_slice();
         let mut left = inquiry.budget;
         let found = search_within(&team, &self.guide, inquiry.loads, part, rest, &mut left)?;
@@ -186,8 +180,8 @@ impl<P: Guide + Send> Worker<P> {
 }
 
 impl<R: Threads + Sync, A: Ask + Sync> Inquiry<'_, R, A> {
-    /// What comes of the questions by so many workers, in the order of the questions. Which of them get no reply is left open: it is
-    /// some behind the first one whose answer is yes, or isn't known. Up to that one the replies are the same whoever works.
+    /// The replies of this many workers, in the order of the questions. The contract leaves open which questions get no reply: those may
+    /// be some behind the first one whose answer is yes or unknown. Up to that one the replies are the same for any number of workers.
     pub fn replies<P: Guide + Send>(
         &self,
         guide: &P,
@@ -209,7 +203,7 @@ impl<R: Threads + Sync, A: Ask + Sync> Inquiry<'_, R, A> {
     }
 }
 
-// So many workers.
+// This many workers.
 fn new_team<P: Guide>(
     alloc: Global,
     guide: &P,
@@ -225,7 +219,7 @@ fn new_team<P: Guide>(
     Ok(team)
 }
 
-// The workers once they have worked, side by side.
+// The workers after they have worked in parallel.
 fn after_work<R: Threads + Sync, A: Ask + Sync, P: Guide + Send>(
     inquiry: &Inquiry<'_, R, A>,
     threads: usize,

@@ -23,26 +23,26 @@ use vrp_model::{Instance, NoMemory, Plan};
 use vrp_partition::{Ask, Found, Guide, Route, Team};
 use vrp_routes::RoutePool;
 
-/// What a search for the canonical plan came to.
+/// The outcome of a search for the canonical plan.
 #[derive(Debug, Drop)]
 pub enum PlanSearch {
     /// The canonical plan.
     Canonical(Plan),
     /// The search ended unfinished.
     Unfinished {
-        /// That of the cheapest plan that it found, which need not be trusted, and is empty where it found none below the known one.
+        /// The word of the cheapest plan that it found. It is not trusted, and empty if no plan below the known one was found.
         word: Vec<u16>,
-        /// No feasible plan costs less; 0 where nothing is known.
+        /// No feasible plan costs less; 0 if nothing is known.
         lower_bound: u64,
     },
 }
 
-/// The canonical plan of an instance, by cost and then symbol by symbol, from a pool that was listed with the cost of a known plan
-/// as its limit. The pool is narrowed to the routes that may stand in a choice within the limit; the cheapest choice of these is
-/// searched for, of which the team's asked one is told how far it is, and then the next route of the canonical plan again and
-/// again, each time by forks of the guide, which need not be trusted. Unfinished where the budget was spent or a search would not
-/// go on, where an amount doesn't fit 32 bits, or where no choice costs as little as the known plan: when, is left open, and so are
-/// how high the lower bound is then, and how much of the budget is spent.
+/// The canonical plan of an instance, the first one by cost and then symbol by symbol, from a pool that was listed for the cost of a
+/// known plan. The pool is narrowed to the routes that may be in a choice within that limit. Then the cheapest choice of these is sought,
+/// whose progress the team's watch hears, and then the routes of the canonical plan, one after another. All searches use forks of the
+/// guide, which is not trusted. The search ends unfinished if the budget is spent, the watch stops it, an amount doesn't fit 32 bits, or
+/// no choice costs as little as the known plan. The contract leaves open when that happens, how high the lower bound is then, and how much
+/// of the budget is spent.
 pub fn canonical_plan<R: Threads + Sync, P: Guide + Send, A: Ask + Sync>(
     team: &Team<'_, R, A>,
     instance: &Instance,
@@ -67,7 +67,7 @@ pub fn canonical_plan<R: Threads + Sync, P: Guide + Send, A: Ask + Sync>(
     };
     let all = routes.as_slice();
     let within = whole_problem(instance, known.cost());
-    // The guide keeps what it finds of the narrowed pool for the searches.
+    // The guide keeps what it learns from the narrowed pool for the searches.
     let mut guide = guide.fork()?;
     let narrowing = Narrowing {
         alloc,
@@ -125,7 +125,7 @@ fn unfinished(alloc: Global) -> Result<PlanSearch, NoMemory>
     })
 }
 
-// All customers, the whole fleet, and what the routes may cost.
+// The whole problem: all customers, the whole fleet, and the cost limit.
 fn whole_problem(instance: &Instance, most: u64) -> Residual
     requires { place_count instance.now ≤ 128 }
     ensures customers { result.unserved ≡ set_of (customers instance.now) }
@@ -141,8 +141,7 @@ fn whole_problem(instance: &Instance, most: u64) -> Residual
     }
 }
 
-// What a pass over routes begins with: a guide of its searches, what customers demand, and a choice that is known, which answers some
-// questions by itself.
+// The start of a pass over routes: a guide for its searches, the demands, and a known choice, which answers some questions by itself.
 #[derive(Drop)]
 struct Begun<'a, P: Guide> {
     guide: &'a P,
@@ -150,7 +149,7 @@ struct Begun<'a, P: Guide> {
     known: Vec<Route>,
 }
 
-// The canonical plan, whose routes are among these, by a pass over them.
+// The canonical plan, whose routes are among these, by one pass over them.
 fn plan_by_pass<R: Threads + Sync, P: Guide + Send, A: Ask + Sync>(
     team: &Team<'_, R, A>,
     instance: &Instance,
@@ -179,7 +178,7 @@ fn plan_by_pass<R: Threads + Sync, P: Guide + Send, A: Ask + Sync>(
     } = begun;
     let mut searches = Searches::new(&team, guide, loads, *budget, known);
     let found = plan_among(alloc, instance, &mut searches, ordered, whole);
-    // No search gives any back; it is said here, since the pass is proved for whoever answers.
+    // No search gives any budget back; this states it, since the pass is proved for any source of answers.
     *budget = searches.budget.min(*budget);
     found
 }

@@ -1,4 +1,4 @@
-//! The place of the next route within a run, found by halves of it.
+//! The place of the next route within a run, found by halving.
 ghost use Rattle.std.specs.Prelude.{◌≡◌, ◌+◌, ◌<◌, ◌≤◌, ℕ, List, IfOk, IfSome, length};
 ghost use Rattle.std.specs.Int.{bit_at};
 ghost use Rattle.std.specs.List.{All};
@@ -8,16 +8,15 @@ ghost use Rattle.vrp_canonical.specs.Reaching.{IsTask};
 ghost use Rattle.vrp_canonical.specs.declared.residual.Residual.{Residual};
 ghost use Rattle.vrp_model.specs.Problem.{Problem};
 
-use crate::part::part_between;
+use crate::part::part_of;
 use crate::question::{Answered, Question, answer_to};
 use crate::searches::Searches;
 use std::alloc::{AllocError, Global};
 use std::thread::Threads;
 use vrp_partition::{Ask, Guide, Route};
 
-/// The place of the next route of the canonical plan, if it stands in a run of routes that have a customer in common: the question
-/// asks for one between the run's places. Else the end of the run. `None` where an answer wasn't known. Answers that are known are
-/// used.
+/// The place of the next route of the canonical plan, if it is in a run of routes that share a customer, and otherwise the end of the
+/// run. Each question asks for a route between two places of the run; known answers are used. `None` if an answer is unknown.
 pub fn narrow<R: Threads + Sync, P: Guide + Send, A: Ask + Sync>(
     alloc: Global,
     searches: &mut Searches<'_, R, P, A>,
@@ -66,7 +65,7 @@ pub fn narrow<R: Threads + Sync, P: Guide + Send, A: Ask + Sync>(
     Ok(Some(low))
 }
 
-// The answer to a question: one that is known, or else by a search.
+// The answer to a question: a known one, or one by a search.
 fn answer_of<R: Threads + Sync, P: Guide + Send, A: Ask + Sync>(
     alloc: Global,
     searches: &mut Searches<'_, R, P, A>,
@@ -97,17 +96,11 @@ fn searched_answer<R: Threads + Sync, P: Guide + Send, A: Ask + Sync>(
 ) -> Result<Option<bool>, AllocError>
     ensures { IfOk result (λ answer. IfSome answer (Answers pool.now question)) }
 {
-    let Question {
-        rest,
-        customer,
-        low,
-        high,
-    } = question;
-    let part = part_between(alloc, pool, rest.unserved, customer, low, high)?;
-    searches.reaches(part.as_slice(), rest)
+    let part = part_of(alloc, pool, question)?;
+    searches.reaches(part.as_slice(), question.rest)
 }
 
-// A place between two others to ask up to: just before the place of the route that is likely, or else just behind it.
+// A place between two others to ask up to: just before the place of the likely route, or just behind it.
 fn middle_between<R: Threads + Sync, P: Guide + Send, A: Ask + Sync>(
     searches: &Searches<'_, R, P, A>,
     pool: &[Route],

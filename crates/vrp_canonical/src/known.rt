@@ -1,4 +1,4 @@
-//! A choice that is known, which answers a question by itself where it stands in the part.
+//! The known choice: it answers a question by itself if it is in the part.
 ghost use Rattle.std.specs.Prelude.{IfOk, IsTrue};
 ghost use Rattle.std.specs.List.{Contains};
 ghost use Rattle.vrp_canonical.specs.Reaching.{Reaches};
@@ -7,7 +7,7 @@ use crate::residual::Residual;
 use std::alloc::{AllocError, Global};
 use vrp_partition::Route;
 
-/// Whether routes are a choice of the part for the residual problem. If they are none, nothing is claimed.
+/// Whether routes are a choice of the part for the residual problem. `false` claims nothing.
 pub fn is_choice(part: &[Route], routes: &[Route], rest: Residual) -> bool
     ensures { IsTrue result → Reaches part.now rest.unserved rest.trucks rest.most }
 {
@@ -24,7 +24,7 @@ pub fn is_choice(part: &[Route], routes: &[Route], rest: Residual) -> bool
     left.unserved == 0
 }
 
-// Whether a route stands in the part.
+// Whether a route is in the part.
 fn has_route(part: &[Route], route: Route) -> bool
     ensures { IsTrue result → Contains part.now route }
 {
@@ -36,7 +36,7 @@ fn has_route(part: &[Route], route: Route) -> bool
     false
 }
 
-/// The routes that have no customer but unserved ones. That none is left out is left open.
+/// The routes that have only unserved customers. The contract leaves open that none is left out.
 pub fn routes_inside(
     alloc: Global,
     routes: &[Route],

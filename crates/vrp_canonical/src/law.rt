@@ -1,4 +1,4 @@
-//! What is true of the definitions, whatever the code does.
+//! Laws of the definitions, which hold whatever the code does.
 ghost use Rattle.std.specs.Prelude.{◌≡◌, ◌≢◌, ◌+◌, ◌≤◌, ◌<◌, ℕ, List, [], ◌∷◌, ◌++◌, length};
 ghost use Rattle.std.specs.List.{All, Contains};
 ghost use Rattle.vrp_partition.specs.Choice.{IsCheapest};
@@ -9,8 +9,8 @@ ghost use Rattle.vrp_model.specs.Route.{IsLawful, PricedPlan, plan_cost};
 ghost use Rattle.vrp_partition.specs.declared.route.Route.{Route};
 ghost use Rattle.vrp_routes.specs.Label.{set_of};
 
-/// A choice of the pool for the unserved customers makes a feasible plan with the routes that are chosen, where the fleet has the
-/// trucks for both and together they cost no more than this.
+/// A choice of the pool for the unserved customers, together with the routes chosen before, makes a feasible plan of at most this cost,
+/// if the fleet has the trucks for both.
 pub fn choices_are_plans()
     ensures { (p : Problem) (limit : ℕ) (stops : List (List ℕ)) (pool : List Route) (trucks : ℕ) (chosen : List (List ℕ))
         (unserved left allowance most : ℕ)
@@ -19,7 +19,7 @@ pub fn choices_are_plans()
         → Reaches pool unserved left allowance → Continues p most chosen }
 {}
 
-/// A feasible plan whose other routes stand in the pool is a choice of it.
+/// A feasible plan whose other routes are in the pool is a choice of it.
 pub fn plans_are_choices()
     ensures { (p : Problem) (limit : ℕ) (stops : List (List ℕ)) (pool : List Route) (trucks : ℕ) (chosen others : List (List ℕ))
         (unserved left allowance most : ℕ)
@@ -29,8 +29,8 @@ pub fn plans_are_choices()
         → Reaches pool unserved left allowance }
 {}
 
-/// The canonical plan begins with some routes, and its others are among a route and later ones. Where a plan that costs no more
-/// goes on with this route, so does the canonical one.
+/// The canonical plan begins with some routes, and its others are among a route and later ones. If a plan that costs no more continues
+/// with this route, so does the canonical one.
 pub fn next_route()
     ensures { (p : Problem) (plan : PricedPlan) (chosen rest later : List (List ℕ)) (route : List ℕ)
         → IsCanonical p plan → plan.routes ≡ chosen ++ rest
@@ -39,8 +39,8 @@ pub fn next_route()
         → (others : List (List ℕ)) × (rest ≡ route ∷ others) × All (Contains later) others }
 {}
 
-/// The earliest route of the pool with which a plan that costs no more than the canonical one goes on is its next route. Whether
-/// the others begin above its first customer need not be asked.
+/// The next route of the canonical plan is the earliest route of the pool with which a plan that costs no more continues. Whether the
+/// others begin above its first customer need not be asked.
 pub fn earliest_is_next()
     ensures { (p : Problem) (plan : PricedPlan) (stops chosen rest : List (List ℕ)) (route : List ℕ)
         → IsCanonical p plan → plan.routes ≡ chosen ++ rest → All (Contains stops) rest → All (IsRoute p) stops → route ≢ []
@@ -49,7 +49,7 @@ pub fn earliest_is_next()
         → (others : List (List ℕ)) × (rest ≡ route ∷ others) }
 {}
 
-/// The least cost of a choice is what the canonical plan costs, where that is no more than the limit.
+/// The least cost of a choice is the cost of the canonical plan, if that is within the limit.
 pub fn least_is_canonical()
     ensures { (p : Problem) (limit : ℕ) (stops : List (List ℕ)) (pool : List Route) (trucks least : ℕ)
         → IsProblem p → IsPoolOf p limit stops pool → IsFleet p trucks → least ≤ limit
@@ -58,7 +58,7 @@ pub fn least_is_canonical()
         → (plan : PricedPlan) × IsCanonical p plan × (plan.cost ≡ least) }
 {}
 
-/// So is the cost of the cheapest choice below an incumbent.
+/// The cost of the cheapest choice below an incumbent is the cost of the canonical plan, if that is within the limit.
 pub fn cheapest_is_canonical()
     ensures { (p : Problem) (limit : ℕ) (stops : List (List ℕ)) (pool routes : List Route) (trucks incumbent found : ℕ)
         → IsProblem p → IsPoolOf p limit stops pool → IsFleet p trucks → found ≤ limit
@@ -66,7 +66,7 @@ pub fn cheapest_is_canonical()
         → (plan : PricedPlan) × IsCanonical p plan × (plan.cost ≡ found) }
 {}
 
-/// Where no choice is below the incumbent, no feasible plan that costs no more than the limit is.
+/// If no choice is below the incumbent, no feasible plan within the limit is.
 pub fn none_is_cheap()
     ensures { (p : Problem) (limit : ℕ) (stops : List (List ℕ)) (pool routes : List Route)
         (trucks incumbent : ℕ) (others : List (List ℕ))

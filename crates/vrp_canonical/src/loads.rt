@@ -1,4 +1,4 @@
-//! What customers demand and a truck can carry, as a search over choices has it.
+//! Demands and capacity, as a search over choices takes them.
 ghost use Rattle.std.specs.Prelude.{◌≡◌, ◌≤◌, length};
 ghost use Rattle.vrp_model.specs.Problem.{place_count};
 
@@ -6,8 +6,8 @@ use std::alloc::Global;
 use vrp_model::{Instance, NoMemory};
 use vrp_partition::Fleet;
 
-/// The demands of customers 0 to 127, and what a truck can carry. Customer 0 stands for the depot, and who isn't there demands
-/// nothing. No clause says so: a search is right by any demands by which each route fits one truck.
+/// The demands of customers 0 to 127, and the capacity. Customer 0 stands for the depot, and missing customers demand nothing. No clause
+/// says so: a search is right with any demands by which each route fits one truck.
 #[derive(Debug, Drop)]
 pub struct Loads {
     pub demands: Vec<u32>,
@@ -16,7 +16,7 @@ pub struct Loads {
 }
 
 impl Loads {
-    /// The demands and the capacity of an instance. `None` where they don't fit 32 bits: when, is left open.
+    /// The demands and the capacity of an instance. `None` if they don't fit 32 bits; no clause says when.
     pub fn new(alloc: Global, instance: &Instance) -> Result<Option<Loads>, NoMemory>
         requires { place_count instance.now ≤ 128 }
     {
@@ -39,7 +39,7 @@ impl Loads {
         Ok(Some(Loads { demands, capacity }))
     }
 
-    /// So many trucks, and what they carry.
+    /// This many trucks, and what they carry.
     pub fn fleet(&self, trucks: u8) -> Fleet<'_>
         ensures demands { result.demands.now ≡ self.now.demands.items }
         ensures capacity { result.capacity ≡ self.now.capacity }

@@ -1,4 +1,4 @@
-//! The routes that may stand in a choice that costs no more than it may, in the order of their stops.
+//! The routes that may be in a choice within the cost limit, in the order of their stops.
 ghost use Rattle.std.specs.Prelude.{◌≡◌, ◌≤◌, ℕ, IfOk, IfSome, map};
 ghost use Rattle.vrp_canonical.specs.Ordering.{AreOrdered, chosen_of};
 ghost use Rattle.vrp_canonical.specs.Reaching.{IsFleet};
@@ -12,10 +12,10 @@ use crate::ordered::{ListedRoute, in_order, kept_routes, marked_routes, routes_o
 use crate::residual::Residual;
 use std::alloc::Global;
 use vrp_model::NoMemory;
-use vrp_partition::{Ask, Guide, Route, all_fit, routes_within};
+use vrp_partition::{Ask, Guide, Query, Route, all_fit, routes_within};
 use vrp_routes::RoutePool;
 
-/// What routes are narrowed by: what customers demand and a truck carries, and who is asked whether more rounds are worth it.
+/// What narrows routes: the demands and the capacity, and the watch that decides whether more rounds are worth it.
 #[derive(Clone, Copy)]
 pub struct Narrowing<'a, A> {
     pub alloc: Global,
@@ -24,8 +24,8 @@ pub struct Narrowing<'a, A> {
 }
 
 impl<A: Ask> Narrowing<'_, A> {
-    /// The routes of the pool that may stand in a choice that costs no more than it may, in the order of their stops. `routes` are those of
-    /// the pool, as a choice sees them. `None` where an amount doesn't fit 32 bits. How much of the budget is spent is left open.
+    /// The routes of the pool that may be in a choice within the cost limit, in the order of their stops. `routes` are those of the pool,
+    /// as a choice sees them. `None` if an amount doesn't fit 32 bits. The contract leaves open how much of the budget is spent.
     pub fn narrowed_routes<P: Guide>(
         &self,
         guide: &mut P,
@@ -48,7 +48,7 @@ impl<A: Ask> Narrowing<'_, A> {
         Ok(ordered)
     }
 
-    /// Those of the routes that may stand in a choice that costs less than before, in the same order, by one round.
+    /// The routes that may be in a choice within a lower cost limit, in the same order, by one round.
     pub fn narrowed_again<P: Guide>(
         &self,
         guide: &mut P,
@@ -78,7 +78,7 @@ impl<A: Ask> Narrowing<'_, A> {
         Ok(left)
     }
 
-    // For each route whether it may stand in a choice that costs no more than it may. `None` where an amount doesn't fit.
+    // Marks the routes that may be in a choice within the cost limit. `None` if an amount doesn't fit.
     fn marks_within<P: Guide>(
         &self,
         guide: &mut P,
@@ -97,10 +97,12 @@ impl<A: Ask> Narrowing<'_, A> {
         if !all_fit(routes, fleet.demands, fleet.capacity) {
             return Ok(None);
         }
-        let customers = whole.unserved;
-        let marks = routes_within(
-            self.alloc, guide, self.ask, &fleet, routes, customers, limit, budget,
-        )?;
+        let query = Query {
+            fleet,
+            customers: whole.unserved,
+            limit,
+        };
+        let marks = routes_within(self.alloc, guide, self.ask, &query, routes, budget)?;
         Ok(Some(marks))
     }
 }

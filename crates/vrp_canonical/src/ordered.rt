@@ -20,7 +20,7 @@ pub struct ListedRoute {
     pub cost: u32,
 }
 
-/// The routes of a pool as a choice sees them. `None` where a cost doesn't fit 32 bits: when, is left open.
+/// The routes of a pool as a choice sees them. `None` if a cost doesn't fit 32 bits; no clause says when.
 pub fn chosen_routes(alloc: Global, pool: &RoutePool) -> Result<Option<Vec<Route>>, NoMemory>
     ensures { IfOk result (λ found. IfSome found (λ routes. routes.items ≡ map chosen_of pool.now)) }
 {
@@ -35,7 +35,7 @@ pub fn chosen_routes(alloc: Global, pool: &RoutePool) -> Result<Option<Vec<Route
     Ok(Some(routes))
 }
 
-/// The routes of a pool that are marked, with their stops. `routes` are those of the pool, as a choice sees them.
+/// The marked routes of a pool, with their stops. `routes` are those of the pool, as a choice sees them.
 pub fn marked_routes(
     alloc: Global,
     pool: &RoutePool,
@@ -57,7 +57,7 @@ pub fn marked_routes(
     Ok(listed)
 }
 
-/// Those of the routes that are marked. That no other is among them, and that they keep their order, is left open.
+/// The marked routes. The contract leaves open that no other is among them, and that they keep their order.
 pub fn kept_routes(
     alloc: Global,
     ordered: &[ListedRoute],
@@ -79,7 +79,7 @@ pub fn kept_routes(
     Ok(kept)
 }
 
-/// The routes in the order of their stops, symbol by symbol. `None` where two have the same stops: that it is so is left open.
+/// The routes in the order of their stops, symbol by symbol. `None` if two have the same stops; no clause says that this is so.
 pub fn in_order(mut listed: Vec<ListedRoute>) -> Result<Option<Vec<ListedRoute>>, AllocError>
     ensures moved { IfOk result (λ found. IfSome found (λ ordered. IsPermutation listed.items ordered.items)) }
     ensures rising { IfOk result (λ found. IfSome found (λ ordered. AllPairs IsEarlier (map stops_of ordered.items))) }
@@ -92,7 +92,7 @@ pub fn in_order(mut listed: Vec<ListedRoute>) -> Result<Option<Vec<ListedRoute>>
     }
 }
 
-// Whether each has earlier stops than the next.
+// Whether the stops of each route are earlier than those of the next.
 fn are_rising(listed: &[ListedRoute]) -> bool
     ensures { IsTrue result → AllPairs IsEarlier (map stops_of listed.now) }
 {
@@ -143,8 +143,8 @@ pub fn word_at(
     Ok(word)
 }
 
-/// The word of a choice of a pool's routes: the stops of each, followed by 0. `routes` are those of the pool, as a choice sees them. It
-/// need not be trusted, and that each route is found is left open.
+/// The word of a choice of a pool's routes: the stops of each, followed by 0. `routes` are those of the pool, as a choice sees them. The
+/// word is not trusted, and the contract leaves open that each route is found.
 pub fn word_of_choice(
     alloc: Global,
     pool: &RoutePool,

@@ -3,44 +3,38 @@ ghost use Rattle.std.specs.Prelude.{◌≡◌, ◌⊎◌, ◌<◌, ◌≤◌, If
 ghost use Rattle.std.specs.Int.{bit_at};
 ghost use Rattle.vrp_canonical.specs.Passing.{IsPart};
 
+use crate::question::Question;
 use std::alloc::{AllocError, Global};
 use vrp_partition::Route;
 
-/// The routes from a place on that have no customer but unserved ones, and stand below another place or lack this customer.
-pub fn part_between(
-    alloc: Global,
-    pool: &[Route],
-    unserved: u128,
-    customer: u32,
-    low: usize,
-    high: usize,
-) -> Result<Vec<Route>, AllocError>
-    requires { customer < 128 }
-    ensures { IfOk result (λ part. IsPart pool.now unserved customer low high (length pool.now) part.items) }
+/// The routes that a question is about: those from its first place on that have only unserved customers, and are before its other place
+/// or lack its customer.
+pub fn part_of(alloc: Global, pool: &[Route], question: Question) -> Result<Vec<Route>, AllocError>
+    ensures { IfOk result (λ part. IsPart pool.now question.rest.unserved question.customer question.low question.high
+        (length pool.now) part.items) }
 {
     let mut part = Vec::new(alloc);
     for index in 0..pool.len() {
         let route = pool[index];
-        if keeps(route, unserved, customer, low, high, index) {
+        if keeps(question, route, index) {
             part.push(route)?;
         }
     }
     Ok(part)
 }
 
-// Whether a route at a place belongs to a part.
-fn keeps(route: Route, unserved: u128, customer: u32, low: usize, high: usize, index: usize) -> bool
-    requires { customer < 128 }
-    ensures from { IsTrue result → low ≤ index }
-    ensures yes { IsTrue result → (index < high) ⊎ (bit_at route.set customer ≡ 0) }
-    ensures no { low ≤ index → bit_and route.set unserved ≡ route.set
-        → (index < high) ⊎ (bit_at route.set customer ≡ 0) → IsTrue result }
+// Whether a question is about the route at a place.
+fn keeps(question: Question, route: Route, index: usize) -> bool
+    ensures from { IsTrue result → question.low ≤ index }
+    ensures yes { IsTrue result → (index < question.high) ⊎ (bit_at route.set question.customer ≡ 0) }
+    ensures no { question.low ≤ index → bit_and route.set question.rest.unserved ≡ route.set
+        → (index < question.high) ⊎ (bit_at route.set question.customer ≡ 0) → IsTrue result }
 {
-    if index < low || route.set & unserved != route.set {
+    if index < question.low || route.set & question.rest.unserved != route.set {
         return false;
     }
-    if index < high {
+    if index < question.high {
         return true;
     }
-    route.set >> customer & 1 == 0
+    route.set >> question.customer & 1 == 0
 }

@@ -14,9 +14,9 @@ use std::alloc::{AllocError, Global};
 use std::thread::Threads;
 use vrp_partition::{Ask, Guide, Route};
 
-/// The places in the pool of the canonical plan's routes, where the pool is in the order of its routes' stops and the residual
-/// problem is the whole one, at the canonical plan's cost. The routes are taken in runs that share a customer; questions are asked
-/// ahead. `None` where an answer wasn't known, and where a route has no customer.
+/// The places in the pool of the canonical plan's routes, if the pool is in the order of its routes' stops and the residual problem is
+/// the whole one at the canonical plan's cost. The routes are taken in runs that share a customer, and questions are asked ahead. `None`
+/// if an answer is unknown, or a route has no customer.
 pub fn canonical_places<R: Threads + Sync, P: Guide + Send, A: Ask + Sync>(
     alloc: Global,
     searches: &mut Searches<'_, R, P, A>,
@@ -67,7 +67,7 @@ pub fn canonical_places<R: Threads + Sync, P: Guide + Send, A: Ask + Sync>(
     Ok(Some(chosen))
 }
 
-// Whether answers are about this place, or later ones. It need not be trusted.
+// Whether answers are about this place or later ones. It is not trusted.
 fn reach_to(answers: &[Answered], index: usize) -> bool {
     match answers.last() {
         Some(answered) => index <= answered.question.low,

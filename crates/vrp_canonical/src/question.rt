@@ -5,8 +5,8 @@ ghost use Rattle.std.specs.List.{Contains};
 use crate::residual::Residual;
 use vrp_partition::Route;
 
-/// Whether the unserved customers can be served so that this one is in a route between two places of the pool, by routes from the
-/// first of them on.
+/// A question: can the unserved customers be served, by routes from the first place on, so that this customer is in a route between two
+/// places of the pool?
 #[derive(Clone, Copy, Debug, PartialEq, Eq)]
 pub struct Question {
     pub rest: Residual,
@@ -16,7 +16,7 @@ pub struct Question {
     ghost place: { customer < 128 },
 }
 
-/// A question and its answer. Where that is yes, the routes are a choice which says so; they need not be trusted.
+/// A question and its answer. If that is yes, the routes are a choice that shows it; they are not trusted.
 #[derive(Debug, Drop)]
 pub struct Answered {
     pub question: Question,
@@ -24,7 +24,7 @@ pub struct Answered {
     pub choice: Vec<Route>,
 }
 
-/// The answer to a question, if it is among these.
+/// The answer to a question, if it is among these answers.
 pub fn answer_to(answers: &[Answered], question: Question) -> Option<&Answered>
     ensures among { IfSome result (λ answered. Contains answers.now answered.now) }
     ensures question { IfSome result (λ answered. answered.now.question ≡ question) }

@@ -1,10 +1,10 @@
-//! What a partial plan leaves to be done.
+//! The residual problem that a partial plan leaves.
 ghost use Rattle.std.specs.Prelude.{◌≡◌, ◌≤◌, IfNone, IfSome, bit_and};
 ghost use Rattle.vrp_canonical.specs.Passing.{IsAfter};
 
 use vrp_partition::Route;
 
-/// A residual problem: the customers that are unserved, a bit for each, how many trucks are left, and what their routes may cost.
+/// A residual problem: the unserved customers, a bit for each, the trucks that are left, and the cost limit of their routes.
 #[derive(Clone, Copy, Debug, PartialEq, Eq)]
 pub struct Residual {
     pub unserved: u128,
@@ -13,8 +13,7 @@ pub struct Residual {
 }
 
 impl Residual {
-    /// What is left once a route is driven. `None` where it serves another customer too, where there is no truck for it, or where it
-    /// costs more than it may.
+    /// The residual problem after a route. `None` if the route serves a customer who is not unserved, has no truck, or costs too much.
     pub fn without(self, route: Route) -> Option<Residual>
         ensures after { IfSome result (IsAfter self route) }
         ensures none { IfNone result (bit_and route.set self.unserved ≡ route.set

@@ -5,14 +5,14 @@ ghost use Rattle.vrp_canonical.specs.Passing.{AllHave, IsInside, route_in};
 
 use vrp_partition::Route;
 
-/// Routes from a place to an end, and a customer whom all of them have that have no customer but unserved ones.
+/// The routes from a place to an end. All of them that have only unserved customers share this customer.
 #[derive(Clone, Copy, Debug)]
 pub struct Run {
     pub customer: u32,
     pub end: usize,
 }
 
-/// The run that begins at a place: how far it goes, and which customer it is, is left open.
+/// The run that begins at a place. The contract leaves open its length and its customer.
 pub fn run_from(pool: &[Route], unserved: u128, index: usize) -> Run
     requires index { index < length pool.now }
     requires inside { IsInside pool.now unserved index }

@@ -8,9 +8,9 @@ use crate::loads::Loads;
 use crate::residual::Residual;
 use std::alloc::{AllocError, Global};
 use std::thread::Threads;
-use vrp_partition::{Ask, Found, Guide, Route, Team, all_fit, cheapest_choice};
+use vrp_partition::{Ask, Found, Guide, Route, Task, Team, all_fit, cheapest_choice};
 
-/// Who is asked whether searches go on, and is told nothing.
+/// A watch that may stop searches, but hears nothing.
 #[derive(Clone, Copy, Debug)]
 pub struct Quiet<'a, A> {
     pub ask: &'a A,
@@ -22,7 +22,7 @@ impl<A: Ask> Ask for Quiet<'_, A> {
     }
 }
 
-/// Searches within a budget, each by a fork of one guide. The choice that was found last answers some questions by itself.
+/// Searches within a budget, each by a fork of one guide. The choice found last answers some questions by itself.
 #[derive(Drop)]
 pub struct Searches<'a, R, P: Guide, A> {
     pub team: &'a Team<'a, R, A>,
@@ -34,7 +34,7 @@ pub struct Searches<'a, R, P: Guide, A> {
 }
 
 impl<'a, R, P: Guide, A> Searches<'a, R, P, A> {
-    /// Searches within a budget, and a choice that is known.
+    /// Searches within a budget, with a known choice.
     pub fn new(
         team: &'a Team<'a, R, A>,
         guide: &'a P,
@@ -56,8 +56,8 @@ impl<'a, R, P: Guide, A> Searches<'a, R, P, A> {
 }
 
 impl<R: Threads + Sync, P: Guide + Send, A: Ask + Sync> Searches<'_, R, P, A> {
-    /// Whether some routes of the part serve the unserved customers with the trucks that are left and cost no more than they may.
-    /// `None` where that isn't known.
+    /// Whether some routes of the part serve the unserved customers with the trucks that are left, within the cost limit. `None` if that
+    /// is unknown.
     pub fn reaches(&mut self, part: &[Route], rest: Residual) -> Result<Option<bool>, AllocError>
         ensures { IfOk result (λ answer. IfSome answer (λ yes.
             IsTrue yes ↔ Reaches part.now rest.unserved rest.trucks rest.most)) }
@@ -84,7 +84,7 @@ impl<R: Threads + Sync, P: Guide + Send, A: Ask + Sync> Searches<'_, R, P, A> {
         Ok(Some(true))
     }
 
-    /// Takes another choice as the known one.
+    /// Replaces the known choice.
     pub fn know(&mut self, choice: &[Route]) -> Result<(), AllocError>
         ensures { OnOk result (self.new.known.items ≡ choice.now) }
     {
@@ -92,7 +92,7 @@ impl<R: Threads + Sync, P: Guide + Send, A: Ask + Sync> Searches<'_, R, P, A> {
         Ok(())
     }
 
-    /// A route that is likely to serve the customer. It need not be trusted, and which it is, is left open.
+    /// A route that is likely to serve the customer. It is not trusted, and no clause pins it.
     pub fn likely(&self, customer: u32) -> Option<Route>
         requires { customer < 128 }
     {
@@ -103,8 +103,8 @@ impl<R: Threads + Sync, P: Guide + Send, A: Ask + Sync> Searches<'_, R, P, A> {
     }
 }
 
-/// What a search finds for a residual problem: the cheapest choice of routes, where it costs no more than it may; else that and 1 as
-/// the cost. `None` where amounts are too great for a search: when, is left open.
+/// The result of a search for a residual problem: the cheapest choice of routes, if it is within the cost limit; otherwise a cost of one
+/// more than the limit. `None` if amounts are too great for a search; no clause says when.
 pub fn search_within<R: Threads + Sync, P: Guide + Send, A: Ask>(
     team: &Team<'_, R, A>,
     guide: &P,
@@ -123,7 +123,11 @@ pub fn search_within<R: Threads + Sync, P: Guide + Send, A: Ask>(
     }
     let fork = guide.fork()?;
     let pool = Vec::from_slice(team.alloc, routes)?;
-    let incumbent = rest.most + 1;
-    let found = cheapest_choice(team, fork, &fleet, pool, rest.unserved, incumbent, budget)?;
+    let task = Task {
+        fleet,
+        customers: rest.unserved,
+        incumbent: rest.most + 1,
+    };
+    let found = cheapest_choice(team, fork, &task, pool, budget)?;
     Ok(Some(found))
 }

@@ -1,11 +1,11 @@
-//! How many routes a plan may have.
+//! The most routes of a plan.
 ghost use Rattle.std.specs.Prelude.{◌≤◌};
 ghost use Rattle.vrp_canonical.specs.Reaching.{IsFleet};
 ghost use Rattle.vrp_model.specs.Problem.{place_count};
 
 use vrp_model::Instance;
 
-/// How many trucks may be sent out: those that there are, or one for each customer where those are fewer.
+/// The number of trucks that may be sent out: the limit on trucks, or one for each customer if that is less.
 pub fn fleet(instance: &Instance) -> u8
     requires { place_count instance.now ≤ 128 }
     ensures { IsFleet instance.now result }

@@ -1,4 +1,4 @@
--- A form, and what is written in it.
+-- A form, and the text written in it.
 use Rattle.std.specs.Io.KnownBytes.{Appends}
 use Rattle.std.specs.Prelude.{◌≡◌, ℕ, Option, List, ⊤}
 use Rattle.vrp_pool_answer.specs.Finding.{FindingOf}
@@ -11,14 +11,14 @@ use Rattle.vrp_command_request.specs.declared.options.Format.TheVariants as form
 use Rattle.vrp_command_streams.specs.Output.{AppendsPart}
 use Rattle.vrp_command_streams.specs.Report.{report_of, solution_of}
 
--- this form is asked for, and with JSON this is told beside the finding
+-- this form is requested, and for JSON it comes with this context
 abbrev pub IsFormIn : Format → ContextOf → Form → Type 0
 IsFormIn asked context form.Report = asked ≡ format.Report
 IsFormIn asked context form.Solution = asked ≡ format.Solution
 IsFormIn asked context (form.Json told) = (asked ≡ format.Json) × (context_by told ≡ context)
 IsFormIn asked context (form.Picture points) = asked ≡ format.Picture
 
--- the text tells a finding in this form
+-- the text states a finding in this form
 abbrev pub IsTextAs : Form → Problem → FindingOf → List ℕ → Type 0
 IsTextAs form.Report p finding text = text ≡ report_of p finding
 IsTextAs form.Solution p finding text = text ≡ solution_of finding
@@ -31,7 +31,7 @@ pub record WritesText (asked : Form) (p : Problem) (finding : FindingOf) (writte
   pub told : IsTextAs asked p finding text
   pub output : Appends written_old written_new text
 
--- a part of such a text was written, from its first byte on
+-- a beginning of such a text was written
 pub record WritesPart (asked : Form) (p : Problem) (finding : FindingOf) (written_old written_new : Option (List ℕ)) : Type 0 where
   pub text : List ℕ
   pub told : IsTextAs asked p finding text

@@ -1,4 +1,4 @@
--- What a request finds of a problem, and what is written of it.
+-- The finding of a request for a problem, and the text written for it.
 use Rattle.std.specs.Io.KnownBytes.{Appends}
 use Rattle.std.specs.Option.{ForSome}
 use Rattle.std.specs.Prelude.{◌≡◌, ◌⊎◌, ℕ, ◌≤◌, Bool, IsTrue, Option, Some, None, List}
@@ -15,20 +15,21 @@ use Rattle.vrp_model.specs.Route.{PricedPlan}
 use Rattle.vrp_command_request.specs.declared.options.Request.{Request}
 use Rattle.vrp_command_streams.specs.Output.{AppendsPart}
 
--- the plan to begin with is only to be checked: it is feasible
+-- the start plan is only to be checked, and it is feasible
 pub record IsChecked (request : Request) (start : Option PricedPlan) (finding : FindingOf) : Type 0 where
   pub asked : IsTrue request.check
   pub plan : PricedPlan
   pub given : start ≡ Some plan
   pub told : finding ≡ lawful_finding plan
 
--- what is told of an answer, and of a bound below which no feasible plan costs: where a time was set, the best of both bounds alone
+-- the finding of an answer and of a bound below which no feasible plan costs; if a time was set, with the best of both bounds
+-- alone
 abbrev pub told_of : Option ℕ → Answer → ℕ → FindingOf
 told_of None answer bound = bounded_finding answer bound
 told_of (Some seconds) answer bound = by_best_bound (bounded_finding answer bound)
 
--- an answer was searched for, as the options ask for it, its plan costs no more than the one to begin with, and no feasible plan
--- costs less than the best bound that is told
+-- The answer comes from a search with these options, its plan costs no more than the start plan, and no feasible plan costs
+-- less than the best bound in the finding.
 pub record IsSearchedFor (request : Request) (may_stop : Bool) (problem : Problem) (start : Option PricedPlan) (finding : FindingOf) : Type 0 where
   pub unchecked : IsTrue request.check → start ≡ None
   pub answer : Answer
@@ -39,11 +40,11 @@ pub record IsSearchedFor (request : Request) (may_stop : Bool) (problem : Proble
   pub told : finding ≡ told_of request.seconds answer bound
   pub best : ForSome finding.best_lower_bound (NoneCheaper problem)
 
--- what a request finds of a problem, with a plan to begin with or without
+-- the finding of a request for a problem, with a start plan or without
 abbrev pub IsFoundBy : Request → Bool → Problem → Option PricedPlan → FindingOf → Type 0
 IsFoundBy request may_stop problem start finding = IsChecked request start finding ⊎ IsSearchedFor request may_stop problem start finding
 
--- a text that tells such a finding in the form that is asked for, with this context, was written, and nothing else
+-- the text of such a finding, in the requested form and with this context, was written, and nothing else
 pub record WritesFound (request : Request) (context : ContextOf) (may_stop : Bool) (problem : Problem) (start : Option PricedPlan) (written_old written_new : Option (List ℕ)) (ended : Status) : Type 0 where
   pub finding : FindingOf
   pub found : IsFoundBy request may_stop problem start finding
@@ -52,7 +53,7 @@ pub record WritesFound (request : Request) (context : ContextOf) (may_stop : Boo
   pub told : IsTextIn request.format context problem finding text
   pub output : Appends written_old written_new text
 
--- a part of such a text was written, from its first byte on
+-- a beginning of such a text was written
 pub record WritesFoundPart (request : Request) (context : ContextOf) (may_stop : Bool) (problem : Problem) (start : Option PricedPlan) (written_old written_new : Option (List ℕ)) : Type 0 where
   pub finding : FindingOf
   pub found : IsFoundBy request may_stop problem start finding

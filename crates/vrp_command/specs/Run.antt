@@ -1,4 +1,4 @@
--- What a run reads, and what it writes.
+-- The bytes that a run reads and writes.
 use Rattle.std.specs.Prelude.{◌≡◌, ◌≢◌, ℕ, Bool, Option, None, Some, List, ⊤}
 use Rattle.std.specs.Io.KnownBytes.{Appends}
 use Rattle.vrp_model.specs.Problem.{Problem}
@@ -20,25 +20,25 @@ use Rattle.vrp_pool_answer.specs.declared.status.Status.{Status}
 abbrev pub status_of : Answer → Status
 status_of answer = (finding_of answer).status
 
--- the problem with this many trucks, if a number was asked for
+-- the problem with the requested number of trucks, if there is one
 abbrev pub limited : Option ℕ → Problem → Problem
 limited None problem = problem
 limited (Some trucks) problem = record problem { trucks = Some trucks }
 
--- the report of an answer to the problem, by a search that may be stopped or not
+-- the report is that of an answer to the problem, by a search that may be stopped or not
 pub record ReportsAnswer (options : Options) (may_stop : Bool) (problem : Problem) (report : List ℕ) (ended : Status) : Type 0 where
   pub found : Answer
   pub answer_is : IsAnswerTo problem options.pieces options.budget may_stop found
   pub text : report ≡ report_of problem (finding_of found)
   pub status : ended ≡ status_of found
 
--- the bytes mean a problem, and this is the report of such an answer to it, with the trucks that were asked for
+-- the bytes mean a problem, and this is the report of such an answer to it, with the requested trucks
 pub record AnswersBytes (options : Options) (may_stop : Bool) (bytes report : List ℕ) (ended : Status) : Type 0 where
   pub problem : Problem
   pub meant : MeansProblem bytes options.depot problem
   pub reported : ReportsAnswer options may_stop (limited options.trucks problem) report ended
 
--- what was read means a problem, and this is it with the trucks that were asked for
+-- the bytes read mean a problem, and this is that problem with the requested trucks
 pub record ReadsProblem (options : Options) (unread_old unread_new : Option (List ℕ)) (problem : Problem) : Type 0 where
   pub bytes : List ℕ
   pub input : IsInput unread_old unread_new bytes
@@ -46,8 +46,8 @@ pub record ReadsProblem (options : Options) (unread_old unread_new : Option (Lis
   pub means : MeansProblem bytes options.depot meant
   pub with_trucks : problem ≡ limited options.trucks meant
 
--- What was written is the report of an answer to what was read, and nothing else. What is known of a reader's bytes, and of a
--- writer's, comes before the call and after it.
+-- The report of an answer to the bytes read was written, and nothing else. The known bytes of a reader and of a writer are
+-- given before and after the call.
 pub record PrintsAnswer (options : Options) (may_stop : Bool) (unread_old unread_new written_old written_new : Option (List ℕ)) (ended : Status) : Type 0 where
   pub bytes : List ℕ
   pub input : IsInput unread_old unread_new bytes
@@ -55,13 +55,13 @@ pub record PrintsAnswer (options : Options) (may_stop : Bool) (unread_old unread
   pub answers : AnswersBytes options may_stop bytes report ended
   pub output : Appends written_old written_new report
 
--- what was read is refused for this
+-- the bytes read are refused for this reason
 pub record RefusesInput (chosen : Option ℕ) (unread_old unread_new : Option (List ℕ)) (refusal : TextError) : Type 0 where
   pub bytes : List ℕ
   pub input : IsInput unread_old unread_new bytes
   pub refused : MeansRefusal bytes chosen refusal
 
--- What was read means a problem, and what was written is a part of the report of an answer to it, from its first byte on
+-- The bytes read mean a problem, and a beginning of the report of an answer to it was written.
 pub record PrintsPart (options : Options) (may_stop : Bool) (unread_old unread_new written_old written_new : Option (List ℕ)) : Type 0 where
   pub bytes : List ℕ
   pub input : IsInput unread_old unread_new bytes
@@ -70,7 +70,7 @@ pub record PrintsPart (options : Options) (may_stop : Bool) (unread_old unread_n
   pub answers : AnswersBytes options may_stop bytes report ended
   pub output : AppendsPart written_old written_new report
 
--- A fact on the refusal where the fault is that the file is refused. Want of memory is no such refusal.
+-- States a fact for a refused file. Lack of memory is not such a refusal.
 abbrev pub OnRefusedFile : RunError → (TextError → Type 0) → Type 0
 OnRefusedFile (fault.Text refusal) P = (refusal ≢ text.OutOfMemory) × P refusal
 OnRefusedFile fault.OutOfMemory P = ⊤

@@ -1,4 +1,4 @@
--- The exit status where there is no plan to begin with.
+-- The exit status when there is no start plan.
 use Rattle.std.specs.Prelude.{ℕ}
 use Rattle.vrp_command.specs.declared.start.StartError.{StartError}
 use Rattle.vrp_command.specs.declared.start.StartError.TheVariants as start_fault

@@ -1,4 +1,4 @@
--- What is printed of a finding, in the form that a request asks for.
+-- The text of a finding, in the form of a request.
 use Rattle.std.specs.Prelude.{◌≡◌, ℕ, if◌then◌else◌, Option, None, Some, List, ⊤}
 use Rattle.vrp_pool_answer.specs.Finding.{FindingOf}
 use Rattle.vrp_plan_write.specs.Json.{ContextOf, IsJsonOf}
@@ -14,15 +14,15 @@ use Rattle.vrp_command_streams.specs.Report.{report_of, solution_of}
 abbrev pub budget_of : Request → Option ℕ
 budget_of request = if request.states_budget then Some request.options.budget else None
 
--- how the run was asked for, as it is printed
+-- the options of the run, as they are printed
 abbrev pub settings_of : Request → Settings
 settings_of request = record { workers = request.options.workers; pieces = request.options.pieces; budget = budget_of request; seconds = request.seconds; depot = request.options.depot; trucks = request.options.trucks }
 
--- what is told beside a finding, where this is what the file calls itself, and the cost that the plan to begin with is stated to have
+-- the context of a finding, given the file's name for itself and the stated cost of the start plan
 abbrev pub context_of : Request → Option (List ℕ) → Option ℕ → ContextOf
 context_of request name stated_cost = record { name = name; version = VERSION.now; stated_cost = stated_cost; asked = settings_of request }
 
--- the text tells a finding in this form. Of a picture nothing is said
+-- the text states a finding in this form; nothing is said about a picture
 abbrev pub IsTextIn : Format → ContextOf → Problem → FindingOf → List ℕ → Type 0
 IsTextIn format.Report context p finding text = text ≡ report_of p finding
 IsTextIn format.Solution context p finding text = text ≡ solution_of finding

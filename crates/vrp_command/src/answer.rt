@@ -1,4 +1,4 @@
-//! The answer to an instance: it is cut into pieces, which are searched by several workers.
+//! The answer to an instance: cuts it into pieces, which several workers search.
 ghost use Rattle.std.specs.Prelude.{◌≤◌, IfOk};
 ghost use Rattle.std.specs.Option.{ForSome, option_map};
 ghost use Rattle.vrp_model.specs.Route.{IsPlanOf};
@@ -7,16 +7,15 @@ ghost use Rattle.vrp_pool_answer.specs.Answer.{known_plan};
 ghost use Rattle.vrp_command.specs.Answer.{IsAnswerTo};
 ghost use Rattle.vrp_command_request.specs.Options.{AreInRange};
 
-use crate::resources::Resources;
 use std::sync::Wait;
 use std::thread::Threads;
 use vrp_command_request::Options;
 use vrp_model::{Instance, Plan};
-use vrp_pool::{Gate, SolveError, Solved, solve_from};
+use vrp_pool::{Gate, Resources, SolveError, Solved, solve_from};
 use vrp_search_tree::Cutting;
 
-/// Cuts the tree of an instance into as many pieces as the options say, and has each searched with their budget by their workers, who
-/// begin with a plan, if one is given.
+/// Cuts the tree of an instance into at least as many pieces as the options say, and searches them with the options' budget
+/// and workers, beginning with a plan, if one is given.
 pub(crate) fn cut_and_solve<T: Threads + Wait + Sync, G: Gate + Sync>(
     resources: &Resources<'_, T, G>,
     instance: &Instance,

@@ -1,4 +1,4 @@
-//! A request is answered: from the bytes that are read to the text that is written.
+//! Answers a request: from the bytes read to the text written.
 ghost use Rattle.std.specs.Io.KnownBytes.{Keeps};
 ghost use Rattle.std.specs.Option.{ForSome, option_map};
 ghost use Rattle.std.specs.Prelude.{◌≡◌, ◌≢◌, ◌+◌, ◌⊎◌, None, IfOk, IfErr, string_bytes};
@@ -17,7 +17,6 @@ use crate::fault::RequestError;
 use crate::form::{NoPoints, form_of, print_finding};
 use crate::found::find;
 use crate::problem::{Problem, read_problem};
-use crate::resources::Resources;
 use crate::start::{StartFile, plan_of, start_plan, stated_cost_of};
 use crate::task::Task;
 use std::io::{Read, Write};
@@ -26,10 +25,10 @@ use std::thread::Threads;
 use vrp_command_request::{Format, Request};
 use vrp_command_streams::{RunError, Status};
 use vrp_model::Plan;
-use vrp_pool::Gate;
+use vrp_pool::{Gate, Resources};
 use vrp_text::MAX_BYTES;
 
-/// Answers a request by a gate that is told how the run goes, and may stop the search.
+/// Answers a request with a gate that hears of the run and may stop the search.
 pub(crate) fn answer_request<
     T: Threads + Wait + Sync,
     S: Read + Drop,
@@ -65,7 +64,7 @@ pub(crate) fn answer_request<
     match read_problem(resources.alloc, request.options, request.format, input) {
         Ok(problem) => {
             let outcome = answer_on(resources, &problem, request, start, output, errors);
-            // By a call, here and below: what is let go by itself is let go field by field, and each step is proved.
+            // By a call, here and below: an implicit drop goes field by field, and each of its steps must be proved.
             drop(problem);
             outcome
         }
@@ -76,7 +75,7 @@ pub(crate) fn answer_request<
     }
 }
 
-// The same, once the problem is read.
+// Answers a request once the problem is read.
 fn answer_on<T: Threads + Wait + Sync, S: Read + Drop, W: Write, E: Write, G: Gate + Sync>(
     resources: &Resources<'_, T, G>,
     problem: &Problem,
@@ -115,7 +114,7 @@ fn answer_on<T: Threads + Wait + Sync, S: Read + Drop, W: Write, E: Write, G: Ga
     }
 }
 
-// The same, once it is known in which form the answer is printed.
+// Answers a request once the problem is read and the output form is known.
 fn answer_in<T: Threads + Wait + Sync, S: Read + Drop, W: Write, E: Write, G: Gate + Sync>(
     resources: &Resources<'_, T, G>,
     task: &Task<'_>,
@@ -157,7 +156,7 @@ fn answer_in<T: Threads + Wait + Sync, S: Read + Drop, W: Write, E: Write, G: Ga
     }
 }
 
-/// Finds what is asked of a problem, with this plan to begin with, if there is one, and prints it.
+/// Finds the answer to a task, with this start plan, if there is one, and prints it.
 pub(crate) fn answer_with<T: Threads + Wait + Sync, W: Write, E: Write, G: Gate + Sync>(
     resources: &Resources<'_, T, G>,
     task: &Task<'_>,

@@ -11,7 +11,6 @@ use crate::deadline::Deadline;
 use crate::fault::RequestError;
 use crate::problem::read_problem;
 use crate::progress::Progress;
-use crate::resources::Resources;
 use crate::start::StartFile;
 use crate::task::Task;
 use std::alloc::Global;
@@ -21,13 +20,13 @@ use std::thread::Threads;
 use std::time::Clock;
 use vrp_command_request::{Format, Options, Request};
 use vrp_command_streams::{RunError, Status};
-use vrp_pool::{Gate, NoGate};
+use vrp_pool::{Gate, NoGate, Resources};
 use vrp_text::MAX_BYTES;
 
-/// Reads a CVRP file, and writes the report of a feasible plan of the problem that it means with the chosen node as its depot and
-/// the trucks that were asked for: a cheapest one, where the status is `Proven`; where it is `NoPlan` there is none. Reading ends
-/// at the end of the input or after one byte more than a file may have. On a fault other than `Write` nothing is written; on that
-/// one a part of the report is, from its first byte on.
+/// Reads a CVRP file, and writes the report of a feasible plan for the problem that it means, with the chosen node as its
+/// depot and the trucks of the options. If the status is `Proven`, it is a cheapest plan; if it is `NoPlan`, there is no
+/// plan. Reading ends at the end of the input, or after one byte more than a file may have. On a fault other than `Write`
+/// nothing is written; on `Write`, a beginning of the report is.
 pub fn run<T: Threads + Wait + Sync, R: Read, W: Write>(
     rt: &T,
     alloc: Global,
@@ -51,19 +50,20 @@ pub fn run<T: Threads + Wait + Sync, R: Read, W: Write>(
     let problem = read_problem(alloc, options, Format::Report, input)?;
     let resources = Resources::new(rt, alloc, &NoGate);
     let task = Task::report(&problem, options);
-    // Beside a report nothing is told.
+    // Only a report is printed, so `errors` gets nothing.
     let printed = answer_with(&resources, &task, None, output, &mut io::sink());
     drop(problem);
     printed
 }
 
-/// Does what a request asks for: reads a CVRP file, and a plan to begin with from a second one, if there is one; then it writes, in
-/// the form that is asked for, what it finds of the problem that the first file means: that the plan is feasible, where it is only
-/// to be checked, and else an answer, whose plan costs no more. It reads and writes as `run` does. A limit of seconds stops the
-/// search, and so may the gate, which is told before each piece.
+/// Answers a request: reads a CVRP file, and a start plan from a second file, if there is one. Then it writes, in the
+/// requested form, its finding for the problem: that the start plan is feasible, if it is only to be checked, and otherwise
+/// an answer whose plan costs no more. It reads and writes as `run` does. A limit of seconds stops the search, and so may the
+/// gate, which hears of each piece first.
 ///
-/// To `errors` goes that the second file states another cost than its plan's, that a solution has no plan to be printed, and the last
-/// line of how the run went; to the system's standard error the lines before it. What these say is left open.
+/// `errors` gets the message that the second file states a wrong cost, the message that there is no plan to print as a
+/// solution, and the last line of progress; the system's standard error gets the earlier lines. The contract leaves their
+/// texts open.
 pub fn run_request<
     T: Threads + Wait + Clock + Eprint + Sync,
     S: Read + Drop,

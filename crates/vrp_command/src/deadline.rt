@@ -5,21 +5,21 @@ ghost use Rattle.vrp_command.specs.Program.{may_stop_by};
 use std::time::{Clock, Duration, Instant};
 use vrp_pool::{Event, Gate};
 
-/// Stops a search this many seconds after it was made, if a number is given, and where another gate says so, to which it passes on
-/// all that it is told. Where the clock fails or stands still the search goes on. That the clock is right no clause says.
+/// Stops a search this many seconds after it was made, if a number is given, or when another gate says so; it passes all
+/// events on to that gate. If the clock fails or stands still, the search continues. No clause says that the clock is right.
 #[derive(Clone, Copy)]
 pub struct Deadline<'a, C, G: Gate> {
     clock: &'a C,
-    // `None` where the clock failed.
+    // `None` if the clock failed.
     start: Option<Instant>,
-    /// After how many seconds the search is to stop.
+    /// The limit of seconds.
     pub seconds: Option<u32>,
-    /// Which else may stop it, and is told what it is told.
+    /// The other gate, which may stop the search and hears of all events.
     pub gate: &'a G,
 }
 
 impl<'a, C: Clock, G: Gate> Deadline<'a, C, G> {
-    /// The time begins now.
+    /// A deadline whose time begins now.
     pub fn new(clock: &'a C, seconds: Option<u32>, gate: &'a G) -> Deadline<'a, C, G>
         ensures seconds { result.seconds ≡ seconds }
         ensures gate { result.gate.now ≡ gate.entry.now }
@@ -32,7 +32,7 @@ impl<'a, C: Clock, G: Gate> Deadline<'a, C, G> {
         }
     }
 
-    // Whether so many seconds have passed.
+    // Whether this many seconds have passed.
     fn have_passed(&self, seconds: u32) -> bool {
         match self.passed() {
             Some(passed) => Duration::from_secs(u64::from(seconds)) <= passed,
@@ -40,7 +40,7 @@ impl<'a, C: Clock, G: Gate> Deadline<'a, C, G> {
         }
     }
 
-    // How much time has passed, if the clock tells.
+    // The time that has passed, if the clock works.
     fn passed(&self) -> Option<Duration> {
         self.start?.elapsed(self.clock).ok()
     }

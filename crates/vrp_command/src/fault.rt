@@ -1,4 +1,4 @@
-//! Why a request is not answered, and the exit status of its outcome.
+//! Why a request has no answer, and the exit status of its outcome.
 ghost use Rattle.std.specs.Prelude.{◌≡◌, Err};
 ghost use Rattle.vrp_command.specs.Program.{request_code};
 
@@ -7,18 +7,18 @@ use std::alloc::Global;
 use std::io::{self, Write};
 use vrp_command_streams::{RunError, Status, exit_status, fault_line};
 
-/// Why a request is not answered. Nothing was written, but for a write fault, where a part of the text may have gone out.
+/// Why a request has no answer. Nothing was written, except that a write fault may leave a beginning of the text.
 #[derive(Clone, Copy, Debug, PartialEq, Eq, Drop)]
 pub enum RequestError {
     /// The run failed, or the file is refused.
     Run(RunError),
-    /// There is no plan to begin with, although a file is named for it.
+    /// A start plan's file is named, but there is no plan in it.
     Start(StartError),
-    /// A picture was asked for, and the file has no whole coordinates for each node.
+    /// A picture was requested, and the file has no whole coordinates for each node.
     NoPoints,
 }
 
-/// The exit status of an outcome. A fault goes to `errors`, as one line. Where that can't be written nothing more is done.
+/// The exit status of an outcome. A fault is written to `errors` as one line. If that fails, nothing more is done.
 pub fn end<E: Write>(alloc: Global, outcome: &Result<Status, RequestError>, errors: &mut E) -> u8
     ensures { result ≡ request_code outcome.now }
 {
@@ -31,7 +31,7 @@ pub fn end<E: Write>(alloc: Global, outcome: &Result<Status, RequestError>, erro
     }
 }
 
-// Writes why a request is not answered.
+// Writes why a request has no answer.
 fn tell<E: Write>(alloc: Global, error: &RequestError, errors: &mut E) -> io::Result<()> {
     match error {
         RequestError::Run(fault) => {
@@ -47,7 +47,7 @@ fn tell<E: Write>(alloc: Global, error: &RequestError, errors: &mut E) -> io::Re
     }
 }
 
-// The exit status where a request is not answered.
+// The exit status of a request without an answer.
 fn status_of(error: &RequestError) -> u8
     ensures { result ≡ request_code (Err error.now) }
 {

@@ -1,4 +1,4 @@
-//! The form in which a finding is printed.
+//! The output form of a finding.
 ghost use Rattle.std.specs.Io.KnownBytes.{Keeps};
 ghost use Rattle.std.specs.Option.{ForSome, option_map};
 ghost use Rattle.std.specs.Prelude.{◌≡◌, ◌≢◌, ◌⊎◌, ℕ, Option, None, IfOk, IfErr, List, OnErr, OnOk, string_bytes};
@@ -18,7 +18,7 @@ use vrp_model::{Instance, NoMemory};
 use vrp_plan_write::{Context, Points, Settings, json_text, picture_text};
 use vrp_pool_answer::Finding;
 
-/// A form, and what is needed for it.
+/// A form, and the data that it needs.
 #[derive(Clone, Copy)]
 pub(crate) enum Form<'a> {
     Report,
@@ -27,12 +27,12 @@ pub(crate) enum Form<'a> {
     Picture(&'a Points),
 }
 
-/// A picture was asked for, and the file has no coordinates to draw.
+/// A picture was requested, and the file has no coordinates to draw.
 #[derive(Drop)]
 pub(crate) struct NoPoints;
 
 impl<'a> Form<'a> {
-    /// The same form, where this cost is stated of the plan to begin with, or none is.
+    /// The form with this stated cost of the start plan, or with none.
     pub(crate) fn stating(self, cost: Option<u64>) -> Form<'a>
         ensures { (request : Request) (name : Option (List ℕ))
             → IsFormIn request.format (context_of request name None) self.entry
@@ -48,7 +48,7 @@ impl<'a> Form<'a> {
     }
 }
 
-/// The form in which a problem's plan is asked for. No cost is stated yet.
+/// The form that a request asks for, for this problem. There is no stated cost yet.
 pub(crate) fn form_of<'a>(request: &Request<'_>, problem: &'a Problem) -> Result<Form<'a>, NoPoints>
     ensures form { IfOk result (IsFormIn request.now.format
         (context_of request.now (option_map string_bytes problem.now.beside.name) None)) }
@@ -63,7 +63,7 @@ pub(crate) fn form_of<'a>(request: &Request<'_>, problem: &'a Problem) -> Result
     }
 }
 
-// What is told beside a finding, where no cost is stated.
+// The context of a finding, without a stated cost.
 fn context<'a>(request: &Request<'_>, beside: &'a Beside) -> Context<'a>
     ensures { context_by result ≡ context_of request.now (option_map string_bytes beside.now.name) None }
 {
@@ -79,7 +79,7 @@ fn context<'a>(request: &Request<'_>, beside: &'a Beside) -> Context<'a>
     }
 }
 
-// How the run was asked for, as it is printed.
+// The options of the run, as they are printed.
 fn settings(request: &Request<'_>) -> Settings
     ensures { result ≡ settings_of request.now }
 {
@@ -98,8 +98,8 @@ fn settings(request: &Request<'_>) -> Settings
     }
 }
 
-/// Prints a finding in a form, and answers its verdict. On a fault other than `Write` nothing is written; on that one a part of the text
-/// is, from its first byte on. Where a solution is asked for and there is no plan, the text is empty and `errors` is told so.
+/// Prints a finding in a form, and answers its verdict. On a fault other than `Write` nothing is written; on `Write`, a
+/// beginning of the text is. If a solution is requested and there is no plan, the text is empty and `errors` says so.
 pub(crate) fn print_finding<W: Write, E: Write>(
     alloc: Global,
     instance: &Instance,
@@ -142,7 +142,7 @@ fn text_of(
     }
 }
 
-// Tells `errors` where a solution is asked for and there is no plan. Where that can't be written nothing more is done.
+// Writes to `errors` if a solution is requested and there is no plan. If that fails, nothing more is done.
 fn tell_missing_plan<E: Write>(finding: &Finding<'_>, form: Form<'_>, errors: &mut E) {
     if let (Form::Solution, None) = (form, finding.plan) {
         let _ = writeln!(errors, "cvrp: no plan to print: {}", finding.status);

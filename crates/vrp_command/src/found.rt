@@ -1,4 +1,4 @@
-//! What a request finds of an instance.
+//! The result of a request for an instance.
 ghost use Rattle.std.specs.Option.{ForSome, option_map};
 ghost use Rattle.std.specs.Prelude.{◌≡◌, None, Some, IfOk, IsTrue, MatchOption};
 ghost use Rattle.vrp_pool_answer.specs.Finding.{told_by};
@@ -8,25 +8,24 @@ ghost use Rattle.vrp_command.specs.Found.{IsFoundBy, told_of};
 ghost use Rattle.vrp_command.specs.Inner.Told.{told_found};
 
 use crate::answer::cut_and_solve;
-use crate::resources::Resources;
 use std::sync::Wait;
 use std::thread::Threads;
 use vrp_command_request::Request;
 use vrp_model::{Instance, Plan};
-use vrp_pool::{Gate, SolveError, Solved};
+use vrp_pool::{Gate, Resources, SolveError, Solved};
 use vrp_pool_answer::Finding;
 
-/// What a request finds of an instance.
+/// The result of a request for an instance.
 #[derive(Drop)]
 pub(crate) enum Found<'a> {
-    /// The plan to begin with is feasible, and was only to be checked.
+    /// The start plan is feasible, and was only to be checked.
     Checked(&'a Plan),
-    /// A search came to this.
+    /// The result of a search.
     Searched(Solved),
 }
 
 impl Found<'_> {
-    /// What is told of it: where a time was set, the best bound alone.
+    /// The finding to print; with a time limit, with the best bound alone.
     pub(crate) fn finding(&self, seconds: Option<u32>) -> Finding<'_>
         ensures { told_by result ≡ told_found seconds self.entry.now }
     {
@@ -37,7 +36,7 @@ impl Found<'_> {
     }
 }
 
-// What is told of what a search came to: where a time was set, the best bound alone.
+// The finding of a search's result; with a time limit, with the best bound alone.
 fn told<'a>(solved: &'a Solved, seconds: Option<u32>) -> Finding<'a>
     ensures { told_by result ≡ told_of seconds solved.entry.now.answer solved.entry.now.lower_bound }
 {
@@ -48,8 +47,8 @@ fn told<'a>(solved: &'a Solved, seconds: Option<u32>) -> Finding<'a>
     }
 }
 
-/// Finds what a request asks for of an instance: that the plan to begin with is feasible, where it is only to be checked, and else
-/// what a search comes to that begins with it.
+/// Finds the result of a request for an instance: that the start plan is feasible, if it is only to be checked, and otherwise
+/// the result of a search that begins with it.
 pub(crate) fn find<'a, T: Threads + Wait + Sync, G: Gate + Sync>(
     resources: &Resources<'_, T, G>,
     instance: &Instance,
@@ -71,7 +70,7 @@ pub(crate) fn find<'a, T: Threads + Wait + Sync, G: Gate + Sync>(
     }
 }
 
-// The plan to begin with, where it is only to be checked.
+// The start plan, if it is only to be checked.
 fn to_be_checked<'a>(request: &Request<'_>, start: Option<&'a Plan>) -> Option<&'a Plan>
     ensures { MatchOption result
         (IsTrue request.now.check → option_map (λ plan. plan.now) start.entry ≡ None)

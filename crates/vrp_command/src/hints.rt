@@ -1,4 +1,4 @@
-//! Tells hints on standard error: what is known of a fault or of an answer, behind all that is told without being asked.
+//! Writes hints on standard error: more about a fault or an answer, after all other output.
 ghost use Rattle.std.specs.Prelude.{◌≡◌};
 ghost use Rattle.vrp_model.specs.Problem.{node_of};
 
@@ -13,14 +13,14 @@ use vrp_command_streams::{RunError, Status};
 use vrp_model::Instance;
 use vrp_pool::LEAST_PREPARED_BUDGET;
 
-/// Tells a hint, if there is one, as a line of its own. Where it can't be written nothing more is done.
+/// Writes a hint, if there is one, on its own line. If that fails, nothing more is done.
 pub(crate) fn tell_hint<H: Display + Drop, E: Write>(hint: Option<H>, errors: &mut E) {
     if let Some(hint) = hint {
         let _ = writeln!(errors, "cvrp: hint: {hint}");
     }
 }
 
-/// Tells the hint on a refusal, if there is one.
+/// Writes the hint on a refusal, if there is one.
 pub(crate) fn tell_refusal<E: Write>(
     request: &Request<'_>,
     kept: &Kept,
@@ -36,7 +36,7 @@ pub(crate) fn tell_refusal<E: Write>(
     }
 }
 
-// Tells the hint on a plan to begin with, if there is one.
+// Writes the hint on a start plan, if there is one.
 fn tell_start<E: Write>(request: &Request<'_>, kept: &Kept, error: &StartError, errors: &mut E) {
     let path = request.start.unwrap_or("");
     match (error, &kept.start) {
@@ -53,7 +53,7 @@ fn tell_start<E: Write>(request: &Request<'_>, kept: &Kept, error: &StartError, 
     }
 }
 
-/// Tells the hints on the answer to an instance.
+/// Writes the hints on the answer to an instance.
 pub(crate) fn tell_answer<E: Write>(
     request: &Request<'_>,
     kept: &Kept,
@@ -71,7 +71,7 @@ pub(crate) fn tell_answer<E: Write>(
     }
 }
 
-// Tells what would go on with a search that was left open, unless it had a time.
+// Writes how to continue a search that was left open, unless it had a time limit.
 fn tell_open<E: Write>(request: &Request<'_>, errors: &mut E) {
     if request.seconds.is_some() {
         return;
@@ -88,7 +88,7 @@ fn tell_open<E: Write>(request: &Request<'_>, errors: &mut E) {
 fn depot_of(instance: &Instance) -> u16
     ensures { result ≡ node_of instance.now 0 }
 {
-    // By this each instance has a place, which is its depot.
+    // This call shows that each instance has a place, which is its depot.
     let _customers = instance.customers();
     instance.node(0)
 }

@@ -1,11 +1,10 @@
-//! A run whose bytes are kept: behind it hints are told, and a stated cost is held against the true one.
+//! A run that keeps its input: afterwards it writes hints and compares a stated cost with the true one.
 ghost use Rattle.vrp_command_request.specs.Options.{AreInRange};
 
 use crate::command::run_request;
 use crate::fault::{RequestError, end};
 use crate::hints::{tell_answer, tell_refusal};
 use crate::problem::limited;
-use crate::resources::Resources;
 use crate::start::{StartError, StartFile};
 use crate::strict::cost_status;
 use std::alloc::Global;
@@ -18,29 +17,29 @@ use std::time::Clock;
 use vrp_command_request::Request;
 use vrp_command_streams::{RunError, Status, read_input};
 use vrp_model::Instance;
-use vrp_pool::Gate;
+use vrp_pool::{Gate, Resources};
 use vrp_text::TextError;
 
-/// What a run has read.
+/// The input of a run.
 #[derive(Drop)]
 pub(crate) struct Kept {
     pub(crate) input: Vec<u8>,
-    /// The file of the plan to begin with, if there is one.
+    /// The start plan's file, if there is one.
     pub(crate) start: Option<StartText>,
 }
 
-/// What is known of the file of a plan to begin with.
+/// The start plan's file.
 #[derive(Drop)]
 pub(crate) enum StartText {
     Read(Vec<u8>),
-    /// It can't be opened, for this reason of the system.
+    /// It can't be opened, for this reason given by the system.
     Unopened(io::Error),
     /// It can't be read.
     Unread,
 }
 
 impl Kept {
-    // Reads what a request has read.
+    // Reads all input of a request.
     fn read<T: Files, R: Read>(
         rt: &T,
         alloc: Global,
@@ -58,7 +57,7 @@ impl Kept {
         Ok(Kept { input, start })
     }
 
-    // The file of the plan to begin with, to be read once more.
+    // The start plan's file, to be read again.
     fn start_file(&self) -> Option<StartFile<&[u8]>> {
         match &self.start {
             Some(StartText::Read(text)) => Some(StartFile::Opened(text.as_slice())),
@@ -68,7 +67,7 @@ impl Kept {
     }
 }
 
-// The file of a plan to begin with, by its path.
+// The start plan's file at this path.
 fn read_start<T: Files>(rt: &T, alloc: Global, path: &str) -> Result<StartText, RequestError> {
     let mut file = match fs::open(rt, path) {
         Ok(file) => file,
@@ -81,8 +80,8 @@ fn read_start<T: Files>(rt: &T, alloc: Global, path: &str) -> Result<StartText, 
     }
 }
 
-/// Does what a request asks for, as `run_request` does, and answers the exit status. Then it tells hints, if they are asked for, and
-/// whether another cost is stated. Of itself it promises nothing.
+/// Answers a request as `run_request` does, and answers the exit status. Then it writes hints, if they are requested, and
+/// checks the stated cost. It promises nothing itself.
 pub(crate) fn run_kept<
     T: Threads + Wait + Clock + Eprint + Files + Sync,
     R: Read,
@@ -123,7 +122,7 @@ pub(crate) fn run_kept<
     }
 }
 
-// The exit status of an answered request, which would be this one. What the answer is to is read once more.
+// The exit status of an answered request, where this is the usual one. Reads the instance again.
 fn end_answered<E: Write>(
     alloc: Global,
     request: &Request<'_>,
@@ -135,7 +134,7 @@ fn end_answered<E: Write>(
     requires { AreInRange request.now.options }
 {
     let Ok(instance) = problem_of(alloc, request, kept) else {
-        // It was read before, so this is for want of memory.
+        // The file was readable before, so this is lack of memory.
         return end(
             alloc,
             &Err(RequestError::Run(RunError::OutOfMemory)),

@@ -1,4 +1,4 @@
-//! What is true of runs, whatever the code does.
+//! Laws about runs.
 ghost use Rattle.std.specs.Prelude.{◌≡◌, ℕ, Bool, List, Option};
 ghost use Rattle.vrp_pool_answer.specs.Finding.{FindingOf};
 ghost use Rattle.vrp_pool_answer.specs.declared.status.Status.TheVariants.{Proven};
@@ -11,8 +11,8 @@ ghost use Rattle.vrp_command_request.specs.declared.options.Request.{Request};
 use vrp_model::one_canonical;
 use vrp_text::one_meaning;
 
-/// Where runs over the same bytes, with the same depot and as many trucks, answer `Proven`, they print the same report: whatever
-/// their pieces, budgets and workers are, and whether they may be stopped.
+/// Runs over the same bytes, with the same depot and number of trucks, that answer `Proven` print the same report, whatever
+/// their pieces, budgets and workers, and whether they may be stopped or not.
 pub fn one_report()
     ensures { (options others : Options) (may_stop others_may : Bool) (bytes report other : List ℕ)
         → options.depot ≡ others.depot → options.trucks ≡ others.trucks
@@ -23,9 +23,9 @@ pub fn one_report()
     one_canonical();
 }
 
-/// The same of all that can be asked for: where requests over the same bytes, with the same depot and as many trucks, are answered
-/// `Proven`, they find the same plan; and as a report, or as a solution of CVRPLIB, they print the same bytes. Whatever else they say,
-/// and with a plan to begin with or without.
+/// Requests over the same bytes, with the same depot and number of trucks, that are answered `Proven` find the same plan; as
+/// a report, or as a CVRPLIB solution, they print the same bytes. Their other options may differ, and either may have a start
+/// plan.
 pub fn one_answer()
     ensures { (request other : Request) (may_stop other_may : Bool) (bytes : List ℕ)
         (start other_start : Option (List ℕ)) (finding found : FindingOf) (text printed : List ℕ)

@@ -15,7 +15,6 @@ mod line;
 mod problem;
 mod program;
 mod progress;
-mod resources;
 mod start;
 mod strict;
 mod task;
@@ -26,12 +25,11 @@ pub use fault::{RequestError, end};
 pub use law::{one_answer, one_report};
 pub use line::{Line, LongRun, Stage};
 pub use program::{end_without_run, run_words};
-pub use resources::Resources;
 pub use start::{StartError, StartFile, open_start};
 pub use vrp_command_request::{
     Format, LineFault, MAX_BUDGET, MAX_SECONDS, Options, Request, VERSION, argument_fault,
     line_status, parse_request, parse_words, words_fault,
 };
 pub use vrp_command_streams::{RunError, Status, exit_status, fault_line};
-pub use vrp_pool::{Event, Gate, MAX_WORKERS, NoGate};
+pub use vrp_pool::{Event, Gate, MAX_WORKERS, NoGate, Resources};
 pub use vrp_search_tree::MAX_PIECES;

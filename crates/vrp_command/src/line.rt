@@ -1,32 +1,33 @@
-//! One line that tells how a run goes.
+//! One line of progress.
 ghost use Rattle.std.specs.Prelude.{None};
 
 use std::fmt;
+use vrp_bound::LowerBound;
 use vrp_command_streams::Status;
 
-/// What a run is at.
+/// The stage of a run.
 #[derive(Clone, Copy, Debug, PartialEq, Eq)]
 pub enum Stage {
     /// A look at the whole tree, before anything else.
     Look,
-    /// A start plan is looked for.
+    /// The search for a start plan.
     StartPlan,
-    /// Prices are looked for.
+    /// The search for prices.
     Prices,
-    /// Useful routes are listed.
+    /// The enumeration of useful routes.
     Routes,
-    /// A cheapest choice of the useful routes is looked for.
+    /// The search for a cheapest choice of the useful routes.
     Choice,
-    /// Better plans are looked for, as long as there is time.
+    /// The search for better plans, as long as there is time.
     BetterPlans,
-    /// Pieces are searched.
+    /// The search of the pieces.
     Search,
-    /// It has come to this verdict.
+    /// The run ended with this verdict.
     Ended(Status),
 }
 
 impl fmt::Display for Stage {
-    // What is printed no clause says.
+    // No clause covers the text.
     ghost output = { λ _. None };
 
     fn fmt<W: fmt::Write>(&self, f: &mut fmt::Formatter<W>) -> fmt::Result {
@@ -43,32 +44,32 @@ impl fmt::Display for Stage {
     }
 }
 
-/// What is known of a run. Its text is one line, without an end; where no pieces are known it says nothing of them. It tells of labels
-/// while routes are listed, and of nodes while a choice among these is looked for.
+/// The state of a run. Its text is one line, without a line end. It mentions pieces only if their number is known, labels
+/// only while routes are listed, and nodes only during the choice.
 #[derive(Clone, Copy, Debug, PartialEq, Eq)]
 pub struct Line {
     pub stage: Stage,
-    /// How many have passed since the start, where the clock tells.
+    /// The seconds since the start, if the clock works.
     pub seconds: Option<u64>,
-    /// That of the best plan, if one is known.
+    /// The cost of the best plan, if one is known.
     pub cost: Option<u64>,
-    /// No plan costs less than this, where that is known.
-    pub bound: Option<u64>,
-    /// How many labels were made so far, to list useful routes.
+    /// No plan costs less than this, if it is known.
+    pub bound: Option<LowerBound>,
+    /// The number of labels made so far.
     pub labels: u64,
-    /// How many useful routes there are; 0 where none are listed.
+    /// The number of useful routes; 0 if none are listed.
     pub routes: u64,
-    /// How many nodes of the choice are done.
+    /// The number of nodes of the choice that are done.
     pub nodes_done: u64,
-    /// How many nodes of the choice are open.
+    /// The number of nodes of the choice that are open.
     pub nodes_open: u64,
-    /// How many pieces are searched to their end.
+    /// The number of finished pieces.
     pub done: u64,
-    /// How many pieces are left open: more of them would have to be searched.
+    /// The number of pieces left open: these would need more budget.
     pub left_open: u64,
-    /// How many pieces there are; 0 where the tree has not been cut.
+    /// The number of pieces; 0 if the tree has not been cut.
     pub pieces: u64,
-    /// How many partial plans were looked at.
+    /// The number of partial plans looked at.
     pub looked: u64,
 }
 
@@ -88,7 +89,7 @@ impl fmt::Display for Line {
     }
 }
 
-/// What is said once of a run that takes long: how far it is, and what ends it.
+/// The one message of a long run: its state, and which option ends it.
 #[derive(Clone, Copy, Debug, PartialEq, Eq)]
 pub struct LongRun(pub Line);
 
@@ -105,7 +106,7 @@ impl fmt::Display for LongRun {
 }
 
 impl Line {
-    // What the best plan costs, what none costs less than, and how far apart these are.
+    // The cost of the best plan, the lower bound, and the gap.
     fn write_costs<W: fmt::Write>(&self, f: &mut fmt::Formatter<W>) -> fmt::Result {
         if let Some(cost) = self.cost {
             write!(f, ", cost {cost}")?;
@@ -114,13 +115,13 @@ impl Line {
             write!(f, ", lower bound {bound}")?;
         }
         if let (Some(cost), Some(bound)) = (self.cost, self.bound) {
-            let gap = hundredths(cost, bound);
+            let gap = hundredths(cost, bound.rounded_up());
             write!(f, ", gap {}.{:02}%", gap / 100, gap % 100)?;
         }
         Ok(())
     }
 
-    // How many labels were made, while routes are listed, once there are any.
+    // The number of labels, while routes are listed, once there are any.
     fn write_labels<W: fmt::Write>(&self, f: &mut fmt::Formatter<W>) -> fmt::Result {
         if self.stage != Stage::Routes || self.labels == 0 {
             return Ok(());
@@ -128,7 +129,7 @@ impl Line {
         write!(f, ", {} labels", self.labels)
     }
 
-    // How many useful routes there are, where they are listed.
+    // The number of useful routes, if they are listed.
     fn write_routes<W: fmt::Write>(&self, f: &mut fmt::Formatter<W>) -> fmt::Result {
         if self.routes == 0 {
             return Ok(());
@@ -136,7 +137,7 @@ impl Line {
         write!(f, ", {} useful routes", self.routes)
     }
 
-    // How many nodes are done and open, while a choice is looked for, once there are any.
+    // The numbers of nodes done and open, during the choice, once there are any.
     fn write_nodes<W: fmt::Write>(&self, f: &mut fmt::Formatter<W>) -> fmt::Result {
         if self.stage != Stage::Choice || self.nodes_done == 0 && self.nodes_open == 0 {
             return Ok(());
@@ -148,7 +149,7 @@ impl Line {
         )
     }
 
-    // How many pieces are done and left open, where there are any, and how much was looked at.
+    // The numbers of pieces done and left open, if there are any, and of partial plans looked at.
     fn write_pieces<W: fmt::Write>(&self, f: &mut fmt::Formatter<W>) -> fmt::Result {
         if self.pieces == 0 {
             return Ok(());
@@ -161,7 +162,7 @@ impl Line {
     }
 }
 
-// By how many hundredths of a percent of a bound a cost is above it, rounded up: so it is 0 only where nothing is left.
+// Cost minus bound, in hundredths of a percent of the bound, rounded up: so it is 0 only if the two are equal.
 fn hundredths(cost: u64, bound: u64) -> u64 {
     let above = u128::from(cost.saturating_sub(bound)) * 10_000;
     let hundredths = above.div_ceil(u128::from(bound.max(1)));

@@ -1,4 +1,4 @@
-//! The problem of a run: what the bytes of its input mean, and what is read of them beside that.
+//! The problem of a run, from the bytes of its input, and the other data that a form needs from them.
 ghost use Rattle.std.specs.Prelude.{◌≡◌, ◌≢◌, ◌+◌, ◌≤◌, IfOk, IfErr, string_bytes};
 ghost use Rattle.std.specs.Option.{ForSome, option_map};
 ghost use Rattle.vrp_command_streams.specs.Input.{TakesAtMost};
@@ -23,17 +23,17 @@ pub(crate) struct Problem {
     pub(crate) beside: Beside,
 }
 
-/// What a form needs of a file beside the instance.
+/// The data that a form needs from a file beside the instance.
 #[derive(Debug, Drop)]
 pub(crate) struct Beside {
-    /// Where the places lie, if a picture is asked for and the file tells.
+    /// The coordinates of the places, if a picture is requested and the file has them.
     pub(crate) points: Option<Points>,
-    /// What the file calls itself, if JSON is asked for and the file tells.
+    /// The file's name for itself, if JSON is requested and the file has one.
     pub(crate) name: Option<String>,
 }
 
 impl Beside {
-    // What a form needs of a file that means this instance.
+    // The data that a form needs from a file that means this instance.
     fn read(
         alloc: Global,
         format: Format,
@@ -60,7 +60,7 @@ impl Beside {
     }
 }
 
-// What a file calls itself, if it does.
+// A file's name for itself, if it has one.
 fn name_in(alloc: Global, bytes: &[u8]) -> Result<Option<String>, AllocError>
     ensures { IfOk result (λ name. option_map string_bytes name ≡ name_of bytes.now) }
 {
@@ -70,8 +70,8 @@ fn name_in(alloc: Global, bytes: &[u8]) -> Result<Option<String>, AllocError>
     }
 }
 
-/// The problem that the input means, with the chosen node as its depot and the trucks that were asked for, and what the form needs beside
-/// it. Reading ends at the end of the input or after one byte more than a file may have.
+/// The problem that the input means, with the chosen node as its depot and the requested trucks, and the data that the form
+/// needs. Reading ends at the end of the input, or after one byte more than a file may have.
 pub(crate) fn read_problem<R: Read>(
     alloc: Global,
     options: Options,
@@ -97,7 +97,7 @@ pub(crate) fn read_problem<R: Read>(
     })
 }
 
-/// The instance with this many trucks, if a number was asked for.
+/// The instance with the requested number of trucks, if there is one.
 pub(crate) fn limited(instance: Instance, trucks: Option<u16>) -> Instance
     requires some { ForSome trucks (λ most. 1 ≤ most) }
     requires few { ForSome trucks (λ most. most ≤ MAX_NODES) }

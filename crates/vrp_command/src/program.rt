@@ -7,7 +7,6 @@ use crate::command::run_request;
 use crate::fault::end;
 use crate::hints::tell_hint;
 use crate::kept::run_kept;
-use crate::resources::Resources;
 use crate::start::open_start;
 use std::io::{Eprint, Read, Write};
 use std::rt::Files;
@@ -15,12 +14,12 @@ use std::sync::Wait;
 use std::thread::Threads;
 use std::time::Clock;
 use vrp_command_request::{LineFault, line_status, parse_request, word_hint};
-use vrp_pool::Gate;
+use vrp_pool::{Gate, Resources};
 
-/// Does what the words behind the program's name ask for, and answers the exit status: `parse_request` and then `run_request`, or
-/// `end_without_run`. Where hints are asked for they follow, and so they do where the words are refused. The report goes to `output`,
-/// and so do the help and the version; why there is no report goes to `errors`, and how the run goes, where that is asked for, to the
-/// system's standard error. Of itself it promises nothing.
+/// Runs the program on the words of a command line, without the program's name, and answers the exit status: `parse_request`
+/// and then `run_request`, or `end_without_run`. Requested hints follow, and for refused words they always do. The report,
+/// the help and the version go to `output`; the reason for having no report goes to `errors`, and requested progress to the
+/// system's standard error. It promises nothing itself.
 pub fn run_words<
     T: Threads + Wait + Clock + Eprint + Files + Sync,
     R: Read,
@@ -46,7 +45,7 @@ pub fn run_words<
     end(resources.alloc, &outcome, errors)
 }
 
-// Ends where the words give no options, with a hint on them.
+// Ends a run whose words give no options, with a hint on them.
 fn refuse<W: Write, E: Write>(
     words: &[&str],
     fault: &LineFault,
@@ -62,8 +61,8 @@ fn refuse<W: Write, E: Write>(
     status
 }
 
-/// The exit status where the words give no options, or where there are none. The help and the version go to `output`, and all else
-/// to `errors`. Where that can't be written nothing more is done.
+/// The exit status if the words give no options, or if there are none. The help and the version go to `output`, and
+/// everything else to `errors`. If writing fails, nothing more is done.
 pub fn end_without_run<W: Write, E: Write>(fault: &LineFault, output: &mut W, errors: &mut E) -> u8
     ensures status { result ≡ line_code fault.now }
     ensures silent { 2 ≤ result → Keeps (W.contents output.old) (W.contents output.new) }

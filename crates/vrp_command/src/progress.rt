@@ -1,4 +1,4 @@
-//! A gate that tells on standard error how a run goes.
+//! A gate that reports the progress of a run on standard error.
 ghost use Rattle.std.specs.Prelude.{◌≡◌};
 
 use crate::fault::RequestError;
@@ -6,16 +6,17 @@ use crate::line::{Line, LongRun, Stage};
 use std::io::{Eprint, Write};
 use std::sync::atomic::{AtomicU64, Ordering};
 use std::time::{Clock, Instant};
+use vrp_bound::LowerBound;
 use vrp_command_streams::Status;
 use vrp_pool::{Event, Gate};
 
-// What stands for no cost.
+// The mark for no cost.
 const NO_PLAN: u64 = u64::MAX;
 
-// After so many seconds a run says once that it takes long, where it isn't asked to tell how it goes.
+// After this many seconds a run without `--progress` prints one line.
 const LONG_RUN: u64 = 10;
 
-// What stands for each stage of a run that has not ended.
+// The number of each stage of a run that has not ended.
 const FIRST_LOOK: u64 = 0;
 
 const START_PLAN: u64 = 1;
@@ -30,20 +31,21 @@ const BETTER_PLANS: u64 = 5;
 
 const SEARCH: u64 = 6;
 
-/// A gate that tells of a run on standard error, if that is asked for, and passes on to another gate all that it is told: a line when
-/// something is new, and one about every second. Where it isn't asked for, and no time is set, there is one line after ten seconds. Where
-/// a line can't be written the run goes on. What the lines say no clause says.
+/// A gate that reports the progress of a run on standard error, and passes all events on to another gate. With `--progress` it prints a
+/// line when something is new, and about every second; otherwise, if no time is set, one line after ten seconds. If a line can't be
+/// written, the run goes on. No clause says what the lines say.
 #[derive(Drop)]
 pub(crate) struct Progress<'a, T, G: Gate> {
     rt: &'a T,
     tells: bool,
-    // `None` where the clock failed.
+    // `None` if the clock failed.
     start: Option<Instant>,
     gate: &'a G,
     stage: AtomicU64,
     cost: AtomicU64,
-    // What the last plan cost of which a line told.
+    // The cost of the cheapest plan that a line reported.
     told: AtomicU64,
+    // In hundredths.
     bound: AtomicU64,
     labels: AtomicU64,
     routes: AtomicU64,
@@ -55,7 +57,7 @@ pub(crate) struct Progress<'a, T, G: Gate> {
     looked: AtomicU64,
     // The second in which the next line is due.
     due: AtomicU64,
-    // 1 once it was said that the run takes long.
+    // 1 once the line of a long run is printed.
     said: AtomicU64,
 }
 
@@ -86,7 +88,7 @@ impl<'a, T: Clock + Eprint, G: Gate> Progress<'a, T, G> {
         }
     }
 
-    /// The last line, where a search has come to a verdict: it goes to `errors`. No plan costs less than one that is proven.
+    /// Prints the last line to `errors`, if the search has a verdict. A proven plan is its own lower bound.
     pub(crate) fn tell_end<E: Write>(
         &self,
         outcome: &Result<Status, RequestError>,
@@ -99,35 +101,41 @@ impl<'a, T: Clock + Eprint, G: Gate> Progress<'a, T, G> {
             return;
         }
         if *status == Status::Proven {
-            self.bound
-                .store(self.cost.load(Ordering::Relaxed), Ordering::Relaxed);
+            let bound = LowerBound::of_cost(self.cost.load(Ordering::Relaxed));
+            self.bound.store(bound.hundredths, Ordering::Relaxed);
         }
-        // Nobody is told where it can't be written.
+        // If it can't be written, nobody is told.
         let _ = writeln!(errors, "{}", self.line(Stage::Ended(*status)));
     }
 
-    // How many seconds have passed, if the clock tells.
+    // The seconds since the start, if the clock works.
     fn seconds(&self) -> Option<u64> {
         Some(self.start?.elapsed(self.rt).ok()?.as_secs())
     }
 
-    // Writes a line.
+    // Prints a line.
     fn tell(&self, stage: Stage) {
         if self.tells {
-            // Nobody is told where it can't be written.
+            // If it can't be written, nobody is told.
             let _ = self.rt.eprintln(self.line(stage));
         }
     }
 
-    // What is known at a stage.
+    // The line of a stage.
     fn line(&self, stage: Stage) -> Line {
         let cost = self.cost.load(Ordering::Relaxed);
-        let bound = self.bound.load(Ordering::Relaxed);
+        let bound = LowerBound {
+            hundredths: self.bound.load(Ordering::Relaxed),
+        };
         Line {
             stage,
             seconds: self.seconds(),
             cost: if cost == NO_PLAN { None } else { Some(cost) },
-            bound: if bound == 0 { None } else { Some(bound) },
+            bound: if bound.hundredths == 0 {
+                None
+            } else {
+                Some(bound)
+            },
             labels: self.labels.load(Ordering::Relaxed),
             routes: self.routes.load(Ordering::Relaxed),
             nodes_done: self.nodes_done.load(Ordering::Relaxed),
@@ -139,7 +147,7 @@ impl<'a, T: Clock + Eprint, G: Gate> Progress<'a, T, G> {
         }
     }
 
-    // Writes a line where none was written in this second.
+    // Prints a line if none was printed in this second.
     fn tell_when_due(&self) {
         if !self.tells {
             self.say_once();
@@ -164,7 +172,7 @@ impl<'a, T: Clock + Eprint, G: Gate> Progress<'a, T, G> {
         }
     }
 
-    // Says once that the run takes long, and what ends it; who set a time knows.
+    // Prints the line of a long run once, unless a time is set.
     fn say_once(&self) {
         if self.said.load(Ordering::Relaxed) != 0 || self.gate.milliseconds_left().is_some() {
             return;
@@ -175,11 +183,11 @@ impl<'a, T: Clock + Eprint, G: Gate> Progress<'a, T, G> {
         if seconds < LONG_RUN || self.said.swap(1, Ordering::Relaxed) != 0 {
             return;
         }
-        // Nobody is told where it can't be written.
+        // If it can't be written, nobody is told.
         let _ = self.rt.eprintln(LongRun(self.line(self.stage())));
     }
 
-    // What the run is at.
+    // The current stage.
     fn stage(&self) -> Stage {
         match self.stage.load(Ordering::Relaxed) {
             FIRST_LOOK => Stage::Look,
@@ -192,7 +200,7 @@ impl<'a, T: Clock + Eprint, G: Gate> Progress<'a, T, G> {
         }
     }
 
-    // A plan that costs so much is known: a line tells of it, if it is the cheapest of which one does.
+    // Notes a plan of this cost, and prints a line if it is the cheapest so far.
     fn note_plan(&self, cost: u64) {
         self.cost.fetch_min(cost, Ordering::Relaxed);
         if cost < self.told.fetch_min(cost, Ordering::Relaxed) {
@@ -200,20 +208,20 @@ impl<'a, T: Clock + Eprint, G: Gate> Progress<'a, T, G> {
         }
     }
 
-    // So many nodes of the choice are done and open.
+    // Notes the numbers of nodes of the choice that are done and open.
     fn note_nodes(&self, done: u64, open: u64) {
         self.nodes_done.store(done, Ordering::Relaxed);
         self.nodes_open.store(open, Ordering::Relaxed);
         self.tell_when_due();
     }
 
-    // One more piece has ended in this way.
+    // Notes one more piece that ended in this way.
     fn note_piece(&self, ended: &AtomicU64) {
         ended.fetch_add(1, Ordering::Relaxed);
         self.tell_when_due();
     }
 
-    // The run has come to a stage.
+    // Notes that the run has come to a stage.
     fn comes_to(&self, stage: u64) {
         self.stage.store(stage, Ordering::Relaxed);
         self.tell(self.stage());
@@ -248,7 +256,7 @@ impl<'a, T: Clock + Eprint, G: Gate> Gate for Progress<'a, T, G> {
                 self.comes_to(SEARCH);
             }
             Event::Bound(bound) => {
-                self.bound.fetch_max(bound, Ordering::Relaxed);
+                self.bound.fetch_max(bound.hundredths, Ordering::Relaxed);
             }
             Event::Plan(cost) => self.note_plan(cost),
             Event::Cheaper(cost) => {

@@ -1,4 +1,4 @@
-//! The plan to begin with, from a file.
+//! The start plan, from a file.
 ghost use Rattle.std.specs.Option.{option_and_then, option_map};
 ghost use Rattle.std.specs.Prelude.{◌≡◌, IfErr, IfOk};
 ghost use Rattle.vrp_command.specs.Inner.Starts.{BeginsStated, GivesFilePlan, IsTooLongOrUnread, refused_for};
@@ -13,7 +13,7 @@ use vrp_model::{Instance, Plan};
 use vrp_plan_read::{Solution, SolutionError};
 use vrp_text::MAX_BYTES;
 
-/// The file of a plan to begin with.
+/// The file of a start plan.
 #[derive(Drop)]
 pub enum StartFile<S> {
     /// It can be read.
@@ -22,7 +22,7 @@ pub enum StartFile<S> {
     Unopened,
 }
 
-/// The file of a plan to begin with, by its path. What it has no clause says.
+/// The start plan's file at this path. No clause says what it contains.
 pub fn open_start<T: Files>(rt: &T, path: &str) -> StartFile<T::File> {
     match fs::open(rt, path) {
         Ok(file) => StartFile::Opened(file),
@@ -30,7 +30,7 @@ pub fn open_start<T: Files>(rt: &T, path: &str) -> StartFile<T::File> {
     }
 }
 
-/// Why there is no plan to begin with.
+/// Why there is no start plan.
 #[derive(Clone, Copy, Debug, PartialEq, Eq, Drop, thiserror::Error)]
 pub enum StartError {
     /// The file can't be opened or read.
@@ -39,15 +39,15 @@ pub enum StartError {
     /// The file has more bytes than a file may have.
     #[error("start plan: input too long")]
     TooLong,
-    /// The file is no solution, or none of a feasible plan. Never for want of memory.
+    /// The file is not a solution, or not one of a feasible plan. Never used for lack of memory.
     #[error("start plan: {0}")]
     Refused(SolutionError),
-    /// A growth was refused.
+    /// An allocation was refused.
     #[error("out of memory")]
     OutOfMemory,
 }
 
-/// The plan to begin with, if there is a file for it: the feasible one that its text gives, and what it states of it.
+/// The start plan, if there is a file for it: the feasible plan that its text gives, with its stated cost.
 pub(crate) fn start_plan<S: Read + Drop, E: Write>(
     alloc: Global,
     instance: &Instance,
@@ -75,7 +75,7 @@ pub(crate) fn plan_of(solution: Option<&Solution>) -> Option<&Plan>
     }
 }
 
-/// The cost that a solution states, if there is one and it does.
+/// The cost that a solution states, if there is a solution and it states one.
 pub(crate) fn stated_cost_of(solution: Option<&Solution>) -> Option<u64>
     ensures { result ≡ option_and_then (λ solution. solution.now.stated_cost) solution.entry }
 {
@@ -85,8 +85,7 @@ pub(crate) fn stated_cost_of(solution: Option<&Solution>) -> Option<u64>
     }
 }
 
-// The feasible plan that a file has, as CVRPLIB writes it. Where the file states another cost than its true one, that goes to
-// `errors`.
+// The feasible plan that a file gives in CVRPLIB's format. If the stated cost is wrong, a message goes to `errors`.
 fn plan_in<S: Read + Drop, E: Write>(
     alloc: Global,
     instance: &Instance,
@@ -101,7 +100,7 @@ fn plan_in<S: Read + Drop, E: Write>(
         Ok(solution) => {
             let cost = solution.plan.cost();
             if solution.states_other_cost {
-                // Nobody is told where it can't be written.
+                // If writing fails, nobody is told.
                 let _ = writeln!(
                     errors,
                     "cvrp: start plan: it states another cost than its true one, {cost}"
@@ -113,7 +112,7 @@ fn plan_in<S: Read + Drop, E: Write>(
     }
 }
 
-// Why there is no plan to begin with where a solution is refused.
+// The reason why there is no start plan, for a refused solution.
 fn refused(refusal: SolutionError) -> StartError
     ensures { result ≡ refused_for refusal }
 {

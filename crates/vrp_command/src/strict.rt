@@ -1,4 +1,4 @@
-//! Whether the file of a plan states another cost than the plan's.
+//! Whether a plan's file states a wrong cost.
 ghost use Rattle.std.specs.Prelude.{◌≡◌};
 ghost use Rattle.vrp_command.specs.Strict.{IsCostStatus};
 
@@ -8,11 +8,11 @@ use vrp_command_hints::{Quoted, stated_cost};
 use vrp_model::Instance;
 use vrp_plan_read::Solution;
 
-// The exit status where another cost is stated.
+// The exit status for a wrong stated cost.
 const OTHER_COST: u8 = 6;
 
-/// The exit status of a plan's text: 6 where it states another cost than its plan's, which `errors` is told then, 0 where it
-/// doesn't, and 4 for want of memory or where it has no feasible plan. What is told is left open.
+/// The exit status of a plan's text: 6 if its stated cost is wrong, which also goes to `errors`; 0 if it isn't; 4 for lack of
+/// memory or if the text has no feasible plan. The contract leaves the message open.
 pub(crate) fn cost_status<E: Write>(
     alloc: Global,
     instance: &Instance,

@@ -1,4 +1,4 @@
-//! What is asked of a problem.
+//! What to do with a problem.
 ghost use Rattle.std.specs.Prelude.{◌≡◌};
 ghost use Rattle.vrp_command_request.specs.Options.{IsReport};
 
@@ -6,7 +6,7 @@ use crate::form::Form;
 use crate::problem::Problem;
 use vrp_command_request::{Options, Request};
 
-/// What is asked of a problem that was read, and the form in which it is answered.
+/// What to do with a problem that was read, and the output form.
 #[derive(Clone, Copy)]
 pub(crate) struct Task<'a> {
     pub(crate) problem: &'a Problem,
@@ -15,7 +15,7 @@ pub(crate) struct Task<'a> {
 }
 
 impl<'a> Task<'a> {
-    /// A report is asked for, by these options.
+    /// The task of printing a report, with these options.
     pub(crate) fn report(problem: &'a Problem, options: Options) -> Task<'a>
         ensures problem { result.problem.now ≡ problem.entry.now }
         ensures request { IsReport options result.request }

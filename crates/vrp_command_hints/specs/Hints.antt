@@ -1,4 +1,4 @@
--- What hints say.
+-- The content of hints.
 use Rattle.std.specs.Prelude.{◌≡◌, ◌≤◌, ℕ, ℤ, Err, None, Option, Some, List, ⊤}
 use Rattle.std.specs.Option.{ForSome}
 use Rattle.vrp_command_hints.specs.declared.answer.AnswerHint.{AnswerHint}
@@ -11,11 +11,11 @@ use Rattle.vrp_model.specs.Problem.{Problem, customers}
 use Rattle.vrp_model.specs.Route.{load_of}
 use Rattle.vrp_model.specs.declared.limits.TheConstants.{MAX_NODES}
 
--- a token is a number, and not a whole one
+-- a token is a number that isn't whole
 abbrev pub IsFraction : List ℕ → Type 0
 IsFraction token = (low high : ℤ) × (number_of low high token ≡ Err NotWhole)
 
--- what a hint says of a token, of trucks and of nodes is so
+-- the statements of a hint about a token, trucks and nodes are true
 abbrev pub IsSound : FileHint → Type 0
 IsSound file.Empty = ⊤
 IsSound (file.NoNumber token) = ⊤
@@ -29,7 +29,7 @@ IsSound (file.Count section numbers nodes needed) = (1 ≤ nodes) × (nodes ≤ 
 IsSound file.NoDepot = ⊤
 IsSound (file.NodeZero key) = ⊤
 
--- so many trucks: what all customers of the problem demand, and what each truck carries
+-- the hint on too few trucks: the total demand of the problem's customers, and the capacity of each truck
 abbrev pub few_trucks : Problem → Option ℕ → Option AnswerHint
 few_trucks p None = None
 few_trucks p (Some trucks) = Some (answer.FewTrucks (load_of p (customers p)) trucks p.capacity)

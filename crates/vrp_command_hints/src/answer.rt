@@ -8,16 +8,16 @@ use std::fmt;
 use vrp_model::Instance;
 use vrp_text_lexer::{Key, MAX_BYTES, MAX_NODE, Tokens, number};
 
-/// What is known of an answer, and what to do about it. Its text is one line, without an end; which one is left open.
+/// More about an answer, and what to do about it. Its text is one line, without a line end; the contract leaves it open.
 #[derive(Clone, Copy, Debug, PartialEq, Eq)]
 pub enum AnswerHint {
-    /// There is no plan: what all customers demand, and what so many trucks carry.
+    /// There is no plan: the total demand, and the total capacity of the trucks.
     FewTrucks {
         demand: u64,
         trucks: u16,
         capacity: u64,
     },
-    /// The file lists other depots than the one that is used.
+    /// The file lists depots other than the one used.
     OtherDepots {
         used: u16,
     },
@@ -41,7 +41,7 @@ impl fmt::Display for AnswerHint {
     }
 }
 
-// What all customers demand, and what so many trucks carry. Where that is enough, customers of large demands don't fit side by side.
+// The total demand and the total capacity. If the capacity is enough, customers with large demands don't fit together.
 fn write_few_trucks<W: fmt::Write>(
     f: &mut fmt::Formatter<W>,
     demand: u64,
@@ -59,7 +59,7 @@ fn write_few_trucks<W: fmt::Write>(
     Ok(())
 }
 
-/// The hint on an instance that has no plan; none where it has as many trucks as are wanted.
+/// The hint on an instance without a plan; none if the trucks are not limited.
 pub fn no_plan_hint(instance: &Instance) -> Option<AnswerHint>
     ensures { result ≡ few_trucks instance.now instance.now.trucks }
 {
@@ -73,7 +73,7 @@ pub fn no_plan_hint(instance: &Instance) -> Option<AnswerHint>
     }
 }
 
-/// The hint on a file that lists several depots, where this one of them is used.
+/// The hint on a file that lists several depots, of which this one is used.
 pub fn depot_hint(bytes: &[u8], used: u16) -> Option<AnswerHint>
     ensures { IfSome result (λ hint. hint ≡ AnswerHint.OtherDepots used) }
 {
@@ -101,17 +101,17 @@ fn lists_other_depot(bytes: &[u8], used: u16) -> bool
     false
 }
 
-// What a line lists.
+// The depots on a line.
 enum Depots {
-    // No depot but this one, and the list goes on.
+    // Only this depot, and the list continues.
     Same,
     // Another depot.
     Other,
-    // The end of the list, and no other depot before it.
+    // The end of the list, without another depot before it.
     End,
 }
 
-// What a line lists beside this depot. Numbers below 1 are none: the list ends with -1.
+// The depots on a line, compared with this one. Numbers below 1 are not depots: the list ends with -1.
 fn depots_on(text: &[u8], used: u16) -> Depots {
     let mut tokens = Tokens::of(text);
     while let Some(token) = tokens.next() {

@@ -1,4 +1,4 @@
-//! Hints on a file that is refused.
+//! Hints on a refused file.
 ghost use Rattle.std.specs.Prelude.{None};
 
 use crate::quoted::Quoted;
@@ -6,38 +6,38 @@ use std::fmt;
 use vrp_model::{MAX_CAPACITY, MAX_NODES};
 use vrp_text_lexer::Key;
 
-/// What is known of a refused file, and what to do about it. Its text is one line, without an end; which one is left open.
+/// More about a refused file, and what to do about it. Its text is one line, without a line end; the contract leaves it open.
 #[derive(Clone, Copy, Debug, PartialEq, Eq)]
 pub enum FileHint<'a> {
     /// The file has no token.
     Empty,
-    /// A token is no number.
+    /// A token is not a number.
     NoNumber(Quoted<'a>),
     /// A token of a section is a number that isn't whole.
     NotWhole {
         token: Quoted<'a>,
         section: Key,
     },
-    /// A keyword states how many trucks there are; the number, where it may be one.
+    /// A keyword states the number of trucks; the number, if it can be one.
     Trucks {
         keyword: Quoted<'a>,
         trucks: Option<u16>,
     },
-    /// A keyword of another problem, and what it states.
+    /// A keyword of another problem, and what it is about.
     OtherProblem {
         keyword: Quoted<'a>,
         states: &'static str,
     },
-    /// A keyword is written in small letters.
+    /// A keyword is in small letters.
     SmallLetters,
-    /// A key has a value that isn't read.
+    /// A key has a value that isn't supported.
     Value {
         key: Key,
         value: Quoted<'a>,
     },
-    /// Text stands behind the keyword of a section.
+    /// Text follows the keyword of a section.
     BehindSection(Key),
-    /// A section has so many numbers, and the nodes need another number of them.
+    /// A section has this many numbers, but the nodes need another number of them.
     Count {
         section: Key,
         numbers: usize,
@@ -83,7 +83,7 @@ impl fmt::Display for FileHint<'_> {
     }
 }
 
-// What has to be whole, and how to make it so.
+// Which number must be whole, and how to make it so.
 fn write_not_whole<W: fmt::Write>(
     f: &mut fmt::Formatter<W>,
     token: Quoted<'_>,
@@ -104,7 +104,7 @@ fn write_not_whole<W: fmt::Write>(
     })
 }
 
-// By which option the number of trucks is given.
+// Which option sets the number of trucks.
 fn write_trucks<W: fmt::Write>(
     f: &mut fmt::Formatter<W>,
     keyword: Quoted<'_>,
@@ -116,7 +116,7 @@ fn write_trucks<W: fmt::Write>(
     }
 }
 
-// Which values a key may have.
+// The values that a key may have.
 fn write_value<W: fmt::Write>(
     f: &mut fmt::Formatter<W>,
     key: Key,

@@ -1,6 +1,6 @@
-//! Keywords that this program doesn't read, and what they state.
+//! Keywords that this program doesn't read, and what they are about.
 
-// The keywords that state how many trucks there are.
+// The keywords that state the number of trucks.
 const TRUCKS: [&[u8]; 7] = [
     b"VEHICLES",
     b"TRUCKS",
@@ -15,7 +15,7 @@ const TRUCKS: [&[u8]; 7] = [
 #[derive(Clone, Copy)]
 struct Other {
     keyword: &'static [u8],
-    // What it does, behind its name.
+    // The text that follows the keyword's name.
     states: &'static str,
 }
 
@@ -118,12 +118,12 @@ const OTHERS: [Other; 21] = [
     },
 ];
 
-/// Whether a keyword states how many trucks there are.
+/// Whether a keyword states the number of trucks.
 pub(crate) fn counts_trucks(keyword: &[u8]) -> bool {
     TRUCKS.contains(&keyword)
 }
 
-/// What a keyword of another problem states, behind its name.
+/// The text that follows the name of a keyword of another problem.
 pub(crate) fn other_problem(keyword: &[u8]) -> Option<&'static str> {
     for other in &OTHERS {
         if keyword == other.keyword {

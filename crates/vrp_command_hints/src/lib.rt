@@ -1,4 +1,4 @@
-//! Hints: what is known of a fault, or of an answer, beside what its line says, and what to do about it.
+//! Hints: more about a fault or an answer than its line says, and what to do about it.
 #![tactic(auto)]
 
 mod answer;

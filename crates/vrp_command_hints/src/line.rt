@@ -1,10 +1,10 @@
-//! What stands on a line of a file, and behind a keyword.
+//! The text of a line in a file, and the text behind a keyword.
 ghost use Rattle.std.specs.Prelude.{◌≤◌, length};
 ghost use Rattle.vrp_text_lexer.specs.declared.limits.TheConstants.{MAX_BYTES};
 
-use vrp_text_lexer::{Key, Keyword, Lines, Tokens};
+use vrp_text_lexer::{Key, Keyword, Lines, Tokens, keyword_len};
 
-/// The line of this number, the first of which is 1, and nothing where there is none.
+/// The line of this number, counted from 1, or nothing if there is none.
 pub(crate) fn line_on(bytes: &[u8], number: u32) -> &[u8] {
     let mut lines = bytes.split(|byte| *byte == b'\n');
     for _ in 1..number {
@@ -19,11 +19,11 @@ pub(crate) struct Stated<'a> {
     /// The keyword as the line writes it.
     pub(crate) name: &'a [u8],
     pub(crate) keyword: Option<Keyword>,
-    /// The first token behind it and its colon, and nothing where there is none.
+    /// The first token behind it and its colon, or nothing if there is none.
     pub(crate) value: &'a [u8],
 }
 
-/// What the line of this number states, if it begins with a keyword.
+/// The statement of the line of this number, if it begins with a keyword.
 pub(crate) fn stated_on<'a>(bytes: &'a [u8], number: u32) -> Option<Stated<'a>>
     requires { length bytes.now ≤ MAX_BYTES }
 {
@@ -40,7 +40,7 @@ pub(crate) fn stated_on<'a>(bytes: &'a [u8], number: u32) -> Option<Stated<'a>>
     None
 }
 
-// The first token, and nothing where there is none.
+// The first token, or nothing if there is none.
 fn first_token(text: &[u8]) -> &[u8] {
     Tokens::of(text).next().unwrap_or(&[])
 }
@@ -50,17 +50,7 @@ fn leading_keyword(token: &[u8]) -> &[u8] {
     &token[..keyword_len(token)]
 }
 
-// How many letters, digits and underscores stand at the front.
-fn keyword_len(token: &[u8]) -> usize
-    ensures { result ≤ length token.now }
-{
-    token
-        .iter()
-        .take_while(|byte| byte.is_ascii_alphanumeric() || **byte == b'_')
-        .count()
-}
-
-/// What a file states behind a key, if it has it.
+/// The value behind a key, if the file has the key.
 pub(crate) fn value_of(bytes: &[u8], key: Key) -> Option<&[u8]>
     requires { length bytes.now ≤ MAX_BYTES }
 {
@@ -73,7 +63,7 @@ pub(crate) fn value_of(bytes: &[u8], key: Key) -> Option<&[u8]>
     None
 }
 
-/// The key whose section has the line of this number.
+/// The key of the section that has the line of this number.
 pub(crate) fn section_of(bytes: &[u8], number: u32) -> Option<Key>
     requires { length bytes.now ≤ MAX_BYTES }
 {
@@ -91,7 +81,7 @@ pub(crate) fn section_of(bytes: &[u8], number: u32) -> Option<Key>
     key
 }
 
-/// The lines of the first section with this key, if the file has one: those that are left begin with its data.
+/// The lines of the first section with this key, if the file has one, from its data on.
 pub(crate) fn lines_in<'a>(bytes: &'a [u8], key: Key) -> Option<Lines<'a>>
     requires { length bytes.now ≤ MAX_BYTES }
 {
@@ -104,7 +94,7 @@ pub(crate) fn lines_in<'a>(bytes: &'a [u8], key: Key) -> Option<Lines<'a>>
     None
 }
 
-/// How many tokens the section with this key has.
+/// The number of tokens of the section with this key.
 pub(crate) fn tokens_in(bytes: &[u8], key: Key) -> usize
     requires { length bytes.now ≤ MAX_BYTES }
 {
@@ -118,7 +108,7 @@ pub(crate) fn tokens_in(bytes: &[u8], key: Key) -> usize
     count
 }
 
-// How many tokens a line has.
+// The number of tokens of a line.
 fn tokens_on(text: &[u8]) -> usize {
     let mut count = 0usize;
     let mut tokens = Tokens::of(text);

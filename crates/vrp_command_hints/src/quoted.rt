@@ -1,17 +1,17 @@
-//! What stands in a file, as a hint prints it.
+//! Text of a file, made safe to print in a hint.
 ghost use Rattle.std.specs.Prelude.{None};
 
 use std::fmt;
 
-// So many bytes of it are printed at most.
+// The greatest number of bytes printed.
 const MAX_PRINTED: usize = 40;
 
-/// A token of a file. Its text has no byte that a terminal might take for more than a letter, and it is short.
+/// A token of a file. Its printed text is short, and has no byte that a terminal might interpret.
 #[derive(Clone, Copy, Debug, PartialEq, Eq)]
 pub struct Quoted<'a>(pub &'a [u8]);
 
 impl fmt::Display for Quoted<'_> {
-    // What is printed no clause says.
+    // No clause covers the text.
     ghost output = { λ _. None };
 
     fn fmt<W: fmt::Write>(&self, f: &mut fmt::Formatter<W>) -> fmt::Result {

@@ -1,4 +1,4 @@
-//! Finds the hint on a file that is refused.
+//! Finds the hint on a refused file.
 ghost use Rattle.std.specs.Prelude.{◌≡◌, ◌≤◌, ℤ, Err, IfSome, length};
 ghost use Rattle.vrp_command_hints.specs.Hints.{IsSound};
 ghost use Rattle.vrp_text_lexer.specs.Numeral.{number_of};
@@ -14,7 +14,7 @@ use vrp_text_lexer::{
     FileLineFault, Key, Keyword, MAX_BYTES, Tokens, WeightFormat, dimension, number, weight_format,
 };
 
-/// The hint on a file that is refused for this, if there is one. Which one it is, is left open.
+/// The hint on a file with this refusal, if there is one. The contract leaves open which one it is.
 pub fn file_hint<'a>(bytes: &'a [u8], refusal: &TextError) -> Option<FileHint<'a>>
     ensures { IfSome result IsSound }
 {
@@ -61,7 +61,7 @@ fn unknown_keyword<'a>(bytes: &'a [u8], line: u32) -> Option<FileHint<'a>>
     None
 }
 
-// The hint on a keyword or a value that is left out here, or on a value that a key can't have.
+// The hint on a keyword or value that is not supported, or on a value that a key can't have.
 fn other_value<'a>(bytes: &'a [u8], line: u32) -> Option<FileHint<'a>>
     requires { length bytes.now ≤ MAX_BYTES }
     ensures { IfSome result IsSound }
@@ -81,7 +81,7 @@ fn other_value<'a>(bytes: &'a [u8], line: u32) -> Option<FileHint<'a>>
     }
 }
 
-// The hint on a line with a token that is no number.
+// The hint on a line with a token that is not a number.
 fn no_number<'a>(bytes: &'a [u8], line: u32) -> Option<FileHint<'a>>
     ensures { IfSome result IsSound }
 {
@@ -101,7 +101,7 @@ fn not_whole<'a>(bytes: &'a [u8], line: u32) -> Option<FileHint<'a>>
     })
 }
 
-// The first token of a line that has this fault, whatever the range of its number is.
+// The first token of a line with this fault, for any range of its number.
 fn faulty_token(text: &[u8], fault: FileLineFault) -> Option<&[u8]>
     ensures { IfSome result (λ token. (low high : ℤ) × (number_of low high token.now ≡ Err fault)) }
 {
@@ -114,7 +114,7 @@ fn faulty_token(text: &[u8], fault: FileLineFault) -> Option<&[u8]>
     None
 }
 
-// The hint on a section that has another number of numbers than it needs.
+// The hint on a section with too many or too few numbers.
 fn wrong_count<'a>(bytes: &'a [u8], section: Key) -> Option<FileHint<'a>>
     requires { length bytes.now ≤ MAX_BYTES }
     ensures { IfSome result IsSound }
@@ -134,7 +134,7 @@ fn wrong_count<'a>(bytes: &'a [u8], section: Key) -> Option<FileHint<'a>>
     })
 }
 
-// How many weights a matrix of so many nodes needs, in the file's format.
+// The number of weights that a matrix of this many nodes needs, in the file's format.
 fn weights_needed(bytes: &[u8], nodes: u16) -> Option<usize>
     requires { length bytes.now ≤ MAX_BYTES }
 {

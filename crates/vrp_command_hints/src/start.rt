@@ -1,16 +1,16 @@
-//! Hints on a plan to begin with.
+//! Hints on a start plan.
 ghost use Rattle.std.specs.Prelude.{None};
 
 use crate::line::value_of;
 use std::fmt;
 use vrp_text_lexer::{Key, MAX_BYTES, MAX_NODE, Tokens, dimension, number};
 
-/// What is known of a plan that is refused, and what to do about it. Its text is one line, without an end; which one is left open.
+/// More about a refused plan, and what to do about it. Its text is one line, without a line end; the contract leaves it open.
 #[derive(Clone, Copy, Debug, PartialEq, Eq)]
 pub enum StartHint {
     /// The plan is a report.
     Report,
-    /// A customer has the number that only a node can have.
+    /// A customer has a number that only a node can have.
     NodeNumbers { customers: u16 },
 }
 
@@ -30,7 +30,8 @@ impl fmt::Display for StartHint {
     }
 }
 
-/// The hint on the text of a plan that is refused, of the problem that a file means, if there is one. Which one it is, is left open.
+/// The hint on the text of a refused plan, for the problem of a file, if there is one. The contract leaves open which one it
+/// is.
 pub fn start_hint(file: &[u8], text: &[u8]) -> Option<StartHint> {
     if has_verdict(text) {
         return Some(StartHint::Report);
@@ -58,7 +59,7 @@ fn has_stop(text: &[u8], stop: u16) -> bool {
     false
 }
 
-// Whether a line is one of a route.
+// Whether a line is that of a route.
 fn is_route(line: &[u8]) -> bool {
     let word = Tokens::of(line).next().unwrap_or(&[]);
     word.eq_ignore_ascii_case(b"route".as_slice())
@@ -75,7 +76,7 @@ fn has_number(line: &[u8], wanted: u16) -> bool {
     false
 }
 
-// Whether a line is a report's verdict.
+// Whether a line has a report's verdict.
 fn has_verdict(text: &[u8]) -> bool {
     text.split(|byte| *byte == b'\n').any(|line| {
         matches!(
@@ -85,7 +86,7 @@ fn has_verdict(text: &[u8]) -> bool {
     })
 }
 
-/// What a plan's text states as its cost, if it states one.
+/// The cost that a plan's text states, if it states one.
 pub fn stated_cost(text: &[u8]) -> Option<&[u8]> {
     for line in text.split(|byte| *byte == b'\n') {
         let mut tokens = Tokens::of(line);

@@ -1,4 +1,4 @@
--- How a run is asked for where nothing is said, and what may be asked for.
+-- The default options of a run, and their ranges.
 use Rattle.std.specs.Prelude.{◌≡◌, ◌≢◌, ◌≤◌, None, false}
 use Rattle.std.specs.Option.{ForSome}
 use Rattle.vrp_model.specs.declared.limits.TheConstants.{MAX_NODES}
@@ -13,11 +13,11 @@ use Rattle.vrp_command_request.specs.declared.options.TheConstants.{MAX_BUDGET}
 abbrev pub IsDefault : Options → Type 0
 IsDefault options = options ≡ record { workers = 1; pieces = 64; budget = 10000000; depot = None; trucks = None }
 
--- a report is asked for, by these options, and nothing else
+-- a report with these options is requested, and nothing else
 abbrev pub IsReport : Options → Request → Type 0
 IsReport options request = request ≡ record { options = options; states_budget = false; seconds = None; progress = false; start = None; check = false; strict = false; explain = false; format = format.Report }
 
--- what may be asked for
+-- all options are in their ranges
 pub record AreInRange (options : Options) : Type 0 where
   pub some_worker : 1 ≤ options.workers
   pub few_workers : options.workers ≤ MAX_WORKERS
@@ -28,14 +28,14 @@ pub record AreInRange (options : Options) : Type 0 where
   pub some_truck : ForSome options.trucks (λ trucks. 1 ≤ trucks)
   pub few_trucks : ForSome options.trucks (λ trucks. trucks ≤ MAX_NODES)
 
--- the chosen depot, if there is one, is from the first node on
+-- the chosen depot, if there is one, is at least 1
 abbrev pub HasDepotFromOne : Options → Type 0
 HasDepotFromOne options = ForSome options.depot (λ node. 1 ≤ node)
 
--- and no higher than the last that a file may have
+-- the chosen depot, if there is one, is at most the greatest node of a file
 abbrev pub HasDepotWithin : Options → Type 0
 HasDepotWithin options = ForSome options.depot (λ node. node ≤ MAX_NODES)
 
--- another form than the report
+-- a form other than the report
 abbrev pub IsOtherFormat : Format → Type 0
 IsOtherFormat asked = asked ≢ format.Report

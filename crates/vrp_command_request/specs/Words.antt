@@ -1,4 +1,4 @@
--- The words of a command line, and the exit status of those that ask for no run.
+-- The words of a command line, and the exit status of those that request no run.
 use Rattle.std.specs.Borrow.{Bor}
 use Rattle.std.specs.Io.{StartsWith}
 use Rattle.std.specs.List.{HoldsAt}
@@ -10,7 +10,7 @@ use Rattle.vrp_command_request.specs.declared.words.LineFault.TheVariants as lin
 abbrev pub HasWord : List (Bor (List ℕ)) → List ℕ → Type 0
 HasWord words word = (k : ℕ) × (k < length words) × HoldsAt (λ given. given.now ≡ word) words k
 
--- one of the words begins like this
+-- one of the words begins with this
 abbrev pub HasWordFrom : List (Bor (List ℕ)) → List ℕ → Type 0
 HasWordFrom words start = (k : ℕ) × (k < length words) × HoldsAt (λ given. StartsWith given.now start) words k
 

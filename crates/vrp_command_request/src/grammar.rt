@@ -1,4 +1,4 @@
-//! The command line's options, their ranges and their help, as `clap` is told them.
+//! The command line's options, their ranges and their help, for `clap`.
 use crate::options::{MAX_BUDGET, MAX_SECONDS};
 use clap::{Arg, ArgAction, Command, Error, value_parser};
 use std::alloc::{AllocError, Global};
@@ -55,7 +55,7 @@ const FORMATS: [&str; 4] = ["report", "sol", "json", "svg"];
 const VERDICTS_AND_STATUSES: &str =
     "The last line of the report is the verdict:\n  Proven  no plan costs less than the printed one\n  Open L  a piece was left open: no plan costs less than L, but one may\n          cost less than the printed one\n  NoPlan  so few trucks can't serve all customers\n  Lawful  with --check: the plan is lawful, and a cheaper one may exist\n\nExit statuses:\n  0  Proven, NoPlan, Lawful, or this help\n  1  Open\n  2  the command line is refused\n  3  the file is refused, or the plan of --start\n  4  no memory\n  5  a read or a write failed\n  6  with --strict: another cost is stated than that of the plan\n\nWith --explain standard error says more of a refusal, and what to do.\n\nHow long a run takes: it looks for a plan to begin with and for prices, lists\nthe routes that may stand in a best plan and chooses among them; where that\ngives no proof it cuts the search into pieces and looks at no more than\n--budget partial plans in each. Without --workers one thread does all of it. A\nlarger budget lets each of these steps do more; one below 1000 leaves out all\nbut the pieces, and proves some 15 customers. With --seconds the run ends in\ntime, whatever the file's size: its steps share the time, and what is left goes\ninto better plans.\n\nWhat can't be solved: other types of problem (time windows, pickups, fleets of\ndifferent trucks), distances with decimals, and more than 1200 nodes.\n\nExample, with four threads, for ten minutes at most:\n  cvrp --workers 4 --seconds 600 < examples/E-n51-k5.vrp";
 
-/// The command line of the program.
+/// The program's command line.
 pub(crate) fn grammar<'a>(alloc: Global) -> Result<Command<'a>, Error> {
     let command = with_effort(described(alloc), alloc)?;
     let command = with_time(command, alloc)?;
@@ -64,7 +64,7 @@ pub(crate) fn grammar<'a>(alloc: Global) -> Result<Command<'a>, Error> {
     Ok(with_telling(command, alloc)?)
 }
 
-// What the command line says of itself, with no option yet.
+// The command line's description, without options.
 fn described<'a>(alloc: Global) -> Command<'a> {
     Command::new(alloc, "cvrp")
         .version(VERSION)
@@ -75,7 +75,7 @@ fn described<'a>(alloc: Global) -> Command<'a> {
         .no_binary_name(true)
 }
 
-// With the options that say how much is searched, and by how many.
+// Adds the options for how much is searched, and by how many workers.
 fn with_effort<'a>(command: Command<'a>, alloc: Global) -> Result<Command<'a>, AllocError> {
     command
         .arg(workers(alloc)?)?
@@ -83,17 +83,17 @@ fn with_effort<'a>(command: Command<'a>, alloc: Global) -> Result<Command<'a>, A
         .arg(budget(alloc))
 }
 
-// With those that look at the clock.
+// Adds the options about the clock.
 fn with_time<'a>(command: Command<'a>, alloc: Global) -> Result<Command<'a>, AllocError> {
     command.arg(seconds(alloc)?)?.arg(progress(alloc))
 }
 
-// With those that say what problem the file means.
+// Adds the options that change the problem of the file.
 fn with_problem<'a>(command: Command<'a>, alloc: Global) -> Result<Command<'a>, AllocError> {
     command.arg(depot(alloc))?.arg(trucks(alloc)?)
 }
 
-// With those that say which plan to begin with.
+// Adds the options about the start plan.
 fn with_plan<'a>(command: Command<'a>, alloc: Global) -> Result<Command<'a>, AllocError> {
     command
         .arg(start(alloc))?
@@ -101,7 +101,7 @@ fn with_plan<'a>(command: Command<'a>, alloc: Global) -> Result<Command<'a>, All
         .arg(strict(alloc)?)
 }
 
-// With those that say what is told, and how.
+// Adds the options about the output.
 fn with_telling<'a>(command: Command<'a>, alloc: Global) -> Result<Command<'a>, AllocError> {
     command.arg(format(alloc))?.arg(explain(alloc))
 }
@@ -165,7 +165,7 @@ fn start<'a>(alloc: Global) -> Arg<'a> {
         .help(START)
 }
 
-// To check a plan there must be one.
+// Checking a plan requires a plan.
 fn check<'a>(alloc: Global) -> Result<Arg<'a>, AllocError> {
     Arg::new(alloc, "check")
         .long("check")
@@ -174,7 +174,7 @@ fn check<'a>(alloc: Global) -> Result<Arg<'a>, AllocError> {
         .requires_arg("start")
 }
 
-// What is stated is told of a plan that is checked.
+// The stated cost is compared only for a checked plan.
 fn strict<'a>(alloc: Global) -> Result<Arg<'a>, AllocError> {
     Arg::new(alloc, "strict")
         .long("strict")
@@ -199,7 +199,7 @@ fn format<'a>(alloc: Global) -> Arg<'a> {
         .hide_possible_values(true)
 }
 
-// An option whose value is a number of nodes, or one of them.
+// An option whose value is a node, or a number of at most that many.
 fn node<'a>(alloc: Global, name: &'a str) -> Arg<'a> {
     Arg::new(alloc, name)
         .long(name)

@@ -1,4 +1,4 @@
-//! Hints on the words of a command line that is refused.
+//! Hints on a refused command line.
 ghost use Rattle.std.specs.Prelude.{None};
 
 use crate::options::{MAX_BUDGET, MAX_SECONDS};
@@ -7,24 +7,24 @@ use vrp_model::MAX_NODES;
 use vrp_pool::MAX_WORKERS;
 use vrp_search_tree::MAX_PIECES;
 
-/// What is known of words that are refused, and what to do about it. Its text is one line, without an end; which one is left open.
+/// More about refused words, and what to do about it. Its text is one line, without a line end; the contract leaves it open.
 #[derive(Clone, Copy, Debug, PartialEq, Eq)]
 pub enum WordHint<'a> {
-    /// An option has no value that it takes.
+    /// An option has a value that it doesn't accept.
     Value {
         option: &'a str,
         takes: Takes,
     },
-    /// A word is no option.
+    /// A word is not an option.
     NoOption(&'a str),
-    /// An option isn't there, and another one has its meaning.
+    /// An option doesn't exist, and another one has its meaning.
     Meant {
         option: &'a str,
         meant: &'static str,
     },
 }
 
-/// What an option takes.
+/// The values that an option accepts.
 #[derive(Clone, Copy, Debug, PartialEq, Eq)]
 pub enum Takes {
     Nothing,
@@ -37,7 +37,7 @@ pub enum Takes {
 }
 
 impl fmt::Display for WordHint<'_> {
-    // What is printed no clause says.
+    // No clause covers the text.
     ghost output = { λ _. None };
 
     fn fmt<W: fmt::Write>(&self, f: &mut fmt::Formatter<W>) -> fmt::Result {
@@ -65,7 +65,7 @@ impl fmt::Display for Takes {
     }
 }
 
-/// The hint on words that are refused, if there is one: on the first word for which there is one. Which it is, is left open.
+/// The hint on refused words, if there is one: on the first word that has a hint. The contract leaves open which one it is.
 pub fn word_hint<'a>(words: &'a [&'a str]) -> Option<WordHint<'a>> {
     let mut words = words.iter();
     while let Some(word) = words.next() {
@@ -91,7 +91,7 @@ pub fn word_hint<'a>(words: &'a [&'a str]) -> Option<WordHint<'a>> {
     None
 }
 
-// The name of an option, and the value that stands behind it in the same word.
+// The name of an option, and the value behind it in the same word.
 fn parted(option: &str) -> (&str, Option<&str>) {
     match option.split_once('=') {
         Some((name, value)) => (name, Some(value)),
@@ -99,7 +99,7 @@ fn parted(option: &str) -> (&str, Option<&str>) {
     }
 }
 
-// The hint on a word that is no option.
+// The hint on a word that is not an option.
 fn no_option(word: &str) -> Option<WordHint<'_>> {
     if word.starts_with('-') {
         None
@@ -108,7 +108,7 @@ fn no_option(word: &str) -> Option<WordHint<'_>> {
     }
 }
 
-// What an option of this name takes, if there is one.
+// The values that an option of this name accepts, if there is such an option.
 fn taken_by(name: &str) -> Option<Takes> {
     match name {
         "workers" | "threads" => Some(Takes::Number(u64::from(MAX_WORKERS))),
@@ -123,7 +123,7 @@ fn taken_by(name: &str) -> Option<Takes> {
     }
 }
 
-// Whether an option takes this value, or none.
+// Whether an option accepts this value, or no value.
 fn fits(takes: Takes, value: Option<&str>) -> bool {
     match (takes, value) {
         (Takes::Nothing, value) => value.is_none(),
@@ -137,7 +137,7 @@ fn fits(takes: Takes, value: Option<&str>) -> bool {
     }
 }
 
-// The hint on an option that isn't there, where another one has its meaning.
+// The hint on an option that doesn't exist, if another one has its meaning.
 fn meant(name: &str) -> Option<WordHint<'_>> {
     let meant = match name {
         "thread" | "jobs" | "cores" | "cpus" => "--workers",

@@ -1,4 +1,4 @@
-//! How a run is asked for: its options, and the words of a command line that give them.
+//! The options of a run, and the command line that states them.
 #![tactic(auto)]
 
 mod grammar;

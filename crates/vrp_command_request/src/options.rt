@@ -1,32 +1,31 @@
-//! How a run is asked for.
+//! The options of a run.
 ghost use Rattle.vrp_command_request.specs.Options.{IsDefault, IsReport};
 
-/// The most partial plans that may be looked at in each part.
+/// The greatest budget of partial plans for each part.
 pub const MAX_BUDGET: u64 = 1_000_000_000_000;
 
-/// The most seconds that a run may be limited to.
+/// The greatest limit of seconds.
 pub const MAX_SECONDS: u32 = 1_000_000;
 
-/// How a run is asked for.
+/// The options of a run.
 #[derive(Clone, Copy, Debug, PartialEq, Eq)]
 pub struct Options {
-    /// Threads, from 1 to `vrp_pool::MAX_WORKERS`.
+    /// The number of threads, from 1 to `vrp_pool::MAX_WORKERS`.
     pub workers: u32,
-    /// Parts into which the search is to be cut, from 1 to `MAX_PIECES`.
+    /// The least number of parts into which the search is cut, from 1 to `MAX_PIECES`.
     pub pieces: u32,
-    /// Partial plans that may be looked at in each part, from 1 to `MAX_BUDGET`.
+    /// The budget of partial plans for each part, from 1 to `MAX_BUDGET`.
     pub budget: u64,
-    /// The node that is the depot, or else the first that the file lists.
+    /// The depot's node; if `None`, the first that the file lists.
     pub depot: Option<u16>,
-    /// Trucks, from 1 to `MAX_NODES`, or else as many as are wanted.
+    /// The number of trucks, from 1 to `MAX_NODES`; if `None`, there is no limit.
     pub trucks: Option<u16>,
 }
 
 impl Default for Options {
     ghost is_default = { IsDefault };
 
-    /// One worker, 64 pieces, 10,000,000 partial plans a piece, the first listed depot, and as many trucks as are
-    /// wanted.
+    /// One worker, 64 pieces, 10,000,000 partial plans a piece, the first listed depot, and no limit on trucks.
     fn default() -> Options {
         Options {
             workers: 1,
@@ -38,12 +37,12 @@ impl Default for Options {
     }
 }
 
-/// In which form the plan is printed.
+/// The output form of the plan.
 #[derive(Clone, Copy, Debug, PartialEq, Eq)]
 pub enum Format {
     /// As the report.
     Report,
-    /// As a solution of CVRPLIB.
+    /// As a solution in CVRPLIB's format.
     Solution,
     /// As JSON.
     Json,
@@ -51,31 +50,31 @@ pub enum Format {
     Picture,
 }
 
-/// What the words of a command line ask for.
+/// The request of a command line.
 #[derive(Clone, Copy, Debug, PartialEq, Eq)]
 pub struct Request<'a> {
-    /// How the run is asked for.
+    /// The options of the run.
     pub options: Options,
     /// Whether the budget is given, and not left to the program.
     pub states_budget: bool,
-    /// After how many seconds the search ends, from 1 to `MAX_SECONDS`, or else no limit.
+    /// The limit of seconds for the search, from 1 to `MAX_SECONDS`, if there is one.
     pub seconds: Option<u32>,
-    /// Whether standard error is told how the run goes.
+    /// Whether progress is reported on standard error.
     pub progress: bool,
-    /// The file of a plan to begin with, if there is one.
+    /// The file of a start plan, if there is one.
     pub start: Option<&'a str>,
     /// Whether that plan is only to be checked.
     pub check: bool,
-    /// Whether the exit status is to tell that its file states another cost than the plan's.
+    /// Whether a wrong stated cost changes the exit status.
     pub strict: bool,
-    /// Whether standard error is told hints.
+    /// Whether hints are written on standard error.
     pub explain: bool,
-    /// In which form the plan is printed.
+    /// The output form of the plan.
     pub format: Format,
 }
 
 impl Request<'_> {
-    /// A report, by these options; nothing else is asked for.
+    /// The request for a report with these options, and nothing else.
     pub fn report(options: Options) -> Request<'static>
         ensures { IsReport options result }
     {

@@ -1,4 +1,4 @@
-//! Reads the words of a command line: how a run is asked for.
+//! Reads the words of a command line: the request for a run.
 ghost use Rattle.std.specs.Prelude.{◌≡◌, ◌≢◌, ◌≤◌, IfOk, IsTrue, codes};
 ghost use Rattle.std.specs.Io.{StartsWith};
 ghost use Rattle.std.specs.Option.{ForSome};
@@ -18,18 +18,18 @@ use vrp_model::MAX_NODES;
 use vrp_pool::MAX_WORKERS;
 use vrp_search_tree::MAX_PIECES;
 
-// The text where a word is not UTF-8.
+// The message for a word that is not UTF-8.
 const NOT_TEXT: &str =
     "error: a word on the command line is no text (not UTF-8)\n\nFor more information, try '--help'.\n";
 
 /// Why the words of a command line give no options. The texts end with a line feed.
 #[derive(Debug, Drop)]
 pub enum LineFault {
-    /// The words are refused, and this says why. It goes to standard error.
+    /// The words are refused, with this message for standard error.
     Refused(String),
-    /// The words ask for the help or the version, which is this. It goes to standard output.
+    /// The words request the help or the version, with this text for standard output.
     Help(String),
-    /// A growth was refused.
+    /// An allocation was refused.
     OutOfMemory,
 }
 
@@ -39,8 +39,8 @@ impl From<AllocError> for LineFault {
     }
 }
 
-/// Reads the words behind the program's name. An option that they leave out has its default, and with a limit of seconds the default
-/// of the budget is the largest. Which words give which options, and which are refused, no clause says.
+/// Reads the words behind the program's name. Omitted options have their defaults; with a limit of seconds, the default
+/// budget is the largest. No clause says which words give which options, or which are refused.
 pub fn parse_request<'a>(alloc: Global, words: &'a [&'a str]) -> Result<Request<'a>, LineFault>
     ensures in_range { IfOk result (λ request. AreInRange request.options) }
     ensures some_depot { IfOk result (λ request. HasDepotFromOne request.options) }
@@ -57,7 +57,7 @@ pub fn parse_request<'a>(alloc: Global, words: &'a [&'a str]) -> Result<Request<
     }
 }
 
-/// The same, of the options of a run alone.
+/// Reads the words behind the program's name, and answers only the options of a run.
 pub fn parse_words(alloc: Global, words: &[&str]) -> Result<Options, LineFault>
     ensures in_range { IfOk result AreInRange }
     ensures some_depot { IfOk result HasDepotFromOne }
@@ -66,8 +66,8 @@ pub fn parse_words(alloc: Global, words: &[&str]) -> Result<Options, LineFault>
     Ok(parse_request(alloc, words)?.options)
 }
 
-/// The fault of a command line whose words can't be had: for want of memory, or since one of them is not UTF-8 and so no text to be
-/// read.
+/// The fault of a command line whose words can't be had: for lack of memory, or because one of them is not UTF-8 and so not
+/// text.
 pub fn words_fault(alloc: Global, error: &io::Error) -> LineFault
     ensures { line_code result ≢ 0 }
 {
@@ -87,7 +87,7 @@ fn not_text(alloc: Global) -> LineFault
     }
 }
 
-/// The exit status of a program whose words give no options: 0 for the help, 2 where they are refused, 4 for want of memory.
+/// The exit status of a program whose words give no options: 0 for the help, 2 for a refusal, 4 for lack of memory.
 pub fn line_status(fault: &LineFault) -> u8
     ensures { result ≡ line_code fault.now }
 {
@@ -98,7 +98,7 @@ pub fn line_status(fault: &LineFault) -> u8
     }
 }
 
-// The options, as `clap` reads the words.
+// The request, from the words as `clap` reads them.
 fn asked_for<'a>(alloc: Global, words: &'a [&'a str]) -> Result<Request<'a>, Error>
     ensures in_range { IfOk result (λ request. AreInRange request.options) }
     ensures some_depot { IfOk result (λ request. HasDepotFromOne request.options) }
@@ -127,7 +127,7 @@ fn has_word(words: &[&str], word: &str) -> bool
     words.contains(&word)
 }
 
-// Whether one of the words begins like this.
+// Whether one of the words begins with this.
 fn has_word_from(words: &[&str], start: &str) -> bool
     ensures { IsTrue result → HasWordFrom words.now start.now }
 {
@@ -139,14 +139,14 @@ fn has_word_from(words: &[&str], start: &str) -> bool
     false
 }
 
-// Whether a word begins like this. (Of std's `starts_with` no clause says so plainly.)
+// Whether a word begins with this. (No clause of std's `starts_with` says so directly.)
 fn begins_with(word: &[u8], start: &[u8]) -> bool
     ensures { IsTrue result → StartsWith word.now start.now }
 {
     start.len() <= word.len() && &word[..start.len()] == start
 }
 
-// The form that the words name, and else the report.
+// The form that the words name; otherwise the report.
 fn format_of(matches: &ArgMatches<'_>, words: &[&str]) -> Format
     ensures { IsOtherFormat result → HasWordFrom words.now (codes "--format") }
 {
@@ -161,7 +161,7 @@ fn format_of(matches: &ArgMatches<'_>, words: &[&str]) -> Format
     }
 }
 
-/// The fault of words that `clap` doesn't take: its help and version, or its text of what is wrong. Which of these no clause says.
+/// The fault of words that `clap` refuses: its help or version, or its error message. No clause says which of these.
 pub fn argument_fault(alloc: Global, error: &Error) -> LineFault
     ensures { kind_of error.now ≡ ErrorKind.OutOfMemory → result ≡ LineFault.OutOfMemory }
 {
@@ -175,7 +175,7 @@ pub fn argument_fault(alloc: Global, error: &Error) -> LineFault
     }
 }
 
-// What is asked for only where its word stands there.
+// Options that take effect only if their word is present.
 #[derive(Clone, Copy)]
 struct Flags {
     check: bool,
@@ -184,7 +184,7 @@ struct Flags {
     states_budget: bool,
 }
 
-// The values that stand in the words, and else the defaults.
+// The values in the words, or the defaults.
 fn chosen<'a>(matches: &ArgMatches<'a>, flags: Flags, format: Format) -> Request<'a>
     ensures check { result.check ≡ flags.check }
     ensures strict { result.strict ≡ flags.strict }
@@ -222,7 +222,7 @@ fn chosen<'a>(matches: &ArgMatches<'a>, flags: Flags, format: Format) -> Request
     }
 }
 
-// The number behind an option, and else the default. `clap` lets through only numbers of the range.
+// The number behind an option, or the default. `clap` accepts only numbers in the range.
 fn number(matches: &ArgMatches<'_>, name: &str, most: u32, default: u32) -> u32
     requires some { 1 ≤ default }
     requires few { default ≤ most }
@@ -235,7 +235,7 @@ fn number(matches: &ArgMatches<'_>, name: &str, most: u32, default: u32) -> u32
     }
 }
 
-// The same of the budget.
+// The budget, or the default.
 fn budget(matches: &ArgMatches<'_>, default: u64) -> u64
     requires some { 1 ≤ default }
     requires few { default ≤ MAX_BUDGET }
@@ -248,7 +248,7 @@ fn budget(matches: &ArgMatches<'_>, default: u64) -> u64
     }
 }
 
-// The same of the seconds, which have no default.
+// The limit of seconds, which has no default.
 fn seconds(matches: &ArgMatches<'_>) -> Option<u32>
     ensures some { ForSome result (λ seconds. 1 ≤ seconds) }
     ensures few { ForSome result (λ seconds. seconds ≤ MAX_SECONDS) }
@@ -259,7 +259,7 @@ fn seconds(matches: &ArgMatches<'_>) -> Option<u32>
     }
 }
 
-// The same of a node or a number of trucks, which have no default.
+// A node or a number of trucks, which have no default.
 fn node(matches: &ArgMatches<'_>, name: &str) -> Option<u16>
     ensures some { ForSome result (λ node. 1 ≤ node) }
     ensures few { ForSome result (λ node. node ≤ MAX_NODES) }

@@ -24,7 +24,7 @@ exit_code (Err fault.OutOfMemory) = 4
 exit_code (Err fault.Read) = 5
 exit_code (Err fault.Write) = 5
 
--- the fault of a file that is refused for this
+-- the fault of a file with this refusal
 abbrev pub refusal_fault : TextError → RunError
 refusal_fault text.OutOfMemory = fault.OutOfMemory
 refusal_fault (text.DataOutside line) = fault.Text (text.DataOutside line)

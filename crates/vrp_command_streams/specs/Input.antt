@@ -1,16 +1,16 @@
--- Which bytes of a reader are read.
+-- The bytes of a reader that are read.
 use Rattle.std.specs.Prelude.{ℕ, ◌+◌, ◌≤◌, ◌<◌, Option, List, length}
 use Rattle.std.specs.Io.KnownBytes.{Consumes, IsAtEnd}
 use Rattle.vrp_text_lexer.specs.declared.limits.TheConstants.{MAX_BYTES}
 
--- All bytes that a reader has left, or one more than a file may have where it has more. Old and new are what is known of the
--- bytes that it has left before and after.
+-- All bytes that a reader has left, or, if it has more than a file may have, one byte more than that. Old and new are the
+-- known bytes that it has left before and after.
 pub record IsInput (old new : Option (List ℕ)) (bytes : List ℕ) : Type 0 where
   pub taken : Consumes old new bytes
   pub bounded : length bytes ≤ MAX_BYTES + 1
   pub whole : length bytes < MAX_BYTES + 1 → IsAtEnd new
 
--- Some of the bytes that a reader has left, and no more than this many.
+-- At most this many of the bytes that a reader has left.
 pub record TakesAtMost (most : ℕ) (old new : Option (List ℕ)) : Type 0 where
   pub bytes : List ℕ
   pub taken : Consumes old new bytes

@@ -1,4 +1,4 @@
--- By which numbers the places of a plan are told.
+-- The numbers by which the places of a plan are printed.
 use Rattle.std.specs.Prelude.{ℕ, ◌<◌, All, List, ⊤}
 use Rattle.vrp_model.specs.Problem.{node_of, place_count}
 use Rattle.vrp_command_streams.specs.declared.report.Numbering.{Numbering}
@@ -9,11 +9,11 @@ abbrev pub number_in : Numbering → ℕ → ℕ
 number_in (Nodes instance) place = node_of instance.now place
 number_in Places place = place
 
--- it has one
+-- the place has a number
 abbrev pub HasNumber : Numbering → ℕ → Type 0
 HasNumber (Nodes instance) place = place < place_count instance.now
 HasNumber Places place = ⊤
 
--- and so have the stops of all these routes
+-- the stops of all these routes have numbers
 abbrev pub HaveNumbers : Numbering → List (List ℕ) → Type 0
 HaveNumbers numbering routes = All (λ route. All (HasNumber numbering) route) routes

@@ -1,4 +1,4 @@
--- The texts of files that are refused.
+-- The texts of refused files.
 use Rattle.std.specs.Prelude.{ℕ, List, ◌++◌, codes, decimal}
 use Rattle.std.specs.Fmt.{signed_decimal}
 use Rattle.vrp_model.specs.declared.instance.InstanceError.{InstanceError}

@@ -11,12 +11,12 @@ use vrp_model::NoMemory;
 use vrp_pool_answer::{SolveError, Status};
 use vrp_text::TextError;
 
-/// Why a run failed. Nothing was written, but for `Write`, where a part of the report may have gone out.
+/// Why a run failed. Nothing was written, except that `Write` may leave a beginning of the report.
 #[derive(Clone, Copy, Debug, PartialEq, Eq)]
 pub enum RunError {
-    /// The file is refused. Never for want of memory.
+    /// The file is refused. Never used for lack of memory.
     Text(TextError),
-    /// A growth was refused.
+    /// An allocation was refused.
     OutOfMemory,
     /// A read failed.
     Read,
@@ -76,7 +76,8 @@ impl From<TextError> for RunError {
     }
 }
 
-/// The exit status of an outcome: 0 proven, no plan or lawful, 1 open, 3 a refused file, 4 no memory, 5 a read or write fault.
+/// The exit status of an outcome: 0 proven, no plan or lawful, 1 open, 3 a refused file, 4 lack of memory, 5 a read or write
+/// fault.
 pub fn exit_status(outcome: &Result<Status, RunError>) -> u8
     ensures { result ≡ exit_code outcome.now }
 {

@@ -1,4 +1,4 @@
-//! Reading the input, up to one byte more than a file may have.
+//! Reads the input, up to one byte more than a file may have.
 ghost use Rattle.std.specs.Prelude.{◌≡◌, ◌+◌, ◌≤◌, ◌<◌, ◌⊎◌, length, take, IfOk, IfErr, vec_len};
 ghost use Rattle.std.specs.Io.KnownBytes.{Consumes, IsAtEnd, Keeps};
 ghost use Rattle.vrp_command_streams.specs.Input.{IsInput, TakesAtMost};
@@ -8,10 +8,10 @@ use std::alloc::{AllocError, Global};
 use std::io::Read;
 use vrp_text::MAX_BYTES;
 
-// How many bytes are asked for at once.
+// The number of bytes requested at once.
 const BUFFER: usize = 65_536;
 
-/// Reads to the end of the input, or to one byte more than a file may have. Each error of a read is a fault at once.
+/// Reads to the end of the input, or to one byte more than a file may have. Any error of a read is a fault at once.
 pub fn read_input<R: Read>(alloc: Global, input: &mut R) -> Result<Vec<u8>, RunError>
     ensures read { IfOk result (λ bytes. IsInput
         (R.remaining input.old) (R.remaining input.new) bytes.items) }
@@ -34,14 +34,14 @@ pub fn read_input<R: Read>(alloc: Global, input: &mut R) -> Result<Vec<u8>, RunE
     Ok(bytes)
 }
 
-// This many bytes to read into.
+// A buffer of this many bytes.
 fn zeros(alloc: Global, room: usize) -> Result<Vec<u8>, AllocError>
     ensures { IfOk result (λ buffer. vec_len buffer ≡ room) }
 {
     vec![in alloc; 0u8; room]
 }
 
-// Reads once into the buffer, and tells how much came. It can't want memory: a read that fails is answered as that.
+// Reads once into the buffer, and answers how many bytes came. It can't lack memory: a failed read is reported as such.
 fn read_some<R: Read>(input: &mut R, buffer: &mut [u8]) -> Result<usize, RunError>
     ensures bounded { IfOk result (λ count. count ≤ length buffer.old) }
     ensures read { IfOk result (λ count. Consumes

@@ -1,4 +1,4 @@
-//! What a run reads and writes: the bytes of its input, the report, and the texts of its faults.
+//! The input and output of a run: the bytes of its input, the report, and the texts of its faults.
 #![tactic(auto)]
 
 mod fault;

@@ -6,8 +6,8 @@ ghost use Rattle.vrp_command_streams.specs.Output.{AppendsPart};
 use crate::fault::RunError;
 use std::io::Write;
 
-/// Writes the report, and flushes it. Each error is a fault at once, an interrupted write too, and so is a write that takes nothing:
-/// then a part of the report has gone out, from its first byte on. Where the flush fails all of it has.
+/// Writes the report, and flushes it. Any error is a fault at once, including an interrupted write and a write of zero bytes:
+/// then a beginning of the report was written. If the flush fails, all of it was.
 pub fn write_report<W: Write>(output: &mut W, report: &[u8]) -> Result<(), RunError>
     ensures written { OnOk result (Appends
         (W.contents output.old) (W.contents output.new) report.now) }
@@ -21,7 +21,7 @@ pub fn write_report<W: Write>(output: &mut W, report: &[u8]) -> Result<(), RunEr
     flush(output)
 }
 
-// Writes once, and tells how many bytes were taken.
+// Writes once, and answers how many bytes were taken.
 fn write_some<W: Write>(output: &mut W, rest: &[u8]) -> Result<usize, RunError>
     ensures some { IfOk result (λ count. 0 < count) }
     ensures bounded { IfOk result (λ count. count ≤ length rest.now) }

@@ -1,4 +1,4 @@
-//! The texts of files that are refused.
+//! The texts of refused files.
 ghost use Rattle.std.specs.Prelude.{Some};
 ghost use Rattle.vrp_command_streams.specs.Refusal.{refusal_text, instance_text};
 
@@ -6,7 +6,7 @@ use std::fmt;
 use vrp_model::InstanceError;
 use vrp_text::TextError;
 
-/// Why a file is refused, to be printed. (What `thiserror` writes has no contract, so `TextError` can't promise its text.)
+/// Prints why a file is refused. (The output of `thiserror` has no contract, so `TextError` can't promise its text.)
 #[derive(Clone, Copy)]
 pub(crate) struct Refusal(pub TextError);
 
@@ -32,7 +32,7 @@ impl fmt::Display for Refusal {
     }
 }
 
-// Why no instance can be made, to be printed.
+// Prints why no instance can be made.
 #[derive(Clone, Copy)]
 struct NoInstance(InstanceError);
 

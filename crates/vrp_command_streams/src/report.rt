@@ -1,5 +1,5 @@
-//! The report: a line for each route and the cost, where there is a plan, and the verdict. And a plan as CVRPLIB writes it: the same
-//! lines, by other numbers.
+//! The report: a line for each route and the cost, if there is a plan, and the verdict. Also a plan in CVRPLIB's format: the
+//! same lines with other numbers.
 ghost use Rattle.std.specs.Prelude.{◌≡◌, ◌+◌, Some, OnOk, IfOk, ◌++◌, decimal, string_bytes, All};
 ghost use Rattle.std.specs.Option.{ForSome, option_map};
 ghost use Rattle.vrp_pool_answer.specs.Finding.{told_by};
@@ -11,7 +11,7 @@ use std::alloc::{AllocError, Global};
 use vrp_model::{Instance, Plan};
 use vrp_pool_answer::{Finding, Status};
 
-/// The report of what is told of the instance.
+/// The report of a finding for the instance.
 pub fn report_text(
     alloc: Global,
     instance: &Instance,
@@ -28,8 +28,8 @@ pub fn report_text(
     Ok(text)
 }
 
-/// The plan that is told as a file `.sol` of CVRPLIB: a line `Route #1: 5 2` for each route and the line `Cost 521`. Customers have the
-/// numbers of their places: from 1 on by rising node, the depot left out. Without a plan the text is empty.
+/// The plan of a finding in CVRPLIB's `.sol` format: a line `Route #1: 5 2` for each route and the line `Cost 521`. Customers
+/// have the numbers of their places: from 1 by rising node, without the depot. Without a plan the text is empty.
 pub fn solution_text(alloc: Global, finding: &Finding<'_>) -> Result<String, AllocError>
     ensures { IfOk result (λ text. string_bytes text ≡ solution_of (told_by finding.now)) }
 {
@@ -40,12 +40,12 @@ pub fn solution_text(alloc: Global, finding: &Finding<'_>) -> Result<String, All
     Ok(text)
 }
 
-// By which numbers the stops of a plan are told.
+// The numbers by which the stops of a plan are printed.
 #[derive(Clone, Copy)]
 enum Numbering<'a> {
-    // Those of the instance's nodes.
+    // The instance's node numbers.
     Nodes(&'a Instance),
-    // Those of the places themselves.
+    // The numbers of the places.
     Places,
 }
 

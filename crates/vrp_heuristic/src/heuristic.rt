@@ -1,4 +1,4 @@
-//! The heuristic plan: the best of the plan by savings and of what runs of ruin and recreate make of it.
+//! The heuristic plan: the best of the plan by savings and the plans that runs of ruin and recreate make of it.
 ghost use Rattle.std.specs.Prelude.{◌<◌, ◌≤◌, IfOk, IfSome};
 ghost use Rattle.vrp_model.specs.Route.{IsPlanOf};
 
@@ -16,42 +16,40 @@ pub const ENOUGH_MOVES: u32 = 20_000;
 
 const RUNS: u16 = 4;
 
-// So many runs of more moves than enough there are: they are asked for where each unit of cost counts.
+// The number of runs with more than enough moves, which are requested if each unit of cost counts.
 const RUNS_OF_MORE: u16 = 8;
 
-// The number of the first run: by these numbers the runs end well on the instances that the method was tuned on.
+// The number of the first run. With these numbers the runs end well on the instances that the method was tuned on.
 const FIRST_RUN: u64 = 49;
 
-// From so many customers on the runs go in two rounds, and nothing is made of the routes that they gather.
+// From this many customers on the runs go in two rounds, and no routes are gathered.
 const MANY_CUSTOMERS: u16 = 128;
 
-// So many symbols of routes a run gathers at most: mostly all that it comes by.
+// The most symbols of routes that a run gathers: mostly all that it finds.
 const MOST_GATHERED: usize = 1 << 20;
 
-/// For each of its moves a run looks at this many positions at most.
+/// The average number of positions that a run looks at for each move, at most.
 const POSITIONS_A_MOVE: u64 = 2_000;
 
-/// A plan near the best, by ruin and recreate, of Christiaens and Vanden Berghe (2020): from a plan strings of customers are taken
-/// out of a few routes that lie close together, and put back one by one where that costs least. The new plan is kept where it
-/// isn't costlier than the last by a threshold or more, which falls to nothing. There are four runs of this many moves each, and
-/// eight where that is more than `ENOUGH_MOVES`; with many customers there are fewer moves, since for each move at most 2,000
-/// positions are looked at on average. The runs are shared among the workers. Each starts from the plan by savings; from 128
-/// customers on, where a run ends sooner than it is done, the second half of them from the best plan of the first half. What is
-/// answered is the best of all these plans, the first by cost and then by word, and the same at each call and by any number of
-/// workers, unless the watch tells it to stop, which is asked before each move and hears of each cheaper cost.
+/// A near-optimal plan by ruin and recreate (Christiaens and Vanden Berghe 2020). A move removes strings of customers from a few nearby
+/// routes and puts each customer back where it costs least. The new plan is kept if it costs less than the last one plus a threshold,
+/// which falls to 0. There are four runs of this many moves, and eight if that is more than `ENOUGH_MOVES`. With many customers there are
+/// fewer moves, since a move looks at no more than 2,000 positions on average. The workers share the runs. Each run starts from the plan
+/// by savings; from 128 customers on the second half of the runs starts from the best plan of the first half. The answer is the best of
+/// all these plans, by cost and then by word. It is the same at each call and for any number of workers, unless the watch stops the runs;
+/// the watch is asked before each move, and hears of each cheaper cost.
 ///
-/// Eight runs of fewer customers gather the routes of good plans too, and the cheapest plan that can be made of these routes is taken
-/// where it costs less, as far as a search for it gets that takes some seconds at most.
+/// With eight runs and fewer than 128 customers, the routes of good plans are gathered too, and the cheapest plan over these routes is
+/// taken if it costs less, as far as a search of a few seconds finds it.
 ///
-/// With a limit on trucks no route is opened beyond it. Where savings find no plan within the limit, the runs start with nobody
-/// served; customers who find no place are tried again in each move, and a move that leaves more of them unserved is undone.
+/// With a limit on trucks no route is opened beyond it. If savings find no plan within the limit, the runs start with nobody served;
+/// customers without a place are tried again in each move, and a move that leaves more of them unserved is undone.
 ///
-/// `None`: no feasible plan was found. Which feasible plan is answered is left open, and so is when there is none.
+/// `None`: no feasible plan was found. The contract leaves open which feasible plan is answered, and when there is none.
 pub fn heuristic_plan<R: Threads + Sync, W: Watch + Sync>(
     crew: &Crew<'_, R, W>,
     moves: u32,
 ) -> Result<Option<Plan>, NoMemory>
-    requires workers { 1 ≤ crew.now.workers }
     ensures { IfOk result (λ plan. IfSome plan (IsPlanOf crew.now.instance.now)) }
 {
     let instance = crew.instance;
@@ -83,7 +81,7 @@ pub fn heuristic_plan<R: Threads + Sync, W: Watch + Sync>(
     Ok(best)
 }
 
-// In how many rounds the runs of this many customers go.
+// The number of rounds of the runs for this many customers.
 fn rounds_of(customers: u16) -> u16
     ensures some { 0 < result }
     ensures few { result ≤ 2 }
@@ -91,15 +89,14 @@ fn rounds_of(customers: u16) -> u16
     if customers < MANY_CUSTOMERS { 1 } else { 2 }
 }
 
-// The best of a plan, if there is one, of what a round makes of it, and of what can be made of the routes that were gathered meanwhile.
+// The best of a plan, if there is one, of the plans that a round makes of it, and of a plan over the routes gathered meanwhile.
 fn best_of_round<R: Threads + Sync, W: Watch + Sync>(
     crew: &Crew<'_, R, W>,
     setting: &Setting<'_>,
     round: Round,
     plan: Option<Plan>,
 ) -> Result<Option<Plan>, NoMemory>
-    requires workers { 1 ≤ crew.now.workers }
-    requires plan { IfSome plan (IsPlanOf crew.now.instance.now) }
+    requires { IfSome plan (IsPlanOf crew.now.instance.now) }
     ensures { IfOk result (λ found. IfSome found (IsPlanOf crew.now.instance.now)) }
 {
     let word = match &plan {
@@ -124,7 +121,7 @@ fn best_of_round<R: Threads + Sync, W: Watch + Sync>(
     }
 }
 
-// The plan of a word, where it is before the best so far, or else that one.
+// The plan of a word if it is before the best so far, otherwise that one.
 fn better(
     alloc: Global,
     instance: &Instance,
@@ -140,7 +137,7 @@ fn better(
     }
 }
 
-/// The plan of a word, where it is before this one, or else this one.
+/// The plan of a word if it is before this one, otherwise this one.
 pub(crate) fn cheaper(
     alloc: Global,
     instance: &Instance,
@@ -157,8 +154,7 @@ pub(crate) fn cheaper(
     }
 }
 
-/// The threshold of the first move: a third of what a truck to one customer alone costs on average, or less where there are many
-/// customers.
+/// The threshold of the first move: a third of the average cost of a route to one customer, or less with many customers.
 pub(crate) fn first_threshold(instance: &Instance) -> u64 {
     let customers = instance.customers();
     let mut arcs: u64 = 0;

@@ -1,4 +1,4 @@
-//! A plan made better for as long as there is time: rounds of runs of ruin and recreate, side by side.
+//! A plan is improved as long as there is time: rounds of parallel runs of ruin and recreate.
 ghost use Rattle.std.specs.Prelude.{◌≡◌, ◌≤◌, IfOk};
 ghost use Rattle.vrp_model.specs.Route.{IsPlanOf};
 
@@ -9,22 +9,21 @@ use std::thread::Threads;
 use vrp_heuristic_recreate::{Setting, Threshold, Watch};
 use vrp_model::{NoMemory, Plan};
 
-// The number of the first run: those of a heuristic plan have lower ones.
+// The number of the first run; the runs of a heuristic plan have lower ones.
 const FIRST_RUN: u64 = 100;
 
-// Each round takes at least as long as the one before, and the last ones a twentieth of a second.
+// The least time of a round: the last ones take a twentieth of a second.
 const MOST_ROUNDS: u32 = 100_000;
 
-/// The plan, or a better one: in each round each worker has a run of ruin and recreate of its own, from the best plan so far, whose
-/// chances go by a number of its own. A round takes twice as long as the one before, and the last one all the time that is left: so
-/// its threshold falls to nothing in time. The watch is asked before each move whether to go on, and hears of each cheaper cost.
-/// Where it has no time set, the plan is answered as it is. Which feasible plan is answered is left open.
+/// The plan, or a better one. In each round each worker makes a run of ruin and recreate of its own from the best plan so far; the run's
+/// number seeds its chances. A round takes twice as long as the one before, and the last one takes all the time that is left, so its
+/// threshold falls to 0 in time. The watch is asked before each move, and hears of each cheaper cost. If it has no time, the plan is
+/// answered as it is. The contract leaves open which feasible plan is answered.
 pub fn improved_plan<R: Threads + Sync, W: Watch + Sync>(
     crew: &Crew<'_, R, W>,
     plan: &Plan,
 ) -> Result<Plan, NoMemory>
-    requires workers { 1 ≤ crew.now.workers }
-    requires plan { IsPlanOf crew.now.instance.now plan.now }
+    requires { IsPlanOf crew.now.instance.now plan.now }
     ensures lawful { IfOk result (IsPlanOf crew.now.instance.now) }
     ensures no_costlier { IfOk result (λ found. found.cost ≤ plan.now.cost) }
 {
@@ -59,7 +58,7 @@ pub fn improved_plan<R: Threads + Sync, W: Watch + Sync>(
     Ok(best)
 }
 
-// How many milliseconds are left; none where the watch tells to stop.
+// The milliseconds that are left; 0 if the watch stops the runs.
 fn time_left<W: Watch>(watch: &W) -> Option<u64> {
     if watch.should_continue() {
         watch.milliseconds_left()
@@ -68,15 +67,14 @@ fn time_left<W: Watch>(watch: &W) -> Option<u64> {
     }
 }
 
-// The best of a plan and of what a round makes of it.
+// The best of a plan and the plans that a round makes of it.
 fn best_of_round<R: Threads + Sync, W: Watch + Sync>(
     crew: &Crew<'_, R, W>,
     setting: &Setting<'_>,
     round: Round,
     plan: Plan,
 ) -> Result<Plan, NoMemory>
-    requires workers { 1 ≤ crew.now.workers }
-    requires plan { IsPlanOf crew.now.instance.now plan }
+    requires { IsPlanOf crew.now.instance.now plan }
     ensures lawful { IfOk result (IsPlanOf crew.now.instance.now) }
     ensures no_costlier { IfOk result (λ found. found.cost ≤ plan.cost) }
 {

@@ -1,18 +1,18 @@
-//! How long rounds are: each twice as long as the one before, and the last one as long as there is time.
+//! The length of rounds: each is twice as long as the one before, and the last one takes the rest of the time.
 
-/// How many positions a run of the first round looks at: half a second's work at most.
+/// The number of positions that a run of the first round looks at: at most half a second's work.
 const FIRST_POSITIONS: u64 = 20_000_000;
 
-// With fewer milliseconds left there is no more round.
+// With fewer milliseconds left there is no further round.
 const LEAST_LEFT: u64 = 50;
 
-// A round that would leave less than so many times what the one before took has all the time instead.
+// A round that would leave less than this many times the last round's time takes all the time instead.
 const LEAVES: u64 = 6;
 
-// So many sixteenths of the time that is left are the last round's: it may run slower than the one before.
+// The last round is planned for this many sixteenths of the remaining time: it may run slower than the one before.
 const OF_SIXTEENTHS: u64 = 15;
 
-/// How many positions a run of the last round looked at, and how many milliseconds that took. Nothing is promised of what follows.
+/// The number of positions that a run of the last round looked at, and the milliseconds that took. No clause pins what follows from it.
 #[derive(Clone, Copy, Debug)]
 pub(crate) struct Pace {
     positions: u64,
@@ -20,7 +20,7 @@ pub(crate) struct Pace {
 }
 
 impl Pace {
-    /// There was no round yet.
+    /// No round yet.
     pub(crate) fn new() -> Pace {
         Pace {
             positions: 0,
@@ -28,7 +28,7 @@ impl Pace {
         }
     }
 
-    /// How many positions a run of the next round looks at, where so many milliseconds are left. `None`: there is no more time.
+    /// The number of positions for a run of the next round, with this many milliseconds left. `None`: there is no time left.
     pub(crate) fn positions(self, left: Option<u64>) -> Option<u64> {
         let left = left?;
         if left < LEAST_LEFT {
@@ -46,7 +46,7 @@ impl Pace {
         Some((all / (OF_SIXTEENTHS + 1) * OF_SIXTEENTHS).max(1))
     }
 
-    /// Notes a round whose runs looked at so many positions, between two readings of what was left.
+    /// Notes a round whose runs looked at this many positions, between two readings of the remaining time.
     pub(crate) fn note(&mut self, positions: u64, before: Option<u64>, after: Option<u64>) {
         self.positions = positions;
         self.milliseconds = match (before, after) {

@@ -1,22 +1,25 @@
-//! The cheapest plan that can be made of the routes of many plans, by a choice among them.
+//! Recombination: the cheapest plan over the routes of many plans.
 ghost use Rattle.std.specs.Prelude.{◌≡◌, ◌<◌, ◌≤◌, IfOk, length};
 ghost use Rattle.vrp_model.specs.Problem.{place_count};
 ghost use Rattle.vrp_model.specs.Route.{IsPlanOf};
 
 use crate::heuristic::cheaper;
 use crate::runs::Crew;
+use crate::sets::route_sets;
 use std::alloc::Global;
 use std::thread::Threads;
 use vrp_heuristic_recreate::Watch;
 use vrp_model::{Instance, NoMemory, Plan};
-use vrp_partition::{Ask, Fleet, Found, MOST_CUSTOMERS, Route, Team, all_fit, cheapest_choice};
+use vrp_partition::{
+    Ask, Fleet, Found, MOST_CUSTOMERS, Route, Task, Team, all_fit, cheapest_choice,
+};
 use vrp_simplex::ProgramGuide;
 
-// How many reduced costs the search for the cheapest choice may look at: so many take a second at most, mostly.
+// The most reduced costs that the search for the cheapest choice looks at: mostly a second at most.
 const BUDGET: u64 = 6_000_000;
 
-// A route of a word: whom it serves, a bit for each customer, what it costs, its first stop, and where its stops stand. Routes are
-// compared by whom they serve and then by cost.
+// A route of a word: its customers, a bit for each, its cost, its first stop, and the position of its stops. Routes are compared by
+// customers and then by cost.
 #[derive(Clone, Copy, Debug, PartialEq, Eq, PartialOrd, Ord)]
 struct Listed {
     set: u128,
@@ -26,7 +29,7 @@ struct Listed {
     end: usize,
 }
 
-// Goes on where a watch does.
+// Continues while a watch does.
 #[derive(Drop)]
 struct Asked<'a, W> {
     watch: &'a W,
@@ -38,14 +41,14 @@ impl<W: Watch> Ask for Asked<'_, W> {
     }
 }
 
-/// The plan, or a cheaper one of routes that were gathered as a word: the stops of each, each followed by 0. They need not be trusted.
+/// The plan, or a cheaper one over gathered routes. These are given as a word: the stops of each route, followed by 0. They are not
+/// trusted.
 pub(crate) fn recombined<R: Threads + Sync, W: Watch + Sync>(
     crew: &Crew<'_, R, W>,
     gathered: &[u16],
     plan: Plan,
 ) -> Result<Plan, NoMemory>
-    requires workers { 1 ≤ crew.now.workers }
-    requires plan { IsPlanOf crew.now.instance.now plan }
+    requires { IsPlanOf crew.now.instance.now plan }
     ensures lawful { IfOk result (IsPlanOf crew.now.instance.now) }
     ensures no_costlier { IfOk result (λ found. found.cost ≤ plan.cost) }
 {
@@ -58,7 +61,7 @@ pub(crate) fn recombined<R: Threads + Sync, W: Watch + Sync>(
     cheaper(crew.alloc, crew.instance, &word, plan)
 }
 
-// The routes of a word by whom they serve, of those who serve the same customers the cheapest.
+// The routes of a word by their customers; among those with the same customers the cheapest.
 fn distinct_routes(
     alloc: Global,
     instance: &Instance,
@@ -87,7 +90,7 @@ fn listed_routes(
     Ok(listed)
 }
 
-// The route whose stops stand between two places of a word.
+// The route whose stops are between two positions of a word.
 fn route_between(instance: &Instance, word: &[u16], start: usize, end: usize) -> Listed
     requires start { start ≤ end }
     requires end { end ≤ length word.now }
@@ -112,15 +115,13 @@ fn route_between(instance: &Instance, word: &[u16], start: usize, end: usize) ->
     }
 }
 
-// The cheapest choice of routes that costs less than a plan, as far as it was searched for. Where none was found the routes are no
-// choice.
+// The cheapest choice of routes that costs less than a plan, as far as the search got. If none was found, the routes are no choice.
 fn chosen_routes<R: Threads + Sync, W: Watch + Sync>(
     crew: &Crew<'_, R, W>,
     listed: &[Listed],
     plan: &Plan,
 ) -> Result<Vec<Route>, NoMemory>
-    requires workers { 1 ≤ crew.now.workers }
-    requires few { place_count crew.now.instance.now ≤ 128 }
+    requires { place_count crew.now.instance.now ≤ 128 }
 {
     let (alloc, instance) = (crew.alloc, crew.instance);
     let pool = pool_of(alloc, listed)?;
@@ -142,19 +143,14 @@ fn chosen_routes<R: Threads + Sync, W: Watch + Sync>(
         workers: usize::from(crew.workers),
         ask: &ask,
     };
-    let guide = ProgramGuide::new(alloc, fleet, sets_of(alloc, plan)?, &ask);
-    let everyone = all_customers(instance);
+    let guide = ProgramGuide::new(alloc, fleet, route_sets(alloc, plan)?, &ask);
+    let task = Task {
+        fleet,
+        customers: all_customers(instance),
+        incumbent: u64::from(cost),
+    };
     let mut budget = BUDGET;
-    let found = cheapest_choice(
-        &team,
-        guide,
-        &fleet,
-        pool,
-        everyone,
-        u64::from(cost),
-        &mut budget,
-    )?;
-    match found {
+    match cheapest_choice(&team, guide, &task, pool, &mut budget)? {
         Found::Cheapest(chosen) => Ok(chosen.routes),
         Found::Unfinished { best, .. } => Ok(best.routes),
     }
@@ -172,7 +168,7 @@ fn pool_of(alloc: Global, listed: &[Listed]) -> Result<Vec<Route>, NoMemory> {
     Ok(pool)
 }
 
-// What customers 0 to 127 demand; who is none demands nothing.
+// The demands of customers 0 to 127, 0 if there is no such customer.
 fn demands_of(instance: &Instance) -> [u32; MOST_CUSTOMERS]
     requires { place_count instance.now ≤ 128 }
 {
@@ -184,7 +180,7 @@ fn demands_of(instance: &Instance) -> [u32; MOST_CUSTOMERS]
     demands
 }
 
-// How many trucks may be sent out.
+// The number of trucks that may be sent out.
 fn trucks_of(instance: &Instance) -> u8
     requires { place_count instance.now ≤ 128 }
 {
@@ -204,19 +200,6 @@ fn all_customers(instance: &Instance) -> u128
         set |= 1 << u32::from(index + 1);
     }
     set
-}
-
-// The routes of a plan by their customers, a bit for each.
-fn sets_of(alloc: Global, plan: &Plan) -> Result<Vec<u128>, NoMemory> {
-    let mut sets = Vec::new(alloc);
-    for index in 0..plan.routes() {
-        let mut set = 0;
-        for &stop in plan.route(index) {
-            set |= 1u128.checked_shl(u32::from(stop)).unwrap_or(0);
-        }
-        sets.push(set)?;
-    }
-    Ok(sets)
 }
 
 // The word of chosen routes by rising first stop, as far as they are listed.

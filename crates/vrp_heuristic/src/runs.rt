@@ -1,45 +1,48 @@
-//! Runs of ruin and recreate side by side, and who waits for them.
+//! Parallel runs of ruin and recreate, and their watch.
 ghost use Rattle.std.specs.Prelude.{◌≤◌};
 
 use std::alloc::Global;
 use std::thread::{Threads, for_each_mut};
-use vrp_heuristic_recreate::{Gathered, Setting, Threshold, Watch, run};
+use vrp_heuristic_recreate::{Course, Gathered, Setting, Threshold, Watch, run};
 use vrp_model::{Instance, NoMemory};
 
-/// Who looks for plans: so many workers, each in a thread of its own where one can be made, and who waits for them.
-#[derive(Clone, Copy)]
+/// The workers that look for plans, each in a thread of its own if one can be made, and their watch.
+#[derive(Drop)]
 pub struct Crew<'a, R, W> {
     pub rt: &'a R,
     pub alloc: Global,
     pub instance: &'a Instance,
     pub workers: u16,
     pub watch: &'a W,
+    ghost some_worker: { 1 ≤ workers },
 }
 
-/// Runs of the same length, whose chances go by numbers from the first one on.
+/// Runs of the same length; consecutive numbers from the first one on seed their chances.
 #[derive(Clone, Copy, Debug)]
 pub(crate) struct Round {
     pub(crate) first: u64,
     pub(crate) runs: u16,
     pub(crate) threshold: Threshold,
-    /// Of how many symbols the routes are that each run gathers at most.
+    /// The most symbols of routes that each run gathers.
     pub(crate) gathers: usize,
 }
 
 impl Round {
-    // The threshold of the run of a number: where routes are gathered each second one begins with half of it, so that the runs come by
-    // other plans.
-    fn threshold_of(self, number: u64) -> Threshold {
+    // The course of the run of a number. If routes are gathered, every second run begins with half of the threshold, to find other plans.
+    fn course_of(self, number: u64) -> Course {
         let Threshold {
             start,
             moves,
             positions,
         } = self.threshold;
         let has_half = self.gathers > 0 && number % 2 == 0;
-        Threshold {
-            start: if has_half { start / 2 } else { start },
-            moves,
-            positions,
+        Course {
+            number,
+            threshold: Threshold {
+                start: if has_half { start / 2 } else { start },
+                moves,
+                positions,
+            },
         }
     }
 }
@@ -48,21 +51,19 @@ impl Round {
 #[derive(Drop)]
 pub(crate) struct Run {
     number: u64,
-    /// What it made of a word, once it has run; nothing before.
+    /// The word that it found; empty before it has run.
     pub(crate) word: Result<Vec<u16>, NoMemory>,
-    /// The routes of good plans that it came by.
+    /// The routes of the good plans that it found.
     pub(crate) gathered: Gathered,
 }
 
-/// What the runs of a round make of a word, side by side: the same by any number of workers, unless the watch tells to stop.
+/// Makes the runs of a round from a word, in parallel. The result is the same for any number of workers, unless the watch stops them.
 pub(crate) fn run_all<R: Threads + Sync, W: Watch + Sync>(
     crew: &Crew<'_, R, W>,
     setting: &Setting<'_>,
     round: Round,
     word: &[u16],
-) -> Result<Vec<Run>, NoMemory>
-    requires workers { 1 ≤ crew.now.workers }
-{
+) -> Result<Vec<Run>, NoMemory> {
     let mut runs = new_runs(crew.alloc, round)?;
     let (alloc, watch) = (crew.alloc, crew.watch);
     for_each_mut(
@@ -70,15 +71,8 @@ pub(crate) fn run_all<R: Threads + Sync, W: Watch + Sync>(
         runs.as_mut_slice(),
         usize::from(crew.workers),
         &|_, one: &mut Run| {
-            one.word = run(
-                alloc,
-                setting,
-                word,
-                round.threshold_of(one.number),
-                one.number,
-                watch,
-                &mut one.gathered,
-            );
+            let course = round.course_of(one.number);
+            one.word = run(alloc, setting, word, course, watch, &mut one.gathered);
         },
     );
     Ok(runs)

@@ -1,4 +1,4 @@
-//! The weights of all arcs, by where they start and by where they end: each loop looks along one row.
+//! The weights of all arcs, in rows by start and in rows by end: each loop reads along one row.
 ghost use Rattle.std.specs.Prelude.{◌≡◌, ◌<◌, ◌+◌, IfOk, OnOk, length, vec_len};
 ghost use Rattle.vrp_model.specs.Problem.{place_count};
 
@@ -6,7 +6,7 @@ use std::alloc::Global;
 use std::marker::Model;
 use vrp_model::{Instance, NoMemory};
 
-/// The weights of the arcs between the places of an instance. An arc from a place to itself weighs nothing.
+/// The weights of the arcs between the places of an instance. An arc from a place to itself has weight 0.
 #[derive(Debug, Drop)]
 pub(crate) struct Arcs {
     places: u16,
@@ -20,7 +20,7 @@ impl Model for Arcs {
     ghost use Rattle.std.specs.Prelude.{ℕ, length};
     ghost use Rattle.vrp_heuristic_recreate.specs.Inner.Tables.{IsSquare};
 
-    // How many places there are.
+    // The number of places.
     ghost Value = { ℕ };
 
     ghost view = { λ a. a.places };
@@ -45,7 +45,7 @@ impl Arcs {
         Ok(Arcs { places, from, into })
     }
 
-    /// What the arcs from a place weigh, by where they end.
+    /// The weights of the arcs from a place, by end.
     #[inline(always)]
     pub(crate) fn from(&self, place: u16) -> &[u32]
         requires { place < self.now }
@@ -56,7 +56,7 @@ impl Arcs {
         &self.from[start..start + places]
     }
 
-    /// What the arcs to a place weigh, by where they start.
+    /// The weights of the arcs to a place, by start.
     #[inline(always)]
     pub(crate) fn into(&self, place: u16) -> &[u32]
         requires { place < self.now }
@@ -67,7 +67,7 @@ impl Arcs {
         &self.into[start..start + places]
     }
 
-    /// What an arc weighs.
+    /// The weight of an arc.
     #[inline(always)]
     pub(crate) fn weight(&self, from: u16, to: u16) -> u32
         requires from { from < self.now }

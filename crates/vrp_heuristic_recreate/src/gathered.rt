@@ -1,4 +1,4 @@
-//! The routes of good plans that a run comes by.
+//! The routes of the good plans that a run finds.
 ghost use Rattle.std.specs.Prelude.{◌≡◌};
 ghost use Rattle.vrp_model.specs.Problem.{place_count};
 
@@ -6,19 +6,19 @@ use crate::routes::Routes;
 use std::alloc::Global;
 use vrp_model::{Instance, NoMemory};
 
-// A good plan costs no more than the cheapest one so far and one part in so many of that.
+// A good plan costs at most one part in this many more than the cheapest one so far.
 const PARTS: u64 = 100;
 
-/// The routes of good plans as one word: the stops of each route, each followed by 0. They only guide, and which they are is left open.
+/// The routes of good plans as one word: the stops of each route, followed by 0. They only guide, so no clause pins them.
 #[derive(Debug, Drop)]
 pub struct Gathered {
     word: Vec<u16>,
-    // No more symbols are gathered at once.
+    // The most symbols that are gathered.
     most: usize,
 }
 
 impl Gathered {
-    /// No routes, and room for so many symbols. That it is so is left open.
+    /// No routes, with room for this many symbols; no clause says so.
     pub fn new(alloc: Global, most: usize) -> Gathered {
         Gathered {
             word: Vec::new(alloc),
@@ -26,13 +26,13 @@ impl Gathered {
         }
     }
 
-    /// The word of the routes. Which it is, is left open.
+    /// The word of the routes; no clause pins it.
     pub fn word(&self) -> &[u16] {
         self.word.as_slice()
     }
 
-    /// Adds the routes of a plan, if that is a good one beside the cheapest so far. Where there is no more room for them, what was
-    /// gathered before is given up: the later plans are the better ones.
+    /// Adds the routes of a plan, if that is a good one compared with the cheapest so far. If there is no room for them, the routes gathered
+    /// before are dropped: later plans are better.
     pub(crate) fn note(
         &mut self,
         instance: &Instance,

@@ -1,5 +1,5 @@
-//! Runs of ruin and recreate: from a plan customers are taken out and put back elsewhere, move by move, in search of a cheaper one.
-//! What comes of a run only guides: whoever makes a plan of it asks first whether that is feasible.
+//! Runs of ruin and recreate: move by move, customers are removed from a plan and put back elsewhere, in search of a cheaper one. The
+//! result of a run only guides: whoever makes a plan of it checks first that it is feasible.
 #![tactic(auto)]
 
 mod arcs;
@@ -16,7 +16,7 @@ mod threshold;
 mod watch;
 
 pub use gathered::Gathered;
-pub use moves::{States, run};
+pub use moves::{Course, States, run};
 pub use random::Random;
 pub use routes::Routes;
 pub use setting::Setting;

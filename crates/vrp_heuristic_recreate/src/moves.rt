@@ -15,12 +15,11 @@ use std::alloc::Global;
 use std::marker::Model;
 use vrp_model::NoMemory;
 
-/// The routes of a run: the last ones that it took, those of the move that it is at, and the cheapest that it had. Public for tests
-/// alone.
+/// The routes of a run: the last accepted ones, those of the current move, and the cheapest so far. Public for tests alone.
 #[derive(Debug, Drop)]
 pub struct States {
     last: Routes,
-    // The same as the last but while a move is made.
+    // The same as the last ones except during a move.
     next: Routes,
     best: Routes,
 }
@@ -28,7 +27,7 @@ pub struct States {
 impl Model for States {
     ghost use Rattle.std.specs.Prelude.{◌≡◌, ℕ};
 
-    // How many places there are.
+    // The number of places.
     ghost Value = { ℕ };
 
     ghost view = { λ a. a.next };
@@ -36,22 +35,28 @@ impl Model for States {
     ghost invariant = { λ a. (a.last ≡ a.next) × (a.best ≡ a.next) };
 }
 
-/// What a run of this many moves, whose chances go by a number, makes of a word: the word of the cheapest routes that it had, the same
-/// at each call, unless it is told to stop: before each move the watch is asked whether to go on, and it hears of each cheaper cost. The
-/// routes of each plan that is cheaper than the last one are gathered, where it is a good plan. A word is the stops of its routes, each
-/// followed by 0; any may be given, and symbols that are no customers of the instance are passed over. Where memory was refused,
-/// `NoMemory`.
+/// The course of a run: its length, and the number that seeds its chances.
+#[derive(Clone, Copy, Debug)]
+pub struct Course {
+    pub number: u64,
+    pub threshold: Threshold,
+}
+
+/// Runs ruin and recreate on a word, and answers the word of the cheapest routes found. Each call gives the same answer, unless the
+/// watch stops it: it is asked before each move, and hears of each cheaper cost. The routes of good plans are gathered. A word is the
+/// stops of its routes, each route followed by 0; any word may be given, and symbols that are no customers are ignored. The error is
+/// lack of memory.
 ///
 /// Which word is answered is left open, and it need not be that of a feasible plan.
 pub fn run<W: Watch>(
     alloc: Global,
     setting: &Setting<'_>,
     word: &[u16],
-    threshold: Threshold,
-    number: u64,
+    course: Course,
     watch: &W,
     gathered: &mut Gathered,
 ) -> Result<Vec<u16>, NoMemory> {
+    let Course { number, threshold } = course;
     let mut random = Random::new(number);
     let mut taken = Taken::new(alloc, setting.instance())?;
     let mut states = States::new(alloc, setting, word)?;
@@ -77,7 +82,7 @@ pub fn run<W: Watch>(
 }
 
 impl States {
-    /// The routes of a word, on which nobody else is served. Where memory was refused, `NoMemory`. Which routes these are is left open.
+    /// The routes of a word, which serve nobody else. The error is lack of memory. No clause pins the routes.
     pub fn new(alloc: Global, setting: &Setting<'_>, word: &[u16]) -> Result<States, NoMemory>
         ensures { IfOk result (λ states. states ≡ place_count setting.now) }
     {
@@ -91,8 +96,8 @@ impl States {
         Ok(States { last, next, best })
     }
 
-    /// Makes the move of an index on the next routes, and answers how many positions were looked at. Whom it takes out is left in
-    /// `taken`. What becomes of the routes is left open, and so is the number.
+    /// Makes the move of an index on the next routes, and answers the number of positions looked at. The removed customers are left in
+    /// `taken`. No clause pins the routes or the number.
     pub fn change(
         &mut self,
         setting: &Setting<'_>,
@@ -118,8 +123,8 @@ impl States {
         recreate(setting, &mut self.next, taken, random).saturating_add(at_ruin)
     }
 
-    /// Takes the next routes for the last, unless they are costlier by the threshold or more, in the unit of the weights: then they
-    /// become the last again. The cheapest routes so far are kept. That it is so is left open.
+    /// Accepts the next routes, unless they are costlier than the last ones by the threshold or more, in the unit of the weights; then it
+    /// returns to the last ones. The cheapest routes so far are kept. No clause says so.
     pub fn settle(&mut self, threshold: u64)
         ensures { self.new ≡ self.old }
     {
@@ -135,14 +140,14 @@ impl States {
         }
     }
 
-    /// The routes that the move was made on. Which routes these are is left open.
+    /// The routes after the move; no clause pins them.
     pub fn next(&self) -> &Routes
         ensures { result.now ≡ self.now }
     {
         &self.next
     }
 
-    /// The cheapest routes that the run had when it last settled. Which routes these are is left open.
+    /// The cheapest routes that the run has kept; no clause pins them.
     pub fn best(&self) -> &Routes
         ensures { result.now ≡ self.now }
     {
@@ -150,7 +155,7 @@ impl States {
     }
 }
 
-// Adds the customers who are on no route.
+// Adds the customers that are on no route.
 fn list_unserved(setting: &Setting<'_>, routes: &Routes, taken: &mut Taken)
     requires routes { routes.now ≡ place_count setting.now }
     requires taken { taken.old ≡ place_count setting.now }

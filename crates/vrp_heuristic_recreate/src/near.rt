@@ -1,4 +1,4 @@
-//! Which places lie near which.
+//! The near places of each place.
 ghost use Rattle.std.specs.Prelude.{◌≡◌, ◌<◌, ◌≤◌, ◌+◌, IfOk, OnOk, length, vec_len};
 ghost use Rattle.std.specs.List.{All};
 ghost use Rattle.vrp_heuristic_recreate.specs.Inner.Tables.{IsPlace, LeadsTo};
@@ -16,11 +16,11 @@ struct Arc {
     to: u16,
 }
 
-/// The places by how far they lie from each place, itself first.
+/// For each place all places by distance, itself first.
 #[derive(Debug, Drop)]
 pub(crate) struct Near {
     places: u16,
-    // Row by row: of each place, all places.
+    // Row by row: for each place, all places.
     order: Vec<u16>,
 }
 
@@ -29,7 +29,7 @@ impl Model for Near {
     ghost use Rattle.std.specs.List.{All};
     ghost use Rattle.vrp_heuristic_recreate.specs.Inner.Tables.{IsPlace, IsSquare};
 
-    // How many places there are.
+    // The number of places.
     ghost Value = { ℕ };
 
     ghost view = { λ a. a.places };
@@ -55,7 +55,7 @@ impl Near {
         Ok(Near { places, order })
     }
 
-    /// The place that this many places are nearer to a place than.
+    /// The place with this many places nearer to a place.
     #[inline(always)]
     pub(crate) fn nearest(&self, place: u16, rank: u16) -> u16
         requires place { place < self.now }
@@ -67,7 +67,7 @@ impl Near {
     }
 }
 
-// Puts the arcs of a row into a list, the shortest first, in place of what stands there.
+// Replaces the contents of a list by the arcs of a row, the shortest first.
 fn list_arcs(weights: &[u32], places: u16, list: &mut Vec<Arc>) -> Result<(), NoMemory>
     requires { length weights.now ≡ places }
     ensures len { OnOk result (vec_len list.new ≡ places) }
@@ -82,7 +82,7 @@ fn list_arcs(weights: &[u32], places: u16, list: &mut Vec<Arc>) -> Result<(), No
     Ok(())
 }
 
-// Adds the places to which ways lead.
+// Adds the places at the ends of arcs.
 fn push_places(arcs: &[Arc], places: u16, list: &mut Vec<u16>) -> Result<(), NoMemory>
     requires arcs { All (LeadsTo places) arcs.now }
     requires list { All (IsPlace places) list.old.items }

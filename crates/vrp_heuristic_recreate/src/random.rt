@@ -1,13 +1,13 @@
-//! Numbers by chance, the same on each run.
+//! Pseudo-random numbers, the same on each run.
 ghost use Rattle.std.specs.Prelude.{◌<◌};
 
 use rand_core::Rng;
 use rand_pcg::Pcg32;
 
-/// This many positions at most are looked at before one is passed over, and half as many on average.
+/// At most this many positions are looked at before one is skipped, and half as many on average.
 const MOST_BEFORE_BLINK: u16 = 199;
 
-/// A generator, and how many positions are looked at before the next one is passed over. Public for tests alone.
+/// A generator, and the number of positions until the next one is skipped. Public for tests alone.
 #[derive(Drop)]
 pub struct Random {
     words: Pcg32,
@@ -15,7 +15,7 @@ pub struct Random {
 }
 
 impl Random {
-    /// The generator of a number, any. Which numbers it draws is left open.
+    /// The generator seeded by a number. No clause pins the numbers that it draws.
     pub fn new(number: u64) -> Random {
         Random {
             words: Pcg32::new(number, 1),
@@ -36,7 +36,7 @@ impl Random {
         (self.any() % u32::from(bound)) as u16
     }
 
-    /// Whether the next position is passed over, which one in a hundred is: a blink.
+    /// Whether the next position is skipped (a blink), as one in a hundred is.
     #[inline(always)]
     pub(crate) fn blinks(&mut self) -> bool {
         if self.before_blink > 0 {

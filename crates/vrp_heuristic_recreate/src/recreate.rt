@@ -1,4 +1,4 @@
-//! Recreate: each customer that was taken out is put back where it costs least.
+//! Recreate: each removed customer is put back where it costs least.
 ghost use Rattle.std.specs.Prelude.{◌≡◌, ◌<◌};
 ghost use Rattle.vrp_heuristic_recreate.specs.Inner.Stops.{IsGap};
 ghost use Rattle.vrp_model.specs.Problem.{place_count};
@@ -8,27 +8,26 @@ use crate::routes::{Gap, Route, Routes, Stop};
 use crate::setting::Setting;
 use crate::taken::Taken;
 
-/// Where a customer can be put. Offers are compared by what is paid.
+/// A position for a customer. Offers are compared by cost.
 #[derive(Clone, Copy, Debug)]
 struct Offer {
-    // What the arcs weigh that are added, less the one that is spared, and `RAISE`.
+    // The weight of the added arcs minus the saved one, plus `RAISE`.
     paid: u64,
-    // On route 0: on a route of its own, whose number is left open.
+    // Route 0 stands for a route of its own, whose number is chosen later.
     gap: Gap,
 }
 
-/// More than an arc weighs, so that what is paid is no negative number.
+/// More than the weight of an arc, so that no offer is negative.
 const RAISE: u64 = 1 << 32;
 
-/// From so many customers on a customer is put back beside one of those nearby, where a truck there has room: to look along all routes
-/// would take longer than it gains.
+/// From this many customers on a customer is put back next to a near place, if a truck there has room: looking along all routes would take
+/// longer than it gains.
 const MANY_CUSTOMERS: u16 = 128;
 
-/// So many places are nearby.
+/// The number of near places.
 const NEARBY: u16 = 40;
 
-/// Puts the customers back that were taken out, in their order, where they find a place. Answers how many positions were looked
-/// at.
+/// Puts the removed customers back, in their order, where they find a place. Answers the number of positions looked at.
 pub(crate) fn recreate(
     setting: &Setting<'_>,
     routes: &mut Routes,
@@ -47,8 +46,8 @@ pub(crate) fn recreate(
     looked
 }
 
-// Puts a customer where that costs least, if there is a place: of many customers beside one of those near it alone, if a truck there
-// has room. Answers how many positions were looked at.
+// Puts a customer where it costs least, if there is a place; with many customers only next to a near place, if a truck there has room.
+// Answers the number of positions looked at.
 fn put_back(setting: &Setting<'_>, routes: &mut Routes, customer: u16, random: &mut Random) -> u64
     requires routes { routes.old ≡ place_count setting.now }
     requires customer { customer < routes.old }
@@ -65,7 +64,7 @@ fn put_back(setting: &Setting<'_>, routes: &mut Routes, customer: u16, random: &
     u64::from(NEARBY)
 }
 
-// Puts a customer where that costs least along all routes, if there is a place. Answers how many positions were looked at.
+// Puts a customer where it costs least along all routes, if there is a place. Answers the number of positions looked at.
 fn put_anywhere(
     setting: &Setting<'_>,
     routes: &mut Routes,
@@ -94,7 +93,7 @@ fn put_anywhere(
     looked
 }
 
-// Accepts an offer, where the number of a free route is known. If what is paid is endless, there is none.
+// Accepts an offer, with the number of a free route. An infinite cost means that there is none.
 fn put_at(setting: &Setting<'_>, routes: &mut Routes, customer: u16, offer: Offer, free: u16)
     requires routes { routes.old ≡ place_count setting.now }
     requires customer { customer < routes.old }
@@ -116,7 +115,7 @@ fn put_at(setting: &Setting<'_>, routes: &mut Routes, customer: u16, offer: Offe
     }
 }
 
-// A route of the customer's own. Where there is no truck for it, what is paid is endless.
+// The offer of a route of the customer's own. Its cost is infinite if there is no truck for it.
 fn own_route(setting: &Setting<'_>, routes: &Routes, customer: u16) -> Offer
     requires routes { routes.now ≡ place_count setting.now }
     requires customer { customer < routes.now }
@@ -139,7 +138,7 @@ fn own_route(setting: &Setting<'_>, routes: &Routes, customer: u16) -> Offer
     }
 }
 
-// The best of an offer and of those along a route. One position in a hundred is passed over.
+// The best of an offer and the offers along a route. One position in a hundred is skipped.
 fn best_along(
     setting: &Setting<'_>,
     routes: &Routes,
@@ -179,7 +178,7 @@ fn best_along(
     best
 }
 
-// The best of a route of the customer's own and of the gaps beside those nearby. One position in a hundred is passed over.
+// The best of a route of the customer's own and the gaps next to near places. One position in a hundred is skipped.
 fn best_nearby(setting: &Setting<'_>, routes: &Routes, customer: u16, random: &mut Random) -> Offer
     requires routes { routes.now ≡ place_count setting.now }
     requires customer { customer < routes.now }
@@ -209,7 +208,7 @@ fn best_nearby(setting: &Setting<'_>, routes: &Routes, customer: u16, random: &m
     best
 }
 
-// The better of an offer and of a gap, unless that is passed over.
+// The better of an offer and a gap, unless the gap is skipped.
 fn better_of(
     setting: &Setting<'_>,
     routes: &Routes,

@@ -1,4 +1,4 @@
-//! Routes as links between their stops, from which customers are taken and into which they are put.
+//! Routes as linked stops: customers are removed and put back.
 ghost use Rattle.std.specs.Prelude.{◌≡◌, ◌<◌, IfOk};
 ghost use Rattle.vrp_heuristic_recreate.specs.Inner.Stops.{IsGap, IsRoute, IsStop};
 ghost use Rattle.vrp_model.specs.Problem.{place_count};
@@ -11,30 +11,30 @@ use std::alloc::Global;
 use std::marker::Model;
 use vrp_model::{Instance, NO_COST, NoMemory};
 
-/// A customer's neighbours on its route, 0 where the depot is the neighbour.
+/// A customer's neighbours on its route, 0 for the depot.
 #[derive(Clone, Copy, Debug)]
 pub(crate) struct Stop {
     pub before: u16,
     pub after: u16,
-    /// Its route, 0 where it is on none.
+    /// Its route, 0 if it is on none.
     pub route: u16,
-    /// What the arc from the stop before weighs.
+    /// The weight of the arc from the previous stop.
     pub arc: u32,
 }
 
-/// What is known of a route.
+/// The data of a route.
 #[derive(Clone, Copy, Debug)]
 pub(crate) struct Route {
-    /// The first stop, 0 where there is none.
+    /// The first stop, 0 if there is none.
     pub first: u16,
     pub stops: u16,
     /// The move in which it was last ruined.
     pub ruined: u32,
-    /// What the truck can carry beyond its load.
+    /// The free capacity of the truck.
     pub room: u64,
 }
 
-/// A gap into which a customer can be put: on which route, and behind which stop of it.
+/// A gap for a customer: its route, and the stop before it.
 #[derive(Clone, Copy, Debug)]
 pub(crate) struct Gap {
     pub route: u16,
@@ -44,16 +44,16 @@ pub(crate) struct Gap {
 /// Routes that serve some of the customers. Public for tests alone.
 #[derive(Debug, Drop)]
 pub struct Routes {
-    // By place; the depot's is of no account.
+    // By place; the depot's has no meaning.
     stops: Vec<Stop>,
     // By number, from 1 on.
     routes: Vec<Route>,
     // No route with a stop has a higher number.
     highest: u16,
-    // How many routes have a stop.
+    // The number of routes with a stop.
     count: u16,
     unserved: u16,
-    // What the arcs of all routes weigh.
+    // The weight of the arcs of all routes.
     weight: u64,
 }
 
@@ -61,7 +61,7 @@ impl Model for Routes {
     ghost use Rattle.std.specs.Prelude.{ℕ, length};
     ghost use Rattle.vrp_heuristic_recreate.specs.Inner.Stops.{AreRoutes};
 
-    // How many places there are.
+    // The number of places.
     ghost Value = { ℕ };
 
     ghost view = { λ a. length a.stops.items };
@@ -99,7 +99,7 @@ impl Routes {
         })
     }
 
-    /// Makes these routes the same as others.
+    /// Copies other routes onto these.
     pub(crate) fn copy_from(&mut self, other: &Routes)
         requires { self.old ≡ other.now }
         ensures { self.new ≡ self.old }
@@ -125,17 +125,17 @@ impl Routes {
         self.highest
     }
 
-    /// How many routes have a stop.
+    /// The number of routes with a stop.
     pub(crate) fn count(&self) -> u16 {
         self.count
     }
 
-    /// How many customers are on no route, at most 1,199. That it is this number is left open.
+    /// The number of customers on no route, at most 1,199; no clause pins it.
     pub fn unserved(&self) -> u16 {
         self.unserved
     }
 
-    /// What the routes cost, and for each customer who isn't served more than any plan costs. That it is this number is left open.
+    /// The cost of the routes, plus more than any plan costs for each unserved customer; no clause pins it.
     pub fn cost(&self) -> u64 {
         self.weight
             .saturating_add(u64::from(self.unserved) * NO_COST)
@@ -179,7 +179,7 @@ impl Routes {
         self.set_route(number, route);
     }
 
-    /// Puts a customer who is on no route into a gap.
+    /// Puts a customer that is on no route into a gap.
     pub(crate) fn put(&mut self, setting: &Setting<'_>, customer: u16, gap: Gap)
         requires places { self.old ≡ place_count setting.now }
         requires customer { customer < self.old }
@@ -199,7 +199,7 @@ impl Routes {
         self.count_in(route, before, customer, setting.instance().demand(customer));
     }
 
-    /// Takes a customer off the route that it is on.
+    /// Removes a customer from its route.
     pub(crate) fn take(&mut self, setting: &Setting<'_>, customer: u16)
         requires places { self.old ≡ place_count setting.now }
         requires customer { customer < self.old }
@@ -220,7 +220,7 @@ impl Routes {
         self.count_out(route, before, after, setting.instance().demand(customer));
     }
 
-    /// The stop behind a gap, 0 where the depot is.
+    /// The stop after a gap, 0 for the depot.
     #[inline(always)]
     pub(crate) fn behind(&self, gap: Gap) -> u16
         requires { IsGap self.now gap }
@@ -261,14 +261,14 @@ impl Routes {
         );
     }
 
-    // Counts arcs that were added and arcs that are spared.
+    // Counts added and saved arcs.
     fn weigh(&mut self, added: u64, spared: u64)
         ensures { self.new ≡ self.old }
     {
         self.weight = self.weight.saturating_add(added).saturating_sub(spared);
     }
 
-    // Says on which route a customer is.
+    // Notes the route of a customer.
     fn set_number(&mut self, customer: u16, number: u16)
         requires customer { customer < self.old }
         requires number { number < self.old }
@@ -289,7 +289,7 @@ impl Routes {
         self.set_stop(customer, stop);
     }
 
-    // Counts a customer on a route, behind a stop of it.
+    // Counts a customer on a route, after one of its stops.
     fn count_in(&mut self, number: u16, before: u16, customer: u16, demand: u64)
         requires number { number < self.old }
         requires customer { customer < self.old }
@@ -310,7 +310,7 @@ impl Routes {
         self.unserved = self.unserved.saturating_sub(1);
     }
 
-    // Counts a customer off a route that was between two stops of it.
+    // Counts a customer off a route, which was between two of its stops.
     fn count_out(&mut self, number: u16, before: u16, after: u16, demand: u64)
         requires number { number < self.old }
         requires after { after < self.old }

@@ -1,4 +1,4 @@
-//! Ruin: strings of customers are taken out of a few routes that lie close together.
+//! Ruin: strings of customers are removed from a few nearby routes.
 ghost use Rattle.std.specs.Prelude.{◌≡◌, ◌<◌};
 ghost use Rattle.vrp_model.specs.Problem.{place_count};
 ghost use Rattle.vrp_model.specs.declared.limits.TheConstants.{MAX_NODES};
@@ -8,26 +8,26 @@ use crate::routes::Routes;
 use crate::setting::Setting;
 use crate::taken::Taken;
 
-/// The most customers that are taken out of one route.
+/// The most customers that are removed from one route.
 const LONGEST_STRING: u16 = 10;
 
-/// About as many customers are taken out at most.
+/// About the most customers that are removed in a move.
 const MOST_TAKEN: u16 = 40;
 
-/// What is taken out of a route: a string of stops, but for those of its midst that are kept.
+/// The customers removed from a route: a string of stops, except some in its middle that are kept.
 #[derive(Clone, Copy, Debug)]
 struct Cut {
-    // The string's first stop, by how many are before it on the route.
+    // The position of the string's first stop on the route.
     first: u16,
-    // How many stops there are from the first to the last.
+    // The number of stops from the first to the last.
     stops: u16,
-    // Which of these are kept.
+    // The stops among these that are kept.
     kept_from: u16,
     kept_to: u16,
 }
 
-/// Takes the customers out of some routes near a place that is drawn by chance, and answers how many places were looked at. A
-/// route that was ruined in the move of this number is let be.
+/// Removes customers from some routes near a random place, and answers the number of places looked at. A route that was already ruined in
+/// the move of this number is left alone.
 pub(crate) fn ruin(
     setting: &Setting<'_>,
     routes: &mut Routes,
@@ -48,7 +48,9 @@ pub(crate) fn ruin(
     for rank in 0..places {
         let customer = setting.near().nearest(centre, rank);
         if may_ruin(routes, customer, number) {
-            ruin_at(setting, routes, taken, random, customer, longest, number);
+            let route = routes.stop(customer).route;
+            routes.note_ruined(route, number);
+            ruin_at(setting, routes, taken, random, customer, longest);
             left -= 1;
         }
         if left == 0 {
@@ -58,7 +60,7 @@ pub(crate) fn ruin(
     u64::from(places)
 }
 
-// Whether a place is on a route that was not ruined in a move yet.
+// Whether a place is on a route that is not ruined yet in a move.
 fn may_ruin(routes: &Routes, place: u16, number: u32) -> bool
     requires { place < routes.now }
 {
@@ -66,7 +68,7 @@ fn may_ruin(routes: &Routes, place: u16, number: u32) -> bool
     route != 0 && routes.route(route).ruined != number
 }
 
-// Takes a string out of a customer's route in which the customer is.
+// Removes a string of at most this many stops, which has the customer in it, from the customer's route.
 fn ruin_at(
     setting: &Setting<'_>,
     routes: &mut Routes,
@@ -74,7 +76,6 @@ fn ruin_at(
     random: &mut Random,
     customer: u16,
     longest: u16,
-    number: u32,
 )
     requires routes { routes.old ≡ place_count setting.now }
     requires taken { taken.old ≡ place_count setting.now }
@@ -83,14 +84,13 @@ fn ruin_at(
     ensures taken { taken.new ≡ taken.old }
 {
     let route = routes.stop(customer).route;
-    routes.note_ruined(route, number);
     let position = position(routes, customer, setting.instance().customers());
     let cut = draw_cut(random, routes.route(route).stops, position, longest);
     let first = step_back(routes, customer, position.saturating_sub(cut.first));
     take_string(setting, routes, taken, first, cut);
 }
 
-// Takes out what a cut says, from the string's first stop on.
+// Removes the customers of a cut, from the string's first stop on.
 fn take_string(setting: &Setting<'_>, routes: &mut Routes, taken: &mut Taken, first: u16, cut: Cut)
     requires routes { routes.old ≡ place_count setting.now }
     requires taken { taken.old ≡ place_count setting.now }
@@ -112,7 +112,7 @@ fn take_string(setting: &Setting<'_>, routes: &mut Routes, taken: &mut Taken, fi
     }
 }
 
-// How many stops are before a customer on its route, which has at most this many.
+// The number of stops before a customer on its route, which has at most this many.
 fn position(routes: &Routes, customer: u16, most: u16) -> u16
     requires customer { customer < routes.now }
     requires most { most < MAX_NODES }
@@ -140,8 +140,8 @@ fn step_back(routes: &Routes, customer: u16, steps: u16) -> u16
     at
 }
 
-// Draws what is taken out of a route of this many stops: a string with the one at a position in it. Half of the longer strings keep
-// some of their midst.
+// Draws the customers to remove from a route of this many stops: a string around a position. Half of the longer strings keep some stops
+// in the middle.
 fn draw_cut(random: &mut Random, stops: u16, position: u16, longest: u16) -> Cut
     requires { position < MAX_NODES }
 {

@@ -1,4 +1,4 @@
-//! What stays the same in all moves.
+//! The setting that all moves share.
 ghost use Rattle.std.specs.Prelude.{◌≡◌, ◌<◌, IfOk};
 ghost use Rattle.vrp_model.specs.Problem.{place_count};
 
@@ -8,7 +8,7 @@ use std::alloc::Global;
 use std::marker::Model;
 use vrp_model::{Instance, NoMemory};
 
-/// An instance, its weights in rows, and which places lie near which.
+/// An instance, its weights in rows, and the near places of each place.
 #[derive(Drop)]
 pub struct Setting<'a> {
     instance: &'a Instance,
@@ -30,7 +30,7 @@ impl<'a> Model for Setting<'a> {
 }
 
 impl<'a> Setting<'a> {
-    /// What stays the same in all moves over an instance. Where memory was refused, `NoMemory`.
+    /// The setting of all moves over an instance. The error is lack of memory.
     pub fn new(alloc: Global, instance: &'a Instance) -> Result<Setting<'a>, NoMemory>
         ensures { IfOk result (λ setting. setting ≡ instance.now) }
     {
@@ -59,7 +59,7 @@ impl<'a> Setting<'a> {
         &self.arcs
     }
 
-    /// Which places lie near which.
+    /// The near places of each place.
     #[inline(always)]
     pub(crate) fn near(&self) -> &Near
         ensures { result.now ≡ place_count self.now }
@@ -67,7 +67,7 @@ impl<'a> Setting<'a> {
         &self.near
     }
 
-    /// The most routes that a plan may have.
+    /// The most routes of a plan.
     pub(crate) fn trucks(&self) -> u16 {
         match self.instance.trucks() {
             Some(trucks) => trucks,

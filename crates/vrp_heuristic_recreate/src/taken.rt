@@ -1,4 +1,4 @@
-//! The customers that were taken out, in the order in which they are put back.
+//! The removed customers, in the order in which they are put back.
 ghost use Rattle.std.specs.Prelude.{◌≡◌, ◌<◌, IfOk};
 ghost use Rattle.std.specs.List.{All};
 ghost use Rattle.vrp_heuristic_recreate.specs.Inner.Turns.{IsTurn};
@@ -10,14 +10,14 @@ use std::alloc::Global;
 use std::marker::Model;
 use vrp_model::{Instance, NoMemory};
 
-/// When a customer is put back; turns are compared by number, the lowest first, and then by place.
+/// The turn of a customer; turns are compared by number, the lowest first, and then by place.
 #[derive(Clone, Copy, Debug, PartialEq, Eq, PartialOrd, Ord)]
 pub(crate) struct Turn {
     number: u64,
     pub customer: u16,
 }
 
-/// By what customers are put back.
+/// The order in which customers are put back.
 #[derive(Clone, Copy, Debug)]
 enum Order {
     Chance,
@@ -26,7 +26,7 @@ enum Order {
     Nearest,
 }
 
-/// The customers that were taken out. There is room for all, so that no move allocates. Public for tests alone.
+/// The removed customers. There is room for all, so no move allocates. Public for tests alone.
 #[derive(Debug, Drop)]
 pub struct Taken {
     places: u16,
@@ -38,7 +38,7 @@ impl Model for Taken {
     ghost use Rattle.std.specs.List.{All};
     ghost use Rattle.vrp_heuristic_recreate.specs.Inner.Turns.{IsTurn};
 
-    // How many places there are.
+    // The number of places.
     ghost Value = { ℕ };
 
     ghost view = { λ a. a.places };
@@ -47,7 +47,7 @@ impl Model for Taken {
 }
 
 impl Taken {
-    /// Nobody, and room for all customers of an instance. That it is so is left open. Where memory was refused, `NoMemory`.
+    /// An empty list with room for all customers of an instance; no clause says so. The error is lack of memory.
     pub fn new(alloc: Global, instance: &Instance) -> Result<Taken, NoMemory>
         ensures { IfOk result (λ taken. taken ≡ place_count instance.now) }
     {
@@ -59,14 +59,14 @@ impl Taken {
         })
     }
 
-    /// Takes everybody off the list.
+    /// Empties the list.
     pub(crate) fn clear(&mut self)
         ensures { self.new ≡ self.old }
     {
         self.turns.clear();
     }
 
-    /// The customers' turns, in their order.
+    /// The customers' turns, in order.
     pub(crate) fn turns(&self) -> &[Turn]
         ensures { All (IsTurn self.now) result.now }
     {
@@ -86,7 +86,7 @@ impl Taken {
         }
     }
 
-    /// Puts the customers into one of four orders, by chance.
+    /// Puts the customers into one of four orders at random.
     pub(crate) fn sort(&mut self, setting: &Setting<'_>, random: &mut Random)
         requires { self.old ≡ place_count setting.now }
         ensures { self.new ≡ self.old }
@@ -101,7 +101,7 @@ impl Taken {
     }
 }
 
-// Numbers the turns by what they are ordered by, and sorts them.
+// Numbers the turns by the order, and sorts them.
 fn sort_turns(turns: &mut Vec<Turn>, setting: &Setting<'_>, random: &mut Random, order: Order)
     requires { All (IsTurn (place_count setting.now)) turns.old.items }
     ensures { All (IsTurn (place_count setting.now)) turns.new.items }

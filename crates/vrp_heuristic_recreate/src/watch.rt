@@ -1,21 +1,20 @@
-//! Who waits for runs: may stop them, hears of each cheaper cost, and knows how much time there is.
+//! The watch of runs: it may stop them, hears of each cheaper cost, and knows the time that is left.
 
-/// Who waits for runs of ruin and recreate. Nothing rests on what it answers.
+/// The watch of runs of ruin and recreate. No result depends on its answers.
 pub trait Watch {
-    /// Whether to go on; it is asked before each move.
+    /// Whether to continue; called before each move.
     fn should_continue(&self) -> bool;
 
-    /// Routes were found that cost so much, less than any that this run had before; they may leave customers unserved, and cost more
-    /// than any plan then.
+    /// The run found routes of this cost, its cheapest so far. They may leave customers unserved; then they cost more than any plan.
     fn on_cost(&self, _cost: u64) {}
 
-    /// How many milliseconds are left, if a time is set.
+    /// The milliseconds that are left, if a time is set.
     fn milliseconds_left(&self) -> Option<u64> {
         None
     }
 }
 
-/// Who waits for as long as it takes.
+/// A watch that waits as long as it takes.
 #[derive(Clone, Copy, Debug)]
 pub struct Unhurried;
 

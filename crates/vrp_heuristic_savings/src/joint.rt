@@ -1,4 +1,4 @@
-//! Joints: where one route may be joined to another, and what is lost by it.
+//! Joints: where one route may be joined to another, and the loss by that.
 ghost use Rattle.std.specs.Prelude.{◌≡◌, ◌≤◌, ◌<◌, IfOk, OnOk, vec_len};
 ghost use Rattle.std.specs.List.{All};
 ghost use Rattle.vrp_model.specs.Problem.{place_count};
@@ -8,16 +8,16 @@ use crate::reach::Reach;
 use std::alloc::Global;
 use vrp_model::{Instance, MAX_WEIGHT, NoMemory};
 
-/// The end of one route and the start of another. Joints are compared by what is lost, and then by the two places.
+/// The end of one route and the start of another. Joints are compared by loss, and then by the two places.
 #[derive(Clone, Copy, Debug, PartialEq, Eq, PartialOrd, Ord)]
 pub(crate) struct Joint {
-    // The least is joined first: ten times what a joint costs beyond the greatest saving that there can be.
+    // Ten times the difference between the greatest possible saving and this one; the least loss is joined first.
     loss: u64,
     pub from: u16,
     pub to: u16,
 }
 
-/// The joints between near neighbours: in a symmetric instance each pair once, and elsewhere both ways.
+/// The joints between near neighbours: each pair once in a symmetric instance, and otherwise both ways.
 pub(crate) fn list_joints(
     alloc: Global,
     instance: &Instance,
@@ -55,7 +55,7 @@ fn push_joints(
     Ok(())
 }
 
-/// Sorts joints, the best first, where an arc between customers counts this many tenths of its weight.
+/// Sorts joints, the best first, if an arc between customers counts this many tenths of its weight.
 pub(crate) fn sort_joints(instance: &Instance, tenths: u64, joints: &mut Vec<Joint>)
     requires tenths { tenths ≤ 20 }
     requires between { All (IsBetween (place_count instance.now)) joints.old.items }
@@ -69,7 +69,7 @@ pub(crate) fn sort_joints(instance: &Instance, tenths: u64, joints: &mut Vec<Joi
     joints.sort_unstable();
 }
 
-// Twenty times the greatest weight, less the saving in tenths: the two arcs by the depot, less the arc between, which counts so
+// Twenty times the greatest weight, minus the saving in tenths: the two arcs at the depot, minus the arc between, which counts this
 // many tenths of its weight.
 fn loss(instance: &Instance, tenths: u64, from: u16, to: u16) -> u64
     requires tenths { tenths ≤ 20 }

@@ -1,4 +1,4 @@
-//! A heuristic plan by savings: routes of one customer each, joined end to end where that saves most.
+//! A heuristic plan by savings: routes of one customer each are joined end to end where that saves most.
 #![tactic(auto)]
 
 mod joint;

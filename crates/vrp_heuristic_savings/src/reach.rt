@@ -1,12 +1,12 @@
-//! How far each customer's nearest neighbours lie.
+//! The reach of each customer: the distance of its near neighbours.
 ghost use Rattle.std.specs.Prelude.{◌≡◌, ◌<◌, IfOk, vec_len};
 ghost use Rattle.vrp_model.specs.Problem.{place_count};
 
 use std::alloc::Global;
 use vrp_model::{Instance, NoMemory};
 
-/// How many neighbours of each customer are near. Joining more of them seldom gains anything, and sorting them would take most
-/// of the time.
+/// The number of near neighbours of each customer. Joining to more of them seldom gains anything, and sorting them would take most of
+/// the time.
 const MOST_NEAR: usize = 40;
 
 /// An arc to a place; arcs are compared by weight and then by place.
@@ -16,7 +16,7 @@ struct Arc {
     to: u16,
 }
 
-/// Of each place the arc to the farthest of its near neighbours.
+/// For each place the arc to the farthest of its near neighbours.
 #[derive(Debug, Drop)]
 pub(crate) struct Reach {
     farthest: Vec<Arc>,
@@ -52,7 +52,7 @@ impl Reach {
     }
 }
 
-// Puts the arcs from a place to all customers but itself into a list, in place of what stands there.
+// Replaces the contents of a list by the arcs from a place to all customers but itself.
 fn list_arcs(instance: &Instance, from: u16, arcs: &mut Vec<Arc>) -> Result<(), NoMemory>
     requires { from < place_count instance.now }
 {
@@ -66,7 +66,7 @@ fn list_arcs(instance: &Instance, from: u16, arcs: &mut Vec<Arc>) -> Result<(), 
     Ok(())
 }
 
-// The last of the arcs that are near, among arcs in order; an arc to the place itself where there is none.
+// The last near arc among arcs in order; an arc to the place itself if there is none.
 fn farthest_near(arcs: &[Arc], from: u16) -> Arc {
     let near = arcs.len().min(MOST_NEAR);
     if near == 0 {

@@ -10,13 +10,13 @@ use std::alloc::Global;
 use std::marker::Model;
 use vrp_model::{Instance, MAX_CAPACITY, NoMemory};
 
-/// A customer's neighbours on its route, 0 where the depot is the neighbour. In a symmetric instance a route has no direction,
-/// and which neighbour is called `after` says nothing.
+/// A customer's neighbours on its route, 0 for the depot. In a symmetric instance a route has no direction, and the names of the
+/// neighbours have no meaning.
 #[derive(Clone, Copy, Debug)]
 struct Stop {
     before: u16,
     after: u16,
-    // At the two ends of a route: the other end, and what the route carries.
+    // At the two ends of a route: the other end, and the load of the route.
     far: u16,
     load: u64,
 }
@@ -24,9 +24,9 @@ struct Stop {
 /// Routes that serve each customer once, by their stops. Public for tests alone.
 #[derive(Debug, Drop)]
 pub struct Routes {
-    // By place; the depot's is of no account.
+    // By place; the depot's has no meaning.
     stops: Vec<Stop>,
-    // How many routes there are.
+    // The number of routes.
     count: u16,
 }
 
@@ -35,7 +35,7 @@ impl Model for Routes {
     ghost use Rattle.std.specs.List.{All};
     ghost use Rattle.vrp_heuristic_savings.specs.Inner.Stops.{IsStop};
 
-    // How many places there are.
+    // The number of places.
     ghost Value = { ℕ };
 
     ghost view = { λ a. length a.stops.items };
@@ -44,7 +44,7 @@ impl Model for Routes {
 }
 
 impl Routes {
-    /// A route for each customer of an instance. Which customers they serve is left open. Where memory was refused, `NoMemory`.
+    /// A route for each customer of an instance. No clause says which customers they serve. The error is lack of memory.
     pub fn one_each(alloc: Global, instance: &Instance) -> Result<Routes, NoMemory>
         ensures { IfOk result (λ routes. routes ≡ place_count instance.now) }
     {
@@ -61,7 +61,7 @@ impl Routes {
         Ok(Routes { stops, count })
     }
 
-    /// Joins the routes at those of the joints where it can be, in their order.
+    /// Joins the routes at the joints where that is possible, in their order.
     pub(crate) fn join_all(&mut self, instance: &Instance, joints: &[Joint])
         requires places { self.old ≡ place_count instance.now }
         requires between { All (IsBetween (place_count instance.now)) joints.now }
@@ -75,8 +75,8 @@ impl Routes {
         }
     }
 
-    // Whether two places are an end and a start of different routes, which one truck can carry, and joining them makes the plan
-    // no costlier or spares a truck that isn't there.
+    // Whether two places are an end and a start of different routes that one truck can carry together, and joining them makes the plan
+    // no costlier or saves a truck beyond the limit.
     fn may_join(&self, instance: &Instance, from: u16, to: u16) -> bool
         requires places { self.now ≡ place_count instance.now }
         requires from { from < self.now }
@@ -96,7 +96,7 @@ impl Routes {
         end.load + start.load <= instance.capacity() && (saves || !has_trucks)
     }
 
-    // Joins two routes of which one ends and one starts at these places, where one truck can carry both.
+    // Joins two routes, one ending and one starting at these places, which one truck can carry.
     fn join(&mut self, from: u16, to: u16)
         requires from { from < self.old }
         requires to { to < self.old }
@@ -112,21 +112,15 @@ impl Routes {
         self.count = self.count.saturating_sub(1);
     }
 
-    // Says of an end of a route where the other end is, and what the route carries.
+    // Notes at an end of a route the other end and the load.
     fn set_far(&mut self, place: u16, far: u16, load: u64)
         requires place { place < self.old }
         requires far { far < self.old }
         requires load { load ≤ MAX_CAPACITY }
         ensures { self.new ≡ self.old }
     {
-        let Stop { before, after, .. } = self.stops[usize::from(place)];
-        let stop = Stop {
-            before,
-            after,
-            far,
-            load,
-        };
-        self.set(place, stop);
+        let stop = self.stops[usize::from(place)];
+        self.set(place, Stop { far, load, ..stop });
     }
 
     fn set(&mut self, place: u16, stop: Stop)
@@ -137,9 +131,9 @@ impl Routes {
         self.stops[usize::from(place)] = stop;
     }
 
-    /// The routes as a word: by rising first customer, each followed by 0. In a symmetric instance each runs from the lower of its
-    /// ends. There is room for two symbols a customer, which is enough for any plan. Where memory was refused, `NoMemory`. Which word
-    /// is answered is left open, and so is its room.
+    /// The routes as a word: by rising first customer, each followed by 0. In a symmetric instance each runs from the lower of its ends. The
+    /// word has room for two symbols a customer, which is enough for any plan. The error is lack of memory. No clause pins the word or its
+    /// room.
     pub fn word(&self, alloc: Global, instance: &Instance) -> Result<Vec<u16>, NoMemory>
         requires { self.now ≡ place_count instance.now }
     {
@@ -178,7 +172,7 @@ impl Routes {
         Ok(())
     }
 
-    // The neighbour of a place that isn't the last one.
+    // The neighbour of a place, other than the last one.
     fn next(&self, last: u16, at: u16) -> u16
         requires { at < self.now }
         ensures { result < self.now }
@@ -193,55 +187,35 @@ impl Routes {
 }
 
 impl Stop {
-    // The stop with a neighbour more, behind it if there is none.
+    // The stop with one more neighbour, after it if there is none.
     fn beside(self, place: u16) -> Stop
         ensures { (places : ℕ) → IsStop places self → place < places → IsStop places result }
     {
-        let Stop {
-            before,
-            after,
-            far,
-            load,
-        } = self;
-        if after == 0 {
+        if self.after == 0 {
             return Stop {
-                before,
                 after: place,
-                far,
-                load,
+                ..self
             };
         }
         Stop {
             before: place,
-            after,
-            far,
-            load,
+            ..self
         }
     }
 
-    // The stop with a neighbour more, before it if there is none.
+    // The stop with one more neighbour, before it if there is none.
     fn beside_first(self, place: u16) -> Stop
         ensures { (places : ℕ) → IsStop places self → place < places → IsStop places result }
     {
-        let Stop {
-            before,
-            after,
-            far,
-            load,
-        } = self;
-        if before == 0 {
+        if self.before == 0 {
             return Stop {
                 before: place,
-                after,
-                far,
-                load,
+                ..self
             };
         }
         Stop {
-            before,
             after: place,
-            far,
-            load,
+            ..self
         }
     }
 }

@@ -1,4 +1,4 @@
-//! The plan by savings: the best of several weights of the arc that is saved.
+//! The plan by savings: the best one over several weights of the arc between customers.
 ghost use Rattle.std.specs.Prelude.{IfOk, IfSome};
 ghost use Rattle.std.specs.List.{All};
 ghost use Rattle.vrp_model.specs.Problem.{place_count};
@@ -12,19 +12,19 @@ use std::alloc::Global;
 use vrp_model::{Instance, NoMemory, Plan};
 use vrp_search_tree::lawful_plan;
 
-/// The weights of the arc between two customers that are tried, in tenths.
+/// The weights, in tenths, that are tried for the arc between two customers.
 const LEAST_TENTHS: u64 = 4;
 
 const MOST_TENTHS: u64 = 20;
 
-/// A plan by savings, of Clarke and Wright: at first a truck goes to each customer, and then routes are joined end to end, at
-/// the joint that saves most first, while the load fits. In a symmetric instance a route may be turned round for it. The arc
-/// between two customers counts from 4 to 20 tenths of its weight, and of these plans the first by cost and then by word is
-/// answered. Each customer is joined to some 40 nearest neighbours alone, or to those whose near neighbour it is; a joint that
-/// makes the plan costlier is made only where there are more routes than trucks.
+/// A plan by savings (Clarke and Wright 1964). At first a truck goes to each customer; then routes are joined end to end, the largest
+/// saving first, while the load fits. In a symmetric instance a route may be reversed for that. The arc between two customers counts from
+/// 4 to 20 tenths of its weight; the answer is the first of these plans, by cost and then by word. Each customer is joined only to its
+/// some 40 nearest neighbours, or to those whose near neighbour it is. A joint that makes the plan costlier is made only if there are
+/// more routes than trucks.
 ///
-/// `None`: no such plan is feasible, as with a limit on trucks that it can't meet. Which feasible plan is answered is left open,
-/// and so is when there is none.
+/// `None`: no such plan is feasible, for example within a limit on trucks. The contract leaves open which feasible plan is answered, and
+/// when there is none.
 pub fn savings_plan(alloc: Global, instance: &Instance) -> Result<Option<Plan>, NoMemory>
     ensures { IfOk result (λ plan. IfSome plan (IsPlanOf instance.now)) }
 {
@@ -38,7 +38,7 @@ pub fn savings_plan(alloc: Global, instance: &Instance) -> Result<Option<Plan>, 
     Ok(best)
 }
 
-// The plan that routes become that are joined at these joints, where it is before the best so far, or else that one.
+// The plan of the routes after joining at these joints, if it is before the best so far, otherwise that one.
 fn better(
     alloc: Global,
     instance: &Instance,
@@ -58,7 +58,7 @@ fn better(
     }
 }
 
-// The plan that routes become that are joined at these joints, if it is feasible.
+// The plan of the routes after joining at these joints, if it is feasible.
 fn joined(alloc: Global, instance: &Instance, joints: &[Joint]) -> Result<Option<Plan>, NoMemory>
     requires { All (IsBetween (place_count instance.now)) joints.now }
     ensures { IfOk result (λ plan. IfSome plan (IsPlanOf instance.now)) }

@@ -1,4 +1,4 @@
--- What it is that no feasible plan costs less.
+-- The statement that no feasible plan costs less.
 use Rattle.std.specs.Prelude.{ℕ, ◌≤◌, Option, unwrap_or, List}
 use Rattle.std.specs.Option.{option_map}
 use Rattle.vrp_model.specs.declared.limits.TheConstants.{NO_COST}
@@ -13,6 +13,6 @@ NoneCheaper p cost = (routes : List (List ℕ)) → IsLawful p routes → cost �
 abbrev pub HasNoPlan : Problem → Type 0
 HasNoPlan p = (routes : List (List ℕ)) → IsLawful p routes → ⊥
 
--- what a plan costs; where there is none, more than any plan does
+-- the cost of a plan, or `NO_COST`, more than any plan costs, if there is none
 abbrev pub cost_of : Option PricedPlan → ℕ
 cost_of found = unwrap_or (option_map (λ plan. plan.cost) found) NO_COST

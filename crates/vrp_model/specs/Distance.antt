@@ -1,26 +1,26 @@
--- Distances between points in the plane, as TSPLIB 95 (section 2, "The distance functions") has them, but over exact numbers.
+-- Distances between points in the plane, as in TSPLIB 95 (section 2, "The distance functions"), but in exact arithmetic.
 use Rattle.std.specs.Prelude.{◌≡◌, ℕ, ◌+◌, ◌-◌, ◌*◌, ◌≤◌, ◌<◌, max, ℤ, ◌-ℤ◌, unsigned_abs}
 use Rattle.vrp_model.specs.declared.metric.Metric.{Metric}
 use Rattle.vrp_model.specs.declared.metric.Metric.TheVariants.{Euc2d, Ceil2d, Man2d, Max2d, Att}
 
--- the whole root
+-- the integer square root
 pub record IsRoot (x k : ℕ) : Type 0 where
   pub within : k * k ≤ x
   pub greatest : (j : ℕ) → j * j ≤ x → j ≤ k
 
--- the square of the straight line between two points
+-- the square of the straight-line distance of two points
 abbrev pub square_between : ℤ × ℤ → ℤ × ℤ → ℕ
 square_between a b =
     let east = unsigned_abs (a.0 -ℤ b.0) in
     let north = unsigned_abs (a.1 -ℤ b.1) in
     east * east + north * north
 
--- the whole number nearest to the root of s: 2k - 1 ≤ 2 * root < 2k + 1
+-- the whole number k nearest to the root of s: 2k - 1 ≤ 2 * root < 2k + 1
 pub record IsEuclidean (s k : ℕ) : Type 0 where
   pub below : 4 * s < (2 * k + 1) * (2 * k + 1)
   pub above : 0 < k → (2 * k - 1) * (2 * k - 1) ≤ 4 * s
 
--- the least whole number that is no less than the root
+-- the root of s, rounded up
 pub record IsCeiling (s k : ℕ) : Type 0 where
   pub reaches : s ≤ k * k
   pub least : (j : ℕ) → s ≤ j * j → k ≤ j
@@ -30,7 +30,7 @@ pub record IsPseudoEuclidean (s k : ℕ) : Type 0 where
   pub reaches : s ≤ 10 * (k * k)
   pub least : (j : ℕ) → s ≤ 10 * (j * j) → k ≤ j
 
--- along the axes: the sum of the two coordinates' differences
+-- the sum of the coordinates' differences
 abbrev pub manhattan : ℤ × ℤ → ℤ × ℤ → ℕ
 manhattan a b = unsigned_abs (a.0 -ℤ b.0) + unsigned_abs (a.1 -ℤ b.1)
 

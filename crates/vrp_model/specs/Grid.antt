@@ -1,4 +1,4 @@
--- The weights between the nodes of a file, and what makes them the distances of the nodes' points.
+-- The weights between the nodes of a file, and when they are the distances of the nodes' points.
 use Rattle.std.specs.Prelude.{◌≡◌, ℕ, ◌+◌, ◌-◌, ◌*◌, ◌≤◌, ℤ, neg_ℤ, ◌≤ℤ◌, Some, List, length, slice_get, slice_index}
 use Rattle.vrp_model.specs.declared.metric.Metric.{Metric}
 use Rattle.vrp_model.specs.Distance.{IsDistance}
@@ -15,7 +15,7 @@ grid_of nodes entries = record { nodes = nodes; entries = entries }
 abbrev pub entry_at : Grid → ℕ → ℕ → ℕ
 entry_at grid from to = slice_index grid.entries ((from - 1) * grid.nodes + (to - 1))
 
--- what is known of every such grid
+-- an invariant of every such grid
 pub record IsGrid (grid : Grid) : Type 0 where
   pub some : 1 ≤ grid.nodes
   pub few : grid.nodes ≤ MAX_NODES

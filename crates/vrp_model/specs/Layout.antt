@@ -26,7 +26,7 @@ goes_by_rows LowerCol = false
 goes_by_rows UpperDiagCol = false
 goes_by_rows LowerDiagCol = false
 
--- whether a layout lists a cell: those on one side of the diagonal, or with it
+-- whether a layout lists a cell: the cells on one side of the diagonal, with or without the diagonal
 abbrev pub lists : Layout → ℕ × ℕ → Bool
 lists FullMatrix cell = true
 lists UpperRow cell = nat_lt cell.0 cell.1
@@ -42,13 +42,13 @@ lists LowerDiagCol cell = nat_le cell.1 cell.0
 abbrev pub cells : Layout → ℕ → List (ℕ × ℕ)
 cells layout n = filter (lists layout) (if goes_by_rows layout then cells_by_rows n else cells_by_columns n)
 
--- the one layout whose weights hold one way only
+-- the only layout in which a weight holds in one direction
 abbrev pub is_full : Layout → Bool
 is_full FullMatrix = true
 is_full layout = false
 
--- The k-th entry is the weight of the k-th cell, and, but for a full matrix, of the reverse arc too. A cell on the diagonal that
--- the layout doesn't list has the weight 0.
+-- The k-th entry is the weight of the k-th cell and, unless the matrix is full, of the reverse arc. An unlisted cell on the
+-- diagonal has the weight 0.
 pub record HasEntries (layout : Layout) (entries : List ℕ) (grid : Grid) : Type 0 where
   pub there : (k row column : ℕ) → slice_get (cells layout grid.nodes) k ≡ Some (row, column) → entry_at grid row column ≡ slice_index entries k
   pub back : is_full layout ≡ false → (k row column : ℕ) → slice_get (cells layout grid.nodes) k ≡ Some (row, column) → entry_at grid column row ≡ slice_index entries k

@@ -9,11 +9,11 @@ pub record Problem : Type 0 where
   pub nodes : List ℕ
   -- the demand of each place; the depot's is 0
   pub demands : List ℕ
-  -- row by row: from each place, to each place
+  -- the weights from each place to each place, row by row
   pub weights : List ℕ
-  -- what one truck can carry
+  -- the capacity of a truck
   pub capacity : ℕ
-  -- how many trucks there are; None: as many as are wanted
+  -- the number of trucks; None: no limit
   pub trucks : Option ℕ
 
 abbrev pub place_count : Problem → ℕ
@@ -39,15 +39,15 @@ HasTrucks p routes = ForSome p.trucks (λ trucks. routes ≤ trucks)
 abbrev pub HasTruckForEach : Problem → Type 0
 HasTruckForEach p = HasTrucks p (length (customers p))
 
--- the same places and trucks with these weights, demands and capacity
+-- the problem with these weights, demands and capacity; places and trucks stay
 abbrev pub with_amounts : Problem → List ℕ → List ℕ → ℕ → Problem
 with_amounts p weights demands capacity = record p { weights = weights; demands = demands; capacity = capacity }
 
--- between any two places there and back cost the same
+-- an arc and its reverse always cost the same
 abbrev pub IsSymmetric : Problem → Type 0
 IsSymmetric p = (from to : ℕ) → from < place_count p → to < place_count p → weight_of p from to ≡ weight_of p to from
 
--- what is known of every problem that is made from a file
+-- an invariant of every problem made from a file
 pub record IsProblem (p : Problem) : Type 0 where
   pub some_places : 1 ≤ place_count p
   pub few_places : place_count p ≤ MAX_NODES

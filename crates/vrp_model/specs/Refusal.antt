@@ -1,10 +1,10 @@
--- Which refusal a request for an instance means.
+-- The refusal that a request for an instance means.
 use Rattle.std.specs.Prelude.{◌≡◌, true, false}
 use Rattle.vrp_model.specs.Request.{Request, is_listed, NoDepotHasDemand, IsLowestDepotWithDemand, IsLowestTooHeavy, IsAcceptable}
 use Rattle.vrp_model.specs.declared.instance.InstanceError.{InstanceError}
 use Rattle.vrp_model.specs.declared.instance.InstanceError.TheVariants.{DepotDemand, NotADepot, DemandOverCapacity, OutOfMemory}
 
--- The first of three faults, in this order. Want of memory is no fault of the request.
+-- The first of three faults, in this order. Lack of memory is not a fault of the request.
 abbrev pub IsRefusal : Request → InstanceError → Type 0
 IsRefusal request (DepotDemand node) = IsLowestDepotWithDemand request.depots request.demands node
 IsRefusal request (NotADepot node) =

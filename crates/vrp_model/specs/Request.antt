@@ -1,6 +1,6 @@
--- What an instance is made from: demands by node number, listed depots, and the node that is chosen as the depot.
--- (TSPLIB 95, section 1.2, DEMAND_SECTION and DEPOT_SECTION. That one of several depots is chosen, and the others are
--- neither depot nor customers, is this project's rule.)
+-- The parts of an instance: demands by node number, listed depots, and the node chosen as the depot. (TSPLIB 95, section 1.2,
+-- DEMAND_SECTION and DEPOT_SECTION. This project adds the rule that one of several depots is chosen and the others are
+-- neither depot nor customers.)
 use Rattle.std.specs.Prelude.{◌≡◌, ℕ, Option, None, unwrap_or, ◌-◌, ◌≤◌, ◌<◌, Bool, true, false, not, ◌==◌, List, ◌∷◌, EachIndex, length, map, filter, slice_index}
 use Rattle.std.specs.List.{range_with_len, flat_map, list_any}
 use Rattle.vrp_model.specs.Grid.{Grid, entry_at}
@@ -8,20 +8,20 @@ use Rattle.vrp_model.specs.Problem.{Problem}
 
 pub record Request : Type 0 where
   pub grid : Grid
-  -- of node 1, node 2 and so on
+  -- the demands of node 1, node 2 and so on
   pub demands : List ℕ
   pub capacity : ℕ
   -- the listed depots
   pub depots : List ℕ
-  -- the one that is to be the depot
+  -- the listed depot to use
   pub chosen : ℕ
 
--- a request whose depot is this one
+-- the request with this depot
 abbrev pub request_at : Grid → List ℕ → ℕ → List ℕ → ℕ → Request
 request_at grid demands capacity depots depot =
     record { grid = grid; demands = demands; capacity = capacity; depots = depots; chosen = depot }
 
--- the first listed depot is the depot, where none is chosen
+-- the depot is the chosen one, or the first listed one if none is chosen
 abbrev pub request_of : Grid → List ℕ → ℕ → List ℕ → Option ℕ → Request
 request_of grid demands capacity depots chosen =
     request_at grid demands capacity depots (unwrap_or chosen (slice_index depots 0))
@@ -54,12 +54,12 @@ problem_of request = record {
   trucks = None;
 }
 
--- a listed depot that has a demand
+-- a listed depot has a demand
 pub record IsDepotWithDemand (depots demands : List ℕ) (node : ℕ) : Type 0 where
   pub listed : is_listed depots node ≡ true
   pub demand : 0 < node_demand demands node
 
--- a customer whose demand no truck can carry
+-- a customer demands more than the capacity
 pub record IsTooHeavy (depots demands : List ℕ) (capacity node : ℕ) : Type 0 where
   pub from_one : 1 ≤ node
   pub within : node ≤ length demands
@@ -72,7 +72,7 @@ NoDepotHasDemand depots demands = (node : ℕ) → ¬ IsDepotWithDemand depots d
 abbrev pub NoneIsTooHeavy : List ℕ → List ℕ → ℕ → Type 0
 NoneIsTooHeavy depots demands capacity = (node : ℕ) → ¬ IsTooHeavy depots demands capacity node
 
--- no lower node has this fault
+-- no lower node has the fault
 pub record IsLowestDepotWithDemand (depots demands : List ℕ) (node : ℕ) : Type 0 where
   pub has : IsDepotWithDemand depots demands node
   pub lowest : (other : ℕ) → IsDepotWithDemand depots demands other → node ≤ other

@@ -7,19 +7,19 @@ use Rattle.vrp_model.specs.Problem.{HasTrucks, Problem, customers, demand_of, we
 abbrev pub load_of : Problem → List ℕ → ℕ
 load_of p stops = sum_by (demand_of p) stops
 
--- from a place through the stops, to the last of them
+-- the cost from a place through the stops, up to the last one
 abbrev pub cost_along : Problem → ℕ → List ℕ → ℕ
 cost_along p at [] = 0
 cost_along p at (stop ∷ stops) = weight_of p at stop + cost_along p stop stops
 
--- from the depot through the stops, and back
+-- the cost from the depot through the stops and back
 abbrev pub route_cost : Problem → List ℕ → ℕ
 route_cost p stops = cost_along p 0 (stops ++ 0 ∷ [])
 
 abbrev pub plan_cost : Problem → List (List ℕ) → ℕ
 plan_cost p routes = sum_by (route_cost p) routes
 
--- each customer stands in one route, once, and nothing else stands in any
+-- each customer is in exactly one route, once, and nothing else is in any
 abbrev pub ServesEachOnce : Problem → List (List ℕ) → Type 0
 ServesEachOnce p routes = IsPermutation (concat routes) (customers p)
 
@@ -33,7 +33,7 @@ pub record IsLawful (p : Problem) (routes : List (List ℕ)) : Type 0 where
   pub fits : OverloadsNoTruck p routes
   pub few : HasTrucks p (length routes)
 
--- routes, and what they are said to cost
+-- routes and their stated cost
 pub record PricedPlan : Type 0 where
   pub routes : List (List ℕ)
   pub cost : ℕ
@@ -43,11 +43,11 @@ pub record IsPlanOf (p : Problem) (plan : PricedPlan) : Type 0 where
   pub lawful : IsLawful p plan.routes
   pub priced : plan.cost ≡ plan_cost p plan.routes
 
--- one truck to each customer, by rising place
+-- one route for each customer, by rising place
 abbrev pub SendsOneToEach : Problem → PricedPlan → Type 0
 SendsOneToEach p plan = plan.routes ≡ map (λ customer. customer ∷ []) (customers p)
 
--- each route as it is, or turned round: from its last stop to its first
+-- each route is the same or reversed
 abbrev pub AreTurned : List (List ℕ) → List (List ℕ) → Type 0
 AreTurned [] [] = Unit {0}
 AreTurned [] (other ∷ others) = ⊥

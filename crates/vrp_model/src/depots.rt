@@ -1,14 +1,14 @@
-//! The listed depots of a file, and the nodes that are at fault under them.
+//! The listed depots of a file, and the faulty nodes for these depots.
 ghost use Rattle.std.specs.Prelude.{◌≡◌, ℕ, ◌+◌, ◌-◌, ◌≤◌, ◌<◌, IfNone, IfSome, List, length, slice_index, false};
 ghost use Rattle.vrp_model.specs.Request.{is_listed, NoDepotHasDemand, NoneIsTooHeavy, IsLowestDepotWithDemand, IsLowestTooHeavy};
 
 use crate::limits::MAX_NODES;
 use std::marker::Model;
 
-// A mark for each node number from 0 to the most nodes of a file.
+// The number of marks: one for each node number from 0 to the greatest.
 const MARKS: usize = MAX_NODES as usize + 1;
 
-/// The listed depots, with a mark for each node: a look-up takes one step, however often a depot is listed.
+/// The listed depots, with a mark for each node. A look-up takes one step, however often a depot is listed.
 #[derive(Drop)]
 pub(crate) struct Depots<'a> {
     listed: &'a [u16],

@@ -17,7 +17,7 @@ use std::alloc::{AllocError, Global};
 use std::marker::Model;
 use thiserror::Error;
 
-/// Why no instance was made: the first fault in this order. Each names the lowest node that has it.
+/// Why no instance was made: the first fault in this order, with the lowest node that has it.
 #[derive(Clone, Copy, Debug, PartialEq, Eq, Error)]
 pub enum InstanceError {
     /// A listed depot has a demand.
@@ -29,7 +29,7 @@ pub enum InstanceError {
     /// A customer's demand is above the capacity.
     #[error("node {0}: demand above capacity")]
     DemandOverCapacity(u16),
-    /// A growth was refused. The faults are looked for before any growth, so the request has none.
+    /// An allocation was refused. The faults are checked before any allocation, so the request has none.
     #[error("out of memory")]
     OutOfMemory,
 }
@@ -42,7 +42,7 @@ pub struct Instance {
     weights: Vec<u32>,
     capacity: u64,
     trucks: Option<u16>,
-    // Into each place; into the depot it is 0 where there is no customer.
+    // The least arc into each place; for the depot 0 if there is no customer.
     least_in: Vec<u32>,
     symmetric: bool,
 }
@@ -65,9 +65,9 @@ impl Instance {
     ghost use Rattle.vrp_model.specs.Request.{NoneAbove, request_at, request_of};
     ghost use Rattle.vrp_model.specs.Refusal.{IsRefusal};
 
-    /// The instance of a file's weights, its demands by node number, what a truck can carry, and its listed depots.
-    /// The depot is the chosen one, or else the first that is listed. A fault is looked for in the order of
-    /// `InstanceError`, and before any growth.
+    /// The instance of a file's weights, its demands by node number, the capacity of a truck, and its listed depots. The
+    /// depot is the chosen node, or else the first listed one. Faults are checked in the order of `InstanceError`, before any
+    /// allocation.
     pub fn new(
         alloc: Global,
         weights: Weights,
@@ -93,7 +93,7 @@ impl Instance {
         if let Some(node) = listed.lowest_with_demand(demands) {
             return Err(InstanceError::DepotDemand(node));
         }
-        // The chosen node may be past every mark, so the list itself is looked through.
+        // The chosen node may be beyond all marks, so the list itself is searched.
         if !depots.contains(&depot) {
             return Err(InstanceError::NotADepot(depot));
         }
@@ -106,7 +106,7 @@ impl Instance {
         }
     }
 
-    // The instance of a request that has no fault.
+    // The instance of a request without faults.
     fn at_depot(
         alloc: Global,
         weights: &Weights,
@@ -140,34 +140,20 @@ impl Instance {
         })
     }
 
-    /// The same instance with this many trucks: no feasible plan of it has more routes.
+    /// The instance with this many trucks: no feasible plan of it has more routes.
     pub fn with_trucks(self, trucks: u16) -> Instance
         requires some { 1 ≤ trucks }
         requires few { trucks ≤ MAX_NODES }
         ensures { result ≡ record self { trucks = Some trucks } }
     {
-        let Instance {
-            nodes,
-            demands,
-            weights,
-            capacity,
-            least_in,
-            symmetric,
-            ..
-        } = self;
         Instance {
-            nodes,
-            demands,
-            weights,
-            capacity,
             trucks: Some(trucks),
-            least_in,
-            symmetric,
+            ..self
         }
     }
 
-    /// The same places and trucks with other weights, demands and capacity. The weights stand row by row, from each place to each
-    /// place; the demands place by place.
+    /// The instance with other weights, demands and capacity, and the same places and trucks. Weights are row by row, from
+    /// each place to each place; demands are place by place.
     pub fn with_amounts(
         &self,
         alloc: Global,
@@ -198,22 +184,22 @@ impl Instance {
         })
     }
 
-    /// How many trucks there are, from 1 to 1,200; `None` where there are as many as are wanted.
+    /// The number of trucks, from 1 to 1,200; `None` if there is no limit.
     pub fn trucks(&self) -> Option<u16>
         ensures value { result ≡ self.now.trucks }
         ensures some { ForSome result (λ trucks. 1 ≤ trucks) }
         ensures few { ForSome result (λ trucks. trucks ≤ MAX_NODES) }
-        // What is known of every instance.
+        // An invariant of every instance.
         ensures problem { IsProblem self.now }
     {
         self.trucks
     }
 
-    /// How many customers there are: from 0 to 1,199.
+    /// The number of customers: from 0 to 1,199.
     pub fn customers(&self) -> u16
         ensures value { result + 1 ≡ place_count self.now }
         ensures few { result < MAX_NODES }
-        // What is known of every instance.
+        // An invariant of every instance.
         ensures problem { IsProblem self.now }
     {
         (self.nodes.len() - 1) as u16
@@ -236,7 +222,7 @@ impl Instance {
         self.demands[usize::from(place)]
     }
 
-    /// What all customers demand together.
+    /// The total demand of all customers.
     pub fn whole_demand(&self) -> u64
         ensures value { result ≡ load_of self.now (customers self.now) }
         ensures small { result ≤ MAX_WHOLE_DEMAND }
@@ -248,7 +234,7 @@ impl Instance {
         demand
     }
 
-    /// What one truck can carry.
+    /// The capacity of a truck.
     pub fn capacity(&self) -> u64
         ensures value { result ≡ self.now.capacity }
         ensures small { result ≤ MAX_CAPACITY }
@@ -267,7 +253,7 @@ impl Instance {
         u64::from(self.weights[row + usize::from(to)])
     }
 
-    /// Whether there and back cost the same between any two places.
+    /// Whether an arc and its reverse always cost the same.
     pub fn symmetric(&self) -> bool
         ensures { IsTrue result ↔ IsSymmetric self.now }
     {
@@ -284,11 +270,11 @@ impl Instance {
         u64::from(self.least_in[usize::from(customer)])
     }
 
-    /// The least weight of an arc home from a customer; 0 where there is none.
+    /// The least weight of an arc home from a customer; 0 if there is no customer.
     pub fn least_home(&self) -> u64
         ensures least { IsLeastHome self.now result }
         ensures small { result ≤ MAX_WEIGHT }
-        // What is known of every instance.
+        // An invariant of every instance.
         ensures problem { IsProblem self.now }
     {
         u64::from(self.least_in[0])

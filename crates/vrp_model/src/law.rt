@@ -1,4 +1,4 @@
-//! What is true of the definitions, whatever the code does.
+//! Laws about the definitions.
 ghost use Rattle.std.specs.Prelude.{◌≡◌, ◌≢◌, ◌⊎◌, ◌↔◌, ℕ, ℤ, ◌+◌, ◌≤◌, ◌<◌, List, [], ◌∷◌, ◌++◌};
 ghost use Rattle.std.specs.List.{All, Contains, sum_by};
 ghost use Rattle.std.specs.List.Sorted.{IsPermutation, IsStrictlyIncreasing};
@@ -11,14 +11,14 @@ ghost use Rattle.vrp_model.specs.Word.{AllRunForward, BeginsWith, HasNoCompletio
 ghost use Rattle.vrp_model.specs.declared.limits.TheConstants.{NO_COST};
 ghost use Rattle.vrp_model.specs.declared.metric.Metric.{Metric};
 
-/// Two points have one distance by a metric, and no other.
+/// Two points have exactly one distance by a metric.
 pub fn one_distance()
     ensures { (metric : Metric) (a b : ℤ × ℤ) (j k : ℕ)
         → IsDistance metric a b j → IsDistance metric a b k → j ≡ k }
 {}
 
-/// A feasible word is the word of a feasible plan whose routes rise by first customer and, in a symmetric problem, run forward. It
-/// costs what the plan costs.
+/// A feasible word is the word of a feasible plan of the same cost, whose routes rise by first customer and, in a symmetric
+/// problem, run forward.
 pub fn words_are_plans()
     ensures { (p : Problem) (word : List ℕ) → IsLawfulWord p word
         → (routes : List (List ℕ)) × (word ≡ word_of routes) × IsLawful p routes
@@ -26,49 +26,49 @@ pub fn words_are_plans()
         × (plan_cost p routes ≡ word_cost p word) }
 {}
 
-/// The word of a feasible plan whose routes rise by first customer and, in a symmetric problem, run forward is a feasible word of
-/// the same cost.
+/// If the routes of a feasible plan rise by first customer and, in a symmetric problem, run forward, its word is a feasible
+/// word of the same cost.
 pub fn plans_are_words()
     ensures { (p : Problem) (routes : List (List ℕ))
         → IsLawful p routes → IsStrictlyIncreasing (first_stops routes) → AllRunForward p routes
         → IsLawfulWord p (word_of routes) × (word_cost p (word_of routes) ≡ plan_cost p routes) }
 {}
 
-/// The routes of a feasible plan can be put in the order of their first customers, which is a feasible plan of the same cost.
+/// Sorting the routes of a feasible plan by their first customers gives a feasible plan of the same cost.
 pub fn plans_can_rise()
     ensures { (p : Problem) (routes : List (List ℕ)) → IsLawful p routes
         → (others : List (List ℕ)) × IsPermutation routes others × IsLawful p others
         × IsStrictlyIncreasing (first_stops others) × (plan_cost p others ≡ plan_cost p routes) }
 {}
 
-/// The routes of a feasible plan can be turned round so that they run forward in a symmetric problem, which is a feasible plan of
-/// the same cost.
+/// In a symmetric problem the routes of a feasible plan can be reversed so that they run forward; that gives a feasible plan
+/// of the same cost.
 pub fn plans_can_turn()
     ensures { (p : Problem) (routes : List (List ℕ)) → IsLawful p routes
         → (others : List (List ℕ)) × AreTurned routes others × IsLawful p others
         × AllRunForward p others × (plan_cost p others ≡ plan_cost p routes) }
 {}
 
-/// So every feasible plan has a feasible word of the same cost, which is no later than its own.
+/// Every feasible plan has a feasible word of the same cost that is no later than its own word.
 pub fn plans_have_words()
     ensures { (p : Problem) (routes : List (List ℕ)) → IsLawful p routes
         → (word : List ℕ) × IsLawfulWord p word × (word_cost p word ≡ plan_cost p routes)
         × (IsEarlier (word_of routes) word → ⊥) }
 {}
 
-/// No feasible plan costs as much as `NO_COST`.
+/// Every feasible plan costs less than `NO_COST`.
 pub fn plans_cost_less()
     ensures { (p : Problem) (routes : List (List ℕ))
         → IsProblem p → IsLawful p routes → plan_cost p routes < NO_COST }
 {}
 
-/// A symbol makes a child of a partial plan in three cases, and in no other.
+/// A symbol makes a child of a partial plan in exactly three cases.
 pub fn child_cases()
     ensures { (p : Problem) (prefix : List ℕ) (k : ℕ)
         → IsProblem p → IsPrefix p prefix → (IsPrefix p (prefix ++ k ∷ []) ↔ MakesChild p prefix k) }
 {}
 
-/// A feasible word that goes on behind a partial plan is under one of its children, and under no other.
+/// A feasible word that continues a partial plan is under exactly one of its children.
 pub fn one_child()
     ensures { (p : Problem) (prefix word : List ℕ)
         → IsPrefix p prefix → IsLawfulWord p word → BeginsWith word prefix → word ≢ prefix
@@ -76,8 +76,8 @@ pub fn one_child()
         × ((j : ℕ) → BeginsWith word (prefix ++ j ∷ []) → j ≡ k) }
 {}
 
-/// The tree of a partial plan is the partial plan itself and the trees of its children, so its size can be counted by hand. Symbols
-/// are those of the children, and each child's tree has its size.
+/// The tree of a partial plan is the partial plan itself and the trees of its children, so its size can be counted by hand.
+/// `symbols` are those of the children, and each child's tree has its size.
 pub fn trees_of_children()
     ensures { (p : Problem) (prefix symbols : List ℕ) (size : ℕ → ℕ)
         → IsPrefix p prefix → IsStrictlyIncreasing symbols
@@ -86,7 +86,7 @@ pub fn trees_of_children()
         → TreeHas p prefix (1 + sum_by size symbols) }
 {}
 
-/// A tree has at least this many partial plans exactly where they are no more than its size.
+/// A tree has at least this many partial plans exactly if the number is at most its size.
 pub fn tree_sizes()
     ensures { (p : Problem) (prefix : List ℕ) (size n : ℕ)
         → TreeHas p prefix size → (TreeHasAtLeast p prefix n ↔ (n ≤ size)) }
@@ -111,7 +111,7 @@ pub fn order_is_total()
         ⊎ IsBefore other plan }
 {}
 
-/// No plan is before itself, and what is before one plan is before all that this one is before.
+/// No plan is before itself, and the order is transitive.
 pub fn order_is_strict()
     ensures irreflexive { (plan : PricedPlan) → IsBefore plan plan → ⊥ }
     ensures transitive { (plan other third : PricedPlan)
@@ -125,7 +125,7 @@ pub fn equal_words_equal_plans()
         → routes ≡ others }
 {}
 
-/// A problem has one canonical plan at most.
+/// A problem has at most one canonical plan.
 pub fn one_canonical()
     ensures { (p : Problem) (plan other : PricedPlan)
         → IsCanonical p plan → IsCanonical p other → plan ≡ other }

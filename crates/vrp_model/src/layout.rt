@@ -6,7 +6,7 @@ ghost use Rattle.vrp_model.specs.Inner.Listing.{cell_on};
 /// Which weights of a matrix a file lists, and in which order (TSPLIB 95, EDGE_WEIGHT_FORMAT).
 #[derive(Clone, Copy, Debug, PartialEq, Eq)]
 pub enum Layout {
-    /// `FULL_MATRIX`: all cells, row by row; the only layout whose weights may differ there and back.
+    /// `FULL_MATRIX`: all cells, row by row; the only layout whose weights may be asymmetric.
     FullMatrix,
     /// `UPPER_ROW`: the cells right of the diagonal, row by row.
     UpperRow,
@@ -44,7 +44,7 @@ impl Layout {
         }
     }
 
-    /// Whether the weights hold one way only.
+    /// Whether a weight holds in one direction only.
     pub(crate) fn is_full(self) -> bool
         ensures { result ≡ is_full self }
     {
@@ -64,7 +64,7 @@ impl Layout {
         }
     }
 
-    /// The row and the column of a place of a line: by rows a line is a row, and otherwise a column.
+    /// The row and the column at a position of a line; a line is a row if the layout goes by rows, and otherwise a column.
     pub(crate) fn cell(self, line: u16, across: u16) -> (u16, u16)
         ensures { result ≡ cell_on self line across }
     {

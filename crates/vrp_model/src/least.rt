@@ -5,7 +5,7 @@ ghost use Rattle.vrp_model.specs.Inner.LeastArcs.{AreLeastIn, IsLeastArc};
 use crate::limits::MAX_NODES;
 use std::alloc::{AllocError, Global};
 
-/// For each place the least weight of an arc into it from another one, 0 where there is no other.
+/// For each place the least weight of an arc into it from another one; 0 if there is no other.
 pub(crate) fn least_arcs(
     alloc: Global,
     weights: &[u32],
@@ -23,7 +23,7 @@ pub(crate) fn least_arcs(
     Ok(least)
 }
 
-// The least weight of an arc into a place from another one, 0 where there is no other.
+// The least weight of an arc into a place from another one; 0 if there is no other.
 fn least_arc(weights: &[u32], places: usize, to: usize) -> u32
     requires square { length weights.now ≡ places * places }
     requires within { to < places }

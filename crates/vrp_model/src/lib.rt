@@ -1,5 +1,5 @@
-//! The capacitated vehicle routing problem: exact weights, instances and plans, and the definitions that every other
-//! crate's promises cite (`specs/`).
+//! The capacitated vehicle routing problem: exact weights, instances and plans, and the definitions that the promises of all
+//! other crates cite (`specs/`).
 #![tactic(auto)]
 
 mod depots;

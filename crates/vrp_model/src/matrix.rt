@@ -9,7 +9,7 @@ use crate::limits::{MAX_NODES, MAX_WEIGHT};
 use crate::memory::NoMemory;
 use std::alloc::Global;
 
-/// The weights from each node to each, row by row, of which a file lists some in a layout.
+/// The weights from each node to each, row by row, from the ones that a file lists in a layout.
 pub(crate) fn square(
     alloc: Global,
     layout: Layout,
@@ -32,7 +32,7 @@ pub(crate) fn square(
     Ok(square)
 }
 
-// Enters the weights of one line, after those of the lines before it, and returns which entry comes next.
+// Enters the weights of one line, after those of the lines before it, and returns the index of the next entry.
 fn fill_line(
     square: &mut [u32],
     layout: Layout,
@@ -61,7 +61,7 @@ fn fill_line(
     next
 }
 
-// Enters the weight of a cell, and the same for the reverse arc unless the weights hold one way only.
+// Enters the weight of a cell, and for the reverse arc too unless weights hold in one direction only.
 fn write(square: &mut [u32], layout: Layout, nodes: u16, row: u16, column: u16, weight: u32)
     requires room { length square.old ≡ nodes * nodes }
     requires listed { IsListed layout nodes row column }

@@ -1,10 +1,10 @@
-//! The one error of calls that can fail only by memory.
+//! The only error of calls that can fail only for lack of memory.
 
 use std::alloc::{AllocError, AllocFailed};
 use thiserror::Error;
 
-/// A growth was refused: there was no memory for it. Only the kit's errors for that become one: the field is private, so that no
-/// other error does by mistake.
+/// An allocation was refused. The field is private, so only the kit's errors for that convert to this one, and no other error
+/// does by mistake.
 #[derive(Clone, Copy, Debug, PartialEq, Eq, Error)]
 #[error("out of memory")]
 pub struct NoMemory(());

@@ -1,4 +1,4 @@
-//! How the weight between two points comes from their coordinates.
+//! The weight between two points, from their coordinates.
 ghost use Rattle.std.specs.Prelude.{◌≡◌, ℕ, ◌≤◌};
 ghost use Rattle.vrp_model.specs.Distance.{IsCeiling, IsEuclidean, IsPseudoEuclidean};
 ghost use Rattle.vrp_model.specs.Grid.{IsCoordinate};
@@ -47,7 +47,7 @@ impl Metric {
     }
 }
 
-// The whole number that is nearest to the root of a square.
+// The whole number nearest to the square root.
 fn nearest_root(square: u64) -> u64
     ensures { IsEuclidean square result }
 {
@@ -59,7 +59,7 @@ fn nearest_root(square: u64) -> u64
     }
 }
 
-// The least whole number that is no less than the root of a square.
+// The square root, rounded up.
 fn ceiling_root(square: u64) -> u64
     ensures { IsCeiling square result }
 {
@@ -67,7 +67,7 @@ fn ceiling_root(square: u64) -> u64
     if root * root < square { root + 1 } else { root }
 }
 
-// The least whole number that is no less than the root of a tenth of a square.
+// The square root of a tenth, rounded up.
 fn pseudo_root(square: u64) -> u64
     ensures { IsPseudoEuclidean square result }
 {

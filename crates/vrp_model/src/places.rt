@@ -1,4 +1,4 @@
-//! The places of an instance: which nodes they are, their demands, and the weights between them.
+//! The places of an instance: their nodes, their demands, and the weights between them.
 ghost use Rattle.std.specs.Prelude.{◌≡◌, ℕ, ◌*◌, ◌≤◌, true, EachIndex, IfOk, OnOk, ◌++◌, length, map, slice_index, vec_len};
 ghost use Rattle.vrp_model.specs.Grid.{entry_at};
 ghost use Rattle.vrp_model.specs.Request.{NoneAbove, is_listed, node_demand, weights_among};

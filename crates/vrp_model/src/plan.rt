@@ -1,4 +1,4 @@
-//! Plans: the routes of the trucks, and what they cost.
+//! Plans: the routes of the trucks, and their cost.
 ghost use Rattle.std.specs.Prelude.{◌≡◌, ◌+◌, ◌*◌, ◌<◌, ◌≤◌, ◌==◌, false, Some, IfOk, IfSome, IsTrue, is_some, ◌↔◌, [], ◌∷◌, ◌++◌, ◌^◌, length, map, slice_get};
 ghost use Rattle.std.specs.List.{All, position_or_len};
 ghost use Rattle.std.specs.List.Sorted.{IsStrictlyIncreasing};
@@ -44,13 +44,13 @@ impl Model for Plan {
 }
 
 impl Plan {
-    /// The plan that sends one truck to each customer, by rising place. `None` where there are more customers than trucks.
+    /// The plan with one route for each customer, by rising place. `None` if there are more customers than trucks.
     pub fn singles(alloc: Global, instance: &Instance) -> Result<Option<Plan>, NoMemory>
         ensures some { IfOk result (λ plan. IsTrue (is_some plan) ↔ HasTruckForEach instance.now) }
         ensures routes { IfOk result (λ found. IfSome found (SendsOneToEach instance.now)) }
         ensures lawful { IfOk result (λ found. IfSome found (IsPlanOf instance.now)) }
         ensures word { IfOk result (λ found. IfSome found (HasLawfulWord instance.now)) }
-        // What is known of every instance.
+        // An invariant of every instance.
         ensures problem { IsProblem instance.now }
     {
         match instance.trucks() {
@@ -59,7 +59,7 @@ impl Plan {
         }
     }
 
-    // The plan that sends one truck to each customer, where there are this many.
+    // The plan with one route for each customer, given enough trucks.
     fn one_each(alloc: Global, instance: &Instance) -> Result<Plan, NoMemory>
         requires { HasTruckForEach instance.now }
         ensures routes { IfOk result (SendsOneToEach instance.now) }
@@ -92,7 +92,7 @@ impl Plan {
         Ok(plan)
     }
 
-    /// The same plan once more.
+    /// A copy of the plan.
     pub fn copy(&self, alloc: Global) -> Result<Plan, NoMemory>
         ensures { IfOk result (λ plan. plan ≡ self.now) }
     {
@@ -105,7 +105,7 @@ impl Plan {
         })
     }
 
-    // No routes yet, and room for this many routes of one stop.
+    // A plan without routes, with room for this many routes of one stop.
     fn with_room(alloc: Global, most: usize) -> Result<Plan, NoMemory>
         requires { most ≤ 65535 }
         ensures routes { IfOk result (λ plan. plan.routes ≡ []) }
@@ -120,7 +120,7 @@ impl Plan {
         })
     }
 
-    // The plan with one more route, of this cost. It goes behind the others: its first stop is above theirs.
+    // The plan with one more route of this cost, appended at the end: its first stop is above those of the others.
     fn with_route(self, stops: &[u16], cost: u64) -> Result<Plan, NoMemory>
         requires fits { self.cost + cost < 2 ^ 64 }
         requires rising { IsStrictlyIncreasing (first_stops (self.routes ++ stops.now ∷ [])) }
@@ -144,11 +144,11 @@ impl Plan {
         })
     }
 
-    /// The plan as one list: the stops of all routes, one route after the other, each followed by 0. Where the plan is feasible for
-    /// an instance, and its routes run forward if that is symmetric, this is a feasible word of it, of the plan's cost.
+    /// The plan as one list: the stops of all routes, one route after the other, each followed by 0. If the plan is feasible
+    /// for an instance, and its routes run forward if that is symmetric, this is a feasible word of it, with the plan's cost.
     pub fn word(&self) -> &[u16]
         ensures value { result.now ≡ word_of self.now.routes }
-        // What is known of every plan.
+        // An invariant of every plan.
         ensures rising { IsStrictlyIncreasing (first_stops self.now.routes) }
         ensures lawful { (p : Problem) → IsPlanOf p self.now → AllRunForward p self.now.routes
             → IsLawfulWord p result.now × (word_cost p result.now ≡ self.now.cost) }
@@ -156,28 +156,28 @@ impl Plan {
         self.word.as_slice()
     }
 
-    /// Whether this plan is before the other: it costs less, or as much and its word is earlier.
+    /// Whether this plan is before the other: it costs less, or it costs as much and its word is earlier.
     pub fn is_before(&self, other: &Plan) -> bool
         ensures { IsTrue result ↔ IsBefore self.now other.now }
     {
         (self.cost, self.word()) < (other.cost, other.word())
     }
 
-    /// What the routes cost.
+    /// The cost of the routes.
     pub fn cost(&self) -> u64
         ensures { result ≡ self.now.cost }
     {
         self.cost
     }
 
-    /// How many routes there are.
+    /// The number of routes.
     pub fn routes(&self) -> usize
         ensures { result ≡ length self.now.routes }
     {
         self.routes.len()
     }
 
-    /// The places of a route, in the order in which they are served.
+    /// The places of a route, in the order of service.
     pub fn route(&self, index: usize) -> &[u16]
         requires { index < length self.now.routes }
         ensures { slice_get self.now.routes index ≡ Some result.now }
@@ -187,7 +187,7 @@ impl Plan {
     }
 }
 
-// How many stops stand before the first 0.
+// The number of stops before the first 0.
 fn stops_len(word: &[u16]) -> usize
     requires some { 0 < length word.now }
     requires end { IsWordEnd word.now }
@@ -202,7 +202,7 @@ fn stops_len(word: &[u16]) -> usize
     word.len()
 }
 
-// The stops of the first route, and what stands behind its 0.
+// The stops of the first route, and the rest behind its 0.
 fn split_route(word: &[u16]) -> (&[u16], &[u16])
     requires some { 0 < length word.now }
     requires end { IsWordEnd word.now }
@@ -215,7 +215,7 @@ fn split_route(word: &[u16]) -> (&[u16], &[u16])
     (&word[..end], &word[end + 1..])
 }
 
-// What a route costs, from the depot through its stops and back.
+// The cost of a route, from the depot through its stops and back.
 fn route_cost(instance: &Instance, stops: &[u16]) -> u64
     requires some { 0 < place_count instance.now }
     requires places { All (λ stop. stop < place_count instance.now) stops.now }

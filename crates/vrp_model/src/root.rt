@@ -1,4 +1,4 @@
-//! The whole root of a number.
+//! The integer square root.
 ghost use Rattle.vrp_model.specs.Distance.{IsRoot};
 
 /// The greatest whole number whose square is at most `x`, in a fixed number of steps.

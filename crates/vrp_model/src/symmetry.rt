@@ -1,10 +1,10 @@
-//! Whether there and back cost the same between any two places.
+//! Whether an arc and its reverse always cost the same.
 ghost use Rattle.std.specs.Prelude.{◌≡◌, ◌↔◌, ◌*◌, ◌≤◌, ◌<◌, ◌+◌, IsTrue, length};
 ghost use Rattle.vrp_model.specs.Inner.Symmetry.{IsSameBack, IsSymmetricSquare};
 
 use crate::limits::MAX_NODES;
 
-/// Whether a square of weights has the same weight there and back between any two places.
+/// Whether a square of weights is symmetric.
 pub(crate) fn is_symmetric(weights: &[u32], places: usize) -> bool
     requires square { length weights.now ≡ places * places }
     requires few { places ≤ MAX_NODES }
@@ -18,7 +18,7 @@ pub(crate) fn is_symmetric(weights: &[u32], places: usize) -> bool
     true
 }
 
-// Whether that is so between a place and each one before it.
+// Whether the weights between a place and each one before it are symmetric.
 fn is_same_back(weights: &[u32], places: usize, from: usize) -> bool
     requires square { length weights.now ≡ places * places }
     requires few { places ≤ MAX_NODES }

@@ -32,8 +32,8 @@ impl Weights {
     ghost use Rattle.vrp_model.specs.Grid.{HasDistances};
     ghost use Rattle.vrp_model.specs.Layout.{cells, HasEntries};
 
-    /// The weights between these points by a metric: node k, from 1, has the k-th point. Each pair's distance is
-    /// computed once.
+    /// The weights between these points by a metric; node k, from 1, has the k-th point. Each pair's distance is computed
+    /// once.
     pub fn points(alloc: Global, metric: Metric, points: &[(i64, i64)]) -> Result<Weights, NoMemory>
         requires some { 1 ≤ length points.now }
         requires few { length points.now ≤ MAX_NODES }
@@ -51,8 +51,8 @@ impl Weights {
         })
     }
 
-    /// The weights between n nodes, 1 to 1,200, of which a file lists some in a layout: as many entries as
-    /// `Layout::entries` says, each at most 1,000,000,000. A node's weight to itself is 0 where the layout has no diagonal.
+    /// The weights between n nodes, 1 to 1,200, from the entries that a file lists in a layout: as many as `Layout::entries`
+    /// says, each at most 1,000,000,000. A node's weight to itself is 0 if the layout has no diagonal.
     pub fn matrix(
         alloc: Global,
         layout: Layout,
@@ -73,7 +73,7 @@ impl Weights {
         })
     }
 
-    /// How many nodes there are: from 1 to 1,200.
+    /// The number of nodes: from 1 to 1,200.
     pub fn nodes(&self) -> u16
         ensures value { result ≡ self.now.nodes }
         ensures some { 1 ≤ result }
@@ -116,7 +116,7 @@ fn push_row(entries: &mut Vec<u32>, metric: Metric, points: &[(i64, i64)], row: 
     }
 }
 
-// The weight whose entry comes next. Left of the diagonal it is that of the reverse arc, which is entered already.
+// The next weight to enter. Left of the diagonal it is that of the reverse arc, which was entered before.
 fn next_weight(
     entries: &[u32],
     metric: Metric,

@@ -11,7 +11,7 @@ use Rattle.vrp_partition.specs.Outcome.{IsLeft}
 use Rattle.vrp_partition.specs.declared.bounding.Chosen.{Chosen}
 use Rattle.vrp_partition.specs.declared.bounding.OpenRoutes.{OpenRoutes}
 use Rattle.vrp_partition.specs.declared.node.Branches.{Branches}
-use Rattle.vrp_partition.specs.declared.node.Task.{Task}
+use Rattle.vrp_partition.specs.declared.task.Task.{Task}
 use Rattle.vrp_partition.specs.declared.route.Route.{Route}
 use Rattle.vrp_partition.proofs.PoolParts.{branched_choice}
 

@@ -8,7 +8,7 @@ use Rattle.vrp_partition.specs.declared.bounding.OpenRoutes.{OpenRoutes}
 use Rattle.vrp_partition.specs.declared.node.Branches.{Branches}
 use Rattle.vrp_partition.specs.declared.node.NodeEnd.{NodeEnd}
 use Rattle.vrp_partition.specs.declared.node.NodeEnd.TheVariants.{Solved, Branched}
-use Rattle.vrp_partition.specs.declared.node.Task.{Task}
+use Rattle.vrp_partition.specs.declared.task.Task.{Task}
 use Rattle.vrp_partition.specs.declared.route.Route.{Route}
 use Rattle.vrp_partition.specs.declared.search.Found.{Found}
 use Rattle.vrp_partition.specs.declared.search.Found.TheVariants.{Cheapest, Unfinished}
@@ -43,15 +43,15 @@ pub record AreLeftBranches (left : OpenRoutes) (branches : Branches) : Type 0 wh
 
 -- what has to hold before a node is looked at
 pub record CanLook (task : Task) (node : NodeState) : Type 0 where
-  pub len : length task.demands.now ≡ 128
-  pub fit : AllFit task.demands.now task.capacity node.pool
+  pub len : length task.fleet.demands.now ≡ 128
+  pub fit : AllFit task.fleet.demands.now task.fleet.capacity node.pool
   pub incumbent : task.incumbent ≤ 2 ^ 32
 
 -- the node, with what came of it
 pub record IsLookedAt (task : Task) (old new : NodeState) : Type 0 where
   pub pool : new.pool ≡ old.pool
   pub bound : new.lower_bound ≡ old.lower_bound
-  pub end : IfOk new.end (IsEnd old.pool task.customers task.trucks task.incumbent)
+  pub end : IfOk new.end (IsEnd old.pool task.customers task.fleet.trucks task.incumbent)
 
 -- each node, with what came of it
 pub record AreLookedAt (task : Task) (old new : List NodeState) : Type 0 where

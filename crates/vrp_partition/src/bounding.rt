@@ -1,71 +1,66 @@
-//! The bound of a node: its routes are priced, those whose reduced costs are above the gap are left out, and the others are searched
-//! by the exact cover, or left to be branched on.
+//! The bound of a node: its routes are priced, those with reduced costs above the gap are dropped, and the others are searched by the
+//! exact cover, or left to be branched on.
 ghost use Rattle.std.specs.Prelude.{◌≡◌, ◌≤◌, ◌<◌, ◌≤ℤ◌, ◌<ℤ◌, ◌-◌, ◌^◌, IfNone, IfOk, IfSome, length, map, pos, unsigned_abs};
-ghost use Rattle.std.specs.List.{All};
 ghost use Rattle.vrp_partition.specs.Covering.{column_of, route_of};
-ghost use Rattle.vrp_partition.specs.Prices.{AllFit, AreValid, gap_of, reduced_cost_of};
+ghost use Rattle.vrp_partition.specs.Prices.{AllFit, gap_of};
 ghost use Rattle.vrp_partition.specs.Outcome.{IsLeastOf, IsOutcome};
+ghost use Rattle.vrp_partition.specs.Pricing.{IsPriced};
 ghost use Rattle.vrp_partition.specs.declared.prices.TheConstants.{SCALE};
 
-use crate::cover::{Column, cheapest_cover};
+use crate::cover::{Column, CoverNode, cheapest_cover};
 use crate::pool::within_gap;
 use crate::priced::{PricedPool, valid_prices};
 use crate::prices::{PriceOffer, Prices, SCALE};
 use crate::route::Route;
+use crate::task::Task;
 use std::alloc::{AllocError, Global};
 
 // With more routes than these a node is branched on at once.
 const MOST_COLUMNS: usize = 3_000;
 
-// How many nodes the exact cover may look at before its node is branched on.
+// The most nodes that the exact cover looks at before its node is branched on.
 const MOST_COVER_NODES: u64 = 20_000;
 
-/// The routes of a choice, and what they cost. Where no choice below the incumbent was found, the cost is the incumbent's, and
-/// the routes are no choice.
+/// The routes of a choice, and their cost. If no choice below the incumbent was found, the cost is the incumbent's, and the routes are
+/// no choice.
 #[derive(Debug, Drop)]
 pub struct Chosen {
     pub cost: u64,
     pub routes: Vec<Route>,
 }
 
-/// What pricing makes of a node: it is solved, or the routes that are left have to be branched on.
+/// The outcome of pricing a node: it is solved, or the routes that are left must be branched on.
 #[derive(Debug, Drop)]
 pub enum NodeOutcome {
     Solved(Chosen),
     Open(OpenRoutes),
 }
 
-/// The routes that are left of a node's, and what each choice of the node costs at least.
+/// The routes of a node that are left, and a lower bound on its choices.
 #[derive(Debug, Drop)]
 pub struct OpenRoutes {
     pub routes: Vec<Route>,
     pub lower_bound: u64,
 }
 
-/// A node by the prices that are offered, where they serve.
+/// Prices a node by the offered prices, if these are valid.
 pub(crate) fn price_node(
     alloc: Global,
     offer: PriceOffer,
-    demands: &[u32],
-    capacity: u32,
-    trucks: u8,
+    task: &Task<'_>,
     pool: &[Route],
-    customers: u128,
-    incumbent: u64,
 ) -> Result<NodeOutcome, AllocError>
-    requires len { length demands.now ≡ 128 }
-    requires fit { AllFit demands.now capacity pool.now }
-    requires incumbent { incumbent ≤ 2 ^ 32 }
-    ensures { IfOk result (IsOutcome pool.now customers trucks incumbent) }
+    requires len { length task.now.fleet.demands.now ≡ 128 }
+    requires fit { AllFit task.now.fleet.demands.now task.now.fleet.capacity pool.now }
+    requires incumbent { task.now.incumbent ≤ 2 ^ 32 }
+    ensures { IfOk result (IsOutcome pool.now task.now.customers task.now.fleet.trucks task.now.incumbent) }
 {
-    if incumbent == 0 {
+    if task.incumbent == 0 {
         let routes = Vec::new(alloc);
         return Ok(NodeOutcome::Solved(Chosen { cost: 0, routes }));
     }
-    match valid_prices(alloc, offer, demands, capacity, pool, customers)? {
-        Some(PricedPool { prices, costs }) => {
-            bound_node(alloc, prices, costs, trucks, pool, customers, incumbent)
-        }
+    match valid_prices(alloc, offer, &task.fleet, pool, task.customers)? {
+        Some(priced) => bound_node(alloc, &priced, task, pool),
         None => Ok(NodeOutcome::Open(OpenRoutes {
             routes: Vec::from_slice(alloc, pool)?,
             lower_bound: 0,
@@ -73,47 +68,40 @@ pub(crate) fn price_node(
     }
 }
 
-// A node by prices with no negative reduced cost.
+// Bounds a node by prices without negative reduced costs.
 fn bound_node(
     alloc: Global,
-    prices: Prices,
-    costs: Vec<i64>,
-    trucks: u8,
+    priced: &PricedPool,
+    task: &Task<'_>,
     pool: &[Route],
-    customers: u128,
-    incumbent: u64,
 ) -> Result<NodeOutcome, AllocError>
-    requires some { 1 ≤ incumbent }
-    requires incumbent { incumbent ≤ 2 ^ 32 }
-    requires valid { AreValid prices pool.now customers }
-    requires costs { costs.items ≡ map (reduced_cost_of prices SCALE) pool.now }
-    requires none { All (λ cost. pos 0 ≤ℤ cost) costs.items }
-    ensures { IfOk result (IsOutcome pool.now customers trucks incumbent) }
+    requires some { 1 ≤ task.now.incumbent }
+    requires incumbent { task.now.incumbent ≤ 2 ^ 32 }
+    requires priced { IsPriced pool.now task.now.customers priced.now }
+    ensures { IfOk result (IsOutcome pool.now task.now.customers task.now.fleet.trucks task.now.incumbent) }
 {
-    let Some(gap) = gap_below(&prices, customers, trucks, incumbent) else {
+    let Task {
+        fleet,
+        customers,
+        incumbent,
+    } = *task;
+    let prices = &priced.prices;
+    let Some(gap) = gap_below(prices, customers, fleet.trucks, incumbent) else {
         let routes = Vec::new(alloc);
         return Ok(NodeOutcome::Solved(Chosen {
             cost: incumbent,
             routes,
         }));
     };
-    let lower_bound = whole_lower_bound(&prices, customers, trucks);
-    let routes = within_gap(alloc, &prices, pool, costs.as_slice(), gap)?;
+    let lower_bound = whole_lower_bound(prices, customers, fleet.trucks);
+    let routes = within_gap(alloc, prices, pool, priced.costs.as_slice(), gap)?;
     if routes.len() > MOST_COLUMNS {
         return Ok(NodeOutcome::Open(OpenRoutes {
             routes,
             lower_bound,
         }));
     }
-    match search_columns(
-        alloc,
-        &prices,
-        routes.as_slice(),
-        customers,
-        trucks,
-        incumbent,
-        gap,
-    )? {
+    match search_columns(alloc, prices, routes.as_slice(), task, gap)? {
         Some(chosen) => Ok(NodeOutcome::Solved(chosen)),
         None => Ok(NodeOutcome::Open(OpenRoutes {
             routes,
@@ -122,7 +110,7 @@ fn bound_node(
     }
 }
 
-// The lower bound, rounded up to whole units of cost; 0 where it is negative, or doesn't fit.
+// The lower bound, rounded up to whole units of cost; 0 if it is negative or doesn't fit.
 pub(crate) fn whole_lower_bound(prices: &Prices, customers: u128, trucks: u8) -> u64
     ensures { 0 < result → gap_of prices.now SCALE customers trucks (result - 1) <ℤ pos 0 }
 {
@@ -134,7 +122,7 @@ pub(crate) fn whole_lower_bound(prices: &Prices, customers: u128, trucks: u8) ->
     u64::try_from(whole).unwrap_or(0)
 }
 
-// The gap between the lower bound and the costs below the incumbent's; `None` where it is negative.
+// The gap between the lower bound and the costs below the incumbent's; `None` if it is negative.
 pub(crate) fn gap_below(prices: &Prices, customers: u128, trucks: u8, incumbent: u64) -> Option<i64>
     requires some { 1 ≤ incumbent }
     requires incumbent { incumbent ≤ 2 ^ 32 }
@@ -146,31 +134,26 @@ pub(crate) fn gap_below(prices: &Prices, customers: u128, trucks: u8, incumbent:
     if gap < 0 { None } else { Some(gap as i64) }
 }
 
-// The exact cover over the routes as columns; `None` where its budget is spent.
+// The exact cover over the routes as columns; `None` if its budget is spent.
 fn search_columns(
     alloc: Global,
     prices: &Prices,
     kept: &[Route],
-    customers: u128,
-    trucks: u8,
-    incumbent: u64,
+    task: &Task<'_>,
     gap: i64,
 ) -> Result<Option<Chosen>, AllocError>
-    ensures { IfOk result (λ answer. IfSome answer (IsLeastOf
-        (map (column_of prices.now SCALE) kept.now) customers trucks incumbent (unsigned_abs gap))) }
+    ensures { IfOk result (λ answer. IfSome answer (IsLeastOf (map (column_of prices.now SCALE) kept.now)
+        task.now.customers task.now.fleet.trucks task.now.incumbent (unsigned_abs gap))) }
 {
     let columns = columns_of(alloc, prices, kept)?;
+    let root = CoverNode {
+        unserved: task.customers,
+        trucks: task.fleet.trucks,
+        incumbent: task.incumbent,
+        gap: gap.unsigned_abs(),
+    };
     let mut budget = MOST_COVER_NODES;
-    let Some(best) = cheapest_cover(
-        alloc,
-        columns.as_slice(),
-        customers,
-        trucks,
-        incumbent,
-        gap.unsigned_abs(),
-        &mut budget,
-    )?
-    else {
+    let Some(best) = cheapest_cover(alloc, columns.as_slice(), root, &mut budget)? else {
         return Ok(None);
     };
     let routes = routes_of(alloc, best.parts.as_slice())?;

@@ -1,4 +1,4 @@
-//! The exact cover: the cheapest choice among a few columns, depth first, by the customer whom the fewest columns have.
+//! The exact cover: the cheapest choice among a few columns, depth first, by the customer in the fewest columns.
 ghost use Rattle.std.specs.Prelude.{◌≡◌, ◌≤◌, ◌<◌, IfNone, IfOk, IfSome, filter};
 ghost use Rattle.std.specs.Int.{bit_at};
 ghost use Rattle.vrp_partition.specs.Covering.{IsLeast, is_inside};
@@ -13,28 +13,35 @@ pub struct Column {
     pub cost: u32,
 }
 
-/// The columns of a choice, and what they cost. Where no choice below the incumbent was found, the cost is the incumbent's, and
-/// the columns are no choice.
+/// The columns of a choice, and their cost. If no choice below the incumbent was found, the cost is the incumbent's, and the columns are
+/// no choice.
 #[derive(Debug, Drop)]
 pub struct Cover {
     pub cost: u64,
     pub parts: Vec<Column>,
 }
 
-/// The least cost below the incumbent's of a choice that serves these customers with so many trucks, and a choice of that cost. Choices whose reduced
-/// costs add up to more than the gap need not be looked at; where no other is cheaper than the incumbent, the incumbent's cost.
-/// `None` where the budget is spent: each node of the search takes one of it.
+/// A node of the exact cover: the unserved customers, a bit for each, the trucks that are left, the incumbent, below whose cost choices
+/// are sought, and the gap, which is the greatest sum of their reduced costs.
+#[derive(Debug, Clone, Copy)]
+pub struct CoverNode {
+    pub unserved: u128,
+    pub trucks: u8,
+    pub incumbent: u64,
+    pub gap: u64,
+}
+
+/// The least cost below the incumbent's of a choice that serves the node's customers with its trucks, and a choice of that cost.
+/// Choices whose reduced costs add up to more than the gap need not be looked at; if no other is cheaper than the incumbent, the answer
+/// is the incumbent's cost. `None` if the budget is spent; each node of the search takes one of it.
 pub fn cheapest_cover(
     alloc: Global,
     columns: &[Column],
-    unserved: u128,
-    trucks: u8,
-    incumbent: u64,
-    gap: u64,
+    node: CoverNode,
     budget: &mut u64,
 ) -> Result<Option<Cover>, AllocError>
     ensures least { IfOk result (λ answer. IfSome answer (λ best.
-        IsLeast columns.now unserved trucks incumbent gap best.cost best.parts.items)) }
+        IsLeast columns.now node.unserved node.trucks node.incumbent node.gap best.cost best.parts.items)) }
     ensures budget { budget.new ≤ budget.old }
     ensures spent { IfOk result (λ answer. IfNone answer (budget.new ≡ 0)) }
 {
@@ -43,15 +50,16 @@ pub fn cheapest_cover(
     }
     *budget -= 1;
     let mut parts = Vec::new(alloc);
-    if unserved == 0 {
+    if node.unserved == 0 {
         return Ok(Some(Cover { cost: 0, parts }));
     }
-    if trucks == 0 {
-        let cost = incumbent;
+    if node.trucks == 0 {
+        let cost = node.incumbent;
         return Ok(Some(Cover { cost, parts }));
     }
+    let (unserved, gap) = (node.unserved, node.gap);
     let customer = rarest_customer(columns, unserved);
-    let mut found = incumbent;
+    let mut found = node.incumbent;
     for column in columns {
         let cost = u64::from(column.cost);
         if column.set >> customer & 1 == 1
@@ -61,16 +69,13 @@ pub fn cheapest_cover(
         {
             let (rest, under) = (unserved ^ column.set, gap - column.reduced_cost);
             let inside = columns_inside(alloc, columns, rest, under)?;
-            let Some(more) = cheapest_cover(
-                alloc,
-                inside.as_slice(),
-                rest,
-                trucks - 1,
-                found - cost,
-                under,
-                budget,
-            )?
-            else {
+            let child = CoverNode {
+                unserved: rest,
+                trucks: node.trucks - 1,
+                incumbent: found - cost,
+                gap: under,
+            };
+            let Some(more) = cheapest_cover(alloc, inside.as_slice(), child, budget)? else {
                 return Ok(None);
             };
             if more.cost < found - cost {
@@ -83,7 +88,7 @@ pub fn cheapest_cover(
     Ok(Some(Cover { cost: found, parts }))
 }
 
-// The columns that have no customer but these, and no greater reduced cost.
+// The columns that have only these customers, and no greater reduced cost.
 fn columns_inside(
     alloc: Global,
     columns: &[Column],
@@ -99,7 +104,7 @@ fn columns_inside(
         .collect(alloc)
 }
 
-// One of these customers whom the fewest columns have.
+// One of these customers, in the fewest columns.
 fn rarest_customer(columns: &[Column], unserved: u128) -> u32
     requires { 0 < unserved }
     ensures one { bit_at unserved result ≡ 1 }
@@ -121,7 +126,7 @@ fn rarest_customer(columns: &[Column], unserved: u128) -> u32
     best
 }
 
-// One more column for each customer of a set.
+// Counts one more column for each customer of a set.
 fn count_customers(counts: &mut [u32; 128], set: u128) {
     let mut left = set;
     while left != 0 {

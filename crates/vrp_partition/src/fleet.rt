@@ -1,7 +1,7 @@
-//! What is to be carried, and by whom.
+//! The fleet and its load: demands, capacity and trucks.
 ghost use Rattle.std.specs.Prelude.{◌≡◌, slice_index_or};
 
-/// What customers 0 to 127 demand, what a truck can carry, and how many trucks there are.
+/// The demands of customers 0 to 127, the capacity of a truck, and the number of trucks.
 #[derive(Clone, Copy, Debug)]
 pub struct Fleet<'a> {
     pub demands: &'a [u32],
@@ -10,7 +10,7 @@ pub struct Fleet<'a> {
 }
 
 impl Fleet<'_> {
-    /// What a customer demands; 0 of one that there is not.
+    /// The demand of a customer, 0 if there is no such customer.
     pub fn demand(&self, customer: usize) -> u64
         ensures { result ≡ slice_index_or self.now.demands.now customer 0 }
     {

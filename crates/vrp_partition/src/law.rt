@@ -1,4 +1,4 @@
-//! What is true of the definitions, whatever the code does: what prices say of the choices, and how choices branch.
+//! Laws of the definitions, which hold whatever the code does: what prices say of choices, and how choices branch.
 ghost use Rattle.std.specs.Prelude.{◌≡◌, ◌⊎◌, ◌<ℤ◌, ◌≤◌, ◌≤ℤ◌, ◌*◌, ◌+ℤ◌, pos, ℕ, List};
 ghost use Rattle.std.specs.List.{filter};
 ghost use Rattle.vrp_partition.specs.Choice.{IsChoice, NoneWithin, cost_of, is_apart, is_together, set_of};
@@ -6,10 +6,9 @@ ghost use Rattle.vrp_partition.specs.Prices.{NoneNegative, AllFit, AreValid, IsN
 ghost use Rattle.vrp_partition.specs.declared.prices.Cut.{Cut};
 ghost use Rattle.vrp_partition.specs.declared.route.Route.{Route};
 
-/// The law of prices: a choice costs at least the lower bound and the reduced costs of its routes. A route has its duals from the
-/// prices of its customers, of whom each choice has each once; of three customers one route of a choice at most has two or more
-/// (subset-row cuts); to a set of customers come as many routes as it needs (strong capacity cuts); and there are no more routes
-/// than trucks.
+/// The law of prices: a choice costs at least the lower bound plus the reduced costs of its routes. The reasons: a choice serves each
+/// customer once, so each dual counts once; at most one of its routes has two or more of three given customers (subset-row cuts); at
+/// least as many routes as needed come to a set of customers (strong capacity cuts); and there are no more routes than trucks.
 pub fn prices_bound_choices()
     ensures { (prices : Prices) (scale customers trucks : ℕ) (pool routes : List Route)
         → AreValid prices pool customers
@@ -18,8 +17,7 @@ pub fn prices_bound_choices()
         ≤ℤ pos (scale * cost_of routes) }
 {}
 
-/// Where one truck less couldn't carry what the customers of a set demand, each choice has as many routes that come to the set as
-/// the cut says.
+/// If one truck fewer couldn't carry the demand of a set, each choice has at least as many routes that come to the set as the cut says.
 pub fn demand_brings_routes()
     ensures { (demands : List ℕ) (capacity customers : ℕ) (pool : List Route) (cut : Cut)
         → AllFit demands capacity pool
@@ -27,8 +25,7 @@ pub fn demand_brings_routes()
         → IsVisited pool customers cut }
 {}
 
-/// Where no reduced cost is negative, a choice within a limit has no route whose reduced cost is above the gap: all its routes
-/// are among those that are kept.
+/// If no reduced cost is negative, a choice within a limit has no route whose reduced cost is above the gap: all its routes are kept.
 pub fn costly_routes_left_out()
     ensures { (prices : Prices) (scale customers trucks limit : ℕ) (pool routes : List Route)
         → AreValid prices pool customers → NoneNegative prices scale pool
@@ -38,7 +35,7 @@ pub fn costly_routes_left_out()
         customers trucks routes }
 {}
 
-/// Where no reduced cost is negative and the lower bound is above a limit, no choice is within the limit.
+/// If no reduced cost is negative and the lower bound is above a limit, no choice is within the limit.
 pub fn no_choice_in_a_negative_gap()
     ensures { (prices : Prices) (scale customers trucks limit : ℕ) (pool : List Route)
         → AreValid prices pool customers → NoneNegative prices scale pool
@@ -46,8 +43,8 @@ pub fn no_choice_in_a_negative_gap()
         → NoneWithin pool customers trucks limit }
 {}
 
-/// A choice has a group of customers together in one route, or has no route with all of them. In the first case each other route
-/// has none of them. (For a pair this is the branching of Ryan and Foster, 1981.)
+/// A choice has a group of customers together in one route, or it has no route with all of them. In the first case no other route has any
+/// of them. (For a pair this is the branching of Ryan and Foster, 1981.)
 pub fn choices_branch()
     ensures { (group customers trucks : ℕ) (pool routes : List Route)
         → IsChoice set_of pool customers trucks routes

@@ -13,9 +13,10 @@ mod priced;
 mod prices;
 mod route;
 mod search;
+mod task;
 
 pub use bounding::{Chosen, NodeOutcome, OpenRoutes};
-pub use cover::{Column, Cover, cheapest_cover};
+pub use cover::{Column, Cover, CoverNode, cheapest_cover};
 pub use fleet::Fleet;
 pub use guide::{Ask, Guide, Tally};
 pub use law::{
@@ -27,3 +28,4 @@ pub use pool::{all_fit, apart, none_negative, reduced_costs, together, within_ga
 pub use prices::{Cut, MOST_CUSTOMERS, PriceOffer, Prices, SCALE};
 pub use route::Route;
 pub use search::{Found, Team, cheapest_choice};
+pub use task::{Query, Task};

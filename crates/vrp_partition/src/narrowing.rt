@@ -1,4 +1,4 @@
-//! Which routes of a pool may stand in a choice within a limit: rounds of prices leave out more and more of them.
+//! Narrowing: the routes of a pool that may be in a choice within a limit. Rounds of prices drop more and more of the others.
 ghost use Rattle.std.specs.Prelude.{◌≡◌, ◌<◌, ◌≤◌, ◌+◌, ℕ, List, false, true, IfOk, length, map, slice_index_or};
 ghost use Rattle.std.specs.List.{Contains};
 ghost use Rattle.vrp_partition.specs.Narrowing.{IsNarrowed, route_at};
@@ -6,13 +6,13 @@ ghost use Rattle.vrp_partition.specs.Pricing.{MarksWithin, StandsInNone};
 ghost use Rattle.vrp_partition.specs.declared.route.Route.{Route};
 ghost use Rattle.vrp_partition.specs.Prices.{AllFit};
 
-use crate::fleet::Fleet;
 use crate::guide::{Ask, Guide, Tally};
 use crate::priced::marks_by_prices;
 use crate::route::Route;
+use crate::task::Query;
 use std::alloc::{AllocError, Global};
 
-// How many rounds there are at most.
+// The most rounds.
 const MOST_ROUNDS: u32 = 32;
 
 /// Some places of a pool, and the routes there.
@@ -22,7 +22,7 @@ pub(crate) struct Kept {
     pub routes: Vec<Route>,
 }
 
-// What a round of prices leaves, and what it tells: what each choice costs at least, and how much the guide worked.
+// The routes that a round of prices leaves, a lower bound on each choice, and the work of the guide.
 #[derive(Drop)]
 struct Round {
     kept: Kept,
@@ -30,62 +30,40 @@ struct Round {
     work: u64,
 }
 
-/// For each route of the pool whether it may stand in a choice of the fleet's trucks that costs no more than the limit: one that may not
-/// is `false`. The guide is asked for prices, and again for those that are left as long as it would branch on nobody and the budget
-/// lasts, of which each round takes one and as much as the guide says that it worked; `ask` is told of each round. How many are `false`
-/// is left open, and so is what is spent. The demands are those of customers 0 to 127, and each route of the pool has to fit one truck.
+/// Marks the routes of the pool that may be in a choice within the query's limit; a route that can't be in one is `false`. The guide
+/// prices the routes, and then those that are left, as long as it names no customers to branch on and the budget lasts. Each round
+/// takes one of the budget, and as much as the guide's own work; `ask` hears of each round. The contract leaves open how many routes
+/// are `false`, and what is spent. The demands are those of customers 0 to 127, and each route of the pool must fit one truck.
 pub fn routes_within<P: Guide, A: Ask>(
     alloc: Global,
     guide: &mut P,
     ask: &A,
-    fleet: &Fleet<'_>,
+    query: &Query<'_>,
     pool: &[Route],
-    customers: u128,
-    limit: u32,
     budget: &mut u64,
 ) -> Result<Vec<bool>, AllocError>
-    requires len { length fleet.now.demands.now ≡ 128 }
-    requires fit { AllFit fleet.now.demands.now fleet.now.capacity pool.now }
-    ensures marks { IfOk result (λ marks. MarksWithin pool.now customers fleet.now.trucks limit marks.items) }
-    ensures budget { budget.new ≤ budget.old }
-{
-    let kept = narrowed_in_rounds(alloc, guide, ask, fleet, pool, customers, limit, budget)?;
-    marks_of(alloc, pool.len(), kept.places.as_slice())
-}
-
-// The routes that rounds of prices leave.
-fn narrowed_in_rounds<P: Guide, A: Ask>(
-    alloc: Global,
-    guide: &mut P,
-    ask: &A,
-    fleet: &Fleet<'_>,
-    pool: &[Route],
-    customers: u128,
-    limit: u32,
-    budget: &mut u64,
-) -> Result<Kept, AllocError>
-    requires len { length fleet.now.demands.now ≡ 128 }
-    requires fit { AllFit fleet.now.demands.now fleet.now.capacity pool.now }
-    ensures kept { IfOk result (IsNarrowed pool.now customers fleet.now.trucks limit) }
+    requires len { length query.now.fleet.demands.now ≡ 128 }
+    requires fit { AllFit query.now.fleet.demands.now query.now.fleet.capacity pool.now }
+    ensures marks { IfOk result (λ marks. MarksWithin pool.now query.now.customers query.now.fleet.trucks query.now.limit marks.items) }
     ensures budget { budget.new ≤ budget.old }
 {
     let mut kept = all_routes(alloc, pool)?;
     for _ in 0..MOST_ROUNDS {
         if *budget == 0 {
-            return Ok(kept);
+            break;
         }
-        let round = narrowed(alloc, guide, fleet, pool, kept, customers, limit)?;
+        let round = narrowed(alloc, guide, query, pool, kept)?;
         *budget = (*budget - 1).saturating_sub(round.work);
-        ask.on_round(tally_of(&round, limit));
+        ask.on_round(tally_of(&round, query.limit));
         kept = round.kept;
         if guide.group(kept.routes.as_slice())? != 0 || !guide.should_continue() {
-            return Ok(kept);
+            break;
         }
     }
-    Ok(kept)
+    marks_of(alloc, pool.len(), kept.places.as_slice())
 }
 
-// How far the search is after a round: nobody has looked at its first node yet. Nothing is promised of it.
+// The progress after a round: the first node is still open. No clause pins it.
 fn tally_of(round: &Round, limit: u32) -> Tally {
     let incumbent = u64::from(limit) + 1;
     Tally {
@@ -96,29 +74,20 @@ fn tally_of(round: &Round, limit: u32) -> Tally {
     }
 }
 
-// Those of the routes that may stand in such a choice by prices for them.
+// The routes that may be in such a choice, by prices for them.
 fn narrowed<P: Guide>(
     alloc: Global,
     guide: &mut P,
-    fleet: &Fleet<'_>,
+    query: &Query<'_>,
     pool: &[Route],
     kept: Kept,
-    customers: u128,
-    limit: u32,
 ) -> Result<Round, AllocError>
-    requires len { length fleet.now.demands.now ≡ 128 }
-    requires fit { AllFit fleet.now.demands.now fleet.now.capacity pool.now }
-    requires narrowed { IsNarrowed pool.now customers fleet.now.trucks limit kept }
-    ensures { IfOk result (λ round. IsNarrowed pool.now customers fleet.now.trucks limit round.kept) }
+    requires len { length query.now.fleet.demands.now ≡ 128 }
+    requires fit { AllFit query.now.fleet.demands.now query.now.fleet.capacity pool.now }
+    requires narrowed { IsNarrowed pool.now query.now.customers query.now.fleet.trucks query.now.limit kept }
+    ensures { IfOk result (λ round. IsNarrowed pool.now query.now.customers query.now.fleet.trucks query.now.limit round.kept) }
 {
-    let priced = marks_by_prices(
-        alloc,
-        guide,
-        fleet,
-        kept.routes.as_slice(),
-        customers,
-        limit,
-    )?;
+    let priced = marks_by_prices(alloc, guide, query, kept.routes.as_slice())?;
     let marks = priced.marks.as_slice();
     let kept = marked(alloc, pool, kept.places.as_slice(), marks)?;
     Ok(Round {
@@ -141,7 +110,7 @@ fn all_routes(alloc: Global, pool: &[Route]) -> Result<Kept, AllocError>
     Ok(Kept { places, routes })
 }
 
-// The places that are marked, and the routes there.
+// The marked places, and the routes there.
 fn marked(
     alloc: Global,
     pool: &[Route],
@@ -170,7 +139,7 @@ fn marked(
     })
 }
 
-// Whether each of so many places is one of these.
+// Marks these places among this many.
 fn marks_of(alloc: Global, count: usize, places: &[usize]) -> Result<Vec<bool>, AllocError>
     requires inside { (at : ℕ) → at < length places.now → slice_index_or places.now at 0 < count }
     ensures { IfOk result (λ marks. (length marks.items ≡ count)

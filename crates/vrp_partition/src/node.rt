@@ -1,4 +1,4 @@
-//! A node of the search: its routes, a guide for them, and what comes of looking at it.
+//! A node of the search: its routes, a guide for them, and the outcome of a look at it.
 ghost use Rattle.std.specs.Prelude.{◌≡◌, ◌≤◌, ◌^◌, [], IfOk, length};
 ghost use Rattle.vrp_partition.specs.Branching.{AreLeftBranches, CanLook, IsEnd, IsLookedAt, IsUnlooked};
 ghost use Rattle.vrp_partition.specs.Outcome.{IsLeft};
@@ -8,28 +8,18 @@ use crate::bounding::{Chosen, NodeOutcome, OpenRoutes, price_node};
 use crate::guide::Guide;
 use crate::pool::{apart, together};
 use crate::route::Route;
+use crate::task::Task;
 use std::alloc::{AllocError, Global};
 use std::marker::Model;
 
-/// What is searched for: choices that serve these customers by so many trucks and cost less than the incumbent. The demands are those
-/// of customers 0 to 127.
-#[derive(Clone, Copy, Debug)]
-pub(crate) struct Task<'a> {
-    pub demands: &'a [u32],
-    pub capacity: u32,
-    pub trucks: u8,
-    pub customers: u128,
-    pub incumbent: u64,
-}
-
-/// What came of a node: it is solved, or it is branched on.
+/// The outcome of a node: it is solved, or it is branched on.
 #[derive(Debug, Drop)]
 pub(crate) enum NodeEnd {
     Solved(Chosen),
     Branched(Branches),
 }
 
-/// The routes of both branches, and what each choice of the node costs at least.
+/// The routes of both branches, and a lower bound on each choice of the node.
 #[derive(Debug, Drop)]
 pub(crate) struct Branches {
     // One route serves a group of customers together.
@@ -43,14 +33,14 @@ pub(crate) struct Branches {
 #[derive(Debug, Drop)]
 pub(crate) struct Node<P: Guide> {
     pub pool: Vec<Route>,
-    // What each choice of the pool costs at least.
+    // A lower bound on each choice of the pool.
     pub lower_bound: u64,
     pub guide: P,
     // An error before the node is looked at.
     pub end: Result<NodeEnd, AllocError>,
-    // The guide of the second branch, where there is one.
+    // The guide of the second branch, if there is one.
     pub other: Option<P>,
-    // How much the guide worked.
+    // The work of the guide.
     pub work: u64,
 }
 
@@ -63,7 +53,7 @@ impl<P: Guide> Model for Node<P> {
 }
 
 impl<P: Guide> Node<P> {
-    /// A node that nobody has looked at.
+    /// A new node, not looked at yet.
     pub(crate) fn new(pool: Vec<Route>, lower_bound: u64, guide: P) -> Self
         ensures { IsUnlooked pool.items lower_bound result }
     {
@@ -77,7 +67,7 @@ impl<P: Guide> Node<P> {
         }
     }
 
-    /// Looks at the node. Where memory is refused, its end is that error.
+    /// Looks at the node. If memory is refused, its outcome is that error.
     pub(crate) fn look(&mut self, alloc: Global, task: &Task<'_>)
         requires { CanLook task.now self.old }
         ensures { IsLookedAt task.now self.old self.new }
@@ -85,27 +75,16 @@ impl<P: Guide> Node<P> {
         self.end = self.bounded(alloc, task);
     }
 
-    // What comes of the node by the guide's prices.
+    // The outcome of the node by the guide's prices.
     fn bounded(&mut self, alloc: Global, task: &Task<'_>) -> Result<NodeEnd, AllocError>
         requires { CanLook task.now self.old }
         ensures pool { self.new.pool ≡ self.old.pool }
         ensures bound { self.new.lower_bound ≡ self.old.lower_bound }
-        ensures end { IfOk result (IsEnd self.old.pool task.now.customers task.now.trucks task.now.incumbent) }
+        ensures end { IfOk result (IsEnd self.old.pool task.now.customers task.now.fleet.trucks task.now.incumbent) }
     {
-        let offer = self
-            .guide
-            .offer(self.pool.as_slice(), task.customers, task.incumbent)?;
+        let offer = self.guide.offer(self.pool.as_slice(), task)?;
         self.work = offer.work;
-        let outcome = price_node(
-            alloc,
-            offer,
-            task.demands,
-            task.capacity,
-            task.trucks,
-            self.pool.as_slice(),
-            task.customers,
-            task.incumbent,
-        )?;
+        let outcome = price_node(alloc, offer, task, self.pool.as_slice())?;
         match outcome {
             NodeOutcome::Solved(chosen) => Ok(NodeEnd::Solved(chosen)),
             NodeOutcome::Open(left) => Ok(NodeEnd::Branched(self.branches(alloc, left)?)),

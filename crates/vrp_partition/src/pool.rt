@@ -1,4 +1,4 @@
-//! Passes over a pool of routes: their reduced costs, and which of them are kept.
+//! Passes over a pool of routes: their reduced costs, and the choice of those to keep.
 ghost use Rattle.std.specs.Prelude.{◌≡◌, ◌↔◌, ◌≤◌, ◌≤ℤ◌, IfOk, IsTrue, length, map, filter, int_le, pos, vec_len};
 ghost use Rattle.std.specs.List.{All};
 ghost use Rattle.vrp_partition.specs.Choice.{is_apart, is_together};
@@ -38,7 +38,7 @@ pub fn none_negative(costs: &[i64]) -> bool
     costs.iter().all(|cost| *cost >= 0)
 }
 
-/// The routes whose reduced costs are not above the gap, in their order. `costs` are the reduced costs of the pool.
+/// The routes whose reduced costs are not above the gap, in order. `costs` are the reduced costs of the pool.
 pub fn within_gap(
     alloc: Global,
     prices: &Prices,

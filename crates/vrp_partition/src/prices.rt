@@ -1,41 +1,41 @@
-//! Prices of the rows of the set partitioning: of customers, of two kinds of cuts, and of trucks; reduced costs and the lower bound
-//! by them.
-ghost use Rattle.std.specs.Prelude.{◌≡◌, ◌≤◌, ◌≤ℤ◌, ◌+ℤ◌, ◌*◌, ◌^◌, List, pos, length, unsigned_abs, IfSome, IsTrue};
+//! Prices of the rows of the set partitioning (customers, two kinds of cuts, trucks), with reduced costs and the lower bound.
+ghost use Rattle.std.specs.Prelude.{◌≡◌, ◌≤◌, ◌≤ℤ◌, ◌+ℤ◌, ◌*◌, ◌^◌, [], List, pos, length, unsigned_abs, IfOk, IfSome, IsTrue};
 ghost use Rattle.std.specs.List.{All};
 ghost use Rattle.vrp_partition.specs.Prices.{AllFit, AreModerate, AreValid, IsSubsetRow, IsCapacityCut, load_of, charges, dual_sum, lower_bound_of, reduced_cost_of, rewards};
 ghost use Rattle.vrp_partition.specs.declared.prices.Cut.{Cut};
 ghost use Rattle.vrp_partition.specs.declared.route.Route.{Route};
 ghost use Rattle.vrp_partition.specs.declared.prices.TheConstants.{SCALE};
 
+use std::alloc::{AllocError, Global};
 use std::marker::Model;
 
-/// How many units of a price there are in a unit of cost.
+/// The number of price units in a unit of cost.
 pub const SCALE: u64 = 1 << 20;
 
-/// How many customers there may be, a bit for each.
+/// The most customers, with a bit for each.
 pub const MOST_CUSTOMERS: usize = 128;
 
-// How many cuts of each kind there may be.
+// The most cuts of each kind.
 const MOST_CUTS: usize = 512;
 
-// How far the price of a customer may be from 0.
+// The greatest absolute price of a customer.
 const MOST_DUAL: u64 = 1 << 52;
 
-// How high the price of a cut, or of a truck, may be.
+// The highest price of a cut, or of a truck.
 const MOST_CUT_PRICE: u64 = 1 << 50;
 
-/// A cut, by a set of customers: its price is paid by each route that has two of three customers (a subset-row cut; Jepsen,
-/// Petersen, Spoorendonk and Pisinger 2008), or is paid to each route that comes to the set (a strong capacity cut; Baldacci,
-/// Christofides and Mingozzi 2008).
+/// A cut over a set of customers. Its price is paid by each route that has two of three customers (a subset-row cut; Jepsen, Petersen,
+/// Spoorendonk and Pisinger 2008), or to each route that comes to the set (a strong capacity cut; Baldacci, Christofides and Mingozzi
+/// 2008).
 #[derive(Debug, Clone, Copy)]
 pub struct Cut {
     pub set: u128,
-    // How many routes have to come to the set at least; of a subset-row cut nobody reads it.
+    // The least number of routes that come to the set; unused for a subset-row cut.
     pub count: u32,
     pub price: u64,
 }
 
-/// Prices by which a choice can be bounded: the duals of the customers, of any sign, and what the cuts and a truck cost.
+/// Prices that bound choices: the duals of the customers, of any sign, and the prices of the cuts and of a truck.
 #[derive(Debug, Drop)]
 pub struct Prices {
     duals: Vec<i64>,
@@ -54,22 +54,40 @@ impl Model for Prices {
     ghost invariant = { λ a. AreModerate (record { duals = a.duals.items; subset_rows = a.subset_rows.items; capacity_cuts = a.capacity_cuts.items; truck_price = a.truck_price }) };
 }
 
-/// Prices that need not be trusted. There are 128 duals, the first of which is customer 0's.
+/// Untrusted prices. There are 128 duals, the first one for customer 0.
 #[derive(Debug, Drop)]
 pub struct PriceOffer {
     pub duals: Vec<i64>,
     pub subset_rows: Vec<Cut>,
     pub capacity_cuts: Vec<Cut>,
-    // What each route pays: there may be no more than so many. 0 where that is no limit.
+    // The price that each route pays for its truck. 0 if trucks are not limited.
     pub truck_price: u64,
-    // How many reduced costs were looked at to find the prices.
+    // The number of reduced costs that were looked at to find the prices.
     pub work: u64,
 }
 
+impl PriceOffer {
+    /// Prices of 0, by which each reduced cost is the cost itself.
+    pub fn zeros(alloc: Global) -> Result<PriceOffer, AllocError>
+        ensures duals { IfOk result (λ offer. All (λ dual. dual ≡ pos 0) offer.duals.items) }
+        ensures rows { IfOk result (λ offer. offer.subset_rows.items ≡ []) }
+        ensures cuts { IfOk result (λ offer. offer.capacity_cuts.items ≡ []) }
+        ensures trucks { IfOk result (λ offer. offer.truck_price ≡ 0) }
+    {
+        Ok(PriceOffer {
+            duals: vec![in alloc; 0; MOST_CUSTOMERS]?,
+            subset_rows: Vec::new(alloc),
+            capacity_cuts: Vec::new(alloc),
+            truck_price: 0,
+            work: 0,
+        })
+    }
+}
+
 impl Prices {
-    /// The prices that are offered, if they bound: at most 512 cuts of each kind, prices of moderate size, no subset-row cut of
-    /// more than three customers, and no capacity cut that asks for more routes than its customers' demand does; else `None`. That
-    /// such prices are admitted, no clause says. The demands are those of customers 0 to 127.
+    /// The offered prices, if they bound: at most 512 cuts of each kind, prices of moderate size, no subset-row cut of more than three
+    /// customers, and no capacity cut that asks for more routes than its customers' demand does; otherwise `None`. No clause says that
+    /// such prices are admitted. The demands are those of customers 0 to 127.
     pub fn admit(
         offer: PriceOffer,
         demands: &[u32],
@@ -106,8 +124,8 @@ impl Prices {
         }
     }
 
-    /// An offer of the same prices with `least` added to each dual: with the least reduced cost, which is negative, all reduced
-    /// costs rise at least to 0. Nothing is promised of it.
+    /// An offer of the same prices with `least` added to each dual. If `least` is the least reduced cost, and negative, all reduced costs
+    /// rise to at least 0. No clause pins the offer.
     pub fn lowered(self, least: i64) -> PriceOffer {
         let Prices {
             mut duals,
@@ -127,19 +145,46 @@ impl Prices {
         }
     }
 
-    /// The reduced cost of a route: its cost, the prices of the subset-row cuts of which it has two customers, and that of a truck,
-    /// less its duals and the prices of the capacity cuts that it comes to.
+    /// The reduced cost of a route: its cost, plus the prices of the subset-row cuts of which it has two customers and of a truck, minus
+    /// its duals and the prices of the capacity cuts that it comes to.
     pub fn reduced_cost(&self, set: u128, cost: u32) -> i64
         ensures { result ≡ reduced_cost_of self.now SCALE (record { set = set; cost = cost }) }
     {
-        let charged = charged(self.subset_rows.as_slice(), set) as i64;
-        let rewarded = rewarded(self.capacity_cuts.as_slice(), set) as i64;
+        let charged = self.charged(set) as i64;
+        let rewarded = self.rewarded(set) as i64;
         let dual_sum = dual_sum_of(self.duals.as_slice(), set);
         (SCALE * u64::from(cost)) as i64 + charged + self.truck_price as i64 - dual_sum - rewarded
     }
 
-    /// What each choice of so many trucks costs at least, in units of a price, where no reduced cost is negative. It is not below
-    /// -2 ^ 61.
+    // The price that a route with these customers pays for subset-row cuts.
+    fn charged(&self, set: u128) -> u64
+        ensures value { result ≡ charges self.now.subset_rows set }
+        ensures small { result ≤ 2 ^ 59 }
+    {
+        let mut total = 0;
+        for cut in &self.subset_rows {
+            if (set & cut.set).count_ones() >= 2 {
+                total += cut.price;
+            }
+        }
+        total
+    }
+
+    // The price that a route with these customers gets for capacity cuts.
+    fn rewarded(&self, set: u128) -> u64
+        ensures value { result ≡ rewards self.now.capacity_cuts set }
+        ensures small { result ≤ 2 ^ 59 }
+    {
+        let mut total = 0;
+        for cut in &self.capacity_cuts {
+            if set & cut.set != 0 {
+                total += cut.price;
+            }
+        }
+        total
+    }
+
+    /// A lower bound on each choice with this many trucks, in price units, if no reduced cost is negative. It is at least -2 ^ 61.
     pub fn lower_bound(&self, customers: u128, trucks: u8) -> i128
         ensures value { result ≡ lower_bound_of self.now customers trucks }
         ensures small { pos 0 ≤ℤ (result +ℤ pos (2 ^ 61)) }
@@ -158,7 +203,7 @@ impl Prices {
     }
 }
 
-// What so many trucks cost.
+// The price of this many trucks.
 fn fleet_price(trucks: u8, price: u64) -> u64
     requires { price ≤ 2 ^ 50 }
     ensures value { result ≡ trucks * price }
@@ -174,14 +219,14 @@ fn are_moderate(prices: &[i64]) -> bool
     prices.iter().all(|price| price.unsigned_abs() <= MOST_DUAL)
 }
 
-// Whether each has three customers at most, and no price that is too high.
+// Whether each cut has three customers at most, and a price that is not too high.
 fn are_subset_rows(cuts: &[Cut]) -> bool
     ensures { IsTrue result → All IsSubsetRow cuts.now }
 {
     cuts.iter().all(|cut| cut.price <= MOST_CUT_PRICE && cut.set.count_ones() <= 3)
 }
 
-// Whether each lies among the customers, asks for no more routes than its demand does, and has no price that is too high.
+// Whether each cut is within the customers, asks for no more routes than its demand does, and has a price that is not too high.
 fn are_capacity_cuts(cuts: &[Cut], demands: &[u32], capacity: u32, customers: u128) -> bool
     requires { length demands.now ≡ 128 }
     ensures { IsTrue result → All (IsCapacityCut demands.now capacity customers) cuts.now }
@@ -198,7 +243,7 @@ fn are_capacity_cuts(cuts: &[Cut], demands: &[u32], capacity: u32, customers: u1
     true
 }
 
-// What the customers of a set demand.
+// The demand of a set of customers.
 pub fn demand_of(demands: &[u32], set: u128) -> u64
     requires { length demands.now ≡ 128 }
     ensures value { result ≡ load_of demands.now set }
@@ -225,38 +270,6 @@ fn dual_sum_of(prices: &[i64], set: u128) -> i64
     while left != 0 {
         total += prices[left.trailing_zeros() as usize];
         left &= left - 1;
-    }
-    total
-}
-
-// What the subset-row cuts cost a route with these customers.
-fn charged(cuts: &[Cut], set: u128) -> u64
-    requires few { length cuts.now ≤ 512 }
-    requires moderate { All (λ cut. cut.price ≤ 2 ^ 50) cuts.now }
-    ensures value { result ≡ charges cuts.now set }
-    ensures small { result ≤ 2 ^ 59 }
-{
-    let mut total = 0;
-    for cut in cuts {
-        if (set & cut.set).count_ones() >= 2 {
-            total += cut.price;
-        }
-    }
-    total
-}
-
-// What the capacity cuts pay to a route with these customers.
-fn rewarded(cuts: &[Cut], set: u128) -> u64
-    requires few { length cuts.now ≤ 512 }
-    requires moderate { All (λ cut. cut.price ≤ 2 ^ 50) cuts.now }
-    ensures value { result ≡ rewards cuts.now set }
-    ensures small { result ≤ 2 ^ 59 }
-{
-    let mut total = 0;
-    for cut in cuts {
-        if set & cut.set != 0 {
-            total += cut.price;
-        }
     }
     total
 }

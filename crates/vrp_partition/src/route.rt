@@ -1,6 +1,6 @@
 //! Routes, as a choice among them sees them.
 
-/// A route: its customers, a bit for each, and what it costs.
+/// A route: its customers, a bit for each, and its cost.
 #[derive(Debug, Clone, Copy)]
 pub struct Route {
     pub set: u128,

@@ -8,19 +8,19 @@ ghost use Rattle.vrp_partition.specs.Prices.{AllFit};
 ghost use Rattle.vrp_partition.specs.declared.route.Route.{Route};
 
 use crate::bounding::Chosen;
-use crate::fleet::Fleet;
 use crate::guide::{Ask, Guide, Tally};
-use crate::node::{Branches, Node, NodeEnd, Task};
+use crate::node::{Branches, Node, NodeEnd};
 use crate::route::Route;
+use crate::task::Task;
 use std::alloc::{AllocError, Global};
 use std::marker::Model;
 use std::thread::{Threads, for_each_mut};
 
-// So many open nodes are looked at side by side, whoever works: so a search takes the same steps for every number of workers.
+// The number of open nodes that are looked at in parallel, for any number of workers: so a search takes the same steps with every number
+// of them.
 const NODES_AT_ONCE: usize = 8;
 
-/// Who works on a search: so many workers, each in a thread of its own where one can be made; and who is asked whether it goes on, and
-/// is told how far it is.
+/// The workers of a search, each in a thread of its own if one can be made, and the watch of the search.
 #[derive(Clone, Copy)]
 pub struct Team<'a, R, A> {
     pub rt: &'a R,
@@ -29,37 +29,35 @@ pub struct Team<'a, R, A> {
     pub ask: &'a A,
 }
 
-/// What a search found. Where no choice costs less than the incumbent, the cost is the incumbent's, and the routes are no choice.
+/// The result of a search. If no choice costs less than the incumbent, the cost is the incumbent's, and the routes are no choice.
 #[derive(Debug, Drop)]
 pub enum Found {
     /// No choice costs less than this one and the incumbent.
     Cheapest(Chosen),
-    /// The search ended before that is known: the cheapest choice so far, and what each choice costs at least.
+    /// The search ended unfinished: the cheapest choice so far, and a lower bound on each choice.
     Unfinished { best: Chosen, lower_bound: u64 },
 }
 
-/// The least cost below the incumbent's of a choice of the pool that serves the customers with so many trucks, and a choice of that
-/// cost; where there is none, the incumbent's cost. The search is unfinished where the budget is spent, of which a round of nodes takes
-/// one and as much as the guides say that they worked; or where it was asked and does not go on: then what was left of the budget is
-/// given up. Each route of the pool has to fit one truck. Open nodes are looked at some at a time, the last ones first.
+/// The least cost below the incumbent's of a choice of the pool that serves the task's customers with its trucks, and a choice of that
+/// cost; if there is none, the incumbent's cost. The search ends unfinished if the budget is spent, or the watch stops it; then the rest of
+/// the budget is given up. A round of nodes takes one of the budget, and as much as the guides' own work. Each route of the pool must fit
+/// one truck. Several open nodes are looked at at a time, the last ones first.
 pub fn cheapest_choice<R: Threads + Sync, P: Guide + Send, A: Ask>(
     team: &Team<'_, R, A>,
     guide: P,
-    fleet: &Fleet<'_>,
+    task: &Task<'_>,
     pool: Vec<Route>,
-    customers: u128,
-    incumbent: u64,
     budget: &mut u64,
 ) -> Result<Found, AllocError>
     requires workers { 1 ≤ team.now.workers }
-    requires len { length fleet.now.demands.now ≡ 128 }
-    requires fit { AllFit fleet.now.demands.now fleet.now.capacity pool.items }
-    requires incumbent { incumbent ≤ 2 ^ 32 }
-    ensures found { IfOk result (IsFound pool.items customers fleet.now.trucks incumbent) }
+    requires len { length task.now.fleet.demands.now ≡ 128 }
+    requires fit { AllFit task.now.fleet.demands.now task.now.fleet.capacity pool.items }
+    requires incumbent { task.now.incumbent ≤ 2 ^ 32 }
+    ensures found { IfOk result (IsFound pool.items task.now.customers task.now.fleet.trucks task.now.incumbent) }
     ensures budget { budget.new ≤ budget.old }
     ensures spent { IfOk result (IfUnfinished (budget.new ≡ 0)) }
 {
-    let mut search = Search::new(team.alloc, guide, pool, incumbent)?;
+    let mut search = Search::new(team.alloc, guide, pool, task.incumbent)?;
     while !search.open_nodes.is_empty() {
         if *budget == 0 || !team.ask.should_continue() {
             *budget = 0;
@@ -67,14 +65,14 @@ pub fn cheapest_choice<R: Threads + Sync, P: Guide + Send, A: Ask>(
             let best = search.best;
             return Ok(Found::Unfinished { best, lower_bound });
         }
-        let work = search.round(team, fleet, customers)?;
+        let work = search.round(team, task)?;
         *budget = (*budget - 1).saturating_sub(work);
         team.ask.on_round(search.tally());
     }
     Ok(Found::Cheapest(search.best))
 }
 
-// A search: its open nodes, the cheapest choice so far, and how many nodes are done.
+// A search: its open nodes, the cheapest choice so far, and the number of nodes that are done.
 #[derive(Debug, Drop)]
 pub(crate) struct Search<P: Guide> {
     open_nodes: Vec<Node<P>>,
@@ -91,7 +89,7 @@ impl<P: Guide> Model for Search<P> {
 }
 
 impl<P: Guide + Send> Search<P> {
-    // The search that begins with the node of the whole pool.
+    // A search that starts with the node of the whole pool.
     fn new(
         alloc: Global,
         guide: P,
@@ -113,35 +111,31 @@ impl<P: Guide + Send> Search<P> {
         })
     }
 
-    // Looks at some open nodes, and answers how much the guides worked.
+    // Looks at some open nodes for choices cheaper than the best so far, and answers the work of the guides.
     fn round<R: Threads + Sync, A>(
         &mut self,
         team: &Team<'_, R, A>,
-        fleet: &Fleet<'_>,
-        customers: u128,
+        task: &Task<'_>,
     ) -> Result<u64, AllocError>
         requires workers { 1 ≤ team.now.workers }
-        requires len { length fleet.now.demands.now ≡ 128 }
-        requires search { (pool : List Route) × (incumbent : ℕ) × AllFit fleet.now.demands.now fleet.now.capacity pool
-            × (incumbent ≤ 2 ^ 32) × IsSearched pool customers fleet.now.trucks incumbent self.old self.old.open_nodes }
+        requires len { length task.now.fleet.demands.now ≡ 128 }
+        requires search { (pool : List Route) × (incumbent : ℕ) × AllFit task.now.fleet.demands.now task.now.fleet.capacity pool
+            × (incumbent ≤ 2 ^ 32) × IsSearched pool task.now.customers task.now.fleet.trucks incumbent self.old self.old.open_nodes }
         ensures { OnOk result ((pool : List Route) (incumbent : ℕ)
-            → IsSearched pool customers fleet.now.trucks incumbent self.old self.old.open_nodes
-            → IsSearched pool customers fleet.now.trucks incumbent self.new self.new.open_nodes) }
+            → IsSearched pool task.now.customers task.now.fleet.trucks incumbent self.old self.old.open_nodes
+            → IsSearched pool task.now.customers task.now.fleet.trucks incumbent self.new self.new.open_nodes) }
     {
-        let task = Task {
-            demands: fleet.demands,
-            capacity: fleet.capacity,
-            trucks: fleet.trucks,
-            customers,
+        let below = Task {
             incumbent: self.best.cost,
+            ..*task
         };
         let nodes = self.take_nodes(team.alloc)?;
-        let nodes = looked_at(team.rt, team.alloc, team.workers, &task, nodes);
+        let nodes = looked_at(team.rt, team.alloc, team.workers, &below, nodes);
         let work = self.absorb_all(nodes)?;
         Ok(work)
     }
 
-    // Takes the last open nodes, in an order in which equal shares of them have about as much work.
+    // Takes the last open nodes, in an order in which equal shares of them have about the same work.
     fn take_nodes(&mut self, alloc: Global) -> Result<Vec<Node<P>>, AllocError>
         ensures cost { OnOk result (self.new.cost ≡ self.old.cost) }
         ensures nodes { IfOk result (λ nodes. (pool : List Route) (customers trucks incumbent : ℕ)
@@ -169,7 +163,7 @@ impl<P: Guide + Send> Search<P> {
         }
     }
 
-    // Takes what came of the nodes, and answers how much the guides worked.
+    // Takes in the outcomes of the nodes, and answers the work of the guides.
     fn absorb_all(&mut self, mut nodes: Vec<Node<P>>) -> Result<u64, AllocError>
         ensures { OnOk result ((pool : List Route) (customers trucks incumbent limit : ℕ)
             → self.old.cost ≤ limit
@@ -185,7 +179,7 @@ impl<P: Guide + Send> Search<P> {
         Ok(work)
     }
 
-    // Takes what came of a node.
+    // Takes in the outcome of a node.
     fn absorb(&mut self, node: Node<P>) -> Result<(), AllocError>
         ensures falls { OnOk result (self.new.cost ≤ self.old.cost) }
         ensures searched { OnOk result ((pool : List Route) (customers trucks incumbent limit : ℕ) (rest : List NodeState)
@@ -213,7 +207,7 @@ impl<P: Guide + Send> Search<P> {
         }
     }
 
-    // Takes a choice where it costs less than the cheapest one so far.
+    // Keeps a choice if it costs less than the cheapest one so far.
     fn take_choice(&mut self, chosen: Chosen)
         ensures { TakesChoice self.old chosen self.new }
     {
@@ -246,7 +240,7 @@ impl<P: Guide + Send> Search<P> {
         Ok(())
     }
 
-    // What each choice costs at least.
+    // A lower bound on each choice.
     fn lower_bound(&self) -> u64
         ensures { (pool : List Route) (customers trucks incumbent : ℕ)
             → IsSearched pool customers trucks incumbent self.now self.now.open_nodes
@@ -259,7 +253,7 @@ impl<P: Guide + Send> Search<P> {
         least
     }
 
-    // How far the search is.
+    // The progress of the search.
     fn tally(&self) -> Tally {
         Tally {
             done: self.done,
@@ -270,7 +264,7 @@ impl<P: Guide + Send> Search<P> {
     }
 }
 
-// Puts the nodes in an order in which equal shares of them have about as many routes.
+// Orders the nodes so that equal shares of them have about the same number of routes.
 fn spread_out<P: Guide>(alloc: Global, nodes: &mut Vec<Node<P>>) -> Result<(), AllocError>
     ensures { IsPermutation nodes.old.items nodes.new.items }
 {
@@ -282,15 +276,15 @@ fn spread_out<P: Guide>(alloc: Global, nodes: &mut Vec<Node<P>>) -> Result<(), A
     Ok(())
 }
 
-// The turn of a count among others: the greatest has rank 0, equal ones the last of theirs, and turns go by ranks as Gray codes, whose
-// last bit counts most. So each half of the turns, and each quarter, has every other pair of ranks.
+// The turn of a count among others. The greatest count has rank 0, and equal ones have the last of their ranks. The turn is the Gray code
+// of the rank, read with its last bit as the highest: so each half of the turns, and each quarter, has every other pair of ranks.
 fn turn_of(count: usize, counts: &[usize]) -> usize {
     let no_less = counts.iter().filter(|other| **other >= count).count();
     let rank = no_less.saturating_sub(1);
     (rank ^ rank >> 1).reverse_bits()
 }
 
-// The nodes once they are looked at, side by side.
+// The nodes after a parallel look at them.
 fn looked_at<R: Threads + Sync, P: Guide + Send>(
     rt: &R,
     alloc: Global,

@@ -1,5 +1,5 @@
--- What a line of a solution says, as CVRPLIB writes it: `Route #1: 5 2` or `Cost 521`. Small and capital letters mean the same, and blanks
--- may stand between all parts.
+-- The meaning of a line of a solution in CVRPLIB's format: `Route #1: 5 2` or `Cost 521`. Letters may be small or capital,
+-- and blanks may stand between all parts.
 use Rattle.std.specs.Prelude.{ℕ, ℤ, pos, neg_ℤ, ◌==◌, ◌||◌, Bool, if◌then◌else◌, Result, Option, Some, None, List, [], ◌∷◌, codes, drop, map, slice_index}
 use Rattle.std.specs.List.{after_first, before_first, list_any, slice_split}
 use Rattle.std.specs.Str.{bytes_eq, str_to_ascii_lowercase}
@@ -8,7 +8,7 @@ use Rattle.vrp_text_lexer.specs.Numeral.{number_of}
 use Rattle.vrp_text_lexer.specs.declared.fault.FileLineFault.{FileLineFault}
 use Rattle.vrp_plan_read.specs.declared.line.TheConstants.{MAX_NUMBER}
 
--- the whole number that a token writes, or why it writes none
+-- the whole number that a token writes, or the reason why it writes none
 abbrev pub Number : Type 0
 Number = Result ℤ FileLineFault
 
@@ -26,16 +26,16 @@ pub data Line : Type 0 where
 abbrev pub is_word : List ℕ → List ℕ → Bool
 is_word word token = bytes_eq (str_to_ascii_lowercase token) word
 
--- a colon may stand behind the word of the cost, and its number is all that follows
+-- the word of the cost may be followed by a colon, and only its number follows
 abbrev pub cost_line : List (List ℕ) → Line
 cost_line (cost ∷ []) = Cost (number_of (pos 0) MAX_NUMBER cost)
 cost_line others = Unknown
 
--- without the sign # that may stand at the front
+-- the text without a leading sign #
 abbrev pub without_hash : List ℕ → List ℕ
 without_hash token = if slice_index token 0 == 35 then drop 1 token else token
 
--- Behind the word of a route stands the token of its number. The sign # before it may be missing, or stand apart.
+-- The token of its number follows the word of a route. The sign # before it may be missing, or stand apart.
 abbrev pub number_token : List (List ℕ) → Option (List ℕ)
 number_token (word ∷ number ∷ []) = if bytes_eq number (codes "#") then None else Some (without_hash number)
 number_token (word ∷ sign ∷ number ∷ []) = if bytes_eq sign (codes "#") then Some number else None
@@ -48,14 +48,14 @@ route_line (Some number) stops = Route (number_of (pos 0) MAX_NUMBER number) (ma
 abbrev pub is_colon : ℕ → Bool
 is_colon byte = byte == 58
 
--- The stops of a route stand behind the first colon.
+-- The stops of a route follow the first colon.
 abbrev pub parted_line : List ℕ → Line
 parted_line text =
     if list_any is_colon text
     then route_line (number_token (tokens_of (before_first is_colon text))) (tokens_of (after_first is_colon text))
     else Unknown
 
--- the line whose first token is this word, and these are the tokens behind it
+-- the line with this word as its first token, followed by these tokens
 abbrev pub worded_line : List ℕ → List ℕ → List (List ℕ) → Line
 worded_line text word tokens =
     if is_word (codes "cost") word || is_word (codes "cost:") word then cost_line tokens
@@ -69,6 +69,6 @@ said_by text (word ∷ tokens) = worded_line text word tokens
 abbrev pub line_of : List ℕ → Line
 line_of text = said_by text (tokens_of text)
 
--- what stands between line feeds
+-- the lines between line feeds
 abbrev pub lines_of : List ℕ → List Line
 lines_of text = map line_of (slice_split (λ byte. byte == 10) text)

@@ -1,4 +1,4 @@
--- Which feasible plan a text gives, as CVRPLIB writes it, and when there is none.
+-- The feasible plan that a text in CVRPLIB's format gives, and when there is none.
 use Rattle.std.specs.Prelude.{◌≡◌, ◌≢◌, ◌⊎◌, ℕ, ℤ, pos, unsigned_abs, ◌+◌, ◌≤◌, ◌<◌, ◌==◌, Bool, true, false, not, Option, None, Some, Ok, Err, IsErr, List, ◌∷◌, ◌++◌, filter, length, map, ⊤}
 use Rattle.std.specs.List.{All, AllPairs, Contains, concat, slice_get}
 use Rattle.std.specs.Option.{option_and_then}
@@ -10,7 +10,7 @@ use Rattle.vrp_plan_read.specs.Line.{Blank, Cost, Line, Number, Route, Unknown, 
 use Rattle.vrp_plan_read.specs.declared.error.SolutionError.{SolutionError}
 use Rattle.vrp_plan_read.specs.declared.error.SolutionError.TheVariants as error
 
--- a route that a text lists: its number, and its stops by their places
+-- a route that a text lists: its number, and its stops as places
 pub record GivenRoute : Type 0 where
   pub number : ℕ
   pub stops : List ℕ
@@ -27,7 +27,7 @@ is_cost (Route number stops) = false
 is_cost (Cost cost) = true
 is_cost Unknown = false
 
--- a line says something, and a cost is a number, whole or not
+-- a line is not unknown, and a stated cost is a number, whole or not
 abbrev pub IsSaid : Line → Type 0
 IsSaid Blank = ⊤
 IsSaid (Route number stops) = ⊤
@@ -38,7 +38,7 @@ IsSaid Unknown = ⊥
 abbrev pub line_of_route : GivenRoute → Line
 line_of_route route = Route (Ok (pos route.number)) (map (λ stop. Ok (pos stop)) route.stops)
 
--- a route without stops counts for nothing
+-- a route without stops is ignored
 abbrev pub with_stops : List GivenRoute → List GivenRoute
 with_stops routes = filter (λ route. not (length route.stops == 0)) routes
 
@@ -46,8 +46,8 @@ with_stops routes = filter (λ route. not (length route.stops == 0)) routes
 abbrev pub AreCustomers : Problem → List ℕ → Type 0
 AreCustomers p stops = All (Contains (customers p)) stops
 
--- Nothing is wrong with lines by themselves, and the routes that have stops are these, in order: each line says something, one at most
--- states a cost, and all stops are customers.
+-- No line is at fault by itself, and the routes with stops are these, in order: no line is unknown, at most one states a
+-- cost, and all stops are customers.
 pub record ListRoutes (p : Problem) (lines : List Line) (routes : List GivenRoute) : Type 0 where
   pub said : All IsSaid lines
   pub one_cost : length (filter is_cost lines) ≤ 1
@@ -60,7 +60,7 @@ pub record ListRoutes (p : Problem) (lines : List Line) (routes : List GivenRout
 abbrev pub stops_of : List GivenRoute → List (List ℕ)
 stops_of routes = map (λ route. route.stops) routes
 
--- The text lists just the routes of the plan, each as listed or turned round, in some order; and the plan is feasible, with its
+-- The text lists exactly the routes of the plan, each as listed or reversed, in some order; and the plan is feasible with its
 -- true cost.
 pub record GivesPlan (p : Problem) (text : List ℕ) (plan : PricedPlan) : Type 0 where
   pub routes : List GivenRoute
@@ -70,7 +70,7 @@ pub record GivesPlan (p : Problem) (text : List ℕ) (plan : PricedPlan) : Type 
   pub turned : AreTurned ordered plan.routes
   pub plan_of : IsPlanOf p plan
 
--- the cost that a line states, if that is whole
+-- the cost that a line states, if it is whole
 abbrev pub whole_cost : Line → Option ℕ
 whole_cost Blank = None
 whole_cost (Route number stops) = None
@@ -78,15 +78,15 @@ whole_cost (Cost (Ok cost)) = Some (unsigned_abs cost)
 whole_cost (Cost (Err fault)) = None
 whole_cost Unknown = None
 
--- the cost that a text states: that of its first line that states one, if that is whole
+-- the cost that a text states: that of the first line with one, if it is whole
 abbrev pub stated_cost : List ℕ → Option ℕ
 stated_cost text = option_and_then whole_cost (slice_get (filter is_cost (lines_of text)) 0)
 
--- a line states a cost, and not this one
+-- a line states a cost different from this one
 abbrev pub StatesOtherCost : List ℕ → ℕ → Type 0
 StatesOtherCost text cost = (stated : Number) × Contains (lines_of text) (Cost stated) × (stated ≢ Ok (pos cost))
 
--- The line of this number says this, and nothing is wrong with those before it. The first line is line 1.
+-- The line of this number says this, and no line before it is at fault. The first line is line 1.
 pub record IsFirstAtFault (p : Problem) (lines : List Line) (number : ℕ) (line : Line) : Type 0 where
   pub before : List Line
   pub behind : List Line
@@ -95,21 +95,21 @@ pub record IsFirstAtFault (p : Problem) (lines : List Line) (number : ℕ) (line
   pub routes : List GivenRoute
   pub sound : ListRoutes p before routes
 
--- this is one of a route's stops, and all before it are customers
+-- this is one of a route's stops, and all stops before it are customers
 pub record FollowsCustomers (p : Problem) (stops : List Number) (next : Number) : Type 0 where
   pub passed : List ℕ
   pub behind : List Number
   pub stands : stops ≡ map (λ stop. Ok (pos stop)) passed ++ next ∷ behind
   pub customers : AreCustomers p passed
 
--- A cost that is no number, or a route whose number is not whole, or one of its stops, where all before it are customers.
+-- A cost is not a number, or a route's number is not whole, or one of its stops isn't and all stops before it are customers.
 abbrev pub HasBadNumber : Problem → Line → Type 0
 HasBadNumber p Blank = ⊥
 HasBadNumber p (Route number stops) = IsErr number ⊎ ((bad : Number) × IsErr bad × FollowsCustomers p stops bad)
 HasBadNumber p (Cost cost) = cost ≡ Err BadNumber
 HasBadNumber p Unknown = ⊥
 
--- a line states a cost, which is a number, and so does an earlier one
+-- a line states a cost that is a number, and so does an earlier one
 pub record IsRepeatedCost (p : Problem) (lines : List Line) (number : ℕ) : Type 0 where
   pub cost : Number
   pub first : IsFirstAtFault p lines number (Cost cost)
@@ -117,7 +117,7 @@ pub record IsRepeatedCost (p : Problem) (lines : List Line) (number : ℕ) : Typ
   pub other : Number
   pub earlier : Contains first.before (Cost other)
 
--- the line of a route has a stop that is no customer, behind stops that are
+-- a route's line has a stop that is not a customer, and all stops before it are customers
 pub record HasNoCustomer (p : Problem) (lines : List Line) (route : ℕ) (stop : ℤ) : Type 0 where
   pub line : ℕ
   pub stops : List Number
@@ -125,19 +125,19 @@ pub record HasNoCustomer (p : Problem) (lines : List Line) (route : ℕ) (stop :
   pub stands : FollowsCustomers p stops (Ok stop)
   pub none : (customer : ℕ) → Contains (customers p) customer → stop ≢ pos customer
 
--- no customer stands twice in these routes, and none has too much load
+-- no customer occurs twice in these routes, and no load is above the capacity
 pub record AreSound (p : Problem) (routes : List GivenRoute) : Type 0 where
   pub once : AllPairs (λ a b. a ≢ b) (concat (stops_of routes))
   pub fits : OverloadsNoTruck p (stops_of routes)
 
--- a route with this number stands behind these, with which nothing is wrong
+-- a route with this number follows these, which have no fault
 pub record IsFirstRoute (p : Problem) (routes : List GivenRoute) (number : ℕ) (earlier : List GivenRoute) (route : GivenRoute) : Type 0 where
   pub later : List GivenRoute
   pub stands : routes ≡ earlier ++ route ∷ later
   pub numbered : route.number ≡ number
   pub sound : AreSound p earlier
 
--- a customer stands in a route, and before that in the same route or in an earlier one
+-- a customer occurs in a route, and before that in the same route or in an earlier one
 pub record IsServedTwice (p : Problem) (routes : List GivenRoute) (number customer : ℕ) : Type 0 where
   pub earlier : List GivenRoute
   pub route : GivenRoute
@@ -158,25 +158,25 @@ pub record IsOverloaded (p : Problem) (routes : List GivenRoute) (number load ca
   pub room : capacity ≡ p.capacity
   pub above : capacity < load
 
--- the lowest customer that stands in no route
+-- the lowest customer in no route
 pub record IsNotServed (p : Problem) (routes : List GivenRoute) (customer : ℕ) : Type 0 where
   pub sound : AreSound p routes
   pub known : Contains (customers p) customer
   pub nowhere : Contains (concat (stops_of routes)) customer → ⊥
   pub lowest : (lower : ℕ) → Contains (customers p) lower → lower < customer → Contains (concat (stops_of routes)) lower
 
--- all customers stand in these routes; so many routes there are, and not so many trucks
+-- all customers are in these routes, and there are this many routes but fewer trucks
 pub record AreTooMany (p : Problem) (routes : List GivenRoute) (count : ℕ) : Type 0 where
   pub sound : AreSound p routes
   pub every : All (Contains (concat (stops_of routes))) (customers p)
   pub counted : length routes ≡ count
   pub more : HasTrucks p count → ⊥
 
--- nothing is wrong with the lines by themselves, and the routes that they list are so
+-- no line is at fault by itself, and the listed routes have this property
 abbrev pub ListedAre : Problem → List Line → (List GivenRoute → Type 0) → Type 0
 ListedAre p lines are = (routes : List GivenRoute) × ListRoutes p lines routes × are routes
 
--- This is the first thing that is wrong, line by line and then route by route. Want of memory is no fault of the lines.
+-- The first fault, line by line and then route by route. Lack of memory is not a fault of the lines.
 abbrev pub HaveFault : Problem → List Line → SolutionError → Type 0
 HaveFault p lines (error.UnknownLine line) = IsFirstAtFault p lines line Unknown
 HaveFault p lines (error.BadNumber line) = (says : Line) × IsFirstAtFault p lines line says × HasBadNumber p says

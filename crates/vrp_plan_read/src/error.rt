@@ -5,25 +5,25 @@ ghost use Rattle.vrp_plan_read.specs.declared.error.SolutionError.TheVariants.{O
 use std::alloc::{AllocError, AllocFailed};
 use vrp_model::NoMemory;
 
-/// Why a solution is refused: its text says so of a line, or of a route and a customer by the numbers that the solution has for them.
+/// Why a solution is refused: the fault of a line, or of a route and a customer, by the numbers that the solution uses.
 #[derive(Clone, Copy, Debug, PartialEq, Eq, Drop, thiserror::Error)]
 pub enum SolutionError {
-    /// The line is neither that of a route nor that of the cost.
+    /// The line is neither a route nor a cost.
     #[error("line {0}: neither a route nor a cost")]
     UnknownLine(u64),
-    /// The line has a token that is no number, or a customer that is no whole number.
+    /// The line has a token that is not a number, or a customer that is not a whole number.
     #[error("line {0}: bad number")]
     BadNumber(u64),
-    /// The line is a second one of the cost.
+    /// The line states a second cost.
     #[error("line {0}: repeated cost")]
     RepeatedCost(u64),
-    /// The route has a stop that is no customer of the problem.
+    /// The route has a stop that is not a customer of the problem.
     #[error("route {route}: {customer} is not a customer")]
     NotACustomer {
         route: u64,
         customer: i64,
     },
-    /// The route has a customer whom the route itself or one before it serves too.
+    /// The route has a customer that this route or an earlier one already serves.
     #[error("route {route}: customer {customer} is served twice")]
     ServedTwice {
         route: u64,
@@ -32,7 +32,7 @@ pub enum SolutionError {
     /// No route has the customer.
     #[error("customer {0} is not served")]
     NotServed(u16),
-    /// The route's customers demand more than a truck carries.
+    /// The route's customers demand more than the capacity.
     #[error("route {route}: load {load} above capacity {capacity}")]
     Overloaded {
         route: u64,
@@ -44,7 +44,7 @@ pub enum SolutionError {
     TooManyRoutes {
         routes: usize,
     },
-    /// A growth was refused.
+    /// An allocation was refused.
     #[error("out of memory")]
     OutOfMemory,
 }

@@ -1,4 +1,4 @@
-//! Whether routes are a feasible plan, and else why not.
+//! Whether routes make a feasible plan, and if not, why.
 ghost use Rattle.std.specs.Prelude.{◌≡◌, ◌<◌, ◌++◌, All, Contains, IfNone, IfOk, IfSome, List, MatchOption, [], ℕ, false, length, map, slice_index_or, true};
 ghost use Rattle.vrp_model.specs.Problem.{customers, place_count};
 ghost use Rattle.vrp_model.specs.Route.{IsLawful, IsPlanOf};
@@ -28,13 +28,13 @@ pub(crate) fn plan_of(
     ensures none { IfOk result (λ plan. IfNone plan
         (IsLawful instance.now (map (λ route. route.stops.items) routes.now) → ⊥)) }
 {
-    // That there is a depot comes with what is known of every instance.
+    // The invariant of an instance says that there is a depot.
     let _customers = instance.customers();
     let word = word_of(alloc, instance.symmetric(), routes)?;
     lawful_plan(alloc, instance, &word)
 }
 
-// The word of these routes: they rise by their starts.
+// The word of these routes, sorted by their starts.
 fn word_of(alloc: Global, symmetric: bool, routes: &[Route]) -> Result<Vec<u16>, NoMemory>
     ensures { IfOk result (λ word. (ordered : List (List ℕ))
         × AreOrdered symmetric (map (λ route. route.stops.items) routes.now) ordered
@@ -59,14 +59,14 @@ fn by_start(alloc: Global, symmetric: bool, routes: &[Route]) -> Result<Vec<&Rou
     Ok(rising)
 }
 
-// Each of the routes by a reference, in order.
+// A reference to each of the routes, in order.
 fn references(alloc: Global, routes: &[Route]) -> Result<Vec<&Route>, AllocError>
     ensures { IfOk result (λ listed. map (λ route. route.now) listed.items ≡ routes.now) }
 {
     routes.iter().collect(alloc)
 }
 
-/// Why routes that are no feasible plan, but whose stops are customers, are none.
+/// Why these routes, whose stops are customers, make no feasible plan.
 pub(crate) fn refusal_of(
     alloc: Global,
     instance: &Instance,
@@ -89,7 +89,7 @@ pub(crate) fn refusal_of(
     })
 }
 
-// The first route that has a customer twice, or one whom an earlier route has, or too much load. The stops are served with it.
+// The first route that has a customer twice, or one of an earlier route, or too much load. Its stops are marked as served.
 fn faulty_route(instance: &Instance, routes: &[Route], served: &mut [bool]) -> Option<SolutionError>
     requires customers { All (λ route. AreCustomers instance.now route.stops.items) routes.now }
     requires none { AreServed instance.now served.old [] }
@@ -117,7 +117,7 @@ fn faulty_route(instance: &Instance, routes: &[Route], served: &mut [bool]) -> O
     None
 }
 
-// The first of the stops who is served already. The stops are served with it.
+// The first of the stops that is already served. The stops are marked as served.
 fn served_before(stops: &[u16], served: &mut [bool]) -> Option<u16>
     requires { All (λ stop. stop < length served.old) stops.now }
     ensures { (done : List ℕ) → Marks served.old done → AreDifferent done

@@ -1,5 +1,4 @@
-//! Plans as CVRPLIB writes them in its files `.sol`: routes of customers and a cost, read from a text and asked whether they are
-//! feasible.
+//! Plans in CVRPLIB's `.sol` format: reads routes of customers and a cost from a text, and checks whether they are feasible.
 #![tactic(auto)]
 
 mod error;

@@ -1,4 +1,4 @@
-//! What a line of a solution says.
+//! The meaning of a line of a solution.
 ghost use Rattle.std.specs.Prelude.{◌≡◌, ◌≤ℤ◌, ◌||◌, ◌==◌, ℕ, pos, List, codes, option_copied, IfOk, IsErr, MatchOption, MatchResult};
 ghost use Rattle.std.specs.List.{position};
 ghost use Rattle.vrp_text_lexer.specs.Numeral.{number_of};
@@ -9,10 +9,10 @@ ghost use Rattle.vrp_plan_read.specs.Inner.Read.{IsCostRead, IsRead};
 
 use vrp_text_lexer::{FileLineFault, Tokens, number};
 
-/// How far from 0 a number of a line may lie.
+/// The greatest absolute value of a number in a line.
 pub(crate) const MAX_NUMBER: i64 = 1_000_000_000_000_000_000;
 
-/// What a line says.
+/// The meaning of a line.
 #[derive(Drop)]
 pub(crate) enum Said<'a> {
     Nothing,
@@ -22,29 +22,29 @@ pub(crate) enum Said<'a> {
     Cost(StatedCost),
 }
 
-/// A cost that a solution states.
+/// The cost stated by a solution.
 #[derive(Clone, Copy, Debug, PartialEq, Eq)]
 pub(crate) enum StatedCost {
     Whole(u64),
-    /// No plan has a cost that isn't whole.
+    /// A cost that isn't whole; no plan has one.
     Fraction,
 }
 
-/// What is wrong with a line.
+/// The fault of a line.
 #[derive(Clone, Copy, Debug, PartialEq, Eq)]
 pub(crate) enum LineError {
     Unknown,
     BadNumber,
 }
 
-// Where a byte stands first.
+// The position of the first such byte.
 fn place_of(text: &[u8], byte: u8) -> Option<usize>
     ensures { result ≡ position (λ other. other == byte) text.now }
 {
     text.iter().position(|other| *other == byte)
 }
 
-/// What stands before the first of these bytes, and what stands behind it.
+/// The parts before and behind the first such byte.
 pub(crate) fn parted(text: &[u8], byte: u8) -> Option<(&[u8], &[u8])>
     ensures { MatchOption result
         (position (λ other. other == byte) text.now ≡ None)
@@ -56,8 +56,8 @@ pub(crate) fn parted(text: &[u8], byte: u8) -> Option<(&[u8], &[u8])>
     }
 }
 
-/// What a line says: `Route #1: 5 2` or `Cost 521`. Small and capital letters mean the same, blanks may stand between all parts, and
-/// the sign `#` and the colon behind `Cost` are as may be.
+/// The meaning of a line: `Route #1: 5 2` or `Cost 521`. Letters may be small or capital, blanks may stand between all parts,
+/// and the sign `#` and the colon behind `Cost` are optional.
 pub(crate) fn line_of(text: &[u8]) -> Result<Said<'_>, LineError>
     ensures { IsRead (spec.line_of text.now) result }
 {
@@ -89,7 +89,7 @@ fn is_route(token: &[u8]) -> bool
     token.eq_ignore_ascii_case(b"route".as_slice())
 }
 
-// The cost that stands behind its word.
+// The cost behind its word.
 fn stated_cost(mut tokens: Tokens<'_>) -> Result<StatedCost, LineError>
     ensures { IsCostRead (cost_line tokens.entry) result }
 {
@@ -108,7 +108,7 @@ fn stated_cost(mut tokens: Tokens<'_>) -> Result<StatedCost, LineError>
     }
 }
 
-// The number that stands before the colon, and the stops behind it.
+// The number before the colon, and the stops behind it.
 fn route_line(text: &[u8]) -> Result<Said<'_>, LineError>
     ensures { IsRead (spec.parted_line text.now) result }
 {
@@ -141,7 +141,7 @@ fn number_token(mut tokens: Tokens<'_>) -> Option<&[u8]>
     if tokens.is_empty() { Some(token) } else { None }
 }
 
-// Without the sign # that may stand at the front.
+// The token without a leading sign #.
 fn without_hash(token: &[u8]) -> &[u8]
     ensures { result.now ≡ without_hash token.now }
 {
@@ -151,7 +151,7 @@ fn without_hash(token: &[u8]) -> &[u8]
     }
 }
 
-/// The whole number of a token, no less than `least`.
+/// The whole number of a token, at least `least`.
 pub(crate) fn whole(token: &[u8], least: i64) -> Result<i64, LineError>
     ensures value { MatchResult result
         (λ whole. number_of least MAX_NUMBER token.now ≡ Ok whole)

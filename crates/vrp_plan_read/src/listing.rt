@@ -1,4 +1,4 @@
-//! The routes that a text lists, and the cost that it states.
+//! The routes and the cost that a text states.
 ghost use Rattle.std.specs.Prelude.{◌≡◌, ◌≢◌, ◌+◌, ◌<◌, ◌↔◌, ℕ, List, [], ◌∷◌, ◌++◌, IfErr, IfOk, IsTrue, OnOk, Ok, Some, length, map, pos};
 ghost use Rattle.vrp_plan_read.specs.Line.{Line, line_of, lines_of};
 ghost use Rattle.vrp_plan_read.specs.Solution.{AreCustomers, HaveFault, IsRefusedFor};
@@ -46,7 +46,7 @@ impl Listing {
         Ok(listing)
     }
 
-    // Adds what the line of this number says.
+    // Adds the statement of the line with this number.
     fn add_line(
         &mut self,
         alloc: Global,
@@ -90,7 +90,7 @@ impl Listing {
         Ok(())
     }
 
-    // A line lists a route of this number with these stops. Without stops it counts for nothing.
+    // A line lists a route with this number and these stops. A route without stops is ignored.
     fn add_route(&mut self, number: u64, stops: Vec<u16>) -> Result<(), SolutionError>
         ensures added { OnOk result (IsRouteAdded number stops.items self.old self.new) }
         ensures refused { IfErr result (λ error. error ≡ SolutionError.OutOfMemory) }
@@ -101,7 +101,7 @@ impl Listing {
         Ok(())
     }
 
-    /// Whether the text states a cost, and not this one.
+    /// Whether the text states a cost different from this one.
     pub(crate) fn states_other_cost(&self, cost: u64) -> bool
         ensures { IsTrue result ↔ ((stated : StatedCost) × (self.now.cost ≡ Some stated)
             × (number_stated stated ≢ Ok (pos cost))) }
@@ -113,7 +113,7 @@ impl Listing {
         }
     }
 
-    /// The cost that the text states, if it states one and that is whole.
+    /// The cost that the text states, if there is one and it is whole.
     pub(crate) fn stated_cost(&self) -> Option<u64>
         ensures { result ≡ kept_cost self.now.cost }
     {
@@ -124,7 +124,7 @@ impl Listing {
     }
 }
 
-// The stops of a route, which the line of this number has.
+// The stops of a route, from the line of this number.
 fn read_stops(
     alloc: Global,
     line: u64,
@@ -152,7 +152,7 @@ fn read_stops(
     Ok(stops)
 }
 
-// Why a solution with such a line is refused.
+// The reason for refusing a solution with such a line.
 fn refused(line: u64, error: LineError) -> SolutionError
     ensures { result ≡ fault_at line error }
 {

@@ -11,13 +11,13 @@ use vrp_model::Instance;
 /// A route with at least one stop.
 #[derive(Debug, Drop)]
 pub(crate) struct Route {
-    /// As the solution numbers it.
+    /// The route's number in the solution.
     pub(crate) number: u64,
     pub(crate) stops: Vec<u16>,
 }
 
 impl Route {
-    /// The stop from which the route runs forward, in a symmetric instance the lower of its ends. 0 where it has no stops.
+    /// The first stop of the route when it runs forward: in a symmetric instance the lower of its ends. 0 if it has no stops.
     pub(crate) fn start(&self, symmetric: bool) -> u16
         ensures { result ≡ start_of symmetric self.now.stops.items }
     {
@@ -40,13 +40,13 @@ impl Route {
         Ok(())
     }
 
-    /// What the customers of the route demand.
+    /// The total demand of the route's customers.
     pub(crate) fn load(&self, instance: &Instance) -> u64
         requires customers { AreCustomers instance.now self.now.stops.items }
         requires once { AreDifferent self.now.stops.items }
         ensures { result ≡ load_of instance.now self.now.stops.items }
     {
-        // The number of customers comes with what is known of every instance.
+        // The invariant of an instance bounds the number of customers.
         let _customers = instance.customers();
         let mut load = 0;
         for stop in &self.stops {

@@ -1,4 +1,4 @@
-//! A solution: the feasible plan that a text gives, and the cost that it states.
+//! A solution: the feasible plan that a text gives, and its stated cost.
 ghost use Rattle.std.specs.Prelude.{◌≡◌, ◌≢◌, ◌↔◌, IfErr, IfOk, IsTrue};
 ghost use Rattle.vrp_model.specs.Route.{IsPlanOf};
 ghost use Rattle.vrp_plan_read.specs.Solution.{GivesPlan, IsRefusedFor, StatesOtherCost, stated_cost};
@@ -14,17 +14,17 @@ use vrp_model::{Instance, Plan};
 pub struct Solution {
     /// The plan, with its true cost.
     pub plan: Plan,
-    /// Whether the text states a cost, and not that one.
+    /// Whether the text states a cost different from the plan's.
     pub states_other_cost: bool,
-    /// The cost that the text states, if it states one and that is whole.
+    /// The cost that the text states, if there is one and it is whole.
     pub stated_cost: Option<u64>,
 }
 
 impl Solution {
-    /// Reads a solution of an instance, as CVRPLIB writes it: for each route a line `Route #1: 5 2` and a line `Cost 521`.
-    /// Customers have the numbers of their places: from 1 on by rising node, the depot left out. Lines end with a line feed, before
-    /// which a carriage return may stand, or with the text. A line of the cost may be missing, and so may a route's stops. Where
-    /// the plan is not feasible, the error says why: it is the first thing that is wrong, line by line and then route by route.
+    /// Reads a solution of an instance in CVRPLIB's format: a line `Route #1: 5 2` for each route and a line `Cost 521`.
+    /// Customers have the numbers of their places: from 1 by rising node, without the depot. A line ends with a line feed,
+    /// optionally with a carriage return before it, or with the text. The line of the cost may be missing, and a route may
+    /// have no stops. If the plan is not feasible, the error is the first fault, line by line and then route by route.
     pub fn read(alloc: Global, text: &[u8], instance: &Instance) -> Result<Solution, SolutionError>
         ensures read { IfOk result (λ solution. GivesPlan instance.now text.now solution.plan) }
         ensures lawful { IfOk result (λ solution. IsPlanOf instance.now solution.plan) }

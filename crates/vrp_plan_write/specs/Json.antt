@@ -1,4 +1,4 @@
--- What is told of a problem, as JSON (RFC 8259).
+-- A finding as JSON (RFC 8259).
 use Rattle.std.specs.Option.{option_map}
 use Rattle.std.specs.Prelude.{◌≡◌, ℕ, ◌-◌, Option, None, Some, List, [], ◌++◌, codes, map}
 use Rattle.serde_json.specs.Data.{Data, array, member, no_members, null, number, object, string, unsigned}
@@ -12,7 +12,7 @@ use Rattle.vrp_plan_write.specs.declared.json.Settings.{Settings}
 use Rattle.vrp_model.specs.Problem.{Problem, node_of, place_count}
 use Rattle.vrp_model.specs.Route.{PricedPlan}
 
--- the number, or `null` where there is none
+-- the number, or `null` if there is none
 abbrev pub number_or_null : Option ℕ → Data
 number_or_null None = null
 number_or_null (Some n) = number (unsigned n)
@@ -34,13 +34,13 @@ abbrev pub routes_told : Option PricedPlan → List (List ℕ)
 routes_told None = []
 routes_told (Some plan) = plan.routes
 
--- the text, or `null` where there is none
+-- the text, or `null` if there is none
 abbrev pub text_or_null : Option (List ℕ) → Data
 text_or_null None = null
 text_or_null (Some text) = string text
 
--- what a finding is told with: what the file calls itself, the program's version, the cost that the plan to begin with is stated to have,
--- and how the run was asked for
+-- The context of a finding: the file's name for itself, the program's version, the stated cost of the start plan, and the
+-- options of the run.
 pub record ContextOf : Type 0 where
   pub name : Option (List ℕ)
   pub version : List ℕ
@@ -50,17 +50,18 @@ pub record ContextOf : Type 0 where
 abbrev pub context_by : Context → ContextOf
 context_by context = record { name = option_map (λ name. name.now) context.name; version = context.version.now; stated_cost = context.stated_cost; asked = context.asked }
 
--- how the run was asked for
+-- the options of the run
 abbrev pub options_told : Settings → Data
 options_told asked =
     object (member (codes "budget") (number_or_null asked.budget) (member (codes "depot") (number_or_null asked.depot) (member (codes "pieces") (number (unsigned asked.pieces))
     (member (codes "seconds") (number_or_null asked.seconds) (member (codes "trucks") (number_or_null asked.trucks) (member (codes "workers") (number (unsigned asked.workers)) no_members))))))
 
--- what the plan costs, if there is one
+-- the plan's cost, if there is a plan
 abbrev pub cost_told : FindingOf → Option ℕ
 cost_told finding = option_map (λ plan. plan.cost) finding.plan
 
--- the object's verdict, cost, both lower bounds and the gap by the best one, the nodes and the customers of each route, what is told of the problem, and with what
+-- The object has the verdict, the cost, both lower bounds and the gap by the best one, the nodes and the customers of each
+-- route, the problem's data, and the context.
 pub record IsDocument (p : Problem) (finding : FindingOf) (context : ContextOf) (document : Data) : Type 0 where
   pub verdict : get (codes "verdict") document ≡ Some (string (status_text finding.status))
   pub cost : get (codes "cost") document ≡ Some (number_or_null (cost_told finding))

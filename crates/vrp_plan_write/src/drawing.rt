@@ -1,4 +1,4 @@
-//! A plan laid out on a page: its routes, its places and what stands below them.
+//! A plan laid out on a page: its routes, its places and the caption.
 ghost use Rattle.vrp_plan_write.specs.Stops.{ArePlaces, HaveStopsIn};
 
 use crate::frame::Frame;
@@ -13,7 +13,7 @@ use vrp_pool_answer::Finding;
 pub(crate) struct Track {
     /// The depot first.
     pub(crate) corners: Vec<Point>,
-    /// Its load and its cost, in words.
+    /// Its load and its cost, as text.
     pub(crate) told: String,
 }
 
@@ -26,7 +26,7 @@ impl Track {
         }
     }
 
-    /// The corners of its arcs to the depot and back: its first customer, the depot and its last one.
+    /// The corners of its arcs to and from the depot: its first customer, the depot and its last customer.
     pub(crate) fn legs(&self) -> Option<[Point; 3]> {
         match self.corners.as_slice() {
             [depot, only] => Some([*only, *depot, *only]),
@@ -65,7 +65,7 @@ pub(crate) fn tracks(
     Ok(tracks)
 }
 
-// The load and the cost of a route, in words.
+// The load and the cost of a route, as text.
 fn told(alloc: Global, instance: &Instance, stops: &[u16]) -> Result<String, AllocError>
     requires { ArePlaces instance.now stops.now }
 {
@@ -111,7 +111,7 @@ pub(crate) fn marks(
     Ok(marks)
 }
 
-/// What stands below the map: the cost and the verdict.
+/// The caption below the map: the cost and the verdict.
 pub(crate) fn caption(alloc: Global, finding: &Finding<'_>) -> Result<String, AllocError> {
     let verdict = finding.status;
     let Some(plan) = finding.plan else {

@@ -1,12 +1,12 @@
-//! The part of the plane that is drawn, and where its points lie on the page.
+//! The drawn part of the plane, and where its points lie on the page.
 ghost use Rattle.std.specs.Prelude.{◌≤ℤ◌, pos};
 
 use crate::points::Point;
 
-/// How wide and how high the map is at most, in units of the page.
+/// The greatest width and height of the map, in units of the page.
 pub(crate) const SIDE: i64 = 9_200;
 
-/// What is left free on each side of it.
+/// The margin on each side of the map.
 pub(crate) const MARGIN: i64 = 400;
 
 /// A part of the plane.
@@ -19,7 +19,7 @@ pub(crate) struct Frame {
 }
 
 impl Frame {
-    /// The least part that has all these points.
+    /// The smallest part that has all these points.
     pub(crate) fn around(points: &[Point]) -> Frame {
         let first = points.first().copied().unwrap_or(Point { x: 0, y: 0 });
         let mut frame = Frame {
@@ -34,7 +34,7 @@ impl Frame {
         frame
     }
 
-    // The least part that has this point too.
+    // The smallest part that also has this point.
     fn with(self, point: Point) -> Frame {
         Frame {
             left: self.left.min(point.x),
@@ -44,7 +44,7 @@ impl Frame {
         }
     }
 
-    // The longer of its sides, and 1 where all points are one.
+    // The longer of its sides, and 1 if all points are the same.
     fn extent(self) -> i64
         ensures { pos 1 ≤ℤ result }
     {
@@ -53,12 +53,12 @@ impl Frame {
         wide.max(high).max(1)
     }
 
-    // How long something is on the page.
+    // The length on the page.
     fn scaled(self, length: i64) -> i64 {
         length.saturating_mul(SIDE) / self.extent()
     }
 
-    /// Where a point lies on the page, whose y axis points down.
+    /// The position of a point on the page, whose y axis points down.
     pub(crate) fn on_page(self, point: Point) -> Point {
         let x = self.scaled(point.x.saturating_sub(self.left));
         let y = self.scaled(self.top.saturating_sub(point.y));
@@ -68,13 +68,13 @@ impl Frame {
         }
     }
 
-    /// How wide the map is on the page, with its margins.
+    /// The width of the map on the page, with its margins.
     pub(crate) fn width(self) -> i64 {
         self.scaled(self.right.saturating_sub(self.left))
             .saturating_add(2 * MARGIN)
     }
 
-    /// How high it is.
+    /// The height of the map on the page, with its margins.
     pub(crate) fn height(self) -> i64 {
         self.scaled(self.top.saturating_sub(self.bottom))
             .saturating_add(2 * MARGIN)

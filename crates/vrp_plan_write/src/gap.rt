@@ -1,4 +1,4 @@
-//! How far a plan may be from the best.
+//! The optimality gap of a plan.
 ghost use Rattle.std.specs.Option.{ForSome, option_map};
 ghost use Rattle.std.specs.Prelude.{◌<◌};
 ghost use Rattle.vrp_pool_answer.specs.Finding.{told_by};
@@ -9,8 +9,8 @@ ghost use Rattle.vrp_model.specs.Route.{IsPlanOf};
 use vrp_model::{Instance, NO_COST, plans_cost_less};
 use vrp_pool_answer::Finding;
 
-/// By how many hundredths of a percent of the best lower bound the plan is above it, rounded up: no feasible plan is cheaper by
-/// more. `None` where there is no such number.
+/// Cost minus best lower bound in hundredths of a percent of that bound, rounded up: no feasible plan is cheaper by more than
+/// that. `None` if there is no such number.
 pub(crate) fn gap_of(instance: &Instance, finding: &Finding<'_>) -> Option<u64>
     requires { ForSome (option_map (λ plan. plan.now) finding.now.plan) (IsPlanOf instance.now) }
     ensures { let told = told_by finding.now in IsGapOf (cost_told told) told.best_lower_bound result }
@@ -24,7 +24,7 @@ pub(crate) fn gap_of(instance: &Instance, finding: &Finding<'_>) -> Option<u64>
     }
 }
 
-// The same of a cost and a lower bound.
+// The gap of a cost and a lower bound.
 fn gap(cost: u64, bound: u64) -> Option<u64>
     requires { cost < NO_COST }
     ensures { IsGap cost bound result }

@@ -1,4 +1,4 @@
-//! What is told of an instance, as JSON (RFC 8259).
+//! A finding as JSON (RFC 8259).
 ghost use Rattle.std.specs.Option.{ForSome, option_map};
 ghost use Rattle.std.specs.Prelude.{◌≡◌, ◌≤◌, ℕ, IfOk, map, string_bytes};
 ghost use Rattle.serde_json.specs.Data.{array, depth};
@@ -17,43 +17,43 @@ use std::alloc::{AllocError, Global};
 use vrp_model::{Instance, NoMemory, Plan};
 use vrp_pool_answer::Finding;
 
-/// How the run was asked for.
+/// The options of a run.
 #[derive(Clone, Copy, Debug, PartialEq, Eq, Drop)]
 pub struct Settings {
-    /// Threads that searched.
+    /// The number of threads that searched.
     pub workers: u32,
-    /// Parts into which the search was cut.
+    /// The number of parts into which the search was cut.
     pub pieces: u32,
-    /// Partial plans that might be looked at in each part, if their number was given.
+    /// The budget of partial plans for each part, if it was given.
     pub budget: Option<u64>,
-    /// After how many seconds the search was to end, if there was a limit.
+    /// The limit of seconds, if there was one.
     pub seconds: Option<u32>,
-    /// The node that was chosen as the depot, if one was.
+    /// The node chosen as the depot, if any.
     pub depot: Option<u16>,
-    /// How many trucks there were, if their number was limited.
+    /// The limit on trucks, if any.
     pub trucks: Option<u16>,
 }
 
-/// What a finding is told with.
+/// The context of a finding.
 #[derive(Clone, Copy, Debug, PartialEq, Eq, Drop)]
 pub struct Context<'a> {
-    /// What the file calls itself, if it does.
+    /// The file's name for itself, if it has one.
     pub name: Option<&'a str>,
     /// The program's version.
     pub version: &'a str,
-    /// The cost that the plan to begin with is stated to have, if one is stated and is whole.
+    /// The stated cost of the start plan, if there is one and it is whole.
     pub stated_cost: Option<u64>,
-    /// How the run was asked for.
+    /// The options of the run.
     pub asked: Settings,
 }
 
-/// What is told of an instance as one JSON object and a line feed. It has the members `best_lower_bound`, `capacity`, `cost`, `customers`,
+/// A finding as one JSON object and a line feed. It has the members `best_lower_bound`, `capacity`, `cost`, `customers`,
 /// `depot`, `gap`, `lower_bound`, `name`, `options`, `routes`, each of them with its `cost`, `customers`, `load` and `nodes`,
-/// `stated_cost`, `verdict` and `version`. Nodes have the file's numbers, and the customers of a route those of CVRPLIB: from 1 on by
-/// rising node, the depot left out. The gap is how far the plan may be from the best, by the best lower bound, in hundredths of a
-/// percent, rounded up. What isn't known is `null`, and without a plan there are no routes.
+/// `stated_cost`, `verdict` and `version`. Nodes have the file's numbers, and the customers of a route have CVRPLIB's: from 1
+/// by rising node, without the depot. The gap is cost minus best lower bound in hundredths of a percent of that bound,
+/// rounded up. Unknown values are `null`, and without a plan there are no routes.
 ///
-/// What stands in `load` and `cost` of a route is left open.
+/// The contract leaves the `load` and `cost` of a route open.
 pub fn json_text(
     alloc: Global,
     instance: &Instance,
@@ -87,7 +87,7 @@ fn line_of(alloc: Global, object: Value) -> Result<String, AllocError>
     Ok(text)
 }
 
-// What is told.
+// The finding and its context.
 #[derive(Clone, Copy)]
 struct Told<'a> {
     instance: &'a Instance,
@@ -139,7 +139,7 @@ fn document(
     })
 }
 
-// What a plan costs, if there is one.
+// The cost of a plan, if there is one.
 fn cost_of(plan: Option<&Plan>) -> Option<u64>
     ensures { result ≡ option_map (λ plan. plan.cost) (option_map (λ plan. plan.now) plan.entry) }
 {
@@ -149,7 +149,7 @@ fn cost_of(plan: Option<&Plan>) -> Option<u64>
     }
 }
 
-// A number, or `null` where there is none.
+// A number, or `null` if there is none.
 fn or_null(number: Option<u64>) -> Value
     ensures { view result ≡ number_or_null number }
 {
@@ -159,7 +159,7 @@ fn or_null(number: Option<u64>) -> Value
     }
 }
 
-// A text, or `null` where there is none.
+// A text, or `null` if there is none.
 fn text_or_null(alloc: Global, text: Option<&str>) -> Result<Value, AllocError>
     ensures { IfOk result (λ value. view value ≡ text_or_null (option_map (λ text. text.now) text.entry)) }
 {
@@ -169,7 +169,7 @@ fn text_or_null(alloc: Global, text: Option<&str>) -> Result<Value, AllocError>
     }
 }
 
-// How the run was asked for, as an object.
+// The options of the run, as an object.
 fn options_of(alloc: Global, settings: Settings) -> Result<Value, AllocError>
     ensures { IfOk result (λ value. view value ≡ options_told settings) }
 {

@@ -1,42 +1,42 @@
-//! Where the list of the routes and the caption lie on a page.
+//! The positions of the route list and the caption on a page.
 ghost use Rattle.std.specs.Prelude.{◌≤◌, ◌≤ℤ◌, pos};
 
 use crate::frame::{Frame, MARGIN};
 use crate::points::Point;
 
-/// How large the letters of the list are, in units of the page.
+/// The size of the list's letters, in units of the page.
 pub(crate) const LIST_LETTERS: i64 = 200;
 
-/// How large those of the caption are.
+/// The size of the caption's letters.
 pub(crate) const CAPTION_LETTERS: i64 = 280;
 
-/// How long the line is that stands before each route of the list.
+/// The length of the sample line before each route of the list.
 pub(crate) const SAMPLE: i64 = 600;
 
-/// How far its text is from that line.
+/// The space between a route's sample line and its text.
 pub(crate) const SPACE: i64 = 100;
 
-// How far apart the lines of the list are.
+// The distance between lines of the list.
 const STEP: i64 = 320;
 
-/// Where things lie on a page.
+/// The layout of a page.
 #[derive(Clone, Copy, Debug, PartialEq, Eq)]
 pub(crate) struct Layout {
-    /// How wide the page is.
+    /// The width of the page.
     pub(crate) width: i64,
-    /// How high it is.
+    /// The height of the page.
     pub(crate) height: i64,
     // Where the list begins.
     list: Point,
-    // How many routes stand in each column of it.
+    // The number of routes in each column of the list.
     rows: usize,
-    // How far apart these columns are.
+    // The distance between these columns.
     column: i64,
 }
 
 impl Layout {
-    /// The layout of a page with a list of this many routes, whose longest text and whose caption have this many letters. The list stands
-    /// beside the map, where that is high enough, and else below it, in as many columns as there is room for.
+    /// The layout of a page with a list of this many routes, whose longest text and whose caption have this many letters. The
+    /// list is beside the map if that is high enough, and otherwise below it, in as many columns as fit.
     pub(crate) fn around(map: Frame, routes: usize, longest: usize, caption: usize) -> Layout {
         let written = text_width(caption, CAPTION_LETTERS).saturating_add(2 * MARGIN);
         let layout = if routes == 0 {
@@ -99,7 +99,7 @@ impl Layout {
         }
     }
 
-    /// Where the route of this index begins in the list.
+    /// Where the list entry of this route begins.
     pub(crate) fn listed(self, index: usize) -> Point {
         let rows = self.rows.max(1);
         let x = signed(index / rows).saturating_mul(self.column);
@@ -119,7 +119,7 @@ impl Layout {
     }
 }
 
-// How wide a column of the list is, with the room behind it, where its longest text has this many letters.
+// The width of a column of the list, with the space behind it, when its longest text has this many letters.
 fn column_width(longest: usize) -> i64
     ensures { pos 1 ≤ℤ result }
 {
@@ -128,7 +128,7 @@ fn column_width(longest: usize) -> i64
         .max(1)
 }
 
-// How many columns of this width have room, at least one.
+// How many columns of this width fit, at least one.
 fn columns(room: i64, column: i64) -> usize
     requires { pos 1 ≤ℤ column }
     ensures { 1 ≤ result }
@@ -136,7 +136,7 @@ fn columns(room: i64, column: i64) -> usize
     usize::try_from(room / column).unwrap_or(1).max(1)
 }
 
-// How wide a text is at most. On average its letters are no wider than three fifths of their size.
+// An upper bound on the width of a text. On average its letters are at most three fifths of their size wide.
 fn text_width(letters: usize, size: i64) -> i64 {
     signed(letters).saturating_mul(size) / 5 * 3
 }

@@ -1,4 +1,4 @@
-//! What is told of an instance in the forms of other programs: JSON, and pictures in SVG.
+//! Findings in the formats of other programs: JSON, and pictures in SVG.
 #![tactic(auto)]
 
 mod drawing;

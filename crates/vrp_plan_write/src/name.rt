@@ -1,15 +1,15 @@
-//! What a file calls itself.
+//! A file's name for itself.
 ghost use Rattle.std.specs.Option.{option_copied, option_map};
 ghost use Rattle.std.specs.Prelude.{◌≡◌, ◌≤◌, ◌==◌, length, not, reverse};
 ghost use Rattle.std.specs.List.{prefix_len};
-ghost use Rattle.vrp_text_lexer.specs.Bytes.{is_blank, is_keyword_byte, skip_while};
-ghost use Rattle.vrp_text_lexer.specs.Line.{without_colon};
+ghost use Rattle.vrp_text_lexer.specs.Bytes.{is_blank};
 ghost use Rattle.vrp_plan_write.specs.Name.{as_name, has_keyword, name_line, name_of, trimmed_end, value_on};
 
 use std::str;
+use vrp_text_lexer::{is_blank, keyword_len, skip_blanks, without_colon};
 
-/// What a file calls itself: what stands behind the keyword of its first line `NAME`, and behind the colon there, without the blanks at
-/// both ends. None where no such line stands before EOF, where nothing stands there, and where it is not UTF-8.
+/// A file's name for itself: the text behind the keyword and colon of its first line `NAME`, without the blanks at both ends.
+/// None if there is no such line before EOF, or the text is empty or not UTF-8.
 pub fn name_of(bytes: &[u8]) -> Option<&str>
     ensures { option_map (λ name. name.now) result ≡ name_of bytes.now }
 {
@@ -19,7 +19,7 @@ pub fn name_of(bytes: &[u8]) -> Option<&str>
     }
 }
 
-// The first line that states a name, if one stands before EOF.
+// The first line that states a name, if there is one before EOF.
 fn name_line(bytes: &[u8]) -> Option<&[u8]>
     ensures { option_map (λ line. line.now) result ≡ name_line bytes.now }
 {
@@ -29,7 +29,7 @@ fn name_line(bytes: &[u8]) -> Option<&[u8]>
         .find(|line| has_keyword(line, b"NAME"))
 }
 
-// A text that has a byte, where it is UTF-8.
+// A nonempty text, if it is UTF-8.
 fn as_name(text: &[u8]) -> Option<&str>
     ensures { option_map (λ name. name.now) result ≡ as_name text.now }
 {
@@ -50,7 +50,7 @@ fn has_keyword(line: &[u8], keyword: &[u8]) -> bool
     &bare[..keyword_len(bare)] == keyword
 }
 
-// What stands behind the keyword of a line and its colon, without the blanks at both ends.
+// The text behind a line's keyword and colon, without the blanks at both ends.
 fn value_on(line: &[u8]) -> &[u8]
     ensures { result.now ≡ value_on line.now }
 {
@@ -59,39 +59,14 @@ fn value_on(line: &[u8]) -> &[u8]
     trimmed_end(skip_blanks(behind))
 }
 
-// What stands behind a colon at the front.
-fn without_colon(text: &[u8]) -> &[u8]
-    ensures { result.now ≡ without_colon text.now }
-{
-    match text {
-        [b':', behind @ ..] => behind,
-        _ => text,
-    }
-}
-
-// Without the blanks at the front.
-fn skip_blanks(text: &[u8]) -> &[u8]
-    ensures { result.now ≡ skip_while is_blank text.now }
-{
-    &text[blanks_len(text)..]
-}
-
-// Without the blanks at the end.
+// The text without the blanks at the end.
 fn trimmed_end(text: &[u8]) -> &[u8]
     ensures { result.now ≡ trimmed_end text.now }
 {
     &text[..text.len() - end_blanks_len(text)]
 }
 
-// How many blanks stand at the front.
-fn blanks_len(text: &[u8]) -> usize
-    ensures value { result ≡ prefix_len is_blank text.now }
-    ensures within { result ≤ length text.now }
-{
-    text.iter().take_while(|byte| is_blank(**byte)).count()
-}
-
-// How many blanks stand at the end.
+// The number of blanks at the end.
 fn end_blanks_len(text: &[u8]) -> usize
     ensures value { result ≡ prefix_len is_blank (reverse text.now) }
     ensures within { result ≤ length text.now }
@@ -100,21 +75,4 @@ fn end_blanks_len(text: &[u8]) -> usize
         .rev()
         .take_while(|byte| is_blank(**byte))
         .count()
-}
-
-// How many bytes of a keyword stand at the front.
-fn keyword_len(text: &[u8]) -> usize
-    ensures value { result ≡ prefix_len is_keyword_byte text.now }
-    ensures within { result ≤ length text.now }
-{
-    text.iter()
-        .take_while(|byte| byte.is_ascii_alphanumeric() || **byte == b'_')
-        .count()
-}
-
-// Whether a byte stands between tokens.
-fn is_blank(byte: u8) -> bool
-    ensures { result ≡ is_blank byte }
-{
-    matches!(byte, b' ' | b'\t' | b'\r')
 }

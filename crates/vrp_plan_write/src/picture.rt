@@ -13,18 +13,18 @@ use std::fmt;
 use vrp_model::{Instance, NoMemory};
 use vrp_pool_answer::Finding;
 
-// The most customers whose nodes are written beside them.
+// The greatest number of customers whose nodes are written beside them.
 const MOST_LABELS: usize = 150;
 
-// The most routes that are listed. Of more the arcs to the depot and back are drawn thin and pale.
+// The greatest number of routes that are listed. With more, the arcs to and from the depot are drawn thin and pale.
 const MOST_LISTED: usize = 24;
 
-/// The plan as an SVG picture: the routes over the points of their places, each in a colour and dashes of its own, which differ in
-/// grey too, the depot as a square, the nodes' numbers and the list of the routes where they are few, and below these the cost and
-/// the verdict. Where there are many routes their arcs to the depot and back are thin and pale. Without a plan there are the places
-/// alone.
+/// The plan as an SVG picture: the routes over the points of their places, each with its own colour and dashes, which differ
+/// in grey too; the depot as a square; the nodes' numbers and the list of the routes if there are few; and below these the
+/// cost and the verdict. If there are many routes, their arcs to and from the depot are thin and pale. Without a plan only
+/// the places are drawn.
 ///
-/// The text is left open.
+/// The contract leaves the text open.
 pub fn picture_text(
     alloc: Global,
     instance: &Instance,
@@ -50,13 +50,13 @@ pub fn picture_text(
     Ok(picture.to_string(alloc)?)
 }
 
-// Where things lie on the page of these routes.
+// The layout of a page with these routes.
 fn layout(frame: Frame, tracks: &[Track], caption: &str) -> Layout {
     let listed = listed(tracks);
     Layout::around(frame, listed.len(), longest(listed), caption.len())
 }
 
-// The routes that are listed: all of them, or none where they are many.
+// The routes that are listed: all of them, or none if there are many.
 fn listed(tracks: &[Track]) -> &[Track] {
     if tracks.len() <= MOST_LISTED {
         tracks
@@ -65,7 +65,7 @@ fn listed(tracks: &[Track]) -> &[Track] {
     }
 }
 
-// How many letters the longest text of the list has.
+// The number of letters of the longest text in the list.
 fn longest(tracks: &[Track]) -> usize {
     let mut longest = 0;
     for track in tracks {
@@ -74,7 +74,7 @@ fn longest(tracks: &[Track]) -> usize {
     longest.saturating_add("#24: ".len())
 }
 
-// What is drawn.
+// The contents of the picture.
 #[derive(Drop)]
 struct Picture {
     layout: Layout,
@@ -112,7 +112,7 @@ impl Picture {
         self.marks.len() <= MOST_LABELS + 1
     }
 
-    // Whether there are so many routes that their arcs to the depot and back would hide the others.
+    // Whether there are so many routes that their arcs to and from the depot would hide the others.
     fn has_pale_legs(&self) -> bool {
         self.tracks.len() > MOST_LISTED
     }
@@ -170,7 +170,7 @@ impl Picture {
         )
     }
 
-    // The arcs from the depot to the routes and back, thin and pale.
+    // The arcs to and from the depot, thin and pale.
     fn write_legs<W: fmt::Write>(&self, f: &mut fmt::Formatter<W>) -> fmt::Result {
         writeln!(
             f,
@@ -198,7 +198,7 @@ impl Picture {
         Ok(())
     }
 
-    // The nodes' numbers, each to the right of its mark and above it.
+    // The nodes' numbers, each above its mark to the right.
     fn write_labels<W: fmt::Write>(&self, f: &mut fmt::Formatter<W>) -> fmt::Result {
         writeln!(
             f,
@@ -219,7 +219,7 @@ impl Picture {
         writeln!(f, "</g>")
     }
 
-    // The list of the routes, each behind its line.
+    // The list of the routes, each behind its sample line.
     fn write_list<W: fmt::Write>(&self, f: &mut fmt::Formatter<W>) -> fmt::Result {
         writeln!(
             f,
@@ -242,7 +242,7 @@ impl Picture {
         writeln!(f, "</g>")
     }
 
-    // What stands below all else.
+    // The caption at the bottom.
     fn write_caption<W: fmt::Write>(&self, f: &mut fmt::Formatter<W>) -> fmt::Result {
         let Point { x, y } = self.layout.caption();
         writeln!(
@@ -253,7 +253,7 @@ impl Picture {
     }
 }
 
-// A square, and what is known of the depot.
+// A square with the depot's data.
 fn write_depot<W: fmt::Write>(f: &mut fmt::Formatter<W>, mark: &Mark, half: i64) -> fmt::Result {
     let x = mark.at.x.saturating_sub(half);
     let y = mark.at.y.saturating_sub(half);
@@ -265,7 +265,7 @@ fn write_depot<W: fmt::Write>(f: &mut fmt::Formatter<W>, mark: &Mark, half: i64)
     )
 }
 
-// A dot, and what is known of a customer.
+// A dot with a customer's data.
 fn write_customer<W: fmt::Write>(
     f: &mut fmt::Formatter<W>,
     mark: &Mark,
@@ -278,7 +278,7 @@ fn write_customer<W: fmt::Write>(
     )
 }
 
-// The beginning of a path that has the colour and the dashes of the route of this index.
+// The beginning of a path with the colour and dashes of this route.
 fn write_pen<W: fmt::Write>(f: &mut fmt::Formatter<W>, index: usize, sizes: Sizes) -> fmt::Result {
     write!(
         f,
@@ -297,7 +297,7 @@ fn write_corners<W: fmt::Write>(f: &mut fmt::Formatter<W>, corners: &[Point]) ->
     Ok(())
 }
 
-// The end of a path, with what is known of the route of this index.
+// The end of a path with the data of this route.
 fn write_title<W: fmt::Write>(
     f: &mut fmt::Formatter<W>,
     index: usize,

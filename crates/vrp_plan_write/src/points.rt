@@ -1,4 +1,4 @@
-//! Where the places of a file lie, to be drawn.
+//! The coordinates of a file's places, for drawing.
 ghost use Rattle.std.specs.Prelude.{◌≡◌, OnOk};
 ghost use Rattle.vrp_text_lexer.specs.Inner.LinesLeft.{parts_left};
 
@@ -21,9 +21,9 @@ pub struct Points {
 
 impl Points {
     /// The points of the places, from the first section of a file that has whole coordinates for each of them:
-    /// `NODE_COORD_SECTION` or `DISPLAY_DATA_SECTION` (TSPLIB 95, section 1.2). None where no section has.
+    /// `NODE_COORD_SECTION` or `DISPLAY_DATA_SECTION` (TSPLIB 95, section 1.2). None if no section has.
     ///
-    /// Which points they are is left open.
+    /// The contract leaves the points open.
     pub fn read(
         alloc: Global,
         bytes: &[u8],
@@ -50,7 +50,7 @@ impl Points {
     }
 }
 
-// Whether coordinates stand behind a keyword.
+// Whether a keyword is followed by coordinates.
 fn has_coordinates(keyword: Option<Keyword>) -> bool {
     matches!(
         keyword,
@@ -76,7 +76,7 @@ fn read_section(
     points_of(alloc, instance, &by_node)
 }
 
-// Appends the numbers of a line. Whether all its tokens are whole numbers, none larger than a coordinate.
+// Appends the numbers of a line. Answers whether all its tokens are whole numbers within the range of a coordinate.
 fn push_numbers(numbers: &mut Vec<i64>, line: DataLine<'_>) -> Result<bool, NoMemory> {
     let mut tokens = Tokens::of(line.text);
     while let Some(token) = tokens.next() {
@@ -88,7 +88,7 @@ fn push_numbers(numbers: &mut Vec<i64>, line: DataLine<'_>) -> Result<bool, NoMe
     Ok(true)
 }
 
-// The points by their nodes, from a node and two coordinates for each.
+// The points indexed by node, from rows of a node and two coordinates.
 fn points_by_node(alloc: Global, numbers: &[i64]) -> Result<Vec<Option<Point>>, NoMemory> {
     let mut by_node = vec![in alloc; None; usize::from(MAX_NODES) + 1]?;
     for row in numbers.chunks_exact(3) {

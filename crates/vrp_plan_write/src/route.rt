@@ -1,9 +1,9 @@
-//! What a route carries and costs.
+//! A route's load and cost.
 ghost use Rattle.vrp_plan_write.specs.Stops.{ArePlaces};
 
 use vrp_model::Instance;
 
-/// What the stops of a route demand together.
+/// The total demand of a route's stops.
 pub(crate) fn load(instance: &Instance, stops: &[u16]) -> u64
     requires { ArePlaces instance.now stops.now }
 {
@@ -14,11 +14,11 @@ pub(crate) fn load(instance: &Instance, stops: &[u16]) -> u64
     load
 }
 
-/// What a route costs, from the depot through its stops and back.
+/// The cost of a route, from the depot through its stops and back.
 pub(crate) fn cost(instance: &Instance, stops: &[u16]) -> u64
     requires { ArePlaces instance.now stops.now }
 {
-    // Where there are no customers there is no arc.
+    // Without customers there is no arc.
     if instance.customers() == 0 {
         return 0;
     }

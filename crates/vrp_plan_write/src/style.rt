@@ -1,27 +1,27 @@
-//! Colours and dashes that tell the routes of a picture apart, and how large things are drawn.
+//! Colours and dashes that tell the routes of a picture apart, and the sizes of shapes.
 
-// Dark and light by turns. In grey no two are alike: their lightness is 13, 62, 26, 54, 34, 69, 39 and 49 of 100.
+// Dark and light colours alternate. In grey no two are alike: their lightness is 13, 62, 26, 54, 34, 69, 39 and 49 of 100.
 const COLORS: [&str; 8] = [
     "#14213d", "#d98200", "#7a0c2e", "#2f8f83", "#0b5d34", "#b39be8", "#1f56c4", "#c2502e",
 ];
 
-/// The colour of the route of this index.
+/// The colour of this route.
 pub(crate) fn color(index: usize) -> &'static str {
     COLORS[index % COLORS.len()]
 }
 
-/// How large things are drawn, in units of the page.
+/// The sizes of shapes, in units of the page.
 #[derive(Clone, Copy)]
 pub(crate) struct Sizes {
-    /// How wide a route's line is.
+    /// The width of a route's line.
     pub(crate) line: i64,
     /// The radius of a customer's dot.
     pub(crate) dot: i64,
     /// Half a side of the depot's square.
     pub(crate) depot: i64,
-    /// How large the letters of a node's number are.
+    /// The size of the letters of a node's number.
     pub(crate) letters: i64,
-    // What of a line is drawn and what is left out, in turns; the first is a whole line.
+    // Dash patterns: lengths drawn and left out, alternating; the first is a solid line.
     dashes: [&'static str; 3],
 }
 
@@ -43,7 +43,7 @@ impl Sizes {
         }
     }
 
-    /// The dashes of the route of this index. Colours and dashes together come again after 24 routes.
+    /// The dashes of this route. Pairs of colour and dashes repeat after 24 routes.
     pub(crate) fn dashes(self, index: usize) -> &'static str {
         self.dashes[index % self.dashes.len()]
     }

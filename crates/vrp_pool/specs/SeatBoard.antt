@@ -1,4 +1,4 @@
--- What contracts see of the board of a register's caller.
+-- The board of a register's caller, as contracts see it.
 use Rattle.std.specs.Prelude.{◌≡◌, ℕ, ◌≤◌, Bool, Option}
 use Rattle.vrp_model.specs.Cheapest.{cost_of}
 use Rattle.vrp_model.specs.Route.{PricedPlan}
@@ -8,7 +8,7 @@ use Rattle.vrp_pool_register.specs.Costs.{least_of}
 pub record SeatBoardState : Type 0 where
   pub register : RegisterState
   pub caller : CallerState
-  -- the first plan that it was offered, by cost and then by word
+  -- the first plan that was offered to the board, by cost and then by word
   pub best : Option PricedPlan
   -- whether the gate may stop a search
   pub may_stop : Bool
@@ -21,7 +21,7 @@ least_seen caller = least_of caller.known.opening caller.known.seen
 abbrev pub floor_of : SeatBoardState → ℕ
 floor_of board = least_seen board.caller
 
--- the same board, later: it belongs to the same register and the same gate, and its plan does not cost more
+-- a later state of the board: it belongs to the same register and gate, and its plan costs no more
 pub record IsLater (earlier later : SeatBoardState) : Type 0 where
   pub register : later.register ≡ earlier.register
   pub may_stop : later.may_stop ≡ earlier.may_stop

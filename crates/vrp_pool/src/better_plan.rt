@@ -1,19 +1,19 @@
-//! Better plans, for most of the time that is left, where the routes give no answer.
+//! Better plans, for most of the remaining time, if the routes gave no answer.
 ghost use Rattle.std.specs.Prelude.{◌≤◌, IfOk, IfSome};
 ghost use Rattle.vrp_model.specs.Route.{IsPlanOf};
 
 use crate::preparation::LEAST_PREPARED_BUDGET;
-use crate::timed_gate::TimedGate;
+use crate::timed_gate::{TimedGate, crew};
 use std::thread::Threads;
-use vrp_heuristic::{Crew, improved_plan};
+use vrp_heuristic::improved_plan;
 use vrp_model::{NoMemory, Plan};
 use vrp_pool_answer::{Event, Gate, Shared};
 
-// The part of the time that is left for the pieces.
+// One part in this many of the remaining time is kept for the pieces.
 const PART_FOR_PIECES: u64 = 4;
 
-/// A better plan than the one that is known, by all workers, or that one again. `None` where no plan is known, or the gate has no time,
-/// or the budget is below 1,000.
+/// A better plan than the known one, by all workers, or that one again. `None` if no plan is known, the gate has no time, or
+/// the budget is below 1,000.
 pub(crate) fn better_plan<R: Threads + Sync, G: Gate + Sync>(
     shared: &Shared<'_, R, G>,
     workers: u32,
@@ -36,14 +36,7 @@ pub(crate) fn better_plan<R: Threads + Sync, G: Gate + Sync>(
         gate: shared.gate,
         kept: left / PART_FOR_PIECES,
     };
-    let crew = Crew {
-        rt: shared.rt,
-        alloc: shared.alloc,
-        instance: shared.instance,
-        workers: workers as u16,
-        watch: &watch,
-    };
-    let better = improved_plan(&crew, known)?;
+    let better = improved_plan(&crew(shared, workers, &watch), known)?;
     shared.gate.on_event(Event::Plan(better.cost()));
     Ok(Some(better))
 }

@@ -1,5 +1,5 @@
-//! The canonical plan as a choice among useful routes, where an instance has few customers: the routes that can stand in it are
-//! listed, and the first of the cheapest choices among them is that plan.
+//! The canonical plan as a choice among useful routes, for instances with few customers: the routes that may be in it are listed, and
+//! the first of the cheapest choices among them is that plan.
 ghost use Rattle.std.specs.Prelude.{◌≡◌, ◌≤◌, IfOk, IfSome};
 ghost use Rattle.vrp_model.specs.Cheapest.{NoneCheaper, cost_of};
 ghost use Rattle.vrp_model.specs.Order.{IsCanonical};
@@ -13,32 +13,32 @@ ghost use Rattle.vrp_pool_answer.specs.Answer.{AnswersAll, known_plan};
 use crate::timed_gate::TimedGate;
 use std::alloc::Global;
 use std::thread::Threads;
-use vrp_bound::NgTables;
+use vrp_bound::{LowerBound, NgTables};
 use vrp_bound_ng::{MOST_NEAR, NgSets};
 use vrp_bound_prices::Relaxation;
 use vrp_canonical::{PlanSearch, canonical_plan, fleet};
-use vrp_heuristic::Watch;
+use vrp_heuristic::{Watch, route_sets};
 use vrp_model::{Instance, NoMemory, Plan, canonical_is_cheapest, plans_cost_less};
 use vrp_partition::{Ask, Fleet, MOST_CUSTOMERS, Tally, Team};
 use vrp_pool_answer::{Answer, Event, Gate, Shared};
-use vrp_routes::{Listed, RoutePool, can_list, list_routes};
+use vrp_routes::{Listed, Listers, RoutePool, can_list, list_routes};
 use vrp_search_tree::lawful_plan;
 use vrp_simplex::ProgramGuide;
 
-// How many labels may be made, whatever the budget: so many take less than three gigabytes.
+// The most labels, whatever the budget: they take less than three gigabytes.
 const MOST_LABELS: u64 = 40_000_000;
 
-/// What useful routes came to: the answer, if the canonical plan was found; else a plan that was found meanwhile, if any, and a
+/// The outcome of the useful routes: the answer, if the canonical plan was found; otherwise a better plan, if one was found, and a
 /// bound on all feasible plans.
 #[derive(Drop)]
 pub(crate) struct RoutesAnswer {
     pub(crate) answer: Option<Answer>,
     pub(crate) better: Option<Plan>,
-    /// No feasible plan costs less; 0 where nothing is known.
+    /// No feasible plan costs less; 0 if nothing is known.
     pub(crate) lower_bound: u64,
 }
 
-// The canonical plan, if it was found; else a plan that was found meanwhile, if any, and a bound on all feasible plans.
+// The canonical plan, if it was found; otherwise a better plan, if one was found, and a bound on all feasible plans.
 #[derive(Drop)]
 pub(crate) struct RoutesPlan {
     canonical: Option<Plan>,
@@ -46,9 +46,9 @@ pub(crate) struct RoutesPlan {
     lower_bound: u64,
 }
 
-/// The proven plan by useful routes. There is no answer without ng-sets, and where a limit is met before it is found: there are too
-/// many customers or labels, or the budget is spent, or the gate stops the search. A label that is made, and a reduced cost that is
-/// looked at, count as a partial plan.
+/// The proven plan, by useful routes. There is no answer without ng-sets, or if a limit is met first: there are too many customers or
+/// labels, the budget is spent, or the gate stops the search. Each label made, and each reduced cost looked at, counts as a partial
+/// plan.
 pub(crate) fn answer_by_routes<R: Threads + Sync, G: Gate + Sync>(
     shared: &Shared<'_, R, G>,
     relaxation: &Relaxation<'_>,
@@ -98,7 +98,7 @@ pub(crate) fn answer_by_routes<R: Threads + Sync, G: Gate + Sync>(
     }
 }
 
-// The canonical plan, with a plan that is known.
+// The canonical plan, sought with a known plan.
 fn plan_by_routes<R: Threads + Sync, G: Gate + Sync>(
     shared: &Shared<'_, R, G>,
     relaxation: &Relaxation<'_>,
@@ -143,7 +143,7 @@ fn plan_by_routes<R: Threads + Sync, G: Gate + Sync>(
     }
 }
 
-// The useful routes where the canonical plan costs no more than this, from no more labels than this.
+// The useful routes, if the canonical plan costs no more than this, made from no more labels than this.
 fn listed<R: Threads + Sync, G: Gate + Sync>(
     shared: &Shared<'_, R, G>,
     relaxation: &Relaxation<'_>,
@@ -167,22 +167,19 @@ fn listed<R: Threads + Sync, G: Gate + Sync>(
         gate,
         kept: gate.milliseconds_left().unwrap_or(0) / 2,
     };
-    list_routes(
-        shared.rt,
-        shared.alloc,
-        relaxation,
-        &tables,
-        limit,
-        workers as u16,
-        most_labels,
-        &|labels| {
+    let listers = Listers {
+        rt: shared.rt,
+        alloc: shared.alloc,
+        workers: workers as u16,
+        should_continue: &|labels| {
             gate.on_event(Event::Labels(labels));
             timed.should_continue()
         },
-    )
+    };
+    list_routes(&listers, relaxation, &tables, limit, most_labels)
 }
 
-// The first of the cheapest choices of a pool, which was listed with the cost of the plan that is known.
+// The first of the cheapest choices of a pool, which was listed for the cost of the known plan.
 fn chosen_plan<R: Threads + Sync, G: Gate + Sync>(
     shared: &Shared<'_, R, G>,
     pool: &RoutePool,
@@ -215,7 +212,8 @@ fn chosen_plan<R: Threads + Sync, G: Gate + Sync>(
         workers: workers as usize,
         ask: &ask,
     };
-    let guide = ProgramGuide::new(shared.alloc, fleet, sets_of(shared.alloc, known)?, &ask);
+    let sets = route_sets(shared.alloc, known)?;
+    let guide = ProgramGuide::new(shared.alloc, fleet, sets, &ask);
     let mut budget = budget;
     match canonical_plan(&team, shared.instance, pool, known, &guide, &mut budget)? {
         PlanSearch::Canonical(plan) => Ok(RoutesPlan {
@@ -231,11 +229,11 @@ fn chosen_plan<R: Threads + Sync, G: Gate + Sync>(
     }
 }
 
-// What a search among routes is asked by, and told to: it goes on where the gate does.
+// The watch of a search among routes: it continues while the gate does, and passes its progress on.
 #[derive(Drop)]
 struct AskedGate<'a, G: Gate> {
     gate: &'a G,
-    // What the known plan costs.
+    // The cost of the known plan.
     known: u64,
 }
 
@@ -253,15 +251,15 @@ impl<G: Gate> Ask for AskedGate<'_, G> {
         } = tally;
         self.gate.on_event(Event::Nodes { done, open });
         // The pool has each route of a canonical plan that costs no more than the known one.
-        self.gate
-            .on_event(Event::Bound(lower_bound.min(self.known)));
+        let bound = LowerBound::of_cost(lower_bound.min(self.known));
+        self.gate.on_event(Event::Bound(bound));
         if incumbent < self.known {
             self.gate.on_event(Event::Plan(incumbent));
         }
     }
 }
 
-// What customers 0 to 127 demand; who is none demands nothing. It only guides, so nothing is promised of it.
+// The demands of customers 0 to 127, 0 if there is no such customer. They only guide, so no clause pins them.
 fn demands_of(alloc: Global, instance: &Instance) -> Result<Vec<u32>, NoMemory> {
     let mut demands = Vec::with_capacity(alloc, MOST_CUSTOMERS)?;
     demands.push(0)?;
@@ -276,20 +274,7 @@ fn demands_of(alloc: Global, instance: &Instance) -> Result<Vec<u32>, NoMemory> 
     Ok(demands)
 }
 
-// The routes of a plan by their customers, a bit for each. They only guide, so nothing is promised of them.
-fn sets_of(alloc: Global, plan: &Plan) -> Result<Vec<u128>, NoMemory> {
-    let mut sets = Vec::new(alloc);
-    for index in 0..plan.routes() {
-        let mut set = 0;
-        for &stop in plan.route(index) {
-            set |= 1u128.checked_shl(u32::from(stop)).unwrap_or(0);
-        }
-        sets.push(set)?;
-    }
-    Ok(sets)
-}
-
-/// The same ng-sets once more. `None` where it is out of range, which no ng-sets is.
+/// A copy of ng-sets. `None` if they are out of range, which never happens.
 pub(crate) fn copied_ng_sets(
     alloc: Global,
     instance: &Instance,

@@ -10,10 +10,10 @@ use vrp_pool_pile::{Drawn, Owner, Thief};
 pub(crate) trait Draws: Drop {
     ghost drawer: { Self → DrawerState };
 
-    // What is known where a draw answers no piece.
+    // The fact known when a draw gives no piece.
     ghost at_end: { DrawerState → Type 0 } = { λ _. ⊤ };
 
-    /// The oldest piece that is left, if any.
+    /// The oldest remaining piece, if any.
     fn draw(&mut self) -> Drawn
         ensures drawn { MatchDrawn result (drawer self.new ≡ drawer self.old) (λ piece. IsDrawn (drawer self.old) piece (drawer self.new)) }
         ensures at_end { MatchDrawn result (at_end (drawer self.new)) (λ _. ⊤) };

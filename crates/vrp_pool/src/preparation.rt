@@ -1,51 +1,50 @@
-//! What is made before the pieces are searched: a plan to begin with, and prices to prune by.
+//! Preparation for the search of the pieces: a start plan, and prices to prune by.
 ghost use Rattle.std.specs.Prelude.{◌≡◌, ◌<◌, ◌≤◌, None, IfOk, IfSome};
 ghost use Rattle.vrp_bound_ng.specs.declared.ng_sets.TheConstants.{MOST_NEAR};
 ghost use Rattle.vrp_model.specs.Problem.{place_count};
 ghost use Rattle.vrp_model.specs.Route.{IsPlanOf};
 ghost use Rattle.vrp_pool.specs.declared.preparation.TheConstants.{LEAST_PREPARED_BUDGET};
 
-use crate::timed_gate::TimedGate;
+use crate::timed_gate::{TimedGate, crew};
 use std::thread::Threads;
 use vrp_bound_ascent::{FoundPrices, MOST_SEARCHED, find_prices, find_prices_for_routes};
-use vrp_heuristic::{Crew, ENOUGH_MOVES, Watch};
+use vrp_heuristic::{ENOUGH_MOVES, Watch};
 use vrp_model::{NoMemory, Plan};
 use vrp_pool_answer::{Event, Gate, Shared};
 
-/// The least budget of a piece with which anything is made before. With a lesser one a run is a look at the tree.
+/// The least budget of a piece with which anything is prepared. With less, a run is a mere look at the tree.
 pub const LEAST_PREPARED_BUDGET: u64 = 1_000;
 
-// With fewer partial plans in all, ruin and recreate would take longer than the search: savings alone make the heuristic plan.
+// With fewer partial plans in all, ruin and recreate would take longer than the search; then the heuristic plan comes from savings
+// alone.
 const LEAST_FOR_MOVES: u64 = 100_000;
 
-// From so many customers on a run makes more moves: each unit of cost by which the heuristic plan misses the best adds useful
-// routes.
+// From this many customers on a run makes more moves: each unit of cost above the best plan adds useful routes.
 const MANY_CUSTOMERS: u16 = 50;
 
 const MORE_MOVES: u32 = 3 * ENOUGH_MOVES;
 
-// The most customers near each place that walks remember: with more, a round takes longer than it gains.
+// The most customers near each place: with more, a round takes longer than it gains.
 const MOST_REMEMBERED: usize = 3;
 
-// From so many customers on there are so many useful routes that better prices pay.
+// From this many customers on there are enough useful routes that better prices pay.
 const MANY_FOR_ROUTES: u16 = 60;
 
-// So many times as many steps towards prices then, and so many customers near each place.
+// Then the steps for prices are multiplied by this, and this many customers are near each place.
 const MORE_STEPS: u64 = 5;
 
 const MORE_REMEMBERED: usize = 4;
 
-// More steps are not worth their time with fewer customers, however large the budget.
+// With fewer customers more steps than this are not worth their time, however large the budget.
 const ENOUGH_STEPS: u64 = 640_000_000;
 
-// Prices that bound alone may take one part in so many of the time that is left.
+// Prices that only bound may take one part in this many of the remaining time.
 const PARTS_OF_TIME: u64 = 3;
 
-// No fewer steps than a millisecond mostly has: by them it is chosen how long a round may be, and the gate tells when the time is over.
+// About the most steps that a processor does in a millisecond. They set the size of a round; the gate ends the time.
 const STEPS_A_MILLISECOND: u64 = 2_000_000;
 
-/// A plan near the best, if one is found: by savings, and where many partial plans may be looked at in all, by ruin and recreate
-/// too, by all workers.
+/// A near-optimal plan, if one is found: by savings, and by all workers with ruin and recreate if the budget in all is large enough.
 pub(crate) fn heuristic_plan<R: Threads + Sync, G: Gate + Sync>(
     shared: &Shared<'_, R, G>,
     workers: u32,
@@ -59,7 +58,7 @@ pub(crate) fn heuristic_plan<R: Threads + Sync, G: Gate + Sync>(
         return Ok(None);
     }
     let customers = shared.instance.customers();
-    // Where no routes are listed, and a time is set, all workers look for better plans later.
+    // If no routes are listed and a time is set, all workers look for better plans later.
     let continues_later = customers > MOST_SEARCHED && shared.gate.milliseconds_left().is_some();
     let moves = if shared.budget_in_all() < LEAST_FOR_MOVES {
         0
@@ -73,22 +72,15 @@ pub(crate) fn heuristic_plan<R: Threads + Sync, G: Gate + Sync>(
         gate: shared.gate,
         kept: 0,
     };
-    let crew = Crew {
-        rt: shared.rt,
-        alloc: shared.alloc,
-        instance: shared.instance,
-        workers: workers as u16,
-        watch: &watch,
-    };
-    let plan = vrp_heuristic::heuristic_plan(&crew, moves)?;
+    let plan = vrp_heuristic::heuristic_plan(&crew(shared, workers, &watch), moves)?;
     if let Some(plan) = &plan {
         shared.gate.on_event(Event::Plan(plan.cost()));
     }
     Ok(plan)
 }
 
-/// Prices, with the heuristic plan's cost to aim at, if there is such a plan and prices are found. Of many customers, where a time
-/// is set, they may take a part of what is left of it; else as many steps as the budget allows.
+/// Prices that aim at the start plan's cost, if there is a start plan and prices are found. With many customers and a time set they
+/// may take a part of the remaining time; otherwise as many steps as the budget allows.
 pub(crate) fn prices_found<'a, R, G: Gate>(
     shared: &Shared<'a, R, G>,
 ) -> Result<Option<FoundPrices<'a>>, NoMemory>
@@ -108,7 +100,7 @@ pub(crate) fn prices_found<'a, R, G: Gate>(
     }
 }
 
-// Those that are found in a part of the milliseconds that are left.
+// The prices found in a part of the remaining milliseconds.
 fn prices_in_time<'a, R, G: Gate>(
     shared: &Shared<'a, R, G>,
     cost: u64,
@@ -132,8 +124,8 @@ fn prices_in_time<'a, R, G: Gate>(
     )
 }
 
-// Those that are found in as many steps as the budget allows: a step takes a tenth of the time that a partial plan does, so there are as
-// many, or some times as many.
+// The prices found in as many steps as the budget allows: a step takes a tenth of the time of a partial plan, so there are as many
+// steps as partial plans, or a few times as many.
 fn prices_by_budget<'a, R, G: Gate>(
     shared: &Shared<'a, R, G>,
     cost: u64,
@@ -152,8 +144,8 @@ fn prices_by_budget<'a, R, G: Gate>(
     }
 }
 
-/// Prices to search pieces by, in units so coarse that there can be a completion table. `None` where no plan is known, there are more
-/// than 127 customers, or no prices are found. Where a time is set, half of what is left is kept for what comes after.
+/// Prices for the search of pieces, in a unit that is coarse enough for a completion table. `None` if no plan is known, if there are
+/// more than 127 customers, or if no prices are found. If a time is set, half of the remaining time is kept for later stages.
 pub(crate) fn prices_for_pieces<'a, R, G: Gate>(
     shared: &Shared<'a, R, G>,
 ) -> Result<Option<FoundPrices<'a>>, NoMemory>
@@ -180,7 +172,7 @@ pub(crate) fn prices_for_pieces<'a, R, G: Gate>(
     )
 }
 
-// A gate that keeps half of the time that is left, where a time is set.
+// A gate that keeps half of the remaining time, if a time is set.
 fn half_of_the_time<G: Gate>(gate: &G) -> TimedGate<'_, G> {
     TimedGate {
         gate,
@@ -188,7 +180,7 @@ fn half_of_the_time<G: Gate>(gate: &G) -> TimedGate<'_, G> {
     }
 }
 
-// How many customers near each place walks remember, and how many steps the budget allows.
+// The number of near customers of each place, and the number of steps that the budget allows.
 fn steps_by_budget<R, G: Gate>(shared: &Shared<'_, R, G>) -> (usize, u64)
     ensures { result.0 ≤ MOST_NEAR }
 {

@@ -17,9 +17,9 @@ use vrp_pool_answer::{Event, Gate};
 use vrp_pool_register::{Caller, Register};
 use vrp_search::{Board, LOOKS_BEFORE_ASKING, Local};
 
-/// A board that offers plans to a register, as one of its callers, and keeps the first of them: the cheapest, and of those the one
-/// with the earliest word. Its floor is the least of the opening cost and the costs that the caller has seen. A gate hears of the
-/// plans, and stops searches.
+/// A board that offers plans to a register, as one of its callers, and keeps the first of them, by cost and then by word. Its
+/// floor is the least of the opening cost and the costs that the caller has seen. A gate hears of the plans and may stop
+/// searches.
 #[derive(Drop)]
 pub struct SeatBoard<'a, R: Wait, L: Ledger, G: Gate> {
     rt: &'a R,
@@ -44,7 +44,7 @@ impl<'a, R: Wait, L: Ledger, G: Gate> Model for SeatBoard<'a, R, L, G> {
 }
 
 impl<'a, R: Wait, L: Ledger, G: Gate> SeatBoard<'a, R, L, G> {
-    /// The board of a caller that has offered nothing yet.
+    /// The board of a caller that has made no offer yet.
     pub fn new(
         rt: &'a R,
         register: &'a Register<L>,
@@ -64,7 +64,7 @@ impl<'a, R: Wait, L: Ledger, G: Gate> SeatBoard<'a, R, L, G> {
         }
     }
 
-    /// The caller, and the first plan that the board was offered. None of the caller's offers costs less.
+    /// The caller, and the first plan that was offered to the board. None of the caller's offers costs less.
     pub fn into_parts(self) -> (Caller<L>, Option<Plan>)
         ensures caller { result.0 ≡ self.entry.caller }
         ensures best { result.1 ≡ self.entry.best }
@@ -75,7 +75,7 @@ impl<'a, R: Wait, L: Ledger, G: Gate> SeatBoard<'a, R, L, G> {
         (caller, best.into_plan())
     }
 
-    /// Keeps a plan that another board was offered, if it is before its own, and offers it to nobody.
+    /// Keeps a plan that was offered to another board, if it is before its own; offers it to nobody.
     pub fn keep(&mut self, alloc: Global, plan: &Plan) -> Result<(), NoMemory>
         requires { (p : Problem) × ForSome self.old.best (IsPlanOf p) × IsPlanOf p plan.now }
         ensures serves { (p : Problem) → ForSome self.old.best (IsPlanOf p) → IsPlanOf p plan.now → ForSome self.new.best (IsPlanOf p) }
@@ -86,7 +86,7 @@ impl<'a, R: Wait, L: Ledger, G: Gate> SeatBoard<'a, R, L, G> {
         self.best.offer(alloc, plan)
     }
 
-    // Offers the register a plan that costs no less than the board's own.
+    // Offers the register a plan that costs at least as much as the board's own.
     fn tell(&mut self, alloc: Global, plan: &Plan) -> Result<(), NoMemory>
         requires { cost_of self.old.best ≤ plan.now.cost }
         ensures register { self.new.register ≡ self.old.register }
@@ -110,7 +110,7 @@ impl<'a, R: Wait, L: Ledger, G: Gate> Board for SeatBoard<'a, R, L, G> {
 
     ghost may_stop = { λ b. b.may_stop };
 
-    /// Asks the register each time. Its contract would allow what it answered before.
+    /// Asks the register each time; the contract would allow an older answer.
     fn least(&mut self) -> u64
         ensures serves { (p : Problem) → ForSome self.old.best (IsPlanOf p) → ForSome self.new.best (IsPlanOf p) }
         ensures keeps { (earlier : SeatBoardState) → IsLater earlier self.old → IsLater earlier self.new }

@@ -15,6 +15,7 @@ ghost use Rattle.vrp_pool_answer.specs.Outcomes.{words_of};
 use crate::better_plan::better_plan;
 use crate::choice::{RoutesAnswer, answer_by_routes, copied_ng_sets};
 use crate::preparation::{LEAST_PREPARED_BUDGET, heuristic_plan, prices_for_pieces, prices_found};
+use crate::price_bound::bound_by_prices;
 use crate::team::searched_by_all;
 use std::alloc::Global;
 use std::marker::Brand;
@@ -26,18 +27,20 @@ use vrp_bound_ascent::FoundPrices;
 use vrp_bound_ng::NgSets;
 use vrp_bound_prices::Relaxation;
 use vrp_model::{Instance, NoMemory, Plan, plans_have_words};
-use vrp_pool_answer::{Answer, Event, Gate, NoGate, Shared, SolveError, Solved, conclude};
+use vrp_pool_answer::{
+    Answer, Event, Gate, NoGate, Resources, Shared, SolveError, Solved, conclude,
+};
 use vrp_pool_pile::{Owner, Pile, Thief};
 use vrp_pool_register::{Closed, Register};
 use vrp_search_tree::{Cutting, Prices};
 
-/// The most workers that may be asked for.
+/// The most workers that may be requested.
 pub const MAX_WORKERS: u32 = 64;
 
-// How many partial plans of the whole tree are looked at before anything else is done: small trees end there.
+// The number of partial plans that are looked at before anything else: small trees end there.
 const FIRST_LOOK: u64 = 20_000;
 
-/// Searches all pieces of a cutting, each with this budget, by this many workers: `solve_from` without a plan to begin with.
+/// Searches all pieces of a cutting, each with this budget, by this many workers: `solve_from` without a start plan.
 pub fn solve<'a, R: Threads + Wait + Sync, G: Gate + Sync>(
     rt: &'a R,
     alloc: Global,
@@ -58,25 +61,24 @@ pub fn solve<'a, R: Threads + Wait + Sync, G: Gate + Sync>(
     Ok(solved.answer)
 }
 
-/// Searches all pieces of a cutting, each with this budget, by this many workers, each in a thread of its own where one can be made.
+/// Searches all pieces of a cutting, each with this budget, by this many workers, each in a thread of its own if one can be made.
 /// They draw the pieces from one pile and offer their plans to one register, which opens with the plan of one truck for each
-/// customer, where there are this many trucks. The search bounds by tables over all customers. A piece that it leaves unfinished is
-/// bounded once more at the end, where that may count, by tables over the customers that the piece leaves unserved; where each plan
-/// under it then costs more than the best one, it is finished. A gate is told before each piece, hears what is new, and is asked now
-/// and then whether to go on. The cutting is given up.
+/// customer, if there are that many trucks. The search bounds by tables over all customers. At the end an unfinished piece may be
+/// bounded once more, by tables over its unserved customers; if each plan under it then costs more than the best one, it counts as
+/// finished. A gate hears before each piece, and of each event, and is asked now and then whether to go on. The cutting is consumed.
 ///
-/// Where the budget is no less than 1,000, there is more before. One worker looks at the whole tree, at no more than 20,000 partial
-/// plans and no more than the budget: where that is enough, nothing else is done, and the gate hears of the plan alone. Else a
-/// heuristic plan is looked for: by savings, and with no less than 100,000 partial plans for all pieces also by ruin and recreate.
-/// And prices are made, if there is a plan and prices are found: then the search of a piece prunes by them.
+/// Budgets below 1,000 skip the following steps. First one worker looks at the whole tree, at no more than 20,000 partial plans and
+/// no more than the budget; if that suffices, nothing else is done, and the gate hears only of the plan. Otherwise a heuristic plan is
+/// sought: by savings, and also by ruin and recreate if all pieces together may look at 100,000 partial plans or more. Then prices are
+/// sought, if there is a plan; the search of a piece prunes by them.
 ///
-/// Where there are prices and at most 127 customers, the routes that can stand in the canonical plan are listed next, and that plan
-/// is chosen among them: if this ends, no piece is searched. If it doesn't, the pieces begin with a better plan that it found.
-/// Where the gate has a time, better plans are looked for before, for most of what is left of it.
+/// With prices and at most 127 customers, the routes that may be in the canonical plan are listed next, and that plan is chosen among
+/// them. If this ends, no piece is searched. If it doesn't, the pieces begin with the better plan that it found, if any. If the gate
+/// has a time, better plans are sought first, for most of the remaining time.
 ///
-/// Before the pieces are searched the plan to begin with is offered, if one is given, or the heuristic plan where that is before
-/// it. The answer's plan costs no more than the plan to begin with. No feasible plan costs less than the lower bound, the higher of
-/// those by prices and by the choice among routes.
+/// Before the pieces are searched, the start plan is offered, if one is given, or the heuristic plan if that is before it. The
+/// answer's plan costs no more than the start plan. No feasible plan costs less than the lower bound, which is the higher of the
+/// bounds by prices and by the choice among routes.
 pub fn solve_from<'a, R: Threads + Wait + Sync, G: Gate + Sync>(
     rt: &'a R,
     alloc: Global,
@@ -100,14 +102,16 @@ pub fn solve_from<'a, R: Threads + Wait + Sync, G: Gate + Sync>(
 {
     let tables = Tables::over_all(alloc, instance)?;
     let pieces = cutting.pieces().len() as u32;
-    let shared = Shared::new(rt, alloc, instance, &tables, start, pieces, budget, gate);
+    let resources = Resources::new(rt, alloc, gate);
+    let shared = Shared::new(&resources, instance, &tables, start, pieces, budget);
     let solved = solve_shared(&shared, cutting, workers);
-    // By a call, here and below: what is let go by itself is let go on each way out, and each of these is proved.
+    // Dropped by a call, here and below: an implicit drop happens on each way out, and each of these would be proved.
     drop(tables);
     Ok(solved?)
 }
 
-// Answers by a look at the whole tree where that is enough, else by the pieces, with a heuristic plan and prices.
+// Answers by a look at the whole tree if that is enough, else by a heuristic plan and prices, or by the pieces alone if no prices are
+// found.
 fn solve_shared<R: Threads + Wait + Sync, G: Gate + Sync>(
     shared: &Shared<'_, R, G>,
     cutting: Cutting,
@@ -125,39 +129,28 @@ fn solve_shared<R: Threads + Wait + Sync, G: Gate + Sync>(
         });
     }
     let made = heuristic_plan(shared, workers)?;
-    let solved = solve_prepared(&shared.with_plan(made.as_ref()), cutting, workers);
-    drop(made);
-    solved
-}
-
-// Answers by the pieces, with prices where they are found.
-fn solve_prepared<R: Threads + Wait + Sync, G: Gate + Sync>(
-    shared: &Shared<'_, R, G>,
-    cutting: Cutting,
-    workers: u32,
-) -> Result<Solved, NoMemory>
-    requires { CanSolve shared.now cutting workers }
-    ensures { IfOk result (IsSolved shared.now cutting) }
-{
-    match prices_found(shared)? {
+    let begun = shared.with_plan(made.as_ref());
+    let solved = match prices_found(&begun)? {
         Some(
             FoundPrices {
                 relaxation,
                 ng_sets,
             },
         ) => {
-            let solved = solve_by_prices(shared, &relaxation, ng_sets, cutting, workers);
+            let solved = solve_by_prices(&begun, &relaxation, ng_sets, cutting, workers);
             drop(relaxation);
-            solved
+            solved?
         }
-        None => Ok(Solved {
-            answer: solve_improved(shared, cutting, workers)?,
+        None => Solved {
+            answer: solve_pieces(&begun, cutting, workers)?,
             lower_bound: 0,
-        }),
-    }
+        },
+    };
+    drop(made);
+    Ok(solved)
 }
 
-// What a look at the whole tree by one worker answers. `None` where there is none with so small a budget, or it is not enough.
+// The answer of one worker's look at the whole tree. `None` if the budget is too small for a look, or the look doesn't suffice.
 fn looked_at<R: Threads + Wait + Sync, G: Gate>(
     shared: &Shared<'_, R, G>,
 ) -> Result<Option<Answer>, NoMemory>
@@ -169,14 +162,12 @@ fn looked_at<R: Threads + Wait + Sync, G: Gate>(
     }
     let whole = Cutting::whole(shared.alloc, shared.instance)?;
     let look = Shared::new(
-        shared.rt,
-        shared.alloc,
+        &Resources::new(shared.rt, shared.alloc, &NoGate),
         shared.instance,
         shared.tables,
         shared.start_plan,
         whole.pieces().len() as u32,
         shared.budget.min(FIRST_LOOK),
-        &NoGate,
     );
     match solve_pieces(&look, whole, 1)? {
         Answer::Proven(plan) => Ok(Some(Answer::Proven(plan))),
@@ -185,7 +176,8 @@ fn looked_at<R: Threads + Wait + Sync, G: Gate>(
     }
 }
 
-// Searches all pieces of a cutting by the prices of a relaxation, whose walks have these ng-sets.
+// Answers by the useful routes if there are few of them, else by the pieces, which are searched by prices if there is a completion
+// table.
 fn solve_by_prices<R: Threads + Wait + Sync, G: Gate + Sync>(
     shared: &Shared<'_, R, G>,
     relaxation: &Relaxation<'_>,
@@ -200,42 +192,16 @@ fn solve_by_prices<R: Threads + Wait + Sync, G: Gate + Sync>(
 {
     let copy = copied_ng_sets(shared.alloc, shared.instance, &ng_sets)?;
     let prices = Prices::new(shared.alloc, relaxation, ng_sets)?;
-    // What holds of all words holds of all plans.
+    // A bound on all words is a bound on all plans.
     plans_have_words();
-    let by_prices = prices.lower_bound();
-    shared.gate.on_event(Event::Bound(by_prices));
-    let solved = solve_by_routes(shared, relaxation, &prices, copy, cutting, workers);
-    drop(prices);
-    let Solved {
-        answer,
-        lower_bound,
-    } = solved?;
-    Ok(Solved {
-        answer,
-        lower_bound: lower_bound.max(by_prices),
-    })
-}
-
-// Answers by useful routes where these are few, else by the pieces.
-fn solve_by_routes<R: Threads + Wait + Sync, G: Gate + Sync>(
-    shared: &Shared<'_, R, G>,
-    relaxation: &Relaxation<'_>,
-    prices: &Prices<'_>,
-    ng_sets: Option<NgSets>,
-    cutting: Cutting,
-    workers: u32,
-) -> Result<Solved, NoMemory>
-    requires problem { relaxation.now.problem ≡ shared.now.problem }
-    requires prices { prices.now.problem ≡ shared.now.problem }
-    requires places { IfSome ng_sets (λ ng_sets. ng_sets.places ≡ place_count shared.now.problem) }
-    requires can { CanSolve shared.now cutting workers }
-    ensures { IfOk result (IsSolved shared.now cutting) }
-{
+    let bound = bound_by_prices(shared.alloc, relaxation, &prices, copy.as_ref())?;
+    shared.gate.on_event(Event::Bound(bound));
     let RoutesAnswer {
         answer,
         better,
         lower_bound,
-    } = answer_by_routes(shared, relaxation, ng_sets, workers)?;
+    } = answer_by_routes(shared, relaxation, copy, workers)?;
+    let lower_bound = lower_bound.max(bound.rounded_up());
     if let Some(answer) = answer {
         report_plan(shared.gate, answer.plan());
         return Ok(Solved {
@@ -244,21 +210,22 @@ fn solve_by_routes<R: Threads + Wait + Sync, G: Gate + Sync>(
         });
     }
     let begun = shared.with_plan(better.as_ref());
-    // Without a completion table each bound would take long.
+    // Without a completion table each look-up would take long.
     let answer = if prices.has_completion_table() {
-        solve_improved(&begun.by_prices(prices), cutting, workers)
+        solve_pieces(&begun.by_prices(&prices), cutting, workers)?
     } else {
         let coarse = prices_for_pieces(shared)?;
-        solve_by_coarse_prices(&begun, coarse, cutting, workers)
+        solve_by_coarse_prices(&begun, coarse, cutting, workers)?
     };
     drop(better);
+    drop(prices);
     Ok(Solved {
-        answer: answer?,
+        answer,
         lower_bound,
     })
 }
 
-// Answers by the pieces, by these prices if there is a completion table by them.
+// Answers by the pieces, and by these prices if they have a completion table.
 fn solve_by_coarse_prices<R: Threads + Wait + Sync, G: Gate + Sync>(
     shared: &Shared<'_, R, G>,
     found: Option<FoundPrices<'_>>,
@@ -277,35 +244,21 @@ fn solve_by_coarse_prices<R: Threads + Wait + Sync, G: Gate + Sync>(
         },
     ) = found
     else {
-        return solve_improved(shared, cutting, workers);
+        return solve_pieces(shared, cutting, workers);
     };
     let prices = Prices::new(shared.alloc, &relaxation, ng_sets)?;
     let answer = if prices.has_completion_table() {
-        solve_improved(&shared.by_prices(&prices), cutting, workers)
+        solve_pieces(&shared.by_prices(&prices), cutting, workers)
     } else {
-        solve_improved(shared, cutting, workers)
+        solve_pieces(shared, cutting, workers)
     };
     drop(prices);
     drop(relaxation);
     answer
 }
 
-// Looks for better plans, if a time is set, and answers by the pieces then.
-fn solve_improved<R: Threads + Wait + Sync, G: Gate + Sync>(
-    shared: &Shared<'_, R, G>,
-    cutting: Cutting,
-    workers: u32,
-) -> Result<Answer, NoMemory>
-    requires { CanSolve shared.now cutting workers }
-    ensures { IfOk result (IsAnswered shared.now cutting) }
-{
-    let better = better_plan(shared, workers)?;
-    let answer = solve_pieces(&shared.with_plan(better.as_ref()), cutting, workers);
-    drop(better);
-    answer
-}
-
-// Searches all pieces of a cutting by this many workers, who draw them from one pile.
+// Searches all pieces of a cutting by this many workers, who draw them from one pile. If a time is set, they look for better plans
+// first.
 fn solve_pieces<R: Threads + Wait + Sync, G: Gate + Sync>(
     shared: &Shared<'_, R, G>,
     cutting: Cutting,
@@ -314,13 +267,18 @@ fn solve_pieces<R: Threads + Wait + Sync, G: Gate + Sync>(
     requires { CanSolve shared.now cutting workers }
     ensures { IfOk result (IsAnswered shared.now cutting) }
 {
+    let better = better_plan(shared, workers)?;
+    let begun = shared.with_plan(better.as_ref());
     shared.gate.on_event(Event::Pieces(shared.pieces));
     let (owner, thieves) = Pile::new(shared.alloc, cutting, workers - 1)?;
     let blank = Blank::new(u64::from(workers));
-    solve_pile::<Brand, R, G>(shared, owner, thieves, blank)
+    let answer = solve_pile::<Brand, R, G>(&begun, owner, thieves, blank);
+    drop(better);
+    answer
 }
 
-// The same, by workers who draw as the owner and the thieves of a pile. The blank becomes the ledger of their accepted offers.
+// Searches all pieces on a pile by workers who draw as its owner and its thieves. The blank becomes the ledger of their accepted
+// offers.
 fn solve_pile<L: Ledger + Send + Sync, R: Threads + Wait + Sync, G: Gate + Sync>(
     shared: &Shared<'_, R, G>,
     owner: Owner,
@@ -348,14 +306,14 @@ fn solve_pile<L: Ledger + Send + Sync, R: Threads + Wait + Sync, G: Gate + Sync>
     answer
 }
 
-// The gate hears what a plan costs, if there is one.
+// Tells the gate the cost of a plan, if there is one.
 fn report_plan<G: Gate>(gate: &G, plan: Option<&Plan>) {
     if let Some(plan) = plan {
         gate.on_event(Event::Plan(plan.cost()));
     }
 }
 
-// The same plan once more, if there is one.
+// A copy of a plan, if there is one.
 fn copied(alloc: Global, plan: Option<&Plan>) -> Result<Option<Plan>, NoMemory>
     ensures { IfOk result (λ copy. copy ≡ option_map (λ plan. plan.now) plan.entry) }
 {

@@ -1,4 +1,4 @@
-//! All workers: how they are made, work in threads of their own, and are brought together.
+//! All workers: made, run in threads, and joined.
 ghost use Rattle.std.specs.Prelude.{◌≡◌, ◌+◌, IfOk, [], false, vec_len};
 ghost use Rattle.std.specs.List.{All};
 ghost use Rattle.vrp_pool_pile.specs.Pile.{IsNewPile};
@@ -14,8 +14,8 @@ use vrp_pool_answer::{Gate, Searched, Shared};
 use vrp_pool_pile::{Owner, Thief};
 use vrp_pool_register::{Caller, Register};
 
-/// The register's callers, after each has worked, and what they leave of the pieces. The lead offers the heuristic plan before they
-/// search, if there is one.
+/// The register's callers after all have worked, and the outcomes of the pieces. The lead offers the heuristic plan, if there
+/// is one, before the search.
 pub(crate) fn searched_by_all<
     'a,
     R: Threads + Wait + Sync,
@@ -40,7 +40,7 @@ pub(crate) fn searched_by_all<
     all_searched(shared, lead, helpers)
 }
 
-// Worker 0, who draws as the owner of the pile, and a helper for each thief. Each is one of the callers.
+// Worker 0, which draws as the owner of the pile, and a helper for each thief. Each is one of the callers.
 fn new_team<'a, R: Wait, L: Ledger, G: Gate>(
     shared: &Shared<'a, R, G>,
     register: &'a Register<L>,
@@ -70,7 +70,7 @@ fn new_team<'a, R: Wait, L: Ledger, G: Gate>(
     Ok((Worker::new(shared, register, caller, owner), helpers))
 }
 
-// The lead and the helpers, after each worked in a thread of its own, where one can be made.
+// The lead and the helpers, after each has worked in its own thread, if one could be made.
 fn run_workers<'a, 'b, R: Threads + Wait + Sync, L: Ledger + Send + Sync, G: Gate + Sync>(
     shared: &Shared<'_, R, G>,
     lead: Worker<'a, Owner, R, L, G>,
@@ -98,7 +98,7 @@ fn run_workers<'a, 'b, R: Threads + Wait + Sync, L: Ledger + Send + Sync, G: Gat
     Ok((lead?, helpers))
 }
 
-// The same, of the helpers alone.
+// The helpers, after each has worked in its own thread, if one could be made.
 fn helped<'a, R: Threads + Wait + Sync, L: Ledger + Send + Sync, G: Gate + Sync>(
     shared: &Shared<'_, R, G>,
     mut helpers: Vec<Worker<'a, Thief, R, L, G>>,
@@ -119,8 +119,8 @@ fn helped<'a, R: Threads + Wait + Sync, L: Ledger + Send + Sync, G: Gate + Sync>
     helpers
 }
 
-// The callers and what they leave, after all have worked. Then the lead takes the helpers over, and draws on: they may have left
-// pieces.
+// The callers and the outcomes, after all have worked. Then the lead takes in the helpers and continues to draw, since they
+// may have left pieces.
 fn all_searched<R: Threads + Wait + Sync, L: Ledger + Send + Sync, G: Gate + Sync>(
     shared: &Shared<'_, R, G>,
     mut lead: Worker<'_, Owner, R, L, G>,
@@ -137,7 +137,7 @@ fn all_searched<R: Threads + Wait + Sync, L: Ledger + Send + Sync, G: Gate + Syn
     drain_pile(shared, lead, callers)
 }
 
-// The helpers' callers, once the lead has taken all helpers over.
+// The helpers' callers, once the lead has taken in all helpers.
 fn taken_over<R: Wait, L: Ledger, G: Gate>(
     shared: &Shared<'_, R, G>,
     lead: &mut Worker<'_, Owner, R, L, G>,
@@ -154,7 +154,7 @@ fn taken_over<R: Wait, L: Ledger, G: Gate>(
     Ok(callers)
 }
 
-// All callers and what they leave, once the lead, who has taken all helpers over, has drawn what is left.
+// All callers and all outcomes, once the lead, which has taken in all helpers, has drawn the remaining pieces.
 fn drain_pile<R: Wait, L: Ledger, G: Gate>(
     shared: &Shared<'_, R, G>,
     mut lead: Worker<'_, Owner, R, L, G>,

@@ -1,11 +1,12 @@
-//! A gate of which a part of the time is kept for what comes after.
+//! A gate that keeps part of the time for later stages.
+ghost use Rattle.std.specs.Prelude.{◌≡◌, ◌≤◌};
 
-use vrp_heuristic::Watch;
+use vrp_heuristic::{Crew, Watch};
 use vrp_model::NO_COST;
-use vrp_pool_answer::{Event, Gate};
+use vrp_pool_answer::{Event, Gate, Shared};
 
-/// A gate that stops what is done now when no more than so many milliseconds are left: they are kept for what comes after. Where the
-/// gate has no time it goes on as the gate does.
+/// A gate that stops the current stage when no more than this many milliseconds are left; these are kept for later stages. If
+/// the inner gate has no time, it continues as that gate does.
 #[derive(Drop)]
 pub(crate) struct TimedGate<'a, G: Gate> {
     pub(crate) gate: &'a G,
@@ -30,5 +31,25 @@ impl<G: Gate> Watch for TimedGate<'_, G> {
     fn milliseconds_left(&self) -> Option<u64> {
         let left = self.gate.milliseconds_left()?;
         Some(left.saturating_sub(self.kept))
+    }
+}
+
+/// The workers of a search who look for plans, as long as this gate allows.
+pub(crate) fn crew<'a, R, G: Gate>(
+    shared: &'a Shared<'_, R, G>,
+    workers: u32,
+    watch: &'a TimedGate<'a, G>,
+) -> Crew<'a, R, TimedGate<'a, G>>
+    requires some { 1 ≤ workers }
+    requires few { workers ≤ 64 }
+    ensures instance { result.instance.now ≡ shared.now.problem }
+    ensures workers { result.workers ≡ workers }
+{
+    Crew {
+        rt: shared.rt,
+        alloc: shared.alloc,
+        instance: shared.instance,
+        workers: workers as u16,
+        watch,
     }
 }

@@ -1,4 +1,4 @@
-//! A worker: it draws pieces and searches them one by one, and keeps what is known of each.
+//! A worker: it draws pieces, searches them one by one, and keeps the outcome of each.
 ghost use Rattle.std.specs.Prelude.{◌≡◌, ◌≤◌, IfOk, OnOk};
 ghost use Rattle.std.specs.Option.{ForSome, option_map};
 ghost use Rattle.vrp_model.specs.Cheapest.{cost_of};
@@ -18,10 +18,10 @@ use vrp_model::{NoMemory, Plan, plans_cost_less};
 use vrp_pool_answer::{Event, Finished, Gate, OpenPiece, PieceOutcome, Searched, Shared};
 use vrp_pool_pile::{Drawn, Owner, Thief};
 use vrp_pool_register::{Caller, Register};
-use vrp_search::{Board, Ended, LOOKS_BEFORE_ASKING, search, search_by_prices};
+use vrp_search::{Board, Ended, LOOKS_BEFORE_ASKING, Lookups, search, search_by_prices};
 use vrp_search_tree::Piece;
 
-// How often in a row a worker may be told that others were drawing, before it draws no more.
+// How many times in a row a worker may find that others were drawing, before it stops drawing.
 const MAX_BUSY: u32 = 1_000;
 
 /// Draws from a pile, offers plans to its board, and has an outcome for each piece that it drew.
@@ -31,7 +31,7 @@ pub(crate) struct Worker<'a, D: Draws, R: Wait, L: Ledger, G: Gate> {
     pub(crate) drawer: D,
     pub(crate) board: SeatBoard<'a, R, L, G>,
     pub(crate) outcomes: Vec<PieceOutcome>,
-    // The refusal of memory that it met as a helper, if any.
+    // The refusal of memory that the worker met as a helper, if any.
     refused: Option<NoMemory>,
 }
 
@@ -45,7 +45,7 @@ impl<'a, D: Draws, R: Wait, L: Ledger, G: Gate> Model for Worker<'a, D, R, L, G>
 }
 
 impl<'a, D: Draws, R: Wait, L: Ledger, G: Gate> Worker<'a, D, R, L, G> {
-    /// The worker who is this caller, and has done nothing yet.
+    /// The worker of this caller, before it has done anything.
     pub(crate) fn new(
         shared: &Shared<'a, R, G>,
         register: &'a Register<L>,
@@ -64,7 +64,7 @@ impl<'a, D: Draws, R: Wait, L: Ledger, G: Gate> Worker<'a, D, R, L, G> {
         }
     }
 
-    /// Offers a feasible plan to its board, if there is one.
+    /// Offers a feasible plan, if there is one, to its board.
     pub(crate) fn offer(
         &mut self,
         shared: &Shared<'_, R, G>,
@@ -94,8 +94,8 @@ impl<'a, D: Draws, R: Wait, L: Ledger, G: Gate> Worker<'a, D, R, L, G> {
         Ok(self)
     }
 
-    /// Works as a helper, and takes note where memory is refused in a search. Where there is no room for the outcomes of all pieces it
-    /// draws none: the others go on without it.
+    /// Works as a helper, and records a refusal of memory in a search. If there is no room for the outcomes of all pieces, it
+    /// draws none: the others continue without it.
     pub(crate) fn help(&mut self, shared: &Shared<'_, R, G>)
         requires { CanWork shared.now self.old }
         ensures { HasHelped shared.now self.old self.new }
@@ -106,7 +106,7 @@ impl<'a, D: Draws, R: Wait, L: Ledger, G: Gate> Worker<'a, D, R, L, G> {
         self.refused = self.draw_all(shared).err();
     }
 
-    // Makes room for the outcomes of all pieces, and answers whether there is any.
+    // Makes room for the outcomes of all pieces, and answers whether that succeeded.
     fn makes_room(&mut self, shared: &Shared<'_, R, G>) -> bool
         ensures { self.new ≡ self.old }
     {
@@ -123,7 +123,7 @@ impl<'a, D: Draws, R: Wait, L: Ledger, G: Gate> Worker<'a, D, R, L, G> {
         self.draw_all(shared)
     }
 
-    /// Draws pieces and searches them until none is left, or it was told too often that others were drawing.
+    /// Draws pieces and searches them until none is left, or until it found too often that others were drawing.
     pub(crate) fn draw_all(&mut self, shared: &Shared<'_, R, G>) -> Result<(), NoMemory>
         requires { CanWork shared.now self.old }
         ensures worked { IsWorked shared.now self.old self.new }
@@ -148,8 +148,8 @@ impl<'a, D: Draws, R: Wait, L: Ledger, G: Gate> Worker<'a, D, R, L, G> {
 }
 
 impl<'a, R: Wait, L: Ledger, G: Gate> Worker<'a, Owner, R, L, G> {
-    /// Takes over what a helper drew, its outcomes and its plan, and answers its caller. Where memory is or was refused not all of it
-    /// is taken over.
+    /// Takes in a helper's pieces, outcomes and plan, and answers its caller. If memory is or was refused, only part of that
+    /// is taken in.
     pub(crate) fn take_over(
         &mut self,
         shared: &Shared<'_, R, G>,
@@ -181,7 +181,7 @@ impl<'a, R: Wait, L: Ledger, G: Gate> Worker<'a, Owner, R, L, G> {
         Ok(caller)
     }
 
-    /// The lead's caller, and what all workers leave, once it has taken the helpers over.
+    /// The lead's caller and all workers' results, once the lead has taken in the helpers.
     pub(crate) fn into_searched(self) -> (Caller<L>, Searched)
         ensures caller { result.0 ≡ self.entry.board.caller }
         ensures one_of { IsCallerOf self.entry.board.register result.0 }
@@ -249,12 +249,19 @@ fn end_of_search<R: Wait, L: Ledger, G: Gate>(
     let (alloc, instance, tables) = (shared.alloc, shared.instance, shared.tables);
     let budget = shared.piece_budget();
     match shared.prices {
-        Some(prices) => search_by_prices(alloc, instance, tables, prices, piece, budget, board),
+        Some(prices) => search_by_prices(
+            alloc,
+            instance,
+            Lookups { tables, prices },
+            piece,
+            budget,
+            board,
+        ),
         None => search(alloc, instance, tables, piece, budget, board),
     }
 }
 
-// Tells the gate how the search of a piece ended, and of the partial plans of it that the board has not told.
+// Reports to the gate how the search of a piece ended, and the partial plans that the board has not reported.
 fn tell_ended<G: Gate>(gate: &G, ended: &Ended) {
     let (spent, news) = match ended {
         Ended::Finished { spent, .. } => (*spent, Event::Done),

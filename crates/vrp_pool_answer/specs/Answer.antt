@@ -1,4 +1,4 @@
--- What is known of the answer to an instance whose words are cut into pieces.
+-- The answer to an instance whose words are cut into pieces.
 use Rattle.std.specs.Prelude.{◌≡◌, ◌⊎◌, ℕ, ◌+◌, ◌≤◌, ◌<◌, Bool, false, true, IsTrue, Option, None, Some, List, [], length, slice_index_or}
 use Rattle.std.specs.Option.{ForSome}
 use Rattle.vrp_model.specs.Cheapest.{HasNoPlan, NoneCheaper, cost_of}
@@ -14,13 +14,12 @@ use Rattle.vrp_pool_answer.specs.declared.answers.Answer.TheVariants.{Proven, Op
 abbrev pub piece_of : List (List ℕ) → ℕ → List ℕ
 piece_of cutting number = slice_index_or cutting number []
 
--- What a plan under a prefix costs at least: what is paid along it and the bound on what is still to pay there, with tables over
--- the customers that the prefix leaves unserved
+-- the low of a prefix, with tables over its unserved customers: its cost plus the bound on what is still to pay
 abbrev pub IsOwnLow : Problem → List ℕ → Option ℕ → Type 0
 IsOwnLow p prefix low = IsLow p (unserved_in p prefix) prefix low
 
--- So many partial plans of the prefix's tree were looked at, as many as the budget allows unless the search may be stopped, and the
--- tree has more. And the prefix has a low
+-- The prefix has a low, and its tree has more partial plans than were looked at; that count is the budget, or less if the
+-- search may be stopped.
 pub record IsLeft (p : Problem) (budget : ℕ) (may_stop : Bool) (prefix : List ℕ) : Type 0 where
   pub looked : ℕ
   pub within : looked ≤ budget
@@ -28,15 +27,15 @@ pub record IsLeft (p : Problem) (budget : ℕ) (may_stop : Bool) (prefix : List 
   pub large : TreeHasAtLeast p prefix (looked + 1)
   pub some : IsOwnLow p prefix None → ⊥
 
--- the least of a plan's cost and of the lows of those pieces that are left
+-- the least of a plan's cost and the lows of the pieces that are left
 pub record IsLeastLow (p : Problem) (cutting : List (List ℕ)) (is_left : ℕ → Bool) (cost low : ℕ) : Type 0 where
   pub met : (low ≡ cost) ⊎ ((number : ℕ) × (number < length cutting) × (is_left number ≡ true) × IsOwnLow p (piece_of cutting number) (Some low))
   pub than_cost : low ≤ cost
   pub than_lows : (number other : ℕ) → number < length cutting → is_left number ≡ true → IsOwnLow p (piece_of cutting number) (Some other) → low ≤ other
 
--- A feasible plan, or none yet, where there are more customers than trucks. Some pieces are left unfinished, `first` is the lowest
--- of their numbers, and `low` is the least of the plan's cost and of their lows. No feasible plan costs less than `low`, and no
--- word under any other piece costs less than the plan
+-- A feasible plan, or none yet, if there are more customers than trucks. Some pieces are left; `first` is the lowest of their
+-- numbers, and `low` is the least of the plan's cost and their lows. No feasible plan costs less than `low`, and no word
+-- under any other piece costs less than the plan.
 pub record IsLeftOpen (p : Problem) (cutting : List (List ℕ)) (budget : ℕ) (may_stop : Bool) (plan : Option PricedPlan) (low first : ℕ) : Type 0 where
   pub plan_of : ForSome plan (IsPlanOf p)
   pub missing : plan ≡ None → HasTrucks p (length (customers p)) → ⊥
@@ -55,12 +54,12 @@ known_plan (Proven plan) = Some plan
 known_plan (Open plan low first) = plan
 known_plan NoPlan = None
 
--- Proven: a cheapest plan, and of these the one with the earliest word. NoPlan: no plan is feasible. Only Open speaks of pieces
+-- Proven: a cheapest plan, the first of these by word. NoPlan: no plan is feasible. Only Open involves pieces.
 abbrev pub IsAnswer : Problem → List (List ℕ) → ℕ → Bool → Answer → Type 0
 IsAnswer p cutting budget may_stop (Proven plan) = IsCanonical p plan
 IsAnswer p cutting budget may_stop (Open plan low first) = IsLeftOpen p cutting budget may_stop plan low first
 IsAnswer p cutting budget may_stop NoPlan = HasNoPlan p
 
--- an answer that speaks of no pieces
+-- an answer that does not involve pieces
 abbrev pub AnswersAll : Problem → Answer → Type 0
 AnswersAll p answer = (cutting : List (List ℕ)) (budget : ℕ) (may_stop : Bool) → IsAnswer p cutting budget may_stop answer

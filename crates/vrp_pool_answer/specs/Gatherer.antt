@@ -3,15 +3,15 @@ use Rattle.std.specs.Prelude.{◌≡◌, ℕ, ◌<◌, ◌≤◌, Bool, true, fa
 use Rattle.vrp_pool_answer.specs.declared.gatherer.GatherError.{GatherError}
 use Rattle.vrp_pool_answer.specs.declared.gatherer.GatherError.TheVariants.{Double, Stranger}
 
--- it is one of the numbers, and was added
+-- the number is in range and was added
 abbrev pub IsAdded : List Bool → ℕ → Type 0
 IsAdded added number = slice_index_or added number false ≡ true
 
--- it is one of the numbers, and was not added
+-- the number is in range and was not added
 abbrev pub IsMissing : List Bool → ℕ → Type 0
 IsMissing added number = slice_index_or added number true ≡ false
 
--- A number is added once. One that was added before, and one that is none of the numbers, is refused, and nothing changes
+-- A number is added once. One that was added before, or that is out of range, is refused, and nothing changes.
 abbrev pub AnswersAdd : List Bool → ℕ → Result (Unit {0}) GatherError → List Bool → Type 0
 AnswersAdd old number (Ok _) new = IsMissing old number × (new ≡ slice_set old number true)
 AnswersAdd old number (Err (Double other)) new = (other ≡ number) × IsAdded old number × (new ≡ old)

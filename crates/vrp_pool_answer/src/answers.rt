@@ -1,16 +1,16 @@
-//! What comes of a search.
+//! The result of a search.
 ghost use Rattle.std.specs.Prelude.{◌≡◌};
 ghost use Rattle.std.specs.Option.{option_map};
 ghost use Rattle.vrp_pool_answer.specs.Answer.{known_plan};
 
 use vrp_model::{NoMemory, Plan};
 
-/// A feasible plan, if one is known, and the verdict on it.
+/// A feasible plan, if one is known, and its verdict.
 #[derive(Debug, Drop)]
 pub enum Answer {
-    /// No feasible plan costs less, and of those that cost as much none has an earlier word.
+    /// No feasible plan costs less, and none of the same cost has an earlier word.
     Proven(Plan),
-    /// No feasible plan costs less than `low`. Some pieces were left unfinished, and `piece` is the lowest of their numbers.
+    /// No feasible plan costs less than `low`. Some pieces were left, and `piece` is the lowest of their numbers.
     Open {
         plan: Option<Plan>,
         low: u64,
@@ -33,18 +33,18 @@ impl Answer {
     }
 }
 
-/// What a search came to: its answer, and a bound on all feasible plans, which may be higher than what the answer says of them.
+/// The result of a search: its answer, and a lower bound on all feasible plans, which may be higher than the answer's.
 #[derive(Debug, Drop)]
 pub struct Solved {
     pub answer: Answer,
-    /// No feasible plan costs less; 0 where nothing else is known.
+    /// No feasible plan costs less; 0 if nothing is known.
     pub lower_bound: u64,
 }
 
 /// Why there is no answer.
 #[derive(Clone, Copy, Debug, PartialEq, Eq, Drop, thiserror::Error)]
 pub enum SolveError {
-    /// A growth was refused.
+    /// An allocation was refused.
     #[error("out of memory")]
     OutOfMemory,
 }

@@ -1,4 +1,4 @@
-//! What all workers found makes a plan and a verdict on it.
+//! Turns the workers' results into a plan and its verdict.
 ghost use Rattle.std.specs.Prelude.{◌≡◌, ◌↔◌, ◌≤◌, IfOk, IsTrue, OnOk, is_some, length};
 ghost use Rattle.std.specs.Option.{ForSome, option_map};
 ghost use Rattle.vrp_model.specs.Cheapest.{cost_of};
@@ -20,9 +20,9 @@ use vrp_model::{NO_COST, NoMemory, Plan, plans_cost_less, plans_have_words};
 use vrp_pool_register::Book;
 use vrp_search_tree::one_piece;
 
-/// The plan and the verdict. The last book opens with the plan of one truck for each customer, if there is one. It is offered the
-/// plan with which the search began, the one that the register kept, the best of the workers' own, and the last offer of each
-/// finished piece. The one error is want of memory. Public for vrp_pool alone.
+/// The plan and its verdict. The last book opens with the plan of one truck for each customer, if there is one. It is offered
+/// the start plan, the plan kept by the register, the best of the workers' own plans, and the last offer of each finished
+/// piece. The only error is lack of memory. Public for vrp_pool alone.
 pub fn conclude<R, G: Gate>(
     shared: &Shared<'_, R, G>,
     singles: Option<Plan>,
@@ -45,7 +45,7 @@ pub fn conclude<R, G: Gate>(
         gatherer,
         left,
     } = note_outcomes(shared, book, outcomes)?;
-    // What is known of words holds of plans, and all plans cost less than `NO_COST`.
+    // Facts about words hold for plans, and all plans cost less than `NO_COST`.
     let _customers = shared.instance.customers();
     one_piece();
     plans_have_words();
@@ -56,8 +56,8 @@ pub fn conclude<R, G: Gate>(
     Ok(verdict(plan, open_pieces))
 }
 
-// The last book, which was offered the plan with which the search began, the one that the register kept, and the best of the workers'
-// own, where there are such.
+// The last book, which was offered the start plan, the plan kept by the register, and the best of the workers' own plans, if
+// there are such.
 fn open_book<R, G: Gate>(
     shared: &Shared<'_, R, G>,
     singles: Option<Plan>,
@@ -78,16 +78,16 @@ fn open_book<R, G: Gate>(
     Ok(book)
 }
 
-// What is known once all outcomes are taken note of.
+// The state once all outcomes are recorded.
 #[derive(Drop)]
 struct Notes {
-    // Was offered the last offer of each finished piece.
+    // The book, which was offered the last offer of each finished piece.
     book: Book,
     gatherer: Gatherer,
     left: Vec<OpenPiece>,
 }
 
-// Takes note of each outcome.
+// Records each outcome.
 fn note_outcomes<R, G: Gate>(
     shared: &Shared<'_, R, G>,
     mut book: Book,
@@ -117,7 +117,7 @@ fn note_outcomes<R, G: Gate>(
     })
 }
 
-// A plan of which nothing is known, where it is a feasible plan of the instance and of its cost there.
+// A plan of unknown origin, if it is feasible for the instance with its stated cost.
 fn fitting<'b, R, G: Gate>(shared: &Shared<'_, R, G>, plan: Option<&'b Plan>) -> Option<&'b Plan>
     ensures { ForSome (option_map (λ plan. plan.now) result) (IsPlanOf shared.now.problem) }
 {
@@ -127,7 +127,7 @@ fn fitting<'b, R, G: Gate>(shared: &Shared<'_, R, G>, plan: Option<&'b Plan>) ->
     }
 }
 
-// Offers the book a plan, if there is one. All offers to it are by caller 0.
+// Offers the book a plan, if there is one. All offers to it are under caller 0.
 fn offer_some(alloc: Global, book: &mut Book, plan: Option<&Plan>) -> Result<(), NoMemory>
     ensures { OnOk result (IsOfferedTo book.old.plan (option_map (λ plan. plan.now) plan.entry) book.new.plan) }
 {
@@ -137,7 +137,7 @@ fn offer_some(alloc: Global, book: &mut Book, plan: Option<&Plan>) -> Result<(),
     Ok(())
 }
 
-// What a plan costs, or `NO_COST` where there is none.
+// The cost of a plan, or `NO_COST` if there is none.
 fn known_cost(plan: Option<&Plan>) -> u64
     ensures { result ≡ cost_of (option_map (λ plan. plan.now) plan.entry) }
 {
@@ -147,7 +147,7 @@ fn known_cost(plan: Option<&Plan>) -> u64
     }
 }
 
-// The best plan, if there is one, and what follows of it.
+// The best plan, if there is one, and its verdict.
 fn verdict(plan: Option<Plan>, open_pieces: OpenPieces) -> Answer
     ensures { IsVerdict plan open_pieces result }
 {

@@ -1,4 +1,4 @@
-//! What is told of an instance, in whatever form.
+//! The result that every output form prints.
 ghost use Rattle.std.specs.Prelude.{◌≡◌};
 ghost use Rattle.vrp_pool_answer.specs.Finding.{bounded_finding, by_best_bound, finding_of, lawful_finding, told_by};
 
@@ -6,21 +6,21 @@ use crate::answers::{Answer, Solved};
 use crate::status::Status;
 use vrp_model::Plan;
 
-/// What is told of an instance: the plan, the verdict on it, and lower bounds.
+/// The result for an instance: the plan, its verdict, and lower bounds.
 #[derive(Clone, Copy)]
 pub struct Finding<'a> {
-    /// The best plan that is known, if there is one.
+    /// The best known plan, if there is one.
     pub plan: Option<&'a Plan>,
-    /// What is said of it.
+    /// The verdict.
     pub status: Status,
-    /// No feasible plan costs less, where that is known: what a report tells.
+    /// A lower bound on all feasible plans, if known; reports print it.
     pub lower_bound: Option<u64>,
-    /// The highest such number that is known.
+    /// The highest known lower bound.
     pub best_lower_bound: Option<u64>,
 }
 
 impl<'a> Finding<'a> {
-    /// What an answer says.
+    /// The finding of an answer.
     pub fn of_answer(answer: &'a Answer) -> Finding<'a>
         ensures { told_by result ≡ finding_of answer.entry.now }
     {
@@ -46,7 +46,7 @@ impl<'a> Finding<'a> {
         }
     }
 
-    /// What a search came to: its answer, and as the best bound the higher of both where it is left open.
+    /// The finding of a search's result: its answer and, if that is open, the higher of both bounds as the best one.
     pub fn of_solved(solved: &'a Solved) -> Finding<'a>
         ensures { told_by result ≡ bounded_finding solved.entry.now.answer solved.entry.now.lower_bound }
     {
@@ -61,7 +61,7 @@ impl<'a> Finding<'a> {
         }
     }
 
-    /// The same, told by its best bound alone.
+    /// The finding with its best bound as the only one.
     pub fn by_best_bound(self) -> Finding<'a>
         ensures { told_by result ≡ by_best_bound (told_by self.entry) }
     {
@@ -71,7 +71,7 @@ impl<'a> Finding<'a> {
         }
     }
 
-    /// What is told of a feasible plan that was not searched for.
+    /// The finding of a feasible plan that was only checked.
     pub fn lawful(plan: &'a Plan) -> Finding<'a>
         ensures { told_by result ≡ lawful_finding plan.entry.now }
     {

@@ -1,66 +1,68 @@
-//! What workers tell outside of a search, and who may stop it.
+//! The gate: it hears of a search from outside, and may stop it.
 ghost use Rattle.std.specs.Prelude.{◌≡◌, Bool, false, IsTrue};
 
-/// What is new in a search.
+use vrp_bound::LowerBound;
+
+/// An event of a search.
 #[derive(Clone, Copy, Debug, PartialEq, Eq)]
 pub enum Event {
-    /// A start plan is looked for.
+    /// The search for a start plan begins.
     StartPlan,
-    /// Prices are looked for.
+    /// The search for prices begins.
     Prices,
-    /// By prices no plan costs less than this.
-    Bound(u64),
-    /// Useful routes are listed: those that can stand in the canonical plan.
+    /// No plan costs less than this.
+    Bound(LowerBound),
+    /// The enumeration of useful routes begins: those that may be in the canonical plan.
     Routes,
-    /// So many labels were made so far, to list useful routes.
+    /// This many labels were made so far.
     Labels(u64),
-    /// This many useful routes are chosen among.
+    /// The choice among this many useful routes begins.
     Choice(u64),
-    /// Of the choice among them so many nodes are done, and so many are open.
+    /// This many nodes of the choice are done, and this many are open.
     Nodes { done: u64, open: u64 },
-    /// Better plans are looked for, as long as there is time.
+    /// The search for better plans begins, as long as there is time.
     BetterPlans,
-    /// This many pieces are searched.
+    /// The search of this many pieces begins.
     Pieces(u32),
     /// This many more partial plans were looked at.
     Looked(u64),
-    /// A plan that costs so much is known.
+    /// A plan of this cost is known.
     Plan(u64),
-    /// A run that looks for better plans came by routes that cost so much: a plan of them follows when it ends.
+    /// A run for better plans found routes of this cost: their plan follows when the run ends.
     Cheaper(u64),
-    /// One more piece is searched to its end.
+    /// One more piece is finished.
     Done,
     /// One more piece is left open: its budget is spent, or the gate stopped it.
     LeftOpen,
 }
 
-/// Is told by each worker before it searches a piece, hears what is new, and is asked now and then whether to go on. A gate's
-/// type says whether it may stop a search.
+/// Hears from each worker before it searches a piece, hears of events, and is asked from time to time whether to continue. A
+/// gate's type says whether it may stop a search.
 pub trait Gate {
     ghost may_stop: { Self → Bool } = { λ _. false };
 
     /// This worker is about to search the piece of this number. Workers are numbered from 0.
     fn begins(&self, worker: u32, piece: u32);
 
-    /// Something is new. Nothing is asked of what the gate does.
+    /// An event. Nothing is required of what the gate does.
     fn on_event(&self, _news: Event) {}
 
-    /// Whether to go on. Where a gate says no it is asked again before each further piece, of which a single partial plan is looked
-    /// at then.
+    /// Whether to continue. A gate that answered no is asked again before each further piece; if it still says no, only a
+    /// single partial plan of that piece is looked at.
     fn should_continue(&self) -> bool
         ensures { result ≡ false → IsTrue (may_stop self.now) }
     {
         true
     }
 
-    /// How many milliseconds a search has left until it is stopped, if a time is set. Nothing rests on what a gate answers: by it a
-    /// search shares out its time.
+    /// The milliseconds left until the search is stopped, if a time is set. A search divides its time by this; no promise
+    /// depends on it.
     fn milliseconds_left(&self) -> Option<u64> {
         None
     }
 }
 
-/// Does nothing, and stops nothing.
+/// A gate that does nothing and stops nothing.
 #[derive(Clone, Copy, Debug)]
 pub struct NoGate;
 

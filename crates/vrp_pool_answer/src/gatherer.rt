@@ -1,4 +1,4 @@
-//! Which pieces are finished.
+//! Records which pieces are finished.
 ghost use Rattle.std.specs.Prelude.{◌≡◌, IfOk, false, replicate};
 ghost use Rattle.vrp_pool_answer.specs.Gatherer.{IsFirstMissing, AnswersAdd};
 
@@ -18,7 +18,7 @@ pub enum GatherError {
     Stranger(u32),
 }
 
-/// The numbers of the pieces that are finished, out of this many. Contracts see for each number whether it was added.
+/// The numbers of the finished pieces, out of this many. Contracts see for each number whether it was added.
 #[derive(Debug, Drop)]
 pub struct Gatherer {
     added: Vec<bool>,
@@ -35,7 +35,7 @@ impl Model for Gatherer {
 }
 
 impl Gatherer {
-    /// None of this many is added.
+    /// A gatherer with nothing added.
     pub fn new(alloc: Global, pieces: u32) -> Result<Gatherer, NoMemory>
         ensures { IfOk result (λ gatherer. gatherer ≡ replicate pieces false) }
     {
@@ -43,8 +43,8 @@ impl Gatherer {
         Ok(Gatherer { added })
     }
 
-    /// Adds a finished piece. One whose number was added before, or is not below the number of pieces, is refused, and changes
-    /// nothing.
+    /// Adds a finished piece. A number that was added before, or that is not below the number of pieces, is refused, and
+    /// nothing changes.
     pub fn add(&mut self, finished: Finished) -> Result<(), GatherError>
         ensures { AnswersAdd self.old finished.number result self.new }
     {

@@ -1,4 +1,4 @@
-//! What workers leave of the pieces of a cutting makes an answer: a plan, and a verdict on it.
+//! Turns the workers' results for the pieces of a cutting into an answer: a plan and its verdict.
 #![tactic(auto)]
 
 mod answers;
@@ -8,6 +8,7 @@ mod gates;
 mod gatherer;
 mod open_pieces;
 mod outcome;
+mod resources;
 mod shared;
 mod status;
 
@@ -17,5 +18,6 @@ pub use finding::Finding;
 pub use gates::{Event, Gate, NoGate};
 pub use gatherer::{GatherError, Gatherer};
 pub use outcome::{Finished, OpenPiece, PieceOutcome, Searched};
+pub use resources::Resources;
 pub use shared::Shared;
 pub use status::Status;

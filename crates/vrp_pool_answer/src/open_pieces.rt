@@ -1,4 +1,4 @@
-//! The pieces that are left unfinished: which of them are done with all the same, and the least low of the others.
+//! The unfinished pieces: those that their bounds close, and the least low of the others.
 ghost use Rattle.std.specs.Prelude.{◌≡◌, ◌≤◌, Some, false, IfOk, OnOk};
 ghost use Rattle.std.specs.List.{All};
 ghost use Rattle.vrp_model.specs.Word.{NoneCheaperUnder};
@@ -14,8 +14,8 @@ use vrp_bound::Tables;
 use vrp_model::NoMemory;
 use vrp_search_tree::{one_low, own_low_no_lower};
 
-/// Which pieces are finished, what the best plan costs, `NO_COST` where there is none, and the least of that and of the lows of
-/// the unfinished pieces that were settled.
+/// Which pieces are finished, the best plan's cost, `NO_COST` if there is none, and the least of that cost and the lows of
+/// the settled pieces.
 #[derive(Drop)]
 pub(crate) struct OpenPieces {
     pub(crate) gatherer: Gatherer,
@@ -23,7 +23,7 @@ pub(crate) struct OpenPieces {
     pub(crate) low: u64,
 }
 
-/// Settles all unfinished pieces, those first that have the lowest lows: so few need tables of their own.
+/// Settles all unfinished pieces, lowest lows first, so that few need their own tables.
 pub(crate) fn settle_pieces<R, G: Gate>(
     shared: &Shared<'_, R, G>,
     gatherer: Gatherer,
@@ -33,7 +33,7 @@ pub(crate) fn settle_pieces<R, G: Gate>(
     requires { All (λ left. IsOpenPiece shared.now left.piece left) left.items }
     ensures { IfOk result (SettlesAll shared.now gatherer cost left.items) }
 {
-    // What a piece's own tables answer is one number, and no lower than what tables over all customers answer.
+    // The low by a piece's own tables is unique, and no lower than the one by tables over all customers.
     let _customers = shared.instance.customers();
     one_low();
     own_low_no_lower();
@@ -51,16 +51,16 @@ pub(crate) fn settle_pieces<R, G: Gate>(
 }
 
 impl OpenPieces {
-    // Whether the piece's own low may count. It is no lower than the one by tables over all customers: where that is no less than the
-    // least so far, it changes nothing. But while no piece is open, it may show that this one is finished too.
+    // Whether the piece's own low may matter. It is no lower than the low over all customers; if that is at least the least
+    // so far, the own low changes nothing. But while no piece is open, it may show that this one is finished too.
     fn asks_for_own_low(&self, left: &OpenPiece, is_open: bool) -> bool
         ensures { result ≡ false → self.now.low ≤ left.now.low }
     {
         left.low < self.low || (!is_open && left.low <= self.cost)
     }
 
-    // Settles an unfinished piece: where each plan under it costs more than the best one it is finished, and else its low counts.
-    // Tells whether it counts.
+    // Settles an unfinished piece: it is finished if each plan under it costs more than the best one; otherwise its low
+    // counts. Answers whether it counts.
     fn settle<R, G: Gate>(
         &mut self,
         shared: &Shared<'_, R, G>,
@@ -89,7 +89,7 @@ impl OpenPieces {
     }
 }
 
-// What a plan under an unfinished piece costs at least, by tables over the customers that it leaves unserved.
+// The low of an unfinished piece, by tables over its unserved customers.
 fn own_low<R, G: Gate>(shared: &Shared<'_, R, G>, left: &OpenPiece) -> Result<u64, NoMemory>
     requires { IsOpenPiece shared.now left.now.piece left.now }
     ensures low { IfOk result (λ low. IsOwnLow shared.now.problem left.now.piece.word (Some low)) }

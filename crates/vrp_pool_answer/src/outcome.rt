@@ -1,21 +1,21 @@
-//! What workers leave of the pieces.
+//! The workers' results for the pieces.
 use vrp_model::Plan;
 use vrp_pool_pile::Owner;
 use vrp_search_tree::Piece;
 
-/// A piece of which all is known: each word under it costs more than the floor, or is not before `last_offer`, the last plan that its
+/// A finished piece: each word under it costs more than the floor, or is not before `last_offer`, the last plan that its
 /// search offered, if any.
 #[derive(Debug, Drop)]
 pub struct Finished {
-    /// The piece's place in its cutting.
+    /// The piece's position in its cutting.
     pub number: u32,
-    /// A cost that was known when the search ended: no word under the piece costs less.
+    /// A cost known when the search ended: no word under the piece costs less.
     pub floor: u64,
-    /// The last plan that the search offered, which is before all others that it offered.
+    /// The last plan that the search offered; it is before all its other offers.
     pub last_offer: Option<Plan>,
 }
 
-/// A piece whose tree is above the budget. Public for vrp_pool alone.
+/// A piece whose tree has more partial plans than were looked at. Public for vrp_pool alone.
 #[derive(Debug, Drop)]
 pub struct OpenPiece {
     pub piece: Piece,
@@ -26,19 +26,19 @@ pub struct OpenPiece {
 /// How the search of a piece ended. Public for vrp_pool alone.
 #[derive(Debug, Drop)]
 pub enum PieceOutcome {
-    /// All is known of the piece.
+    /// The piece is finished.
     Finished(Finished),
-    /// The budget was spent.
+    /// The piece is unfinished.
     Unfinished(OpenPiece),
 }
 
 /// All pieces were searched. Public for vrp_pool alone.
 #[derive(Drop)]
 pub struct Searched {
-    /// The pile of which nothing is left.
+    /// The empty pile.
     pub pile: Owner,
-    /// The outcome of each piece, in the order in which they were drawn.
+    /// The outcome of each piece, in drawing order.
     pub outcomes: Vec<PieceOutcome>,
-    /// A plan that costs no more than any that a worker offered, if there is one.
+    /// A plan that costs no more than any worker's offer, if there is one.
     pub best: Option<Plan>,
 }

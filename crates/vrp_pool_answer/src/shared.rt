@@ -1,35 +1,36 @@
-//! What all workers read.
+//! The data that all workers share.
 ghost use Rattle.std.specs.Prelude.{◌≡◌, ◌⊎◌, ◌*◌, ◌-◌, ◌^◌, ◌≤◌, IsTrue, min};
 ghost use Rattle.std.specs.Option.{ForSome, option_map};
 ghost use Rattle.vrp_model.specs.Cheapest.{cost_of};
 ghost use Rattle.vrp_model.specs.Route.{IsPlanOf};
 
 use crate::gates::Gate;
+use crate::resources::Resources;
 use std::alloc::Global;
 use std::marker::Model;
 use vrp_bound::Tables;
 use vrp_model::{Instance, Plan, plans_cost_less};
 use vrp_search_tree::Prices;
 
-/// What is searched, and what was made before; how many partial plans may be looked at in each of this many pieces, and what is told
-/// before each. Public for vrp_pool alone.
+/// The search and what was prepared for it, the budget of each piece, the number of pieces, and the gate that hears of each.
+/// Public for vrp_pool alone.
 #[derive(Drop)]
 pub struct Shared<'a, R, G: Gate> {
     /// Starts threads, and waits for them.
     pub rt: &'a R,
     pub alloc: Global,
     pub instance: &'a Instance,
-    /// Over all customers.
+    /// The tables over all customers.
     pub tables: &'a Tables<'a>,
-    /// Is offered before the search.
+    /// The plan that is offered before the search.
     pub start_plan: Option<&'a Plan>,
-    /// Where there are any, the search prunes by them alone.
+    /// If there are prices, the search prunes by them alone.
     pub prices: Option<&'a Prices<'a>>,
-    /// How many pieces there are.
+    /// The number of pieces.
     pub pieces: u32,
-    /// How many partial plans may be looked at in each piece, from 1 on.
+    /// The budget of each piece, at least 1.
     pub budget: u64,
-    /// What is told outside, and who may stop the search.
+    /// The gate, which hears of the search and may stop it.
     pub gate: &'a G,
 }
 
@@ -60,16 +61,14 @@ impl<'a, R, G: Gate> Model for Shared<'a, R, G> {
 impl<'a, R, G: Gate> Shared<'a, R, G> {
     ghost use Rattle.vrp_model.specs.Problem.{customers};
 
-    /// A search that prunes by no prices.
+    /// A search without prices.
     pub fn new(
-        rt: &'a R,
-        alloc: Global,
+        resources: &Resources<'a, R, G>,
         instance: &'a Instance,
         tables: &'a Tables<'a>,
         start_plan: Option<&'a Plan>,
         pieces: u32,
         budget: u64,
-        gate: &'a G,
     ) -> Shared<'a, R, G>
         requires tables { tables.now ≡ record { problem = instance.now; among = customers instance.now } }
         requires start_plan { ForSome (option_map (λ plan. plan.now) start_plan) (IsPlanOf instance.now) }
@@ -79,9 +78,10 @@ impl<'a, R, G: Gate> Shared<'a, R, G> {
           start_plan = option_map (λ plan. plan.now) start_plan.entry;
           pieces = pieces;
           budget = budget;
-          may_stop = G.may_stop gate.now;
+          may_stop = G.may_stop resources.now.gate.now;
         } }
     {
+        let Resources { rt, alloc, gate } = *resources;
         Shared {
             rt,
             alloc,
@@ -95,7 +95,7 @@ impl<'a, R, G: Gate> Shared<'a, R, G> {
         }
     }
 
-    /// The same search, which begins with this plan, if there is one, unless its own is before it.
+    /// The same search with this start plan, if there is one, unless its own is before it.
     pub fn with_plan<'b>(&'b self, plan: Option<&'b Plan>) -> Shared<'b, R, G>
         requires { ForSome (option_map (λ plan. plan.now) plan) (IsPlanOf self.now.problem) }
         ensures same { result ≡ record self.entry.now { start_plan = result.start_plan } }
@@ -108,7 +108,7 @@ impl<'a, R, G: Gate> Shared<'a, R, G> {
         }
     }
 
-    /// The same search, which prunes by these prices.
+    /// The same search with pruning by these prices.
     pub fn by_prices<'b>(&'b self, prices: &'b Prices<'b>) -> Shared<'b, R, G>
         requires { prices.now.problem ≡ self.now.problem }
         ensures { result ≡ self.entry.now }
@@ -119,14 +119,14 @@ impl<'a, R, G: Gate> Shared<'a, R, G> {
         }
     }
 
-    /// How many partial plans may be looked at in all pieces together, `u64::MAX` where that is more.
+    /// The budget of all pieces together, `u64::MAX` if it is more.
     pub fn budget_in_all(&self) -> u64
         ensures { result ≡ min (self.now.budget * self.now.pieces) (2 ^ 64 - 1) }
     {
         self.budget.saturating_mul(u64::from(self.pieces))
     }
 
-    /// How many partial plans of the next piece may be looked at: where the gate doesn't go on its root alone.
+    /// The budget of the next piece; 1, for its root alone, if the gate doesn't continue.
     pub fn piece_budget(&self) -> u64
         ensures some { 1 ≤ result }
         ensures within { result ≤ self.now.budget }
@@ -140,7 +140,7 @@ impl<'a, R, G: Gate> Shared<'a, R, G> {
     }
 }
 
-// Of two plans the one that is before the other, or the one that is there.
+// Of two plans the one that is before the other, or the only one.
 fn earlier_of<'b>(
     instance: &Instance,
     one: Option<&'b Plan>,
@@ -152,7 +152,7 @@ fn earlier_of<'b>(
     ensures no_costlier { cost_of (option_map (λ plan. plan.now) result)
         ≤ cost_of (option_map (λ plan. plan.now) one.entry) }
 {
-    // A plan costs less than none.
+    // Any plan costs less than a missing one.
     plans_cost_less();
     let _customers = instance.customers();
     match one {

@@ -11,16 +11,16 @@ pub enum Status {
     Proven,
     /// A feasible plan may cost less.
     Open,
-    /// There is no feasible plan: the trucks are too few.
+    /// There is no feasible plan: there are too few trucks.
     NoPlan,
-    /// The plan is feasible, and was not searched for.
+    /// The plan is feasible, and was only checked.
     Lawful,
 }
 
 impl Status {
     ghost use Rattle.std.specs.Prelude.{◌≡◌};
 
-    /// The verdict in one word.
+    /// The word of the verdict.
     pub fn as_str(self) -> &'static str
         ensures { result.now ≡ status_text self }
     {

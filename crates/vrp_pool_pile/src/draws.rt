@@ -1,10 +1,9 @@
-//! What those who draw from a pile know, and how they change it. No value of these types is made: they exist in proofs alone.
+//! The knowledge of a pile's drawers, and how it changes. These types have no values at run time: they exist only in proofs.
 use crossbeam_deque::protocol::{Join, Lesson, Outcome, Protocol, Split};
 use std::collections::LinkedList;
 use vrp_search_tree::Piece;
 
-/// What a drawer knows: how many of the pile's drawers it stands for, the pieces that were put on the pile, and those that it
-/// drew.
+/// A drawer's knowledge: how many of the pile's drawers it stands for, the pieces put on the pile, and those that it drew.
 pub struct Draws {
     pub parts: u64,
     pub put: LinkedList<Piece>,
@@ -71,7 +70,7 @@ impl Outcome<Piece, Draws> for Drawing {
     ghost empty = { λ v. v.parts ≡ MAX_DRAWERS → AreShared v.drawn [] v.put };
 }
 
-/// What is left is counted.
+/// The remaining pieces are counted.
 pub struct Counting;
 
 impl Lesson<Piece, Draws> for Counting {

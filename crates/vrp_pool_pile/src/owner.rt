@@ -1,4 +1,4 @@
-//! The owner of a pile: it puts all pieces on it, draws from it, and takes thieves in.
+//! The owner of a pile: it puts all pieces on it, draws from it, and takes in thieves.
 ghost use Rattle.std.specs.Prelude.{◌≡◌, ◌<◌, ◌^◌, IfOk, None, [], length};
 ghost use Rattle.vrp_pool_pile.specs.declared.limits.TheConstants.{MAX_DRAWERS};
 ghost use Rattle.vrp_pool_pile.specs.Pile.{DrawsOrStays, DrewAll, IsNewThief, IsTakenIn, LeavesSoMany, one_part_less};
@@ -10,7 +10,7 @@ use std::alloc::{AllocError, Global};
 use std::marker::Model;
 use vrp_search_tree::Piece;
 
-/// Draws from a pile, and takes thieves in.
+/// Draws from a pile, and takes in thieves.
 #[derive(Drop)]
 pub struct Owner {
     deque: Worker<Piece, Global, Draws, Pieces>,
@@ -49,7 +49,7 @@ impl Owner {
         Ok(Owner { deque })
     }
 
-    /// One more thief.
+    /// A new thief of this pile.
     pub(crate) fn make_thief(&mut self) -> Result<Thief, AllocError>
         requires { 1 < self.old.parts }
         ensures owner { IfOk result (λ _. self.new ≡ one_part_less self.old) }
@@ -62,8 +62,8 @@ impl Owner {
         })
     }
 
-    /// The oldest piece that is left. `None` means that at one moment of the call none was left: where the owner stands for all
-    /// drawers, all pieces are then drawn. While thieves are out no clause says what `None` means.
+    /// The oldest remaining piece. `None` means that at one moment of the call none was left: if the owner stands for all
+    /// drawers, all pieces are then drawn. While thieves are out, no clause says what `None` means.
     pub fn take(&mut self) -> Option<Piece>
         ensures drawn { DrawsOrStays self.old result self.new }
         ensures all { result ≡ None → self.old.parts ≡ MAX_DRAWERS → DrewAll self.old }
@@ -71,7 +71,7 @@ impl Owner {
         self.deque.pop_as::<Drawing>()
     }
 
-    /// Takes a thief in: what it drew counts as drawn by the owner from then on.
+    /// Takes in a thief: its pieces count as drawn by the owner from then on.
     pub fn take_in(&mut self, thief: Thief)
         requires { thief.pile ≡ self.old.pile }
         ensures { IsTakenIn self.old thief self.new }
@@ -80,7 +80,7 @@ impl Owner {
         self.deque.absorb::<Parting>(pass);
     }
 
-    /// How many pieces are left, where the owner stands for all drawers.
+    /// The number of remaining pieces, if the owner stands for all drawers.
     pub(crate) fn count_left(&mut self) -> u32
         requires { self.old.parts ≡ MAX_DRAWERS }
         ensures { LeavesSoMany self.old.drawn self.old.put result }

@@ -1,4 +1,4 @@
-//! A pile from its making to its end.
+//! A pile from its beginning to its end.
 ghost use Rattle.std.specs.Prelude.{◌≡◌, ◌+◌, ◌≤◌, ◌++◌, IfOk, length};
 ghost use Rattle.std.specs.List.{All};
 ghost use Rattle.vrp_pool_pile.specs.declared.limits.TheConstants.{MAX_DRAWERS, MAX_THIEVES};
@@ -14,8 +14,8 @@ use vrp_search_tree::Cutting;
 pub struct Pile;
 
 impl Pile {
-    /// All pieces of a cutting on one pile, in order: its owner, and this many thieves. Where memory is refused the cutting is
-    /// given up.
+    /// All pieces of a cutting on one pile, in order: its owner, and this many thieves. If memory is refused, the cutting is
+    /// dropped.
     pub fn new(
         alloc: Global,
         cutting: Cutting,
@@ -33,8 +33,8 @@ impl Pile {
     }
 }
 
-/// How many pieces nobody drew, where all drawers of the pile are handed in. Those that were drawn and those that are left are
-/// all that were put on the pile, each once.
+/// The number of pieces that nobody drew, when all drawers of the pile are handed in. The drawn and the remaining pieces are
+/// all those put on the pile, each once.
 pub fn settle(mut owner: Owner, thieves: Vec<Thief>) -> u32
     requires pile { All (λ thief. thief.pile ≡ owner.pile) thieves.items }
     requires all { owner.parts + length thieves.items ≡ MAX_DRAWERS }

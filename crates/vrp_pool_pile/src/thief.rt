@@ -1,4 +1,4 @@
-//! The thieves of a pile, who draw from it in threads of their own.
+//! The thieves of a pile, which draw from it in other threads.
 ghost use Rattle.vrp_pool_pile.specs.Drawn.{StealsOrStays};
 
 use crate::draws::{Drawing, Draws, Pieces};
@@ -7,7 +7,7 @@ use std::alloc::Global;
 use std::marker::Model;
 use vrp_search_tree::Piece;
 
-// How often a thief looks again where another step came in between.
+// How often a thief tries again when another step interfered.
 const MAX_STEALS: u32 = 64;
 
 /// Draws from a pile.
@@ -33,19 +33,19 @@ impl Model for Thief {
         × ((known t.pass).parts ≡ 1) };
 }
 
-/// What a thief is answered.
+/// The answer to a thief.
 #[derive(Debug, Drop)]
 pub enum Drawn {
-    /// A piece that nobody else is answered.
+    /// A piece that nobody else gets.
     Piece(Piece),
     /// Nothing was left at one moment of the call.
     Empty,
-    /// Each look met the step of another drawer.
+    /// Each try met the step of another drawer.
     Busy,
 }
 
 impl Thief {
-    /// The oldest piece that is left. When the answer is `Empty` or `Busy`, no clause says.
+    /// The oldest remaining piece. No clause says when the answer is `Empty` or `Busy`.
     pub fn take(&mut self) -> Drawn
         ensures { StealsOrStays self.old result self.new }
     {

@@ -1,4 +1,4 @@
--- What contracts see of a register and of its callers.
+-- A register and its callers, as contracts see them.
 use Rattle.std.specs.Prelude.{◌≡◌, ℕ, List, length, map}
 use Rattle.std.specs.List.{All, range_with_len, sum_by}
 use Rattle.atomic_table.specs.Seated.{TableId}
@@ -6,20 +6,20 @@ use Rattle.vrp_pool_register.specs.Costs.{newcomer}
 use Rattle.vrp_pool_register.specs.declared.view.Known.{Known}
 
 pub record RegisterState : Type 0 where
-  -- how many callers it has
+  -- the number of callers
   pub callers : ℕ
-  -- what its first plan costs, NO_COST where it opened without one
+  -- the cost of its opening plan, NO_COST if it opened without one
   pub opening : ℕ
-  -- which register it is
+  -- the register's identity
   pub table : TableId
 
 pub record CallerState : Type 0 where
-  -- which register it belongs to
+  -- the caller's register
   pub table : TableId
-  -- its number, what it has seen of the costs, and its own accepted offers
+  -- its number, the costs it has seen, and its own accepted offers
   pub known : Known
 
--- the caller is one of the register's
+-- the caller belongs to the register
 abbrev pub IsCallerOf : RegisterState → CallerState → Type 0
 IsCallerOf register caller = caller.table ≡ register.table
 
@@ -31,7 +31,7 @@ AreCallersOf register callers = (length callers ≡ register.callers) × All (Is
 abbrev pub newcomers : TableId → ℕ → ℕ → List CallerState
 newcomers table opening count = map (λ number. record { table = table; known = newcomer number opening }) (range_with_len 0 count)
 
--- what each of these callers knows
+-- the knowledge of each of these callers
 abbrev pub known_of : List CallerState → List Known
 known_of callers = map (λ c. c.known) callers
 

@@ -1,5 +1,5 @@
--- The machine of costs: an opening cost, and a history of offers. An offer is answered by the least cost before it, and a look by
--- the least cost so far.
+-- The sequential history of costs: an opening cost, and a list of offers. The answer to an offer is the least cost before it,
+-- and the answer to a look is the least cost so far.
 use Rattle.std.specs.Prelude.{◌≡◌, ℕ, ◌≤◌, ◌==◌, min, List, [], ◌∷◌, ◌++◌, length, map}
 use Rattle.std.specs.List.{All, Contains, filter, sum_by}
 use Rattle.vrp_pool_register.specs.declared.view.Known.{Known}
@@ -10,7 +10,7 @@ abbrev pub least_of : ℕ → List Offer → ℕ
 least_of opening [] = opening
 least_of opening (offer ∷ offers) = least_of (min opening offer.cost) offers
 
--- the offers of one caller, in their order
+-- the offers of one caller, in order
 abbrev pub offers_by : ℕ → List Offer → List Offer
 offers_by number history = filter (λ offer. offer.caller == number) history
 
@@ -21,7 +21,7 @@ StartsWith history seen = (rest : List Offer) × (history ≡ seen ++ rest)
 abbrev pub newcomer : ℕ → ℕ → Known
 newcomer number opening = record { number = number; opening = opening; seen = []; mine = [] }
 
--- the history went on to here while the caller did not look; the caller was answered the least cost so far, and its offer stands next
+-- the history has grown while the caller did not look; the answer is the least cost so far, and the caller's offer comes next
 pub record IsOffered (known : Known) (cost answer : ℕ) (after : Known) : Type 0 where
   pub number : after.number ≡ known.number
   pub opening : after.opening ≡ known.opening
@@ -30,7 +30,7 @@ pub record IsOffered (known : Known) (cost answer : ℕ) (after : Known) : Type 
   pub seen : after.seen ≡ (known.seen ++ between) ++ record { caller = known.number; cost = cost } ∷ []
   pub mine : after.mine ≡ known.mine ++ record { caller = known.number; cost = cost } ∷ []
 
--- the caller saw the history so far, was answered the least cost in it, and made no offer
+-- the caller sees the history so far, its answer is the least cost in it, and it makes no offer
 pub record IsSeen (known : Known) (answer : ℕ) (after : Known) : Type 0 where
   pub number : after.number ≡ known.number
   pub opening : after.opening ≡ known.opening
@@ -38,7 +38,8 @@ pub record IsSeen (known : Known) (answer : ℕ) (after : Known) : Type 0 where
   pub least : answer ≡ least_of known.opening after.seen
   pub mine : after.mine ≡ known.mine
 
--- what a caller knows is so: the history begins with what it has seen, and its own offers are all that the history has of it
+-- the caller's knowledge is true: the history begins with what it has seen, and its own offers are exactly its offers in the
+-- history
 pub record IsKnown (opening : ℕ) (history : List Offer) (known : Known) : Type 0 where
   pub opens : known.opening ≡ opening
   pub seen : StartsWith history known.seen
@@ -49,7 +50,7 @@ pub record IsHistoryOf (opening : ℕ) (callers : List Known) (history : List Of
   pub known : All (IsKnown opening history) callers
   pub no_other : All (λ offer. Contains (map (λ known. known.number) callers) offer.caller) history
 
--- how many offers these callers know of as their own
+-- how many offers these callers know as their own
 abbrev pub offer_count : List Known → ℕ
 offer_count callers = sum_by (λ known. length known.mine) callers
 
@@ -70,6 +71,6 @@ LeastIsThere opening history = Contains (costs_of opening history) (least_of ope
 abbrev pub NoneIsLess : ℕ → List Offer → Type 0
 NoneIsLess opening history = All (λ cost. least_of opening history ≤ cost) (costs_of opening history)
 
--- the least cost does not rise while the history goes on
+-- the least cost does not rise as the history grows
 abbrev pub LeastNeverRises : ℕ → Type 0
 LeastNeverRises opening = (history seen : List Offer) → StartsWith history seen → least_of opening history ≤ least_of opening seen

@@ -8,7 +8,7 @@ use std::alloc::Global;
 use std::marker::Model;
 use vrp_model::{NoMemory, Plan};
 
-/// Keeps the first plan by cost and then by word among the opening plan and the offers, and every offer in order.
+/// Keeps the first plan, by cost and then by word, among the opening plan and the offers, and every offer in order.
 #[derive(Debug, Drop)]
 pub struct Book {
     opening: Option<Plan>,
@@ -41,17 +41,17 @@ impl Book {
         })
     }
 
-    /// The plan that is kept: of the opening plan and those that were offered the first by cost and then by word, and of equal
-    /// ones the earliest.
+    /// The kept plan: the first by cost and then by word among the opening plan and the offers, and the earliest among equal
+    /// ones.
     pub fn plan(&self) -> Option<&Plan>
         ensures value { option_map (λ plan. plan.now) result ≡ self.now.plan }
-        // What is known of every book.
+        // An invariant of every book.
         ensures first { IsKeptOf (plans_of self.now.opening self.now.entries) self.now.plan }
     {
         self.plan.as_ref()
     }
 
-    /// The plan that is kept, where nothing more is offered.
+    /// The kept plan, when nothing more is offered.
     pub fn into_plan(self) -> Option<Plan>
         ensures { result ≡ self.plan }
     {
@@ -59,10 +59,10 @@ impl Book {
         plan
     }
 
-    /// How many offers were accepted.
+    /// The number of accepted offers.
     pub fn entries(&self) -> usize
         ensures count { result ≡ length self.now.entries }
-        // What is known of every book.
+        // An invariant of every book.
         ensures answers { AreAnswers self.now.opening self.now.entries }
     {
         self.entries.len()
@@ -76,7 +76,7 @@ impl Book {
         &self.entries[index]
     }
 
-    /// Takes note of an offer, and tells whether its plan is now the one that is kept. A refused offer changes nothing.
+    /// Records an offer, and answers whether its plan is now the kept one. A refused offer changes nothing.
     pub fn offer(&mut self, alloc: Global, caller: u32, plan: &Plan) -> Result<bool, NoMemory>
         ensures kept { IfOk result (TellsIfBefore plan.now self.old.plan) }
         ensures plan { IfOk result (KeepsIfTrue plan.now self.old.plan self.new.plan) }
@@ -96,7 +96,7 @@ impl Book {
     }
 }
 
-// Keeps the offered plan if it is before the other, and tells whether it is.
+// Keeps the offered plan if it is before the other, and answers whether it is.
 fn keep_first(alloc: Global, plan: &mut Option<Plan>, offered: &Plan) -> Result<bool, NoMemory>
     ensures kept { IfOk result (TellsIfBefore offered.now plan.old) }
     ensures plan { IfOk result (KeepsIfTrue offered.now plan.old plan.new) }
@@ -109,7 +109,7 @@ fn keep_first(alloc: Global, plan: &mut Option<Plan>, offered: &Plan) -> Result<
     Ok(false)
 }
 
-// Whether a plan is before the one that is kept, or none is.
+// Whether a plan is before the kept one, or none is kept.
 fn is_before(offered: &Plan, kept: Option<&Plan>) -> bool
     ensures { TellsIfBefore offered.now (option_map (λ plan. plan.now) kept.entry) result }
 {

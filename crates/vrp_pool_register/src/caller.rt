@@ -1,12 +1,12 @@
-//! Callers: who makes offers to a register.
+//! The callers, which make offers to a register.
 ghost use Rattle.std.specs.Prelude.{◌≡◌, length, []};
 
 use crate::cost_word::CostSeat;
 use std::marker::Model;
 use std::sync::ledger::{Ledger, Share};
 
-/// A caller of a register. It is numbered, it knows the costs that it has seen, and its share of the register's ledger counts its
-/// accepted offers.
+/// A caller of a register. It has a number, it knows the costs that it has seen, and its share of the register's ledger
+/// counts its accepted offers.
 #[derive(Drop)]
 pub struct Caller<L: Ledger> {
     pub(crate) number: u32,
@@ -58,7 +58,7 @@ impl<L: Ledger> Caller<L> {
         (share, seat)
     }
 
-    /// Its place among the callers of its register.
+    /// Its position among the callers of its register.
     pub fn number(&self) -> u32
         ensures { result ≡ self.now.known.number }
     {

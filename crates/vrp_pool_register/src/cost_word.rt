@@ -8,7 +8,7 @@ use atomic_table::{Join, Play, Seat, Split, Table, TableRule};
 use std::alloc::{AllocError, Global};
 use std::marker::Model;
 
-// The rule of the word. Its key is the opening cost, and how many callers there may be.
+// The rule of the word. Its key is the opening cost and the greatest number of callers.
 struct Costs;
 
 impl TableRule<u8, View, (u64, u64)> for Costs {
@@ -38,7 +38,7 @@ impl Play<u8, View> for Looking {
     ghost then = { Looks };
 }
 
-// How the first seat makes callers, and how a seat takes in others.
+// How the first seat makes callers, and how a seat takes in other seats.
 struct Numbering;
 
 impl Split<View> for Numbering {
@@ -57,7 +57,7 @@ impl Join<View> for Numbering {
     ghost spent = { spent };
 }
 
-/// The least cost that was offered, in one word.
+/// The least cost that was offered, in one machine word.
 #[derive(Drop)]
 pub(crate) struct CostWord {
     table: Table<u8, View, (u64, u64), Costs, Global>,
@@ -107,7 +107,7 @@ impl Model for Maker {
     ghost invariant = { λ s. s.seat.me ≡ (maker s.seat.me.0.opening s.seat.me.0.next, []) };
 }
 
-/// A seat that has taken in callers.
+/// A seat that has taken in other callers.
 #[derive(Drop)]
 pub(crate) struct ClosingSeat {
     seat: Seat<u8, View>,
@@ -125,7 +125,7 @@ impl Model for ClosingSeat {
 }
 
 impl CostSeat {
-    /// The seat, to take in others.
+    /// The seat, ready to take in others.
     pub(crate) fn closing(self) -> ClosingSeat
         ensures { result ≡ closing_with self.table (self.known ∷ []) }
     {
@@ -148,7 +148,7 @@ impl CostWord {
         Ok((CostWord { table }, Maker { seat }))
     }
 
-    /// Lowers the word to a cost, unless it is lower, and answers what it held.
+    /// Lowers the word to a cost, unless it is lower, and answers its old value.
     pub(crate) fn offer(&self, seat: &mut CostSeat, cost: u64) -> u64
         requires { seat.old.table ≡ self.now.table }
         ensures table { seat.new.table ≡ seat.old.table }
@@ -159,7 +159,7 @@ impl CostWord {
             .fetch_min::<Offering>(&mut seat.seat, 0, cost)
     }
 
-    /// What the word holds.
+    /// The value of the word.
     pub(crate) fn least(&self, seat: &mut CostSeat) -> u64
         requires { seat.old.table ≡ self.now.table }
         ensures table { seat.new.table ≡ seat.old.table }
@@ -180,7 +180,7 @@ impl CostWord {
         }
     }
 
-    /// Takes a caller in, before the others.
+    /// Takes in a caller, before the others.
     pub(crate) fn take_in(&self, closing: &mut ClosingSeat, caller: CostSeat)
         requires closing { closing.old.table ≡ self.now.table }
         requires caller { caller.table ≡ self.now.table }
@@ -191,7 +191,7 @@ impl CostWord {
             .join_seat::<Numbering>(&mut closing.seat, caller.seat)
     }
 
-    /// What the word holds at the end, once all callers were taken in: the least cost of their one history.
+    /// The value of the word at the end, once all callers were taken in: the least cost of their one history.
     pub(crate) fn close(self, closing: ClosingSeat) -> u64
         requires table { closing.table ≡ self.table }
         requires all { length closing.callers ≡ self.count }

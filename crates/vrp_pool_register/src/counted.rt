@@ -1,4 +1,4 @@
-//! What lies under the register's lock: the book, and how many offers its callers had accepted.
+//! The data under the register's lock: the book, and the number of its callers' accepted offers.
 ghost use Rattle.std.specs.Prelude.{◌≡◌, ◌+◌, ◌<◌, IfOk, OnOk, OnErr, length};
 ghost use Rattle.vrp_pool_register.specs.History.{AddsEntry, KeepsIfTrue, TellsIfBefore, opened_with};
 

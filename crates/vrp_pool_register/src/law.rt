@@ -1,11 +1,11 @@
-//! What is true of the definitions, whatever the code does.
+//! Laws about the definitions.
 ghost use Rattle.std.specs.Prelude.{ℕ, List};
 ghost use Rattle.vrp_model.specs.Route.{PricedPlan};
 ghost use Rattle.vrp_pool_register.specs.Costs.{LeastIsThere, LeastNeverRises, NoneIsLess};
 ghost use Rattle.vrp_pool_register.specs.History.{KeepsJustOne};
 ghost use Rattle.vrp_pool_register.specs.declared.view.Offer.{Offer};
 
-/// Of the plans in a list just one is kept, or none where the list is empty.
+/// Exactly one of the plans in a list is kept, or none if the list is empty.
 pub fn one_kept()
     ensures { (plans : List PricedPlan) → KeepsJustOne plans }
 {}
@@ -16,7 +16,7 @@ pub fn least_is_least()
     ensures none_less { (opening : ℕ) (history : List Offer) → NoneIsLess opening history }
 {}
 
-/// It does not rise while the history goes on.
+/// The least cost does not rise as the history grows.
 pub fn least_falls()
     ensures { (opening : ℕ) → LeastNeverRises opening }
 {}

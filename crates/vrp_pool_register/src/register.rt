@@ -1,4 +1,4 @@
-//! The register, which all callers share.
+//! The register that all callers share.
 ghost use Rattle.std.specs.Prelude.{◌≡◌, ◌≤◌, IfOk, OnErr, length, vec_len};
 ghost use Rattle.std.specs.List.{All};
 ghost use Rattle.std.specs.Option.{option_map};
@@ -17,8 +17,8 @@ use std::sync::ledger::{Blank, Ledger, Share};
 use std::sync::{Mutex, Wait};
 use vrp_model::{NO_COST, NoMemory, Plan};
 
-/// Keeps the first plan that any caller has offered, by cost and then by word, and the least cost in a word that is read without
-/// the lock.
+/// Keeps the first plan that any caller has offered, by cost and then by word, and the least cost in a machine word that is
+/// read without the lock.
 #[derive(Drop)]
 pub struct Register<L: Ledger> {
     book: Mutex<CountedBook<L>>,
@@ -37,26 +37,27 @@ impl<L: Ledger> Model for Register<L> {
     ghost invariant = { λ r. (1 ≤ r.least.count) × (r.least.count ≡ L.parts) };
 }
 
-/// The answer to an offer: whether the plan is now the one that is kept, and the least cost before it.
+/// The answer to an offer: whether the plan is now the kept one, and the least cost before it.
 #[derive(Clone, Copy, Debug, PartialEq, Eq)]
 pub struct Reply {
-    /// The book's answer: the plan is before all that stood in it.
+    /// The book's answer: the plan is before all others in it.
     pub kept: bool,
-    /// What the cost word held before the offer's cost came into it.
+    /// The value of the cost word before this offer.
     pub before: u64,
 }
 
 /// A register after its last offer.
 #[derive(Debug, Drop)]
 pub struct Closed {
-    /// The plan that is kept, and all offers.
+    /// The kept plan, and all offers.
     pub book: Book,
-    /// The least of the opening cost and all costs that were offered.
+    /// The least of the opening cost and all offered costs.
     pub least: u64,
 }
 
 impl<L: Ledger> Register<L> {
-    /// A register that opens with a plan, or without one, and its callers. The blank becomes the ledger of their accepted offers.
+    /// A register that opens with a plan, or without one, and its callers. The blank becomes the ledger of their accepted
+    /// offers.
     pub fn new(
         alloc: Global,
         plan: Option<Plan>,
@@ -112,12 +113,12 @@ impl<L: Ledger> Register<L> {
         Ok(Reply { kept, before })
     }
 
-    /// A copy of the plan that is kept, if there is one. No clause says which it is, since other callers may offer meanwhile.
+    /// A copy of the kept plan, if there is one. No clause says which plan it is, since other callers may offer meanwhile.
     pub fn look<R: Wait>(&self, rt: &R, alloc: Global) -> Result<Option<Plan>, NoMemory> {
         copied(alloc, self.book.lock(rt).book.plan())
     }
 
-    /// The least of the opening cost and the costs that were offered so far. It takes no lock.
+    /// The least of the opening cost and the costs offered so far. It takes no lock.
     pub fn least(&self, caller: &mut Caller<L>) -> u64
         requires { IsCallerOf self.now caller.old }
         ensures caller { IsCallerOf self.now caller.new }
@@ -126,8 +127,8 @@ impl<L: Ledger> Register<L> {
         self.least.least(&mut caller.seat)
     }
 
-    /// Closes the register, with all its callers. The book has as many entries as they had offers accepted. There is one history
-    /// of costs, which is that of these callers, as long as the book, and whose least cost is the one that is answered.
+    /// Closes the register with all its callers. The book has as many entries as they had offers accepted. There is one
+    /// history of costs; it is that of these callers and as long as the book, and the answered cost is its least.
     pub fn close(self, callers: Vec<Caller<L>>) -> Closed
         requires { AreCallersOf self callers.items }
         ensures entries { length result.book.entries ≡ accepted_of callers.items }
@@ -144,7 +145,7 @@ impl<L: Ledger> Register<L> {
     }
 }
 
-// What the opening plan costs.
+// The cost of the opening plan.
 fn opening_cost(plan: Option<&Plan>) -> u64
     ensures { result ≡ cost_of (option_map (λ plan. plan.now) plan.entry) }
 {

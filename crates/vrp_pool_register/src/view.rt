@@ -1,4 +1,4 @@
-//! What callers know of the costs. No value of these types is made: they exist in proofs alone.
+//! The callers' knowledge of the costs. These types have no values at run time: they exist only in proofs.
 use std::collections::LinkedList;
 
 /// A caller has offered a cost.
@@ -7,7 +7,7 @@ pub struct Offer {
     pub cost: u64,
 }
 
-/// What a caller knows: its number, the opening cost, the history that it has seen, and its own offers in it.
+/// A caller's knowledge: its number, the opening cost, the history that it has seen, and its own offers in it.
 pub struct Known {
     pub number: u64,
     pub opening: u64,
@@ -15,8 +15,8 @@ pub struct Known {
     pub mine: LinkedList<Offer>,
 }
 
-/// The view of a seat at the cost word: what its callers know. A caller's seat has its own alone, until it takes in others. The
-/// first seat makes the callers, by rising number.
+/// The view of a seat at the cost word: the knowledge of its callers. A caller's seat has only its own, until it takes in
+/// others. The first seat makes the callers, by rising number.
 pub struct View {
     pub makes: bool,
     pub next: u64,

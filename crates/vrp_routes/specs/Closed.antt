@@ -1,13 +1,19 @@
 -- The routes of one length as they are closed, of each set the cheapest.
-use Rattle.std.specs.Prelude.{◌≡◌, ◌⊎◌, ℕ, ◌+◌, ◌*◌, ◌/◌, ◌%◌, ◌^◌, ◌<◌, ◌≤◌, ◌==◌, if◌then◌else◌, Bool, true, Option, None, Some, List, [], ◌∷◌, ◌++◌, Vec, length, slice_index_or, slice_set}
+use Rattle.std.specs.Prelude.{◌≡◌, ◌⊎◌, ℕ, ◌+◌, ◌*◌, ◌/◌, ◌%◌, ◌^◌, ◌<◌, ◌≤◌, ◌==◌, if◌then◌else◌, Bool, true, Option, None, Some, List, [], ◌∷◌, ◌++◌, Vec, drop, length, slice_index_or, slice_set}
 use Rattle.std.specs.Global.{Global}
 use Rattle.std.specs.HashMap.{get}
 use Rattle.std.specs.List.{All, Contains}
 use Rattle.vrp_routes.specs.Label.{SettingOf, set_of}
+use Rattle.vrp_routes.specs.Level.{IsLevel}
 use Rattle.vrp_routes.specs.Pool.{IsListed, RouteOf}
 use Rattle.vrp_routes.specs.Useful.{IsUseful}
 use Rattle.vrp_routes.specs.declared.closed.Closed.{Closed}
 use Rattle.vrp_routes.specs.declared.closed.ClosedRoute.{ClosedRoute}
+use Rattle.vrp_routes.specs.declared.label.Label.{Label}
+
+-- the labels are those of one length, of a customer at least, and are numbered from a start on
+abbrev pub CanClose : SettingOf → ℕ → List Label → Type 0
+CanClose s start labels = (k : ℕ) × (stops : List (List ℕ)) × IsLevel s k (drop start stops) labels × (1 ≤ k)
 
 -- a route with the stops of its label
 abbrev pub route_by : List (List ℕ) → ClosedRoute → RouteOf

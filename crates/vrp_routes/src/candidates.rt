@@ -1,4 +1,4 @@
-//! The labels of one length as they are found, and which of them are kept.
+//! The labels of one length as they are found, and the choice of those to keep.
 ghost use Rattle.std.specs.Prelude.{◌≡◌, ◌+◌, ◌^◌, ◌<◌, ◌≤◌, ℕ, List, [], OnOk, IfOk, IsTrue, Some, ◌↔◌, length, slice_index_or};
 ghost use Rattle.vrp_routes.specs.Candidates.{HasExtensions, IsGrown, IsKeyed, IsOffered, kept_at};
 ghost use Rattle.vrp_routes.specs.Label.{IsLabel, SettingOf};
@@ -13,18 +13,18 @@ use std::alloc::Global;
 use std::collections::HashMap;
 use vrp_model::NoMemory;
 
-/// Labels of one length whose last customer is in a share, in the order of their stops, symbol by symbol. Of those with the same
-/// customers and the same last one the cheapest is kept, and of equal ones the earliest.
+/// Labels of one length whose last customer is in a share, in the order of their stops, symbol by symbol. Among labels with the same
+/// customers and the same last one the cheapest is kept, and among equal ones the earliest.
 #[derive(Drop)]
 pub struct Candidates {
     share: Share,
     labels: Vec<Label>,
-    // By set and last customer, which label is kept.
+    // The label that is kept, by set and last customer.
     kept: HashMap<(u128, u16), usize>,
 }
 
 impl Candidates {
-    /// None so far, of a share.
+    /// No labels yet, for a share.
     pub fn new(alloc: Global, share: Share) -> Candidates
         ensures share { result.share ≡ share }
         ensures empty { result.labels.items ≡ [] }
@@ -37,14 +37,14 @@ impl Candidates {
         }
     }
 
-    /// How many there are, those that aren't kept among them.
+    /// The number of labels found, kept or not.
     pub fn len(&self) -> usize
         ensures { result ≡ length self.now.labels.items }
     {
         self.labels.len()
     }
 
-    /// Offers the extensions of these labels, which are numbered from `from` on.
+    /// Offers the extensions of these labels, whose numbers start at `from`.
     pub fn extended(
         mut self,
         setting: &Setting<'_>,
@@ -93,7 +93,7 @@ impl Candidates {
         Ok(())
     }
 
-    /// Those that are kept, in their order.
+    /// The labels that are kept, in their order.
     pub fn undominated(&self, alloc: Global) -> Result<Vec<Label>, NoMemory>
         ensures { IfOk result (IsPart self.now) }
     {
@@ -118,7 +118,7 @@ impl Candidates {
         }
     }
 
-    // Takes a label, unless one with the same customers and the same last one costs no more.
+    // Adds a label, unless one with the same customers and the same last one costs no more.
     fn offer(&mut self, label: Label) -> Result<(), NoMemory>
         requires keyed { IsKeyed self.old }
         ensures offered { OnOk result (IsOffered self.old label self.new) }

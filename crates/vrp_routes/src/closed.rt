@@ -1,12 +1,13 @@
-//! The routes of one length, of each set of customers the cheapest.
+//! The routes of one length, the cheapest for each set of customers.
 ghost use Rattle.std.specs.Prelude.{◌≡◌, ◌≢◌, ◌+◌, ◌^◌, ◌<◌, ◌≤◌, ℕ, true, List, [], OnOk, IfOk, IfNone, IfSome, drop, length, vec_len};
 ghost use Rattle.vrp_model.specs.Route.{route_cost};
-ghost use Rattle.vrp_routes.specs.Closed.{AreClosed, AreClosedIn, AreClosedParts, HasPlaces, TakesRoute, closing_share, is_closed_in};
+ghost use Rattle.vrp_routes.specs.Closed.{AreClosed, AreClosedIn, AreClosedParts, CanClose, HasPlaces, TakesRoute, closing_share, is_closed_in};
 ghost use Rattle.vrp_routes.specs.Label.{IsLabel, SettingOf, set_of};
 ghost use Rattle.vrp_routes.specs.Level.{IsLevel};
 ghost use Rattle.vrp_routes.specs.Useful.{IsUseful};
 
 use crate::label::Label;
+use crate::listers::Listers;
 use crate::setting::Setting;
 use crate::tasks::values_of;
 use std::alloc::Global;
@@ -14,11 +15,11 @@ use std::collections::HashMap;
 use std::thread::Threads;
 use vrp_model::NoMemory;
 
-// So many shares of the sets there are. The order of the routes depends on it, and on how many workers there are it does not.
+// The number of shares of the sets. The order of the routes depends on it, but not on the number of workers.
 const CLOSING_SHARES: usize = 8;
 
-/// A route, by the label of all its customers.
-// So it takes 32 bytes.
+/// A route, given by the label of all its customers.
+// With fields in this order it takes 32 bytes.
 #[derive(Clone, Copy, Debug)]
 pub struct ClosedRoute {
     // A bit for each customer.
@@ -28,33 +29,43 @@ pub struct ClosedRoute {
     pub label: u32,
 }
 
-/// Routes of one length. Of those with the same customers the cheapest is kept, and of equal ones the earliest, symbol by symbol.
+/// Routes of one length. Among those with the same customers the cheapest is kept, and among equal ones the earliest, symbol by
+/// symbol.
 #[derive(Drop)]
 pub struct Closed {
     routes: Vec<ClosedRoute>,
-    // By the set, which route has it.
+    // The route of each set.
     by_set: HashMap<u128, usize>,
 }
 
-/// The routes that the labels of one length are when they are closed, which are numbered from `start` on. Routes with the same customers
-/// are closed in the same share, and several workers close one share each at a time.
-pub fn close_level<R: Threads + Sync>(
-    rt: &R,
-    alloc: Global,
+/// Closes the labels of one length, whose numbers start at `start`, into routes. Routes with the same customers are closed in the same
+/// share, and each worker closes one share at a time.
+pub fn close_level<R: Threads + Sync, F>(
+    listers: &Listers<'_, R, F>,
     setting: &Setting<'_>,
     labels: &[Label],
     start: u32,
-    workers: u16,
 ) -> Result<Vec<ClosedRoute>, NoMemory>
-    requires workers { 0 < workers }
-    requires level { (k : ℕ) × (stops : List (List ℕ))
-        × IsLevel setting.now k (drop start stops) labels.now × (1 ≤ k) }
+    requires level { CanClose setting.now start labels.now }
     requires few { start + length labels.now < 2 ^ 32 }
     ensures { IfOk result (λ routes. (k : ℕ) (stops : List (List ℕ)) → 1 ≤ k
         → IsLevel setting.now k (drop start stops) labels.now
         → AreClosed setting.now k stops routes.items) }
 {
-    let parts = close_by_shares(rt, alloc, setting, labels, start, workers)?;
+    let alloc = listers.alloc;
+    let parts = values_of(
+        listers.rt,
+        alloc,
+        listers.workers,
+        CLOSING_SHARES,
+        &|share: usize| -> Result<Vec<ClosedRoute>, NoMemory>
+            requires level { CanClose setting.now start labels.now }
+            requires few { start + length labels.now < 2 ^ 32 }
+            ensures { IfOk result (λ routes. (k : ℕ) (stops : List (List ℕ)) → 1 ≤ k
+                → IsLevel setting.entry.now k (drop start stops) labels.entry.now
+                → AreClosedIn setting.entry.now k (is_closed_in share) stops routes.items) }
+        { close_share(alloc, setting, labels, start, share) },
+    )?;
     joined(alloc, parts)
 }
 
@@ -71,40 +82,6 @@ fn joined(alloc: Global, parts: Vec<Vec<ClosedRoute>>) -> Result<Vec<ClosedRoute
     Ok(routes)
 }
 
-// The routes of each share.
-fn close_by_shares<R: Threads + Sync>(
-    rt: &R,
-    alloc: Global,
-    setting: &Setting<'_>,
-    labels: &[Label],
-    start: u32,
-    workers: u16,
-) -> Result<Vec<Vec<ClosedRoute>>, NoMemory>
-    requires workers { 0 < workers }
-    requires level { (k : ℕ) × (stops : List (List ℕ))
-        × IsLevel setting.now k (drop start stops) labels.now × (1 ≤ k) }
-    requires few { start + length labels.now < 2 ^ 32 }
-    ensures count { IfOk result (λ parts. vec_len parts ≡ CLOSING_SHARES) }
-    ensures each { IfOk result (λ parts. (k : ℕ) (stops : List (List ℕ)) → 1 ≤ k
-        → IsLevel setting.now k (drop start stops) labels.now
-        → AreClosedParts setting.now k stops parts.items) }
-{
-    values_of(
-        rt,
-        alloc,
-        workers,
-        CLOSING_SHARES,
-        &|share: usize| -> Result<Vec<ClosedRoute>, NoMemory>
-            requires level { (k : ℕ) × (stops : List (List ℕ))
-                × IsLevel setting.now k (drop start stops) labels.now × (1 ≤ k) }
-            requires few { start + length labels.now < 2 ^ 32 }
-            ensures { IfOk result (λ routes. (k : ℕ) (stops : List (List ℕ)) → 1 ≤ k
-                → IsLevel setting.entry.now k (drop start stops) labels.entry.now
-                → AreClosedIn setting.entry.now k (is_closed_in share) stops routes.items) }
-        { close_share(alloc, setting, labels, start, share) },
-    )
-}
-
 // The routes of one share.
 fn close_share(
     alloc: Global,
@@ -113,8 +90,7 @@ fn close_share(
     start: u32,
     share: usize,
 ) -> Result<Vec<ClosedRoute>, NoMemory>
-    requires level { (k : ℕ) × (stops : List (List ℕ))
-        × IsLevel setting.now k (drop start stops) labels.now × (1 ≤ k) }
+    requires level { CanClose setting.now start labels.now }
     requires few { start + length labels.now < 2 ^ 32 }
     ensures { IfOk result (λ routes. (k : ℕ) (stops : List (List ℕ)) → 1 ≤ k
         → IsLevel setting.now k (drop start stops) labels.now
@@ -142,7 +118,7 @@ fn close_share(
     Ok(routes)
 }
 
-// What the route costs that a label is when it is closed. `None` where its set is in another share, and where it is no useful route.
+// The cost of the route that a closed label makes. `None` if its set is in another share, or the route is not useful.
 #[inline(always)]
 fn cost_in_share(setting: &Setting<'_>, label: &Label, share: usize) -> Option<u64>
     requires label { (stops : List ℕ) × IsLabel setting.now stops label.now × (stops ≢ []) }
@@ -158,7 +134,7 @@ fn cost_in_share(setting: &Setting<'_>, label: &Label, share: usize) -> Option<u
     setting.close(label)
 }
 
-// The share that closes a set. Multiplied by this the highest bits of a number depend on all others.
+// The share that closes a set. After this multiplication the highest bits of a number depend on all others.
 #[inline(always)]
 fn share_of(set: u128) -> usize
     ensures { result ≡ closing_share set }
@@ -172,7 +148,7 @@ fn share_of(set: u128) -> usize
 }
 
 impl Closed {
-    // Takes a route, unless one with the same customers costs no more.
+    // Adds a route, unless one with the same customers costs no more.
     fn offer(&mut self, route: ClosedRoute) -> Result<(), NoMemory>
         requires { HasPlaces self.old }
         ensures offered { OnOk result (TakesRoute self.old route self.new) }

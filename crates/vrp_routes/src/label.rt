@@ -1,9 +1,9 @@
-//! What is counted along the beginning of a route.
+//! The label of a partial route.
 ghost use Rattle.std.specs.Prelude.{[], ◌≡◌, ◌==◌, if◌then◌else◌};
 ghost use Rattle.vrp_routes.specs.Label.{IsLabel, SettingOf};
 
-/// What is counted along the beginning of a route, in the field a partial path from the depot.
-// The wider a field the earlier it stands, and loads are no greater than MAX_CAPACITY: so a label takes 48 bytes.
+/// The label of a beginning of a route, which the field calls a partial path from the depot.
+// Wider fields come first, and loads are at most MAX_CAPACITY: so a label takes 48 bytes.
 #[derive(Clone, Copy, Debug)]
 pub struct Label {
     // A bit for each customer.
@@ -13,15 +13,15 @@ pub struct Label {
     pub load: u32,
     // The load in the units of the relaxation.
     pub relaxed_load: u32,
-    // Which label of one customer less this one goes on from.
+    // The label, one customer shorter, that this one extends.
     pub parent: u32,
-    // 0 where there is none.
+    // 0 if there is none.
     pub first: u16,
     pub last: u16,
 }
 
 impl Label {
-    /// That of no customer.
+    /// The label of no customers.
     pub fn root() -> Label
         ensures { (s : SettingOf) → IsLabel s [] result }
     {
@@ -37,7 +37,7 @@ impl Label {
         }
     }
 
-    // The first customer once there is one more.
+    // The first customer after one more is added.
     #[inline(always)]
     pub fn first_with(&self, stop: u16) -> u16
         ensures { result ≡ (if self.now.first == 0 then stop else self.now.first) }

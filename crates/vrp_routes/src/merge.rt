@@ -1,4 +1,4 @@
-//! Labels that several workers found, in one order.
+//! The labels of several workers, merged in one order.
 ghost use Rattle.std.specs.Prelude.{◌≡◌, ◌⊎◌, ◌+◌, ◌*◌, ◌^◌, ◌<◌, ◌≤◌, ℕ, List, Vec, OnOk, IfOk, IsTrue, false, length, slice_index_or, vec_len};
 ghost use Rattle.std.specs.Global.{Global};
 ghost use Rattle.std.specs.List.{AllPairs};
@@ -16,11 +16,11 @@ use std::alloc::Global;
 use std::thread::Threads;
 use vrp_model::NoMemory;
 
-// The labels of so many parents are merged at once: so many lie close by for a processor.
+// The labels of this many parents are merged at once: they fit a processor's cache.
 const PARENTS_AT_ONCE: usize = 16_384;
 
-/// The labels of all parts, whose parents are so many, by rising parent, and of one parent by rising last customer. Each worker merges
-/// those of one range of parents at a time.
+/// The labels of all parts, by rising parent, and for one parent by rising last customer. Each worker merges the labels of one range of
+/// parents at a time.
 pub fn all_merged<R: Threads + Sync>(
     rt: &R,
     alloc: Global,
@@ -45,14 +45,14 @@ pub fn all_merged<R: Threads + Sync>(
     Ok(merged)
 }
 
-// How many labels there are.
+// The number of labels.
 fn label_count(parts: &[Vec<Label>]) -> usize {
     parts
         .iter()
         .fold(0usize, |sum, part| sum.saturating_add(part.len()))
 }
 
-// The labels of some ranges of parents, the first of which begins with this one: of one range for each worker.
+// The labels of some ranges of parents, one range for each worker; the first range begins with this parent.
 fn ranges_from<R: Threads + Sync>(
     rt: &R,
     alloc: Global,
@@ -95,7 +95,7 @@ fn append_ranges(merged: &mut Vec<Label>, ranges: &[Vec<Label>]) -> Result<(), N
     Ok(())
 }
 
-// The labels of all parts whose parents have numbers from one on and below another.
+// The labels of all parts whose parents are in a range.
 fn merged_between(
     alloc: Global,
     parts: &[Vec<Label>],
@@ -114,7 +114,7 @@ fn merged_between(
     Ok(labels)
 }
 
-// The labels whose parents have numbers from one on and below another.
+// The labels whose parents are in a range.
 fn labels_between(labels: &[Label], from: usize, to: usize) -> &[Label]
     requires rising { AllPairs ComesFirst labels.now }
     requires some { from ≤ to }
@@ -125,7 +125,7 @@ fn labels_between(labels: &[Label], from: usize, to: usize) -> &[Label]
     &labels[low..high]
 }
 
-// The first place of a label whose parent's number is no less than this.
+// The first position of a label whose parent's number is at least this.
 fn place_from(labels: &[Label], parent: usize) -> usize
     requires rising { AllPairs ComesFirst labels.now }
     ensures within { result ≤ length labels.now }

@@ -1,4 +1,4 @@
-//! Routes, with what a choice among them has to know.
+//! Routes, with what a choice among them needs.
 ghost use Rattle.std.specs.Prelude.{◌≡◌, ◌<◌, ◌==◌, ℕ, List, [], IfOk, length, map, slice_index_or};
 ghost use Rattle.std.specs.List.{All};
 ghost use Rattle.vrp_routes.specs.Closed.{route_by};
@@ -10,7 +10,7 @@ use std::alloc::Global;
 use std::marker::Model;
 use vrp_model::NoMemory;
 
-/// Routes, numbered from 0: of each its set of customers, a bit for each, its load, its cost and its customers in their order.
+/// Routes, numbered from 0. Each has its set of customers, with a bit for each, its load, its cost and its customers in order.
 #[derive(Drop)]
 pub struct RoutePool {
     sequences: Sequences,
@@ -39,7 +39,7 @@ impl RoutePool {
         RoutePool { sequences, routes }
     }
 
-    // A pool of no routes.
+    // An empty pool.
     pub fn empty(alloc: Global) -> RoutePool
         ensures { result ≡ [] }
     {
@@ -49,14 +49,14 @@ impl RoutePool {
         }
     }
 
-    /// How many routes there are.
+    /// The number of routes.
     pub fn len(&self) -> usize
         ensures { result ≡ length self.now }
     {
         self.routes.len()
     }
 
-    /// Whether there are none.
+    /// Whether there are no routes.
     pub fn is_empty(&self) -> bool
         ensures { result ≡ (length self.now == 0) }
     {
@@ -71,7 +71,7 @@ impl RoutePool {
         self.routes[at].set
     }
 
-    /// What a route carries.
+    /// The load of a route.
     pub fn load(&self, at: usize) -> u64
         requires { at < length self.now }
         ensures { result ≡ (slice_index_or self.now at no_route).load }
@@ -79,7 +79,7 @@ impl RoutePool {
         u64::from(self.routes[at].load)
     }
 
-    /// What a route costs.
+    /// The cost of a route.
     pub fn cost(&self, at: usize) -> u64
         requires { at < length self.now }
         ensures { result ≡ (slice_index_or self.now at no_route).cost }
@@ -87,7 +87,7 @@ impl RoutePool {
         self.routes[at].cost
     }
 
-    /// The customers of a route, in their order.
+    /// The customers of a route, in order.
     pub fn stops(&self, alloc: Global, at: usize) -> Result<Vec<u16>, NoMemory>
         requires { at < length self.now }
         ensures { IfOk result (λ stops. stops.items ≡ (slice_index_or self.now at no_route).stops) }
@@ -95,7 +95,7 @@ impl RoutePool {
         self.sequences.stops(alloc, self.routes[at].label)
     }
 
-    /// How many labels were kept to list the routes. What number that is, is left open.
+    /// The number of labels kept to list the routes; no clause pins it.
     pub fn labels(&self) -> usize {
         self.sequences.len().saturating_sub(1)
     }

@@ -1,4 +1,4 @@
-//! Sequences of customers, each of which goes on from an earlier one.
+//! Sequences of customers, each of which extends an earlier one.
 ghost use Rattle.std.specs.Prelude.{◌≡◌, ◌+◌, ◌^◌, ◌<◌, ◌≤◌, ℕ, List, [], ◌∷◌, ◌++◌, OnOk, IfOk, drop, length, slice_index_or};
 ghost use Rattle.std.specs.List.{All};
 ghost use Rattle.vrp_routes.specs.Level.{sequences};
@@ -9,15 +9,15 @@ use std::alloc::Global;
 use std::marker::Model;
 use vrp_model::NoMemory;
 
-/// How a sequence goes on from an earlier one.
+/// The step from an earlier sequence to this one.
 #[derive(Clone, Copy, Debug)]
 pub struct Step {
-    // The earlier one's number. That of no customers has the number 0.
+    // The number of the earlier sequence. The empty sequence has number 0.
     pub parent: u32,
     pub last: u16,
 }
 
-/// Sequences of customers, numbered from 0, the first of which has none. Eight bytes are kept of each.
+/// Sequences of customers, numbered from 0; the first one is empty. Each takes eight bytes.
 #[derive(Drop)]
 pub struct Sequences {
     steps: Vec<Step>,
@@ -35,7 +35,7 @@ impl Model for Sequences {
 }
 
 impl Sequences {
-    /// The one that has no customers.
+    /// The empty sequence alone.
     pub fn new(alloc: Global) -> Sequences
         ensures { result ≡ [] ∷ [] }
     {
@@ -44,14 +44,14 @@ impl Sequences {
         }
     }
 
-    /// How many there are.
+    /// The number of sequences.
     pub fn len(&self) -> usize
         ensures { result ≡ length self.now }
     {
         self.steps.len() + 1
     }
 
-    /// Adds those of labels, whose parents are the sequences from `start` on, in their order.
+    /// Adds the sequences of labels, in their order. The numbers of their parents start at `start`.
     pub fn push_level(&mut self, start: u32, labels: &[Label]) -> Result<(), NoMemory>
         requires parents { All (λ label. label.parent < length (drop start self.old)) labels.now }
         requires few { length self.old < 2 ^ 32 }
@@ -71,7 +71,7 @@ impl Sequences {
         stops_by(alloc, &self.steps, number)
     }
 
-    // Adds the one that goes on from this one by a last customer.
+    // Adds the sequence that extends this one by a last customer.
     fn push(&mut self, parent: u32, last: u16) -> Result<(), NoMemory>
         requires { parent < length self.old }
         ensures { OnOk result (self.new
@@ -82,7 +82,7 @@ impl Sequences {
     }
 }
 
-// The customers of a sequence, from the last on back to the first.
+// The customers of a sequence, from the last back to the first.
 fn stops_by(alloc: Global, steps: &[Step], number: u32) -> Result<Vec<u16>, NoMemory>
     requires steps { GoOn steps.now }
     requires number { number ≤ length steps.now }

@@ -1,4 +1,4 @@
-//! What stays the same in all labels.
+//! The setting that all labels share.
 ghost use Rattle.std.specs.Prelude.{◌≡◌, ◌≢◌, ◌≤◌, ◌<◌, List, [], ◌∷◌, ◌++◌, MatchOption, IfNone, IfSome, ℕ};
 ghost use Rattle.vrp_model.specs.Problem.{IsProblem, place_count};
 ghost use Rattle.vrp_model.specs.Route.{route_cost};
@@ -12,15 +12,15 @@ use std::marker::Model;
 use vrp_bound::NgTables;
 use vrp_bound_prices::Relaxation;
 
-/// A relaxation of an instance, tables of ng-walks in it, and what a canonical plan costs at most.
+/// A relaxation of an instance, tables of ng-walks in it, and the highest cost of a canonical plan.
 #[derive(Drop)]
 pub struct Setting<'a> {
     relaxation: &'a Relaxation<'a>,
     tables: &'a NgTables<'a>,
     limit: u64,
-    // What a feasible word costs in the relaxation at most.
+    // The highest cost of a feasible word in the relaxation.
     relaxed_limit: u64,
-    // What all customers demand in the relaxation.
+    // The demand of all customers in the relaxation.
     whole_demand: u64,
 }
 
@@ -37,7 +37,7 @@ impl<'a> Model for Setting<'a> {
 }
 
 impl<'a> Setting<'a> {
-    /// The setting of a relaxation. `None` where no plan costs so little.
+    /// The setting of a relaxation. `None` if no plan costs so little.
     pub fn new(
         relaxation: &'a Relaxation<'a>,
         tables: &'a NgTables<'a>,
@@ -50,7 +50,7 @@ impl<'a> Setting<'a> {
             ((stops : List ℕ) → BeginsUseful relaxation.now.problem limit stops → ⊥)
             (λ setting. setting ≡ record { relaxation = relaxation.now; limit = limit }) }
     {
-        // What is known of every instance comes with the numbers of customers.
+        // The facts known of every instance come with the number of customers.
         let _customers = relaxation.problem().customers();
         let _relaxed = relaxation.relaxed().customers();
         let Some(relaxed_limit) = relaxation.limit(limit) else {
@@ -65,7 +65,7 @@ impl<'a> Setting<'a> {
         })
     }
 
-    /// How many places there are, the depot among them.
+    /// The number of places, the depot included.
     pub fn places(&self) -> u16
         ensures value { result ≡ place_count self.now.relaxation.problem }
         // What is known of every instance.
@@ -74,7 +74,7 @@ impl<'a> Setting<'a> {
         self.relaxation.problem().customers() + 1
     }
 
-    /// What the route costs that a beginning is when it is closed. `None` where it is no useful route.
+    /// The cost of the route that a closed label makes. `None` if it is not a useful route.
     pub fn close(&self, label: &Label) -> Option<u64>
         requires label { (stops : List ℕ) × IsLabel self.now stops label.now × (stops ≢ []) }
         ensures cost { IfSome result (λ cost. (stops : List ℕ) → IsLabel self.now stops label.now
@@ -99,7 +99,7 @@ impl<'a> Setting<'a> {
         Some(cost)
     }
 
-    /// The label of a beginning with one more customer. `None` where no useful route begins so.
+    /// The label extended by one customer. `None` if no useful route begins so.
     #[inline(always)]
     pub fn extended(&self, label: &Label, stop: u16, parent: u32) -> Option<Label>
         requires label { (stops : List ℕ) × IsLabel self.now stops label.now }

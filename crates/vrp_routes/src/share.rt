@@ -1,12 +1,21 @@
-//! Which customers labels are extended by at a time.
+//! Shares of the customers: labels are extended by one share at a time.
 ghost use Rattle.std.specs.Prelude.{◌≡◌, ◌+◌, ◌%◌, ◌^◌, ◌<◌, ◌≤◌, ℕ, true};
 
-/// One of so many shares of the customers: those whose number leaves this rest.
+/// One share of the customers: those whose number, divided by the number of shares, leaves this rest.
 #[derive(Clone, Copy, Debug)]
 pub struct Share {
     pub shares: u16,
     pub rest: u16,
     ghost some: { rest < shares },
+}
+
+/// A range of shares of the customers: this many, from the first one on.
+#[derive(Clone, Copy, Debug)]
+pub struct ShareRange {
+    pub shares: u16,
+    pub first: u16,
+    pub count: u16,
+    ghost within: { first + count ≤ shares },
 }
 
 impl Share {
@@ -26,7 +35,7 @@ impl Share {
         }
     }
 
-    /// The customer of the share behind this one of it.
+    /// The next customer of the share after this one.
     #[inline(always)]
     pub fn next(&self, customer: u32) -> u32
         requires { customer < 2 ^ 16 }

@@ -1,6 +1,6 @@
-//! How many labels there are, and how many more there may be.
+//! The number of labels made, and of those that may still be made.
 
-/// How many labels were made so far, those that are dropped later among them, and how many more may be made.
+/// The number of labels made so far, those dropped later included, and the number that may still be made.
 #[derive(Clone, Copy, Debug)]
 pub struct Tally {
     pub made: u64,
@@ -8,7 +8,7 @@ pub struct Tally {
 }
 
 impl Tally {
-    /// With so many labels more. What it says then is left open: it decides only how soon a limit is met, and what is told.
+    /// Adds this many labels. No clause pins the result: it decides only how soon a limit is met, and what is reported.
     pub fn with(&self, more: usize) -> Tally {
         Tally {
             made: self.made.saturating_add(more as u64),

@@ -1,11 +1,11 @@
-//! Numbered tasks, of which several workers do one each at a time.
+//! Numbered tasks that several workers take one at a time.
 ghost use Rattle.std.specs.Prelude.{◌≡◌, ◌+◌, ◌^◌, ◌<◌, ℕ, Ok, IfOk, map, slice_index_or, vec_len};
 
 use std::alloc::Global;
 use std::thread::{Threads, map_indices};
 use vrp_model::NoMemory;
 
-/// The values of the tasks, which are numbered from 0, in their order.
+/// The values of the tasks, which are numbered from 0, in order.
 pub fn values_of<R: Threads + Sync, X: Send + Drop, F: Fn(usize) -> Result<X, NoMemory> + Sync>(
     rt: &R,
     alloc: Global,
@@ -30,7 +30,7 @@ pub fn values_of<R: Threads + Sync, X: Send + Drop, F: Fn(usize) -> Result<X, No
     Ok(values)
 }
 
-// The values of so many tasks from the first one on, all done at a time.
+// The values of this many tasks from the first one on, all done at the same time.
 fn values_from<R: Threads + Sync, X: Send + Drop, F: Fn(usize) -> Result<X, NoMemory> + Sync>(
     rt: &R,
     alloc: Global,
@@ -57,7 +57,7 @@ fn values_from<R: Threads + Sync, X: Send + Drop, F: Fn(usize) -> Result<X, NoMe
     all_of(alloc, results)
 }
 
-/// The values of all, where none is missing.
+/// The values of all tasks, if none is missing.
 pub fn all_of<X: Drop>(alloc: Global, results: Vec<Result<X, NoMemory>>) -> Result<Vec<X>, NoMemory>
     ensures { IfOk result (λ all. results.items ≡ map Ok all.items) }
 {

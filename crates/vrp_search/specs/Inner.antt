@@ -1,4 +1,4 @@
--- What inner contracts alone cite: nobody has to believe it.
+-- Cited only by inner contracts; no reader has to believe it.
 pub mod Bounded
 pub mod Found
 pub mod PricedTally

@@ -1,4 +1,4 @@
-//! What a search asks of the keeper of the best plan.
+//! The trait of the incumbent's keeper, as a search uses it.
 ghost use Rattle.std.specs.Prelude.{◌≡◌, ℕ, ◌≤◌, Bool, false, IsTrue, OnOk};
 ghost use Rattle.vrp_model.specs.Problem.{Problem};
 ghost use Rattle.vrp_model.specs.Route.{IsPlanOf};
@@ -6,30 +6,30 @@ ghost use Rattle.vrp_model.specs.Route.{IsPlanOf};
 use std::alloc::Global;
 use vrp_model::{NoMemory, Plan};
 
-/// How many partial plans a search looks at before it asks its board whether to go on, and again each time.
+/// How many partial plans a search looks at between two questions to its board whether to continue.
 pub const LOOKS_BEFORE_ASKING: u64 = 65_536;
 
-/// Is offered plans of one problem, and answers what a plan may cost at most to be of use. Of a board is known which problems it
-/// serves, a number, its floor: no plan is looked for that costs more, what it keeps of an earlier board, whatever is asked of it,
-/// and whether it may stop a search.
+/// Receives plans of one problem, and answers the greatest cost at which a plan is still of use. A board's type says which
+/// problems it serves; its floor, a number above which no plan is searched; what every call preserves; and whether it may
+/// stop a search.
 pub trait Board {
     ghost serves: { Self → Problem → Type 0 };
 
     ghost floor: { Self → ℕ };
 
-    // Of an earlier board and a later one.
+    // Relates an earlier state of a board to a later one.
     ghost keeps: { Self → Self → Type 0 };
 
     ghost may_stop: { Self → Bool } = { λ _. false };
 
-    /// A cost that is not below the floor.
+    /// A cost that is at least the floor.
     fn least(&mut self) -> u64
         ensures serves { (p : Problem) → serves self.old p → serves self.new p }
         ensures keeps { (earlier : Self) → keeps earlier self.old → keeps earlier self.new }
         ensures falls { floor self.new ≤ floor self.old }
         ensures answered { floor self.new ≤ result };
 
-    /// Takes note of a feasible plan. Where memory is refused the floor has not risen.
+    /// Records a feasible plan. If memory is refused, the floor has not risen.
     fn offer(&mut self, alloc: Global, plan: &Plan) -> Result<(), NoMemory>
         requires { (p : Problem) × serves self.old p × IsPlanOf p plan.now }
         ensures serves { (p : Problem) →
@@ -38,7 +38,7 @@ pub trait Board {
         ensures falls { floor self.new ≤ floor self.old }
         ensures taken { OnOk result (floor self.new ≤ plan.now.cost) };
 
-    /// Whether a search goes on that has looked at another `LOOKS_BEFORE_ASKING` partial plans. Where it doesn't, it is left
+    /// Whether a search that has looked at another `LOOKS_BEFORE_ASKING` partial plans continues. If not, it is left
     /// unfinished.
     fn should_continue(&self) -> bool
         ensures { result ≡ false → IsTrue (may_stop self.now) }

@@ -1,4 +1,4 @@
-//! Pruning by the bounds on what is still to pay.
+//! Pruning by the lower bounds on what is still to pay.
 ghost use Rattle.std.specs.Prelude.{◌≡◌, ◌↔◌, List, ℕ, [], ◌∷◌, ◌++◌, IfOk, IsTrue, MatchOption, is_some};
 ghost use Rattle.vrp_model.specs.Word.{IsPrefix};
 ghost use Rattle.vrp_search.specs.Inner.Bounded.{AreBoundsUnder};
@@ -12,8 +12,8 @@ use vrp_bound::Tables;
 use vrp_model::{Instance, NoMemory};
 use vrp_search_tree::{Partial, Tally};
 
-/// The bounds on what is still to pay: that of the tables and the capacity, and behind a push the tree bound, where it pays. They
-/// prune partial plans without completion too.
+/// The lower bounds on what is still to pay: that of the tables and the capacity and, after a push, the tree bound where it
+/// pays. They also prune partial plans without completion.
 #[derive(Drop)]
 pub(crate) struct Bounds<'a> {
     tables: &'a Tables<'a>,
@@ -21,7 +21,7 @@ pub(crate) struct Bounds<'a> {
 }
 
 impl<'a> Bounds<'a> {
-    /// The bounds by these tables, and by trees.
+    /// The bounds by these tables and by trees.
     pub(crate) fn new(
         alloc: Global,
         instance: &'a Instance,

@@ -10,20 +10,20 @@ use std::alloc::Global;
 use vrp_model::{NO_COST, NoMemory};
 use vrp_search_tree::{Partial, PricedTally, Prices, Tally};
 
-/// What is counted along a word: in the instance, and in the one with prices.
+/// The tallies of a word, in the instance and in the problem with prices.
 #[derive(Clone, Copy)]
 pub(crate) struct Counted {
     tally: Tally,
     priced_tally: PricedTally,
 }
 
-/// Prices, with what is counted by them along a partial plan. They prune partial plans without completion too, and those for which
-/// too few trucks are left.
+/// Prices, with the priced tallies along a partial plan. They also prune partial plans without completion, and those with too
+/// few trucks left.
 #[derive(Drop)]
 pub(crate) struct ByPrices<'a> {
     prices: &'a Prices<'a>,
     priced_tally: PricedTally,
-    // What was counted before each symbol, for a pop to restore. Room is reserved for the longest partial plan.
+    // The priced tallies before each symbol, which a pop restores. Room is reserved for the longest partial plan.
     before: Vec<PricedTally>,
 }
 
@@ -56,8 +56,7 @@ impl<'a> ByPrices<'a> {
         })
     }
 
-    // Whether the prices tell that no plan under a partial plan is of use, where it ends at this place and so much is counted along
-    // it.
+    // Whether the prices show that no plan under a partial plan is of use, given its last place and its priced tally.
     #[inline(always)]
     fn are_of_no_use(
         &self,
@@ -117,7 +116,7 @@ impl<'a> Pruning for ByPrices<'a> {
         self.priced_tally = counted.priced_tally;
     }
 
-    /// Prices have told before what they know.
+    /// The prices were already tried before the push.
     #[inline(always)]
     fn prunes(&mut self, _partial: &Partial<'_>, _incumbent: u64, _own_best: u64) -> bool {
         false

@@ -1,4 +1,4 @@
-//! The search of a piece, depth first: it goes below a partial plan only where a plan under it may be of use.
+//! The depth-first search of a piece: it enters a partial plan only if a plan under it may be of use.
 ghost use Rattle.std.specs.Prelude.{◌≡◌, ◌≤◌, Some, IfNone, IfOk, IfSome};
 ghost use Rattle.vrp_model.specs.Word.{IsPrefix, NoneCheaperUnder};
 ghost use Rattle.vrp_search_tree.specs.Low.{AreCovered, IsLow};
@@ -22,22 +22,21 @@ use vrp_search_tree::{Partial, Piece, Prices};
 /// How the search of a piece ended.
 #[derive(Debug, Drop)]
 pub enum Ended {
-    /// Each plan under the piece costs more than the board's floor, or is not before `first`: the last plan that the search
-    /// offered, which is before all others that it offered. So none costs less than the floor. This many partial plans were looked
-    /// at.
+    /// Each plan under the piece costs more than the board's floor, or is not before `first`, the last plan that the search
+    /// offered, which is before all earlier offers. So none costs less than the floor. `spent` partial plans were looked at.
     Finished { spent: u64, first: Option<Plan> },
-    /// The whole tree was not looked at: the budget was spent, or the board said so. This many partial plans were looked at, and
-    /// the tree has more. No plan under the piece costs less than `low`, which is what is paid along the piece's word, and the
-    /// bound on what is still to pay there.
+    /// The tree was not searched completely: the budget was spent, or the board stopped the search. `spent` partial plans
+    /// were looked at, and the tree has more. No plan under the piece costs less than `low`, which is the cost along the
+    /// piece's word plus the bound on what is still to pay.
     Unfinished { spent: u64, low: u64 },
 }
 
 /// Searches the plans under a piece, and offers those to the board that may be before all that it knows. It looks at no more
-/// partial plans than the budget says, at each at most once, at the piece's own word first, and at children by rising symbol. It
-/// doesn't go below one whose cost and bound together are above what the board answers, or not under the cost of the last plan that
-/// it offered, or whose bound says that no plan is under it, or that is without completion, or of which the tree bound says the
-/// same. It asks the board now and then whether to go on. The tables are over all customers that the piece leaves unserved, and may
-/// be over more. Where memory is refused the board has the offers that were made before.
+/// partial plans than the budget allows, each at most once: first at the piece's own word, and at children by rising symbol.
+/// It prunes a partial plan if its cost plus bound is above the board's answer, or not below the cost of the last plan that
+/// it offered; if the bound says that no plan is under it; if it is without completion; or if the tree bound prunes it. It
+/// asks the board from time to time whether to continue. The tables cover all unserved customers of the piece, and may cover
+/// more. If memory is refused, the board has the offers made before.
 pub fn search<B: Board>(
     alloc: Global,
     instance: &Instance,
@@ -67,30 +66,37 @@ pub fn search<B: Board>(
     search_under(alloc, &mut partial, &mut bounds, low, budget, board)
 }
 
-/// Searches the plans under a piece as `search` does, and prunes by prices: it doesn't go below a partial plan where the prices
-/// tell that each plan under it costs more than the board answers, or no less than the last plan that the search offered, or that
-/// is without completion, or for which too few trucks are left. The tables bound the piece as a whole, and give its `low`.
+/// What a search by prices looks into: tables that bound a piece as a whole, and prices that prune.
+#[derive(Clone, Copy)]
+pub struct Lookups<'a> {
+    pub tables: &'a Tables<'a>,
+    pub prices: &'a Prices<'a>,
+}
+
+/// Searches the plans under a piece with the contract of `search`, and prunes by prices. It prunes a partial plan if the
+/// prices show that each plan under it costs more than the board's answer, or no less than the last plan that it offered; if
+/// it is without completion; or if too few trucks are left. The tables bound the piece as a whole, and give its `low`.
 pub fn search_by_prices<B: Board>(
     alloc: Global,
     instance: &Instance,
-    tables: &Tables<'_>,
-    prices: &Prices<'_>,
+    lookups: Lookups<'_>,
     piece: &Piece,
     budget: u64,
     board: &mut B,
 ) -> Result<Ended, NoMemory>
-    requires tables { tables.now.problem ≡ instance.now }
-    requires prices { prices.now.problem ≡ instance.now }
-    requires covered { AreCovered instance.now tables.now.among piece.now.word }
+    requires tables { lookups.tables.now.problem ≡ instance.now }
+    requires prices { lookups.prices.now.problem ≡ instance.now }
+    requires covered { AreCovered instance.now lookups.tables.now.among piece.now.word }
     requires piece { IsPrefix instance.now piece.now.word }
     requires board { B.serves board.old instance.now }
     requires budget { 1 ≤ budget }
     ensures serves { B.serves board.new instance.now }
     ensures keeps { (earlier : B) → B.keeps earlier board.old → B.keeps earlier board.new }
     ensures falls { B.floor board.new ≤ B.floor board.old }
-    ensures ended { IfOk result (EndsSearch instance.now tables.now.among piece.now.word
+    ensures ended { IfOk result (EndsSearch instance.now lookups.entry.tables.now.among piece.now.word
         budget (B.may_stop board.new) (B.floor board.new)) }
 {
+    let Lookups { tables, prices } = lookups;
     let Some(Root { mut partial, low }) = open_root(alloc, instance, tables, piece, board)? else {
         return Ok(Ended::Finished {
             spent: 1,
@@ -101,14 +107,14 @@ pub fn search_by_prices<B: Board>(
     search_under(alloc, &mut partial, &mut by_prices, low, budget, board)
 }
 
-// A partial plan at a piece's word, and what each plan under it costs at least.
+// A partial plan at a piece's word, and a lower bound on the plans under it.
 #[derive(Drop)]
 struct Root<'a> {
     partial: Partial<'a>,
     low: u64,
 }
 
-// Comes to a piece's word. `None` where no plan under it costs as little as the board answers.
+// Builds the partial plan of a piece's word. `None` if no plan under it costs as little as the board's answer.
 fn open_root<'a, B: Board>(
     alloc: Global,
     instance: &'a Instance,
@@ -133,7 +139,7 @@ fn open_root<'a, B: Board>(
         NoneCheaperUnder instance.now piece.now.word root.low)) }
 {
     let partial = Partial::at_prefix(alloc, instance, piece.word())?;
-    // Below no partial plan is anything cheaper than its cost and bound, and below one without completion there is nothing.
+    // Nothing under a partial plan is cheaper than its cost plus bound, and nothing is under one without completion.
     bounds_hold();
     prefixes_without_completion();
     if partial.has_no_completion() {
@@ -148,8 +154,8 @@ fn open_root<'a, B: Board>(
     Ok(Some(Root { partial, low }))
 }
 
-/// Searches the plans under the word that a partial plan has come to, its root, as `search` does, and prunes by what it is given.
-/// No plan under the root costs less than `low`, which is told where the search is left unfinished.
+/// Searches the plans under the current word of a partial plan, its root, with the contract of `search`, using this pruning
+/// rule. No plan under the root costs less than `low`, which is the answer if the search is left unfinished.
 pub(crate) fn search_under<B: Board, P: Pruning>(
     alloc: Global,
     partial: &mut Partial<'_>,

@@ -1,4 +1,4 @@
-//! The plan that a search has found: the last one that it offered to its board.
+//! The last plan that a search offered to its board.
 ghost use Rattle.std.specs.Prelude.{◌≡◌, ◌≤◌, OnOk, None};
 ghost use Rattle.vrp_model.specs.Cheapest.{cost_of};
 ghost use Rattle.vrp_search.specs.Inner.Found.{IsLastOffer};
@@ -12,13 +12,13 @@ use vrp_search_tree::Partial;
 #[derive(Drop)]
 pub(crate) struct Found {
     plan: Option<Plan>,
-    // What the plan costs, `NO_COST` where there is none: asked at each partial plan that is looked at.
+    // The plan's cost, `NO_COST` if there is none; read at each partial plan.
     cost: u64,
     ghost priced: { cost ≡ cost_of plan },
 }
 
 impl Found {
-    /// Nothing is found yet.
+    /// No plan yet.
     pub(crate) fn nothing() -> Found
         ensures { result.plan ≡ None }
     {
@@ -28,7 +28,7 @@ impl Found {
         }
     }
 
-    /// What the plan costs, `NO_COST` where there is none.
+    /// The plan's cost, `NO_COST` if there is none.
     #[inline(always)]
     pub(crate) fn cost(&self) -> u64
         ensures { result ≡ cost_of self.now.plan }
@@ -43,8 +43,8 @@ impl Found {
         self.plan
     }
 
-    /// Offers the plan of a complete word to the board, and keeps it, where it costs less than the one that is kept.
-    // Few are complete, and the test comes at each push.
+    /// If the word is complete and costs less than the kept plan, offers its plan to the board and keeps it.
+    // Few words are complete, and the test runs at each push.
     #[inline(always)]
     pub(crate) fn offer_complete<B: Board>(
         &mut self,

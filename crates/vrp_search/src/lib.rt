@@ -1,4 +1,4 @@
-//! The search of a piece of the tree of plans, by the bounds or by prices, and the board that is offered the plans it finds.
+//! The search of a piece of the tree of plans, by the bounds or by prices, and the board that receives the plans it finds.
 #![tactic(auto)]
 
 mod board;
@@ -12,7 +12,7 @@ mod spending;
 mod tree_pruning;
 
 pub use board::{Board, LOOKS_BEFORE_ASKING};
-pub use depth_first::{Ended, search, search_by_prices};
+pub use depth_first::{Ended, Lookups, search, search_by_prices};
 pub use local::Local;
 pub use vrp_search_tree::{
     Cutting, MAX_PIECES, MAX_REFINED, Partial, Piece, Prices, Reserved, one_low, one_piece,

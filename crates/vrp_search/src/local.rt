@@ -1,4 +1,4 @@
-//! The board of one thread: it keeps the first plan by cost and then by word, if there is one.
+//! The board of one thread: it keeps the first plan by cost and then by word, if any.
 ghost use Rattle.std.specs.Prelude.{◌≡◌, ◌↔◌, ◌≤◌, IsTrue, Option, Some, OnOk, OnErr, ⊤};
 ghost use Rattle.std.specs.Option.{option_map};
 ghost use Rattle.vrp_model.specs.Problem.{Problem};
@@ -11,8 +11,8 @@ use std::alloc::Global;
 use std::marker::Model;
 use vrp_model::{NO_COST, NoMemory, Plan};
 
-/// The first plan so far, by cost and then by word, or none. Its floor is what the plan costs, `NO_COST` where there is none, and
-/// it serves the problems whose feasible plan it is.
+/// The first plan so far, by cost and then by word, or none. Its floor is the plan's cost, `NO_COST` if there is none, and it
+/// serves the problems for which this is a feasible plan.
 #[derive(Debug, Drop)]
 pub struct Local {
     plan: Option<Plan>,
@@ -28,21 +28,21 @@ impl Model for Local {
 }
 
 impl Local {
-    /// Opens with a plan, or without one.
+    /// A board with a plan, or without one.
     pub fn open(plan: Option<Plan>) -> Local
         ensures { result ≡ plan }
     {
         Local { plan }
     }
 
-    /// The first plan of all: the one that it was opened with, or one that was offered.
+    /// The first plan so far: the one given to `open`, or one that was offered.
     pub fn plan(&self) -> Option<&Plan>
         ensures { option_map (λ plan. plan.now) result ≡ self.now }
     {
         self.plan.as_ref()
     }
 
-    /// The plan, where nothing more is offered.
+    /// The plan, when nothing more is offered.
     pub fn into_plan(self) -> Option<Plan>
         ensures { result ≡ self }
     {

@@ -1,4 +1,4 @@
-//! What a search prunes by.
+//! The trait of a pruning rule.
 ghost use Rattle.std.specs.Prelude.{◌≡◌, ◌<◌, ℕ, List, [], ◌∷◌, ◌++◌, length, IsTrue, MatchOption};
 ghost use Rattle.vrp_model.specs.Word.{BeginsWith, IsPrefix};
 ghost use Rattle.vrp_model.specs.declared.limits.TheConstants.{MAX_NODES};
@@ -7,20 +7,20 @@ ghost use Rattle.vrp_search_tree.specs.Partial.{PartialPlan};
 
 use vrp_search_tree::Partial;
 
-/// Prunes the tree of a problem below one partial plan, the root, and keeps in step with a partial plan under it, whose symbols it
-/// pushes and pops. It may keep numbers of its own beside the word, as what is paid along it in another problem. Where it prunes,
-/// each plan under the child costs more than `incumbent`, which the board answered, or no less than `own_best`, the cost of the
-/// last plan that the search offered. What it doesn't prune is left open.
+/// Prunes the tree of a problem below one partial plan, the root, and stays in step with a partial plan under it, whose
+/// symbols it pushes and pops. It may keep its own numbers beside the word, such as the cost in another problem. If it prunes
+/// a child, each plan under the child costs more than `incumbent`, the board's answer, or no less than `own_best`, the cost
+/// of the last plan that the search offered. The contract leaves open what it doesn't prune.
 pub(crate) trait Pruning {
-    /// What is counted along a child's word before it is pushed.
+    /// The tally of a child, computed before it is pushed.
     type Counted: Copy;
 
-    // Of the root and a partial plan under it.
+    // Relates the pruning rule to the root and a partial plan under it.
     ghost in_step: { Self → List ℕ → PartialPlan → Type 0 };
 
     ghost is_counted: { Self → PartialPlan → Self.Counted → Type 0 };
 
-    /// What is counted along a child's word, or `None` where the child is pruned.
+    /// The tally of a child, or `None` if the child is pruned.
     fn promising(
         &self,
         partial: &Partial<'_>,
@@ -33,7 +33,7 @@ pub(crate) trait Pruning {
         ensures of_use { let child = with_symbol partial.now symbol
             in MatchOption result (NoneOfUse child.problem child.word incumbent own_best) (is_counted self.now child) };
 
-    /// Adds a symbol at the partial plan's end, where what is counted along the longer word is known.
+    /// Appends a symbol to the partial plan, given the tally of the longer word.
     fn push(&mut self, partial: &mut Partial<'_>, symbol: u16, counted: Self::Counted)
         requires step { (root : List ℕ) × in_step self.old root partial.old }
         requires child { IsPrefix partial.old.problem (partial.old.word ++ symbol ∷ []) }
@@ -42,14 +42,14 @@ pub(crate) trait Pruning {
         ensures step { (root : List ℕ)
             → in_step self.old root partial.old → in_step self.new root partial.new };
 
-    /// Whether a child is pruned that was pushed: a second look, which may take longer.
+    /// Whether a pushed child is pruned: a second test, which may take longer.
     fn prunes(&mut self, partial: &Partial<'_>, incumbent: u64, own_best: u64) -> bool
         requires step { (root : List ℕ) × in_step self.old root partial.now }
         ensures none { IsTrue result → NoneOfUse partial.now.problem partial.now.word incumbent own_best }
         ensures step { (root : List ℕ)
             → in_step self.old root partial.now → in_step self.new root partial.now };
 
-    /// Takes off the partial plan's last symbol, and answers it.
+    /// Removes and answers the partial plan's last symbol.
     fn pop(&mut self, partial: &mut Partial<'_>) -> u16
         requires some { 0 < length partial.old.word }
         requires step { (root : List ℕ) × in_step self.old root partial.old }

@@ -1,14 +1,14 @@
-//! How many partial plans a search has looked at, of those that it may, and when its board is asked whether to go on.
+//! The count of partial plans that a search has looked at, within its budget, and when it asks its board whether to continue.
 ghost use Rattle.std.specs.Prelude.{◌≡◌, ◌⊎◌, ◌+◌, ◌<◌, ◌≤◌, IsTrue, false};
 
 use crate::board::{Board, LOOKS_BEFORE_ASKING};
 
-/// A count of the partial plans that were looked at, within a budget.
+/// A count of the partial plans looked at, within a budget.
 #[derive(Drop)]
 pub(crate) struct Spending {
     pub(crate) spent: u64,
     budget: u64,
-    // At so many the board is asked whether to go on, or the budget is spent.
+    // At this count the board is asked whether to continue, or the budget is spent.
     pause: u64,
     ghost some: { 1 ≤ spent },
     ghost until: { spent ≤ pause },
@@ -16,7 +16,7 @@ pub(crate) struct Spending {
 }
 
 impl Spending {
-    /// One is looked at, the first of a budget.
+    /// The count after the first partial plan of a budget.
     pub(crate) fn first(budget: u64) -> Spending
         requires { 1 ≤ budget }
         ensures spent { result.spent ≡ 1 }
@@ -29,8 +29,8 @@ impl Spending {
         }
     }
 
-    /// Whether no more may be looked at: the budget is spent, or the board, which is asked now and then, says so.
-    // Asked before each partial plan that is looked at.
+    /// Whether the search must stop: the budget is spent, or the board, which is asked from time to time, says so.
+    // Called before each partial plan.
     #[inline(always)]
     pub(crate) fn is_over<B: Board>(&mut self, board: &B) -> bool
         ensures spent { self.new.spent ≡ self.old.spent }
@@ -51,7 +51,7 @@ impl Spending {
         false
     }
 
-    /// One more is looked at.
+    /// Counts one more partial plan.
     #[inline(always)]
     pub(crate) fn look(&mut self)
         requires { self.old.spent < self.old.pause }

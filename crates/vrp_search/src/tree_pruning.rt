@@ -1,4 +1,4 @@
-//! Pruning by the tree bound: it takes longer than the other bounds, and is tried where it pays.
+//! Pruning by the tree bound: it takes longer than the other bounds, and is tried only where it pays.
 ghost use Rattle.std.specs.Prelude.{◌≡◌, ◌+◌, ◌≤◌, IfOk, IsTrue, vec_capacity};
 ghost use Rattle.vrp_model.specs.Problem.{place_count};
 ghost use Rattle.vrp_search_tree.specs.Pruned.{NoneOfUse};
@@ -16,19 +16,19 @@ const LEAST_OPEN: u16 = 4;
 // With more unserved customers a tree takes too long.
 const MOST: u16 = 100;
 
-// Where so few customers fill a truck, the bound takes longer than it saves: less than 3 of them at all, less than 4 at open routes.
+// With so few customers a truck, the bound takes longer than it saves: below 3 it is never tried, below 4 not at open routes.
 const SHORT_ROUTE: u64 = 3;
 
 const LONG_ROUTE: u64 = 4;
 
-/// The tree bound of an instance's partial plans, with room to find it in.
+/// The tree bound for an instance's partial plans, with memory for computing it.
 #[derive(Drop)]
 pub(crate) struct TreePruning<'a> {
     instance: &'a Instance,
     room: TreeScratch,
-    // Reserved for all customers.
+    // Memory for all customers.
     unserved: Vec<u16>,
-    // Whether the bound is tried where no route is open, and where one is.
+    // Whether the bound is tried when no route is open, and when one is.
     is_for_closed: bool,
     is_for_open: bool,
     ghost places: { place_count instance.now ≤ room },
@@ -36,7 +36,7 @@ pub(crate) struct TreePruning<'a> {
 }
 
 impl<'a> TreePruning<'a> {
-    /// Room for all partial plans of an instance. Where the bound is tried is left open.
+    /// Memory for all partial plans of an instance. The contract leaves open where the bound is tried.
     pub(crate) fn new(alloc: Global, instance: &'a Instance) -> Result<TreePruning<'a>, NoMemory>
         ensures { IfOk result (λ pruning. pruning.instance.now ≡ instance.now) }
     {
@@ -54,9 +54,9 @@ impl<'a> TreePruning<'a> {
         })
     }
 
-    /// Whether the bound is tried, and tells that each plan under a partial plan costs more than `incumbent`, or `own_best` or more. Where
-    /// it doesn't, nothing is said.
-    // Kept out of the loop that calls it: there it would take the registers that the other bounds need.
+    /// Whether the bound is tried and shows that each plan under a partial plan costs more than `incumbent`, or at least
+    /// `own_best`. If the answer is no, nothing is known.
+    // Kept out of the calling loop, where it would take the registers that the other bounds need.
     #[inline(never)]
     pub(crate) fn prunes(&mut self, partial: &Partial<'_>, incumbent: u64, own_best: u64) -> bool
         requires { partial.now.problem ≡ self.old.instance.now }

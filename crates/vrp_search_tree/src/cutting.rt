@@ -1,4 +1,4 @@
-//! Cuttings: the feasible words of an instance, shared out among pieces that are searched one by one.
+//! Cuttings: they divide the feasible words of an instance into pieces, which are searched one by one.
 ghost use Rattle.std.specs.Prelude.{◌≡◌, ◌+◌, ◌-◌, ◌*◌, ◌^◌, ◌≤◌, ◌<◌, IfOk, OnOk, OnErr, [], ◌∷◌, ◌++◌, length, map, max, IsTrue, ◌↔◌};
 ghost use Rattle.std.specs.List.{All};
 ghost use Rattle.vrp_model.specs.Word.{IsPrefix};
@@ -13,10 +13,10 @@ use std::alloc::Global;
 use std::marker::Model;
 use vrp_model::{Instance, NoMemory};
 
-/// The most pieces that may be asked for.
+/// The most pieces that may be requested.
 pub const MAX_PIECES: u32 = 65_536;
 
-/// The most pieces of a cutting that is to be refined: their numbers stay far below what a `u32` holds.
+/// The most pieces of a cutting that may still be refined; so their numbers fit a `u32`.
 pub const MAX_REFINED: usize = 1_000_000;
 
 /// A cutting of an instance's words: prefixes such that each feasible word begins with exactly one of them. It starts as the
@@ -69,8 +69,8 @@ impl Cutting {
         pieces
     }
 
-    /// Puts a piece's children in its stead, by rising symbol, and tells whether it has any: at most 1,200, one for each node. A
-    /// refused call changes nothing.
+    /// Replaces a piece by its children, by rising symbol, and answers whether it has any. There are at most 1,200, one for each
+    /// node. A refused call changes nothing.
     pub fn refine(
         &mut self,
         alloc: Global,
@@ -98,8 +98,8 @@ impl Cutting {
         Ok(true)
     }
 
-    /// Refines until there are this many pieces, or none has a child. Each piece lies under one that was there before. A refused
-    /// call leaves a cutting.
+    /// Refines until there are this many pieces, or none has a child. Each piece lies under an earlier one. A refused call leaves a
+    /// cutting.
     pub fn at_least(
         &mut self,
         alloc: Global,
@@ -128,8 +128,7 @@ impl Cutting {
         Ok(())
     }
 
-    // From the first piece on, children stand for a piece that has any, until there are enough pieces. Tells whether that
-    // was so for any.
+    // Replaces pieces by their children, from the first piece on, until there are enough. Answers whether any piece had children.
     fn pass(
         &self,
         alloc: Global,
@@ -187,7 +186,7 @@ impl Cutting {
         Ok(())
     }
 
-    // Adds a partial plan's children, by rising symbol, and tells whether there are any.
+    // Adds a partial plan's children, by rising symbol, and answers whether there are any.
     fn push_children(
         &mut self,
         alloc: Global,
@@ -219,7 +218,7 @@ impl Cutting {
         self.push(word)
     }
 
-    // Adds what stands for a partial plan: its children where it has any and is to be refined, and else itself. Tells which.
+    // Adds the children of a partial plan if it is to be refined and has any, and otherwise the plan itself. Answers which.
     fn push_step(
         &mut self,
         alloc: Global,

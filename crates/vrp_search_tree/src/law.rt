@@ -1,4 +1,4 @@
-//! What is true of the definitions, whatever the code does.
+//! Laws of the definitions, which hold whatever the code does.
 ghost use Rattle.std.specs.Prelude.{◌≡◌, ℕ, ◌<◌, ◌≤◌, Option, Some, List, [], length, slice_index_or};
 ghost use Rattle.vrp_model.specs.Problem.{IsProblem, Problem, customers};
 ghost use Rattle.vrp_model.specs.Word.{BeginsWith, IsPrefix, IsLawfulWord, unserved_in};
@@ -15,14 +15,13 @@ pub fn one_piece()
         × ((j : ℕ) → j < length prefixes → BeginsWith word (slice_index_or prefixes j []) → j ≡ k) }
 {}
 
-/// What a word under a partial plan costs at least, with tables over these customers, is one number, or there is none.
+/// The low of a partial plan, with tables over these customers, is one number, or there is none.
 pub fn one_low()
     ensures { (p : Problem) (among prefix : List ℕ) (low other : Option ℕ)
         → IsProblem p → IsLow p among prefix low → IsLow p among prefix other → low ≡ other }
 {}
 
-/// What a word under a partial plan costs at least is no lower with tables over the customers alone that the partial plan leaves
-/// unserved than with tables over all customers.
+/// The low of a partial plan is no lower with tables over its unserved customers alone than with tables over all customers.
 pub fn own_low_no_lower()
     ensures { (p : Problem) (prefix : List ℕ) (low : ℕ) (own : Option ℕ)
         → IsProblem p → IsPrefix p prefix

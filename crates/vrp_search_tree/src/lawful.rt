@@ -1,4 +1,4 @@
-//! From a word that need not be trusted to a feasible plan.
+//! From an untrusted word to a feasible plan.
 ghost use Rattle.std.specs.Prelude.{◌≡◌, [], IfNone, IfOk, IfSome};
 ghost use Rattle.vrp_model.specs.Route.{IsPlanOf};
 ghost use Rattle.vrp_model.specs.Word.{IsLawfulWord, word_of};
@@ -7,8 +7,8 @@ use crate::partial::Partial;
 use std::alloc::Global;
 use vrp_model::{Instance, NoMemory, Plan};
 
-/// The plan of a word, if it is a feasible word of the instance, and `None` if it is not. Each symbol is asked for before it is
-/// pushed, so the word need not be trusted.
+/// The plan of a word, or `None` if it is not a feasible word of the instance. Each symbol is checked before it is pushed, so the
+/// word need not be trusted.
 pub fn lawful_plan(
     alloc: Global,
     instance: &Instance,
@@ -22,7 +22,7 @@ pub fn lawful_plan(
     pushed_plan(alloc, &mut partial, word)
 }
 
-// The plan of a word that is pushed onto the empty one, as far as it can be, if it is feasible.
+// Pushes the symbols of a word as far as possible, and answers its plan if all of it is a feasible word.
 fn pushed_plan(
     alloc: Global,
     partial: &mut Partial<'_>,

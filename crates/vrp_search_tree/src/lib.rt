@@ -1,5 +1,5 @@
-//! The tree of plans: partial plans, what a plan under one costs at least, cuttings of the tree into pieces, and the feasible plan
-//! of a word that need not be trusted.
+//! The tree of plans: partial plans and their lower bounds, cuttings of the tree into pieces, and the feasible plan of an untrusted
+//! word.
 #![tactic(auto)]
 
 mod cutting;

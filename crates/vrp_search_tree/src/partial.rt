@@ -1,4 +1,4 @@
-//! Partial plans: a word that grows and shrinks by one symbol, with what the search asks of it kept in step.
+//! Partial plans: a word that grows and shrinks by one symbol, with its tally kept in step.
 ghost use Rattle.std.specs.Prelude.{◌≡◌, ◌<◌, ◌≤◌, ◌+◌, ◌*◌, ◌↔◌, [], ◌∷◌, ◌++◌, length, IsTrue, IfOk, vec_capacity};
 ghost use Rattle.vrp_model.specs.Problem.{IsProblem, place_count};
 ghost use Rattle.vrp_model.specs.Route.{IsPlanOf, load_of};
@@ -17,7 +17,7 @@ use std::alloc::Global;
 use std::marker::Model;
 use vrp_model::{Instance, NoMemory, Plan};
 
-/// A partial plan: a word that is built from the empty one by children.
+/// A partial plan: a word built from the empty one, child by child.
 #[derive(Drop)]
 pub struct Partial<'a> {
     instance: &'a Instance,
@@ -25,12 +25,12 @@ pub struct Partial<'a> {
     word: SmallVec<u16, 64>,
     // The tally before each symbol, for a pop to restore.
     before: SmallVec<Tally, 1>,
-    // By place; the depot's flag is of no account.
+    // By place; the depot's flag has no meaning.
     served: Vec<bool>,
     tally: Tally,
 }
 
-/// For how many symbols a partial plan has room, and for how many tallies of what was counted before each.
+/// The number of symbols, and of earlier tallies, that a partial plan has room for.
 #[derive(Clone, Copy, Debug, PartialEq, Eq)]
 pub struct Reserved {
     pub symbols: usize,
@@ -95,7 +95,7 @@ impl<'a> Partial<'a> {
         self.push_counted(symbol, tally);
     }
 
-    /// Adds a symbol at the end, where what is counted along the longer word is known, as `promising` and `alive_after` answer.
+    /// Adds a symbol at the end. The tally of the longer word is given, as `promising` and `alive_after` answer it.
     #[inline(always)]
     pub fn push_counted(&mut self, symbol: u16, tally: Tally)
         requires child { IsPrefix self.old.problem (self.old.word ++ symbol ∷ []) }
@@ -108,7 +108,7 @@ impl<'a> Partial<'a> {
         self.tally = tally;
     }
 
-    /// Takes off the last symbol, and answers it.
+    /// Removes the last symbol, and answers it.
     pub fn pop(&mut self) -> u16
         requires { 0 < length self.old.word }
         ensures problem { self.new.problem ≡ self.old.problem }
@@ -130,7 +130,7 @@ impl<'a> Partial<'a> {
         self.word.as_slice()
     }
 
-    /// How many symbols there are: at most two for each customer.
+    /// The number of symbols: at most two for each customer.
     #[inline(always)]
     pub fn depth(&self) -> usize
         ensures value { result ≡ length self.now.word }
@@ -141,14 +141,14 @@ impl<'a> Partial<'a> {
         self.word.len()
     }
 
-    /// Whether it has every customer and no open route.
+    /// Whether every customer is served and no route is open.
     pub fn complete(&self) -> bool
         ensures { IsTrue result ↔ IsLawfulWord self.now.problem self.now.word }
     {
         self.tally.unserved == 0 && self.at() == 0
     }
 
-    /// What is paid along the word.
+    /// The cost of the word.
     pub fn cost(&self) -> u64
         ensures value { result ≡ word_cost self.now.problem self.now.word }
         ensures small { result ≤ 2 * MAX_ARCS }
@@ -156,7 +156,7 @@ impl<'a> Partial<'a> {
         self.tally.cost
     }
 
-    /// The place at the end, 0 for the empty word.
+    /// The last place, 0 for the empty word.
     pub fn at(&self) -> u16
         ensures { result ≡ last_symbol self.now.word }
     {
@@ -167,7 +167,7 @@ impl<'a> Partial<'a> {
         word[word.len() - 1]
     }
 
-    /// What is on the truck of the open route, 0 where none is open.
+    /// The load of the open route, 0 if none is open.
     pub fn load(&self) -> u64
         ensures value { result ≡ open_load self.now.problem self.now.word }
         ensures fits { result ≤ self.now.problem.capacity }
@@ -175,29 +175,28 @@ impl<'a> Partial<'a> {
         self.tally.load
     }
 
-    /// How many routes there are, an open one counted.
+    /// The number of routes, an open one included.
     pub fn routes(&self) -> u16
         ensures { result ≡ length (routes_of self.now.word) }
     {
         self.tally.routes
     }
 
-    /// What the unserved customers demand.
+    /// The demand of the unserved customers.
     pub fn rest(&self) -> u64
         ensures { result ≡ load_of self.now.problem (unserved_in self.now.problem self.now.word) }
     {
         self.tally.rest
     }
 
-    /// How many customers are unserved, of at most 1,199.
+    /// The number of unserved customers, at most 1,199.
     pub fn unserved(&self) -> u16
         ensures { result + length (served_in self.now.word) + 1 ≡ place_count self.now.problem }
     {
         self.tally.unserved
     }
 
-    /// For how many symbols, and for how many tallies of what was counted before each, it has room before it asks for memory. How
-    /// much that is, no clause says.
+    /// The number of symbols, and of earlier tallies, that fit without another allocation. No clause says how many that is.
     pub fn reserved(&self) -> Reserved {
         Reserved {
             symbols: self.word.capacity(),
@@ -205,7 +204,7 @@ impl<'a> Partial<'a> {
         }
     }
 
-    /// Puts the unserved customers into a list that has room for all, by rising place, in place of what stands there.
+    /// Replaces the contents of a list, which has room for all, by the unserved customers, by rising place.
     pub fn list_unserved(&self, list: &mut Vec<u16>)
         requires { place_count self.now.problem ≤ vec_capacity list.old + 1 }
         ensures listed { list.new.items ≡ unserved_in self.now.problem self.now.word }

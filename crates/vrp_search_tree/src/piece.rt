@@ -10,7 +10,7 @@ use std::marker::Model;
 use vrp_bound::{Tables, bounds_hold};
 use vrp_model::{Instance, NoMemory};
 
-/// A piece of a cutting: a prefix of the instance's words, and its place in the cutting.
+/// A piece of a cutting: a prefix of the instance's words, and its number in the cutting.
 #[derive(Debug, Drop)]
 pub struct Piece {
     number: u32,
@@ -33,14 +33,14 @@ impl Piece {
         Piece { number, word }
     }
 
-    /// Its place in its cutting.
+    /// Its number in its cutting.
     pub fn number(&self) -> u32
         ensures { result ≡ self.now.number }
     {
         self.number
     }
 
-    /// The symbols that all words under it begin with.
+    /// The prefix of all words under it.
     pub fn word(&self) -> &[u16]
         ensures { result.now ≡ self.now.word }
     {
@@ -58,8 +58,8 @@ impl Piece {
         Ok(unserved)
     }
 
-    /// What a plan under the piece costs at least: what is paid along its word, and the bound on what is still to pay there.
-    /// `None` where the bound says that there is no plan.
+    /// The low of the piece, which no plan under it undercuts: the cost of its word plus the bound on what is still to pay. `None` if
+    /// the bound says that there is no plan.
     pub fn low(
         &self,
         alloc: Global,

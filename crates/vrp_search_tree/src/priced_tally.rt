@@ -1,22 +1,22 @@
-//! What is counted along a word in the problem with prices.
+//! The tally of a word in the problem with prices.
 ghost use Rattle.std.specs.Prelude.{ℕ, List, [], ◌∷◌, ◌++◌};
 ghost use Rattle.vrp_model.specs.Word.{IsPrefix};
 ghost use Rattle.vrp_search_tree.specs.PricedTally.{IsPricedTallyAt};
 
 use vrp_model::Instance;
 
-/// What is paid along a word, what is on the truck of the open route, and what the unserved customers demand, in the units of the
-/// problem with prices.
+/// The cost of a word, the load of the open route, and the demand of the unserved customers, in the units of the problem with
+/// prices.
 #[derive(Clone, Copy, Default)]
 pub struct PricedTally {
     pub(crate) cost: u64,
-    /// Of the open route, 0 where none is open.
+    /// Of the open route, 0 if none is open.
     pub(crate) load: u64,
     pub(crate) rest: u64,
 }
 
 impl PricedTally {
-    /// That of the empty word.
+    /// The tally of the empty word.
     pub fn root(instance: &Instance) -> PricedTally
         ensures { IsPricedTallyAt instance.now [] 0 result }
     {
@@ -29,7 +29,7 @@ impl PricedTally {
         }
     }
 
-    /// That of a child's word, where the word ends at this place.
+    /// The tally of a child, if the word ends at this place.
     #[inline(always)]
     pub fn after(self, instance: &Instance, at: u16, symbol: u16) -> PricedTally
         requires { (prefix : List ℕ) × IsPricedTallyAt instance.now prefix at self

@@ -1,7 +1,8 @@
-//! The prices that a search prunes by.
-ghost use Rattle.std.specs.Prelude.{◌≡◌, ℕ, ◌≤◌, ◌<◌, List, [], IfOk, IsTrue};
+//! The prices by which a search prunes.
+ghost use Rattle.std.specs.Prelude.{◌≡◌, ℕ, ◌≤◌, ◌<◌, ◌↔◌, List, [], IfOk, IsTrue};
 ghost use Rattle.std.specs.Bool.{OnFalse};
 ghost use Rattle.vrp_model.specs.declared.limits.TheConstants.{NO_COST};
+ghost use Rattle.vrp_bound.specs.LowerBound.{rounded_up};
 ghost use Rattle.vrp_bound.specs.Tables.{AreMade};
 ghost use Rattle.vrp_model.specs.Problem.{customers, place_count};
 ghost use Rattle.vrp_model.specs.Word.{NoneCheaperUnder};
@@ -13,12 +14,12 @@ ghost use Rattle.vrp_search_tree.specs.Reached.{IsReached, IsWithin};
 use crate::priced_tally::PricedTally;
 use std::alloc::Global;
 use std::marker::Model;
-use vrp_bound::NgTables;
+use vrp_bound::{LowerBound, NgTables};
 use vrp_bound_ng::NgSets;
-use vrp_bound_prices::{Relaxation, costly_prefixes};
+use vrp_bound_prices::{Relaxation, costly_prefixes, walks_bound};
 use vrp_model::{Instance, NO_COST, NoMemory};
 
-/// A relaxation of an instance by prices, and tables of ng-walks over all customers in it.
+/// A relaxation of an instance by prices, with tables of ng-walks over all its customers.
 #[derive(Drop)]
 pub struct Prices<'a> {
     relaxation: &'a Relaxation<'a>,
@@ -38,7 +39,7 @@ impl<'a> Model for Prices<'a> {
 }
 
 impl<'a> Prices<'a> {
-    /// The prices of a relaxation, whose walks have these ng-sets.
+    /// The prices of a relaxation, with walks that have these ng-sets.
     pub fn new(
         alloc: Global,
         relaxation: &'a Relaxation<'a>,
@@ -51,27 +52,28 @@ impl<'a> Prices<'a> {
         Ok(Prices { relaxation, tables })
     }
 
-    /// What the prices tell that each plan of the instance costs at least. Where they tell that there is none, it is `NO_COST`.
-    pub fn lower_bound(&self) -> u64
-        ensures none { NoneCheaperUnder self.now.problem [] result }
-        ensures reached { result < NO_COST → IsReached self.now result }
+    /// A lower bound on every plan of the instance, by the prices. It is `NO_COST` if they show that there is no plan.
+    pub fn lower_bound(&self) -> LowerBound
+        ensures none { NoneCheaperUnder self.now.problem [] (rounded_up result) }
+        ensures reached { rounded_up result < NO_COST → IsReached self.now (rounded_up result) }
     {
+        walks_bound();
         let root = PricedTally::root(self.relaxed());
-        let mut low = 0;
-        let mut high = NO_COST;
-        while low < high {
-            let cost = low + (high - low) / 2;
-            if self.exceeds(0, root, cost) {
-                low = cost + 1;
-            } else {
-                high = cost;
-            }
+        match self.tables.bound(0, root.load, root.rest) {
+            Some(least) => self.relaxation.lower_bound_by(root.cost + least),
+            None => LowerBound::of_cost(NO_COST),
         }
-        low
     }
 
-    /// Whether each bound is one look into a completion table. Without it a bound takes a look for each unit that a truck can
-    /// still take up, so a search of many partial plans is slow. Where tables are made, whether that one fits is left open.
+    /// Whether the tables of walks are made. Without them the bound is weak.
+    pub fn has_tables(&self) -> bool
+        ensures { IsTrue result ↔ AreMade self.now.relaxed (customers self.now.relaxed) }
+    {
+        self.tables.shape().is_some()
+    }
+
+    /// Whether each bound is one look-up in a completion table. Without it a bound takes one step for each unit of free capacity, so
+    /// a search of many partial plans is slow. If tables are made, the contract leaves open whether this one fits.
     pub fn has_completion_table(&self) -> bool
         ensures { IsTrue result → AreMade self.now.relaxed (customers self.now.relaxed) }
     {
@@ -91,8 +93,8 @@ impl<'a> Prices<'a> {
         self.relaxation.relaxed()
     }
 
-    /// Whether the prices tell that each plan under a partial plan costs more than this in the instance, where the partial plan
-    /// ends at this place and so much is counted along it.
+    /// Whether the prices show that each plan under a partial plan costs more than this in the instance. The partial plan ends at this
+    /// place and has this tally.
     #[inline(always)]
     pub fn exceeds(&self, at: u16, priced_tally: PricedTally, cost: u64) -> bool
         requires prefix { (prefix : List ℕ) × IsPricedTallyAt self.now.relaxed prefix at priced_tally }

@@ -1,4 +1,4 @@
-//! What is counted along a word, and what a plan under it costs at least.
+//! The tally of a word, and the lower bound on plans under it.
 ghost use Rattle.std.specs.Prelude.{◌≡◌, ◌↔◌, ◌⊎◌, ◌-◌, ◌*◌, ◌≤◌, ◌<◌, [], IsTrue};
 ghost use Rattle.vrp_bound.specs.Capacity.{CanCarry, IsInboundSumOf};
 ghost use Rattle.vrp_model.specs.Problem.{HasTrucks, customers, place_count};
@@ -10,28 +10,28 @@ ghost use Rattle.vrp_search_tree.specs.Tally.{IsTally};
 use vrp_bound::{Tables, bound, can_carry};
 use vrp_model::Instance;
 
-/// What is counted along a word, in the units of the instance.
+/// The tally of a word, in the units of the instance.
 #[derive(Clone, Copy, Default)]
 pub struct Tally {
     pub(crate) cost: u64,
-    /// Of the open route, 0 where none is open.
+    /// Of the open route, 0 if none is open.
     pub(crate) load: u64,
-    /// What the unserved customers demand.
+    /// The demand of the unserved customers.
     pub(crate) rest: u64,
-    /// What the least arcs into the unserved customers cost together.
+    /// The sum of the least arcs into the unserved customers.
     pub(crate) inbound_sum: u64,
-    /// The first customer of the last route, 0 where there is no route yet.
+    /// The first customer of the last route, 0 if there is no route yet.
     pub(crate) first_customer: u16,
-    /// How many customers are unserved.
+    /// The number of unserved customers.
     pub(crate) unserved: u16,
-    /// The greatest unserved customer, 0 where there is none.
+    /// The greatest unserved customer, 0 if there is none.
     pub(crate) greatest: u16,
-    /// How many routes there are, an open one counted.
+    /// The number of routes, an open one included.
     pub(crate) routes: u16,
 }
 
 impl Tally {
-    /// That of the empty word.
+    /// The tally of the empty word.
     pub(crate) fn root(instance: &Instance) -> Tally
         ensures { IsTally instance.now [] result }
     {
@@ -48,7 +48,7 @@ impl Tally {
         }
     }
 
-    /// Whether the word that ends at this place is a partial plan without completion, where the instance is symmetric: every
+    /// Whether the word, which ends at this place, is a partial plan without completion. That is so in a symmetric instance if every
     /// unserved customer is below the first one of the last route, and one is left, or the open route ends below its first.
     #[inline(always)]
     pub(crate) fn has_no_completion(self, at: u16) -> bool
@@ -59,9 +59,8 @@ impl Tally {
             && (self.greatest > 0 || (at > 0 && at < self.first_customer))
     }
 
-    /// What is paid along the word, and the bound on what is still to pay from its end. `None` where the bound says that there
-    /// is no plan.
-    // Asked at each partial plan that is looked at.
+    /// The cost of the word plus the bound on what is still to pay from its end. `None` if the bound says that there is no plan.
+    // Called for each partial plan that is looked at.
     #[inline(always)]
     pub(crate) fn low(self, instance: &Instance, tables: &Tables<'_>, at: u16) -> Option<u64>
         requires tables { tables.now.problem ≡ instance.now }
@@ -88,7 +87,7 @@ impl Tally {
         Some(self.cost + more)
     }
 
-    /// Whether the trucks that are left can carry what is left, where the word ends at this place.
+    /// Whether the trucks that are left can carry the rest, if the word ends at this place.
     #[inline(always)]
     pub(crate) fn can_carry(self, instance: &Instance, at: u16) -> bool
         requires load { self.load ≤ instance.now.capacity }
@@ -100,7 +99,7 @@ impl Tally {
         can_carry(instance, at, self.load, self.rest, left)
     }
 
-    // How many routes may still be opened; `None` where there are as many trucks as are wanted.
+    // The number of routes that may still be opened; `None` if trucks are not limited.
     #[inline(always)]
     fn routes_left(self, instance: &Instance) -> Option<u16>
         requires { HasTrucks instance.now self.routes }
@@ -110,7 +109,7 @@ impl Tally {
     }
 }
 
-// What the least arcs into all customers cost together.
+// The sum of the least arcs into all customers.
 fn whole_inbound_sum(instance: &Instance) -> u64
     ensures inbound_sum { IsInboundSumOf instance.now [] result }
     ensures small { result ≤ MAX_ARCS }

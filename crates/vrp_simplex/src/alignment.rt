@@ -1,4 +1,4 @@
-//! The program is made one over the routes of a pool.
+//! Alignment: the program becomes one over the routes of a pool.
 use crate::program::{Basic, Column, Program};
 use crate::rows::kept;
 use std::alloc::{AllocError, Global};
@@ -7,7 +7,7 @@ use vrp_partition::Route;
 // The program's routes by their sets: a table with open addressing.
 #[derive(Drop)]
 struct RouteTable {
-    // 0 where nothing stands, and else one more than a route's number.
+    // 0 if empty, otherwise one more than a route's number.
     slots: Vec<usize>,
 }
 
@@ -31,7 +31,7 @@ impl RouteTable {
         Ok(table)
     }
 
-    // Where a set is looked for first.
+    // The first position to look for a set.
     #[inline(always)]
     fn start(&self, set: u128) -> usize {
         let folded = (set & 0xffff_ffff_ffff_ffff) as u64 ^ ((set >> 64) as u64).rotate_left(29);
@@ -58,8 +58,8 @@ impl RouteTable {
 }
 
 impl Program {
-    /// Takes the routes out of the program that the pool lacks, and returns the pool's other routes. One that stands in the basis
-    /// has to leave it.
+    /// Removes the routes of the program that the pool lacks, and returns the pool's other routes. A removed route in the basis has to
+    /// leave it.
     pub(crate) fn align(&mut self, pool: &[Route]) -> Result<Vec<Route>, AllocError> {
         let table = RouteTable::new(self.alloc, self.routes.as_slice())?;
         let mut stays = vec![in self.alloc; false; self.routes.len()]?;
@@ -76,7 +76,7 @@ impl Program {
         Ok(rest)
     }
 
-    /// Takes the routes out of the program that are not marked to stay; one that stands in the basis has to leave it.
+    /// Removes the routes that are not marked to stay; one in the basis has to leave it.
     pub(crate) fn keep(&mut self, stays: &[bool]) -> Result<(), AllocError> {
         let mut numbers = Vec::with_capacity(self.alloc, self.routes.len())?;
         let mut next = 0usize;
@@ -105,7 +105,7 @@ impl Program {
         Ok(())
     }
 
-    // Leaves the columns that are marked.
+    // Keeps the marked columns.
     fn keep_columns(&mut self, stays: &[bool]) -> Result<(), AllocError> {
         let mut columns = Vec::with_capacity(self.alloc, self.columns.len())?;
         let mut quads = Vec::with_capacity(self.alloc, self.quads.len())?;
@@ -126,8 +126,7 @@ impl Program {
         Ok(())
     }
 
-    /// Takes the routes out of the program of which there are more than so many, those with the largest reduced costs, and returns
-    /// them. Those of the basis stay.
+    /// Removes the routes beyond this many, those with the largest reduced costs, and returns them. Routes in the basis stay.
     pub(crate) fn shrink(&mut self, many: usize) -> Result<Vec<Route>, AllocError> {
         let mark_at = self.mark(many)?;
         let mut stays = Vec::with_capacity(self.alloc, self.reduced.len())?;

@@ -25,7 +25,7 @@ impl Program {
         })
     }
 
-    /// Puts back a basis of this program, which has the same rows. The prices are to be made anew.
+    /// Restores a basis of this program with the same rows. The prices must be computed again.
     pub(crate) fn put_basis_back(&mut self, kept: KeptBasis) {
         let KeptBasis {
             basis,
@@ -39,7 +39,7 @@ impl Program {
         self.inverse = inverse;
     }
 
-    /// Makes the first basis: slacks where they may stand at first, and else artificial columns.
+    /// Makes the first basis: slacks where they are feasible, otherwise artificial columns.
     pub(crate) fn begin(&mut self) -> Result<(), AllocError> {
         let height = self.height();
         self.stride = self.stride.max(height);
@@ -64,12 +64,12 @@ impl Program {
         Ok(())
     }
 
-    /// What an artificial column costs at first: more than routes do.
+    /// The first cost of an artificial column: more than any route.
     pub(crate) fn first_artificial_cost(&self) -> i64 {
         self.dearest.saturating_mul(4)
     }
 
-    // The column that stands in a row at first.
+    // The first column of a row.
     fn first_column(&self, row: usize) -> Basic {
         let Some(index) = row.checked_sub(self.customer_rows()) else {
             return Basic::Artificial(row);
@@ -80,7 +80,7 @@ impl Program {
         }
     }
 
-    /// Writes the rows of a column, and returns what stands in each.
+    /// Writes the rows of a column, and returns the entry in each.
     pub(crate) fn write_rows(&self, basic: Basic, rows: &mut Vec<u16>) -> Result<i64, AllocError> {
         rows.clear();
         match basic {
@@ -100,7 +100,7 @@ impl Program {
         Ok(1)
     }
 
-    /// What a column costs.
+    /// The cost of a column.
     pub(crate) fn cost_of(&self, basic: Basic) -> i64 {
         match basic {
             Basic::Route(route) => self
@@ -113,7 +113,7 @@ impl Program {
         }
     }
 
-    /// Writes a column as the basis sees it.
+    /// Writes a column in terms of the basis.
     pub(crate) fn write_direction(
         &self,
         basic: Basic,
@@ -128,7 +128,7 @@ impl Program {
         Ok(())
     }
 
-    /// Whether some column that has to leave the basis has a value.
+    /// Whether a column that has to leave the basis has a nonzero value.
     pub(crate) fn has_artificial(&self) -> bool {
         let rows = self.basis.iter().zip(&self.values);
         let mut artificial = rows.filter(|(basic, value)| basic.has_to_leave()

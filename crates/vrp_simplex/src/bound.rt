@@ -8,13 +8,13 @@ use vrp_partition::Route;
 /// Below each bound.
 pub(crate) const NO_BOUND: i64 = i64::MIN;
 
-// Larger prices can't be offered, and sums of them may have wrapped.
+// Larger prices can't be offered, and their sums may have wrapped.
 const MOST_PRICE: u64 = 1 << 52;
 
 impl Program {
-    /// A lower bound by the prices, as a price, with the signs that a bound wants: the sum of the prices, and the least reduced cost
-    /// of the program's routes and of the rest, where it is negative, once for each customer; none where prices are too large to be
-    /// offered. It is left open, since nobody trusts it.
+    /// A lower bound by the prices, in price units, with the signs that a bound needs: the sum of the prices, plus, for each customer, the
+    /// least reduced cost of the program's routes and of the rest if it is negative. There is no bound if prices are too large to be
+    /// offered. No clause pins it, since it is not trusted.
     pub fn lower_bound(&mut self, rest: &[Route]) -> Result<i64, AllocError> {
         self.fit_prices();
         self.reduce();
@@ -38,7 +38,7 @@ impl Program {
         Ok(as_bound(self.price_sum().wrapping_add(lowered)))
     }
 
-    /// The sum of the prices, each times its row's right-hand side, not raised.
+    /// The sum of the prices, each times its row's right-hand side without raise.
     pub(crate) fn price_sum(&self) -> i128 {
         let mut sum = 0i128;
         for (row, &price) in self.prices.iter().enumerate() {
@@ -49,7 +49,7 @@ impl Program {
         sum
     }
 
-    // Gives the prices of the cuts their signs.
+    // Clips the prices of the cuts to their signs.
     fn fit_prices(&mut self) {
         let rows = self.customer_rows();
         for (price, cut) in self.prices.iter_mut().skip(rows).zip(&self.cuts) {
@@ -58,7 +58,7 @@ impl Program {
     }
 }
 
-/// A sum of prices as a bound; nothing where it is too large for one.
+/// A sum of prices as a bound; none if it is too large.
 pub(crate) fn as_bound(sum: i128) -> i64 {
     i64::try_from(sum).unwrap_or(NO_BOUND)
 }

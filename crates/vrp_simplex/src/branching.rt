@@ -6,10 +6,10 @@ use crate::subset_rows::{PLACES, pair_sums};
 use std::alloc::AllocError;
 use vrp_partition::Route;
 
-// The pair is sought that goes in one route nearest to so much.
+// The pair is sought whose share of common routes is nearest to this.
 const MIDDLE: i64 = ONE / 100 * 55;
 
-// Two customers, a bit for each, and how far it is from the middle that they go in one route.
+// Two customers, a bit for each, and the distance of their share of common routes from the middle.
 #[derive(Clone, Copy, Debug, PartialEq, Eq, PartialOrd, Ord)]
 struct RankedPair {
     far: i64,
@@ -17,8 +17,8 @@ struct RankedPair {
 }
 
 impl Program {
-    /// The two customers of whom the solution is least sure whether they go in one route, a bit for each; such by whom both branches
-    /// lose a route, if there are any. Nothing is promised of them, since nobody trusts them.
+    /// The two customers, a bit for each, for whom the solution is least decided whether they share a route; if possible a pair by which
+    /// both branches lose a route. No clause pins them, since they are not trusted.
     pub fn pair(&self, pool: &[Route]) -> Result<u128, AllocError> {
         let used = self.used()?;
         let pairs = pair_sums(self.alloc, used.as_slice())?;

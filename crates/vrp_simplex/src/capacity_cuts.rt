@@ -1,4 +1,4 @@
-//! Sets of customers that the solution comes to too seldom.
+//! Capacity cuts: sets of customers that too few routes of the solution visit.
 use crate::cut::{Cut, CutKind, holds, only};
 use crate::fixed_point::{ONE, at};
 use crate::separation::{Broken, Used};
@@ -6,7 +6,7 @@ use crate::subset_rows::PLACES;
 use std::alloc::{AllocError, Global};
 use vrp_partition::Fleet;
 
-// A solution breaks a cut if it comes to the set less often by so much.
+// A solution violates a cut if it visits the set at least this much too seldom.
 const LESS: i64 = ONE / 20;
 
 // A set that grows.
@@ -15,11 +15,11 @@ struct Growing {
     set: u128,
     load: u64,
     visits: i64,
-    // By customer, how much more the solution comes to the set with it.
+    // By customer, the additional visits of the solution to the set with it.
     more: Vec<i64>,
 }
 
-/// Adds sets that are broken, grown from each customer by whom the solution comes to most seldom besides.
+/// Adds violated sets, grown from each customer by the customer that adds the fewest visits.
 pub(crate) fn push_broken(
     alloc: Global,
     customers: u128,
@@ -44,7 +44,7 @@ pub(crate) fn push_broken(
     Ok(())
 }
 
-// By customer, how much the solution comes to it.
+// The visits of the solution to each customer.
 fn all_visits(alloc: Global, used: &[Used]) -> Result<Vec<i64>, AllocError> {
     let mut visits = vec![in alloc; 0; PLACES]?;
     for route in used {
@@ -54,7 +54,7 @@ fn all_visits(alloc: Global, used: &[Used]) -> Result<Vec<i64>, AllocError> {
 }
 
 impl Growing {
-    // Takes in one customer after the other, and adds each set that is broken.
+    // Adds one customer after another to the set, and each violated set to the list.
     fn grow(
         &mut self,
         customers: u128,
@@ -70,7 +70,7 @@ impl Growing {
         Ok(())
     }
 
-    // Takes a customer into the set.
+    // Adds a customer to the set.
     fn take(&mut self, customer: usize, used: &[Used], fleet: &Fleet<'_>) {
         self.visits = self.visits.wrapping_add(at(self.more.as_slice(), customer));
         self.load = self.load.saturating_add(fleet.demand(customer));
@@ -86,7 +86,7 @@ impl Growing {
         self.set |= only(customer);
     }
 
-    // Whom the solution comes to most seldom besides; of several the one with the most demand.
+    // The customer that adds the fewest visits; among several the one with the most demand.
     fn next(&self, customers: u128, fleet: &Fleet<'_>) -> usize {
         let mut left = customers & !self.set;
         let mut next = 0usize;
@@ -108,7 +108,7 @@ impl Growing {
         next
     }
 
-    // Adds the set, if the solution comes to it too seldom.
+    // Adds the set to the list if it is violated.
     fn push_if_broken(
         &self,
         fleet: &Fleet<'_>,

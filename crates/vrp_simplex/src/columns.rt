@@ -7,7 +7,7 @@ use std::alloc::AllocError;
 use vrp_partition::Route;
 
 impl Program {
-    /// Makes the column of a route, the last one. What stands in `rows` is overwritten.
+    /// Makes the column of a route, the last one. `rows` is overwritten.
     pub(crate) fn push_column(
         &mut self,
         route: Route,
@@ -90,7 +90,7 @@ impl Program {
     }
 }
 
-// The row of a customer, who stands alone in a set.
+// The row of the only customer of a set.
 fn row_of(customer: u128, customers: u128) -> usize {
     (customers & customer.wrapping_sub(1)).count_ones() as usize
 }
@@ -112,7 +112,7 @@ pub(crate) fn number(row: usize) -> u16 {
     u16::try_from(row).unwrap_or(u16::MAX)
 }
 
-/// Adds the rows in which a route stands.
+/// Adds the rows of a route.
 pub(crate) fn push_rows(
     rows: &mut Vec<u16>,
     set: u128,

@@ -1,14 +1,14 @@
 //! Cuts of the program, by the sets of their customers.
 use crate::fixed_point::ONE;
 
-/// What a cut says of the routes of a choice.
+/// The kind of a cut: its statement about the routes of a choice.
 #[derive(Clone, Copy, Debug, PartialEq, Eq)]
 pub(crate) enum CutKind {
     /// At most one of them has two of three customers.
     SubsetRow,
-    /// At least so many come to the set.
+    /// At least this many come to the set.
     Capacity(u32),
-    /// There are at most so many.
+    /// There are at most this many.
     Trucks(u32),
 }
 

@@ -10,28 +10,28 @@ use vrp_partition::Ask;
 /// How the dual simplex ended.
 #[derive(Clone, Copy, Debug, PartialEq, Eq)]
 pub enum DualEnd {
-    /// No value is negative, and nothing stands in the basis that may not.
+    /// No value is negative, and no forbidden column is in the basis.
     Feasible,
     /// There is no solution with the raised right-hand sides: the prices were moved along a ray.
     Ray,
-    /// As many steps were taken as may be, or the search doesn't go on.
+    /// The steps are spent, or the search is stopped.
     StepLimit,
     /// The lower bound is above the limit.
     AboveLimit,
 }
 
-// How many shortlists are tried, each so many times as long as the one before.
+// The number of shortlists that are tried, and the factor of their lengths.
 const MOST_SHORTLISTS: u32 = 4;
 
 const MORE_LISTED: usize = 6;
 
-// After so many steps it is asked whether the search goes on.
+// The number of steps between two calls of the watch.
 const STEPS_BETWEEN: u64 = 64;
 
-// By so much a column's entry in the leaving row may be another by the row than by the column, before the inverse is made anew.
+// The tolerated difference of a column's entry in the leaving row, by row and by column, before the inverse is computed again.
 const MOST_APART: i64 = ONE >> 20;
 
-// A row that is to leave the basis, how far its value is from where it may be, and on which side.
+// A row that is to leave the basis, the distance of its value from the feasible range, and the side.
 #[derive(Clone, Copy)]
 struct LeavingRow {
     row: usize,
@@ -39,7 +39,7 @@ struct LeavingRow {
     sign: i64,
 }
 
-// The column that comes, so far.
+// The best entering column so far.
 #[derive(Clone, Copy)]
 struct Entering {
     least: i64,
@@ -48,7 +48,7 @@ struct Entering {
 }
 
 impl Entering {
-    // Takes a column, if its reduced cost comes to 0 sooner, or as soon and it moves more.
+    // Takes a column if its reduced cost reaches 0 sooner, or as soon with a larger entry.
     #[inline(always)]
     fn look(&mut self, moves: i64, reduced: i64, basic: Basic) {
         if moves > ONE >> 14 && is_quotient_at_most(reduced.max(0), moves, self.least) {
@@ -62,7 +62,7 @@ impl Entering {
     }
 }
 
-// What a step writes, made once.
+// The buffers of a step, allocated once.
 #[derive(Drop)]
 struct Scratch {
     pairs: Box<Pairs>,
@@ -81,9 +81,9 @@ impl Scratch {
 }
 
 impl Program {
-    /// What is negative, or may not stand in the basis, leaves it, until nothing is, so many steps are taken, or the lower bound is
-    /// above the limit, a price. It looks at so many columns, those of the least reduced costs, and begins again with more of them where
-    /// the others would have stopped it. What comes of it is left open, since nobody trusts it.
+    /// Removes negative and forbidden columns from the basis, until there are none, the steps are spent, or the lower bound is above the
+    /// limit, a price. It looks at a shortlist of the columns with the least reduced costs, and begins again with a longer one if other
+    /// columns would have stopped a step. No clause pins the result, since it is not trusted.
     pub fn dual_simplex<A: Ask>(
         &mut self,
         ask: &A,
@@ -119,7 +119,7 @@ impl Program {
         Ok(end)
     }
 
-    // Whether steps over a shortlist led where the other columns would not have let them.
+    // Whether columns outside the shortlist would have stopped the steps.
     fn has_strayed(&self, end: DualEnd) -> bool {
         match end {
             DualEnd::Feasible => false,
@@ -142,7 +142,7 @@ impl Program {
             if leaving.far <= ONE >> 24 {
                 return Ok(DualEnd::Feasible);
             }
-            // Not what the solution costs, which is more by the raises.
+            // Not the cost of the solution, which includes the raises.
             let low = as_bound(self.price_sum());
             if low > enough {
                 return Ok(DualEnd::AboveLimit);
@@ -159,13 +159,13 @@ impl Program {
         Ok(DualEnd::StepLimit)
     }
 
-    // How far the sum of the prices has to be above the limit, so that the lower bound is too.
+    // The margin by which the sum of the prices must exceed the limit for the lower bound to exceed it.
     fn margin(&self) -> i64 {
         let customers = i64::try_from(self.customer_rows()).unwrap_or(0);
         (UNIT / 8).saturating_add(self.tolerance().saturating_mul(customers))
     }
 
-    // A column comes in at the row, if there is one that may.
+    // A column enters at the row, if one can.
     fn dual_step(
         &mut self,
         leaving: &LeavingRow,
@@ -196,7 +196,7 @@ impl Program {
         Ok(true)
     }
 
-    // The column comes in at the row, if it moves it; else the inverse is made anew.
+    // The column enters at the row if its entry is nonzero; otherwise the inverse is computed again.
     fn pivot(&mut self, row: usize, entering: Basic, direction: &[i64]) -> Result<(), AllocError> {
         let moves = at(direction, row);
         if moves.saturating_abs() > ONE >> 16 {
@@ -209,7 +209,7 @@ impl Program {
         }
     }
 
-    // The row that is farthest from where it may be.
+    // The row farthest from its feasible range.
     fn leaving_row(&self) -> LeavingRow {
         let mut leaving = LeavingRow {
             row: 0,
@@ -232,7 +232,7 @@ impl Program {
         leaving
     }
 
-    // Writes the prices beside the row of the inverse that leaves.
+    // Writes the prices beside the leaving row of the inverse.
     fn write_pairs(&self, leaving: &LeavingRow, pairs: &mut Pairs) {
         let columns = self.inverse.chunks_exact(self.stride.max(1));
         let rows = self.prices.iter().zip(columns);
@@ -242,7 +242,7 @@ impl Program {
         }
     }
 
-    // The column that comes into the basis.
+    // The entering column.
     fn entering(&self, pairs: &Pairs) -> Entering {
         let mut entering = Entering {
             least: i64::MAX,
@@ -262,7 +262,7 @@ impl Program {
         entering
     }
 
-    // Raises the prices along a ray, by so much.
+    // Moves the prices along a ray by this much.
     fn follow_ray(&mut self, pairs: &Pairs, leaving: &LeavingRow, more: i64) {
         let step = quotient(more.saturating_add(UNIT), leaving.far);
         for (price, pair) in self.prices.iter_mut().zip(pairs.iter()) {

@@ -1,33 +1,33 @@
-//! The inverse made anew; a basis that has none, or nearly none, is made one that has.
+//! The inverse, computed by elimination; a basis that is singular, or nearly so, is repaired.
 use crate::fixed_point::{ONE, at, dot, low_half, product, put, quotient};
 use crate::program::{Basic, Program};
 use std::alloc::{AllocError, Global};
 use std::mem;
 
-// The rows of the basis, and beside each the row of what was done to it.
+// The rows of the basis, each with the row of the operations done to it.
 #[derive(Drop)]
 struct Matrix {
     height: usize,
     cells: Vec<i64>,
-    // Which row of the program each row was at first.
+    // The original row of the program for each row.
     origins: Vec<usize>,
-    // What stands in the pivot's row.
+    // The pivot row.
     pivot: Vec<Entry>,
 }
 
-// A number of a row that is not nothing.
+// A nonzero entry of a row.
 #[derive(Clone, Copy)]
 struct Entry {
     index: usize,
     number: i64,
 }
 
-// A smaller pivot shows that a column of the basis nearly depends on those before it.
+// A smaller pivot means that a column of the basis nearly depends on earlier ones.
 const LEAST_PIVOT: i64 = ONE >> 12;
 
 impl Program {
-    /// Makes the inverse and the values anew from the basis, by elimination. A column that depends on those before it leaves the
-    /// basis for an artificial one.
+    /// Computes the inverse and the values from the basis, by elimination. A column that depends on earlier ones is replaced by an
+    /// artificial one.
     pub(crate) fn invert(&mut self) -> Result<(), AllocError> {
         self.exchanges = 0;
         let mut matrix = self.matrix()?;
@@ -42,7 +42,7 @@ impl Program {
         Ok(())
     }
 
-    // Puts the artificial column of a row into a place of the basis.
+    // Puts the artificial column of a row at a position of the basis.
     fn put_artificial(&mut self, place: usize, row: usize) {
         if let Some(basic) = self.basis.get_mut(place) {
             *basic = Basic::Artificial(row);
@@ -50,7 +50,7 @@ impl Program {
         put(self.costs.as_mut_slice(), place, self.artificial_cost);
     }
 
-    // The basis beside the rows of one.
+    // The basis beside the rows of the identity.
     fn matrix(&self) -> Result<Matrix, AllocError> {
         let height = self.height();
         let mut matrix = Matrix::new(self.alloc, height)?;
@@ -65,7 +65,7 @@ impl Program {
         Ok(matrix)
     }
 
-    // Takes the inverse out of the matrix, and the values.
+    // Reads the inverse and the values from the matrix.
     fn read_inverse(&mut self, matrix: &Matrix) {
         let height = matrix.height;
         let rows = matrix.cells.chunks_exact(matrix.width().max(1));
@@ -95,7 +95,7 @@ impl Matrix {
         })
     }
 
-    // How many numbers a row has.
+    // The length of a row.
     fn width(&self) -> usize {
         self.height.saturating_mul(2)
     }
@@ -105,7 +105,7 @@ impl Matrix {
         put(self.cells.as_mut_slice(), place, number);
     }
 
-    // Makes a column one of the unit's. False where it has no pivot.
+    // Turns a column into a unit column. False if it has no pivot.
     fn eliminate(&mut self, column: usize) -> Result<bool, AllocError> {
         let (row, size) = self.largest(column);
         if size < LEAST_PIVOT {
@@ -127,7 +127,7 @@ impl Matrix {
         Ok(true)
     }
 
-    // Makes a column that of the unit in the pivot's row, as it was at first: what was done to that is beside it. Answers that row.
+    // Turns a column into the unit column of the pivot's original row, whose operations are beside it. Answers that row.
     fn replace(&mut self, column: usize) -> usize {
         let origin = self.origins.get(column).copied().unwrap_or(column);
         let from = self.height.saturating_add(origin);
@@ -139,7 +139,7 @@ impl Matrix {
         origin
     }
 
-    // The row, from the pivot's on, with the largest number in a column.
+    // The row, from the pivot's on, with the largest entry in a column.
     fn largest(&self, column: usize) -> (usize, i64) {
         let mut largest = (column, -1i64);
         for (row, cells) in self.cells.chunks_exact(self.width().max(1)).enumerate() {
@@ -170,7 +170,7 @@ impl Matrix {
         }
     }
 
-    // Divides the pivot's row by its pivot, and keeps what stands in it.
+    // Divides the pivot row by its pivot, and keeps a copy.
     fn read_pivot(&mut self, column: usize) -> Result<(), AllocError> {
         self.pivot.clear();
         let start = column.saturating_mul(self.width());

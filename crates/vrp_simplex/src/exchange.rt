@@ -1,14 +1,14 @@
-//! Exchanges in the basis.
+//! Exchanges of columns in the basis.
 use crate::fixed_point::{
     UNIT, as_price, at, product, put, quotient, subtract_times, wide_product, wide_times,
 };
 use crate::program::{Basic, Column, Program};
 use std::alloc::AllocError;
 
-// After so many exchanges the inverse is made anew.
+// After this many exchanges the inverse is computed again.
 const MOST_EXCHANGES: u64 = 100;
 
-/// A row whose value moves as a column comes in, and by how much of it.
+/// A row whose value changes when a column enters, and its entry.
 #[derive(Clone, Copy, Debug)]
 pub(crate) struct Touched {
     row: usize,
@@ -16,8 +16,8 @@ pub(crate) struct Touched {
 }
 
 impl Program {
-    /// A column comes into the basis at a row, with a value; it is seen in this direction. The prices are those of the basis, before
-    /// and after.
+    /// A column enters the basis at a row, with a value; `direction` is the column in terms of the basis. The prices are those of the basis,
+    /// before and after.
     pub(crate) fn exchange(
         &mut self,
         row: usize,
@@ -55,7 +55,7 @@ impl Program {
         Ok(())
     }
 
-    // Lists the rows that a direction moves.
+    // Lists the rows that a direction changes.
     fn touch(&mut self, direction: &[i64]) -> Result<(), AllocError> {
         self.touched.clear();
         for (row, &moves) in direction.iter().enumerate() {
@@ -66,7 +66,7 @@ impl Program {
         Ok(())
     }
 
-    // The reduced cost of a column, as wide as the prices that it is made of.
+    // The reduced cost of a column, in the width of the prices.
     fn wide_reduced_cost(&self, basic: Basic) -> i128 {
         match basic {
             Basic::Route(route) => match self.columns.get(route) {
@@ -82,7 +82,7 @@ impl Program {
         }
     }
 
-    // What a column costs, less the prices of its rows.
+    // The cost of a column minus the prices of its rows.
     fn wide_rest(&self, column: &Column) -> i128 {
         let mut rest = wide_product(column.cost, UNIT);
         for quad in column.of(self.quads.as_slice()) {

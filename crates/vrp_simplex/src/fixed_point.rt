@@ -6,7 +6,7 @@ pub(crate) const ONE: i64 = 1_099_511_627_776;
 /// One, as a price or a reduced cost.
 pub(crate) const UNIT: i64 = 1_048_576;
 
-// One and a half of the last place, before a product of values is cut to a value.
+// One and a half of the last place, before a product of values is truncated.
 const WIDE_ONE: i128 = 1_099_511_627_776;
 
 /// Half of one, squared.
@@ -20,7 +20,7 @@ pub(crate) fn low_half(wide: i128) -> i64 {
     ((wide.cast_unsigned() & LOW_BITS) as u64).cast_signed()
 }
 
-/// A product, as wide as it takes.
+/// A product in full width.
 #[inline(always)]
 pub(crate) fn wide_product(left: i64, right: i64) -> i128 {
     i128::from(left).wrapping_mul(i128::from(right))
@@ -38,26 +38,26 @@ pub(crate) fn wide_times(price: i128, value: i64) -> i128 {
     price.wrapping_mul(i128::from(value)).wrapping_add(HALF) >> 40
 }
 
-/// A quotient of values, cut; by 0, 0.
+/// A quotient of values, truncated; 0 for a division by 0.
 pub(crate) fn quotient(upper: i64, lower: i64) -> i64 {
     let upper = i128::from(upper).wrapping_mul(WIDE_ONE);
     low_half(upper.checked_div(i128::from(lower)).unwrap_or(0))
 }
 
-/// Whether a quotient of values, neither negative, is no more than this one, or would be if it were cut.
+/// Whether a quotient of nonnegative values is at most this one after truncation.
 #[inline(always)]
 pub(crate) fn is_quotient_at_most(upper: i64, lower: i64, most: i64) -> bool {
     let next = i128::from(most).wrapping_add(1);
     i128::from(upper).wrapping_mul(WIDE_ONE) < next.wrapping_mul(i128::from(lower))
 }
 
-/// A number of a list; beyond its end, 0.
+/// An element of a list, 0 beyond its end.
 #[inline(always)]
 pub(crate) fn at(list: &[i64], index: usize) -> i64 {
     list.get(index).copied().unwrap_or(0)
 }
 
-/// Puts a number into a list, if it is long enough.
+/// Sets an element of a list, if the list is long enough.
 #[inline(always)]
 pub(crate) fn put(list: &mut [i64], index: usize, number: i64) {
     if let Some(place) = list.get_mut(index) {

@@ -1,29 +1,29 @@
-//! The guide of a search: it is asked for prices and for customers to branch on, and answers by the linear program.
+//! The guide of a search: it answers with prices and with customers to branch on, by the linear program.
 use crate::bound::NO_BOUND;
 use crate::fixed_point::UNIT;
 use crate::inherited::Inherited;
 use crate::node::{MOST_IN_SIGHT, Node, Progress};
 use crate::program::Program;
 use std::alloc::{AllocError, Global};
-use vrp_partition::{Ask, Fleet, Guide, MOST_CUSTOMERS, PriceOffer, Route, SCALE};
+use vrp_partition::{Ask, Fleet, Guide, PriceOffer, Route, SCALE, Task};
 
-/// A guide by the linear program over the routes of a node. It goes on from node to node, and `ask` is asked now and then whether to.
+/// A guide by the linear program over the routes of a node. It keeps its program from node to node; the watch `ask` may stop it.
 #[derive(Debug, Drop)]
 pub struct ProgramGuide<'a, A: Ask> {
     alloc: Global,
     fleet: Fleet<'a>,
     ask: &'a A,
-    // The sets of routes that are to be in sight from the first.
+    // The sets of routes that are in sight from the start.
     known: Vec<u128>,
     program: Option<Program>,
-    // What was offered last.
+    // The last offer.
     last: Option<Inherited>,
     progress: Progress,
 }
 
 impl<'a, A: Ask> ProgramGuide<'a, A> {
-    /// A guide that has seen no node. The routes of a plan that is known are to be in sight from the first, by their sets, a bit for
-    /// each customer; there need be none.
+    /// A new guide. The routes of a known plan are in sight from the start; they are given as sets, a bit for each customer, and may be
+    /// empty.
     pub fn new(alloc: Global, fleet: Fleet<'a>, known: Vec<u128>, ask: &'a A) -> Self {
         ProgramGuide {
             alloc,
@@ -36,7 +36,7 @@ impl<'a, A: Ask> ProgramGuide<'a, A> {
         }
     }
 
-    /// How many steps the program took, primal and dual, since it was made. Nothing is promised of either.
+    /// The numbers of primal and dual steps of the program so far; no clause pins them.
     pub fn steps(&self) -> (u64, u64) {
         match &self.program {
             Some(program) => program.steps(),
@@ -119,21 +119,16 @@ impl<A: Ask> Guide for ProgramGuide<'_, A> {
         self.ask.should_continue()
     }
 
-    fn offer(
-        &mut self,
-        pool: &[Route],
-        customers: u128,
-        incumbent: u64,
-    ) -> Result<PriceOffer, AllocError> {
+    fn offer(&mut self, pool: &[Route], task: &Task<'_>) -> Result<PriceOffer, AllocError> {
         if pool.is_empty() {
-            return no_prices(self.alloc);
+            return PriceOffer::zeros(self.alloc);
         }
         if !self.progress.is_paused {
             self.progress = Progress::new(false);
         }
-        let limit = incumbent.saturating_sub(1).saturating_mul(SCALE);
+        let limit = task.incumbent.saturating_sub(1).saturating_mul(SCALE);
         let limit = i64::try_from(limit).unwrap_or(i64::MAX / 4);
-        let mut node = self.node(pool, customers, limit)?;
+        let mut node = self.node(pool, task.customers, limit)?;
         let before = node.program.looked_at();
         node.run()?;
         self.keep(node, before, pool.len())
@@ -141,7 +136,7 @@ impl<A: Ask> Guide for ProgramGuide<'_, A> {
 
     fn group(&mut self, pool: &[Route]) -> Result<u128, AllocError> {
         match &self.program {
-            // By no group the first branch has all routes, and the second none: the rounds go on with the routes that are left.
+            // With an empty group the first branch has all routes, and the second none: the rounds continue with the routes that are left.
             Some(_) if self.progress.is_paused => Ok(0),
             Some(program) => program.pair(pool),
             None => Ok(0),
@@ -170,8 +165,8 @@ impl<A: Ask> Guide for ProgramGuide<'_, A> {
 }
 
 impl<'a, A: Ask> ProgramGuide<'a, A> {
-    // Keeps a node's program and its prices for the next node, and offers the prices. A bound can't fall from a pool to a part of it:
-    // where that of the program did, it is stuck, and the next node begins with a new one.
+    // Keeps a node's program and its prices for the next node, and offers the prices. A bound can't fall from a pool to a part of it: if the
+    // program's bound did, the program is stuck, and the next node begins with a new one.
     fn keep(
         &mut self,
         node: Node<'a, A>,
@@ -193,10 +188,10 @@ impl<'a, A: Ask> ProgramGuide<'a, A> {
         self.progress = progress;
         self.program = if is_stuck { None } else { Some(program) };
         let Some(prices) = best else {
-            return no_prices(self.alloc);
+            return PriceOffer::zeros(self.alloc);
         };
         let offer = prices.offer(self.alloc, work)?;
-        // By a bound above the limit the search leaves the node: where it asks again, that was none.
+        // With a bound above the limit the search leaves the node; if it asks again, the bound was wrong.
         let bound = if best_bound > limit {
             NO_BOUND
         } else {
@@ -210,15 +205,4 @@ impl<'a, A: Ask> ProgramGuide<'a, A> {
         });
         Ok(offer)
     }
-}
-
-// Prices of 0.
-fn no_prices(alloc: Global) -> Result<PriceOffer, AllocError> {
-    Ok(PriceOffer {
-        duals: vec![in alloc; 0; MOST_CUSTOMERS]?,
-        subset_rows: Vec::new(alloc),
-        capacity_cuts: Vec::new(alloc),
-        truck_price: 0,
-        work: 0,
-    })
 }

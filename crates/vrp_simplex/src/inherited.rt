@@ -1,10 +1,10 @@
-//! What a node inherits: the prices that were offered for the node before, with their bound and their cuts.
+//! The inheritance of a node: the prices offered for the node before, with their bound and their cuts.
 use crate::cut::{Cut, CutKind};
 use crate::row_prices::RowPrices;
 use std::alloc::{AllocError, Global};
 use vrp_partition::Fleet;
 
-/// Prices that were offered for a pool of so many routes that serve these customers, and what they bound.
+/// Prices offered for a pool of this many routes that serve these customers, and their bound.
 #[derive(Clone, Debug, Drop)]
 pub(crate) struct Inherited {
     pub(crate) customers: u128,
@@ -14,13 +14,12 @@ pub(crate) struct Inherited {
 }
 
 impl Inherited {
-    /// Whether the bound holds for a pool of so many routes that serve these customers: a longer one is no part of the pool before.
+    /// Whether the bound holds for a pool of this many routes that serve these customers: a longer pool is no part of the earlier one.
     pub(crate) fn holds_for(&self, customers: u128, count: usize) -> bool {
         self.customers == customers && count <= self.count
     }
 
-    /// The cuts of these prices, for the customers of a new program: subset rows of those, and sets of those that more than one truck
-    /// comes to.
+    /// The cuts of these prices, restricted to the customers of a new program: subset rows, and sets that more than one truck must visit.
     pub(crate) fn cuts(
         &self,
         alloc: Global,
@@ -49,7 +48,7 @@ impl Inherited {
     }
 }
 
-// How many trucks carry what a set of customers demands.
+// The number of trucks that carry the demand of a set of customers.
 fn trucks_for(set: u128, fleet: &Fleet<'_>) -> u32 {
     let mut load = 0u64;
     let mut left = set;

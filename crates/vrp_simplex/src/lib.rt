@@ -1,6 +1,6 @@
-//! A linear program over routes, with cuts, in fixed point: a primal and a dual simplex by the inverse of the basis, and the guide of
-//! a search that asks it for prices. Nobody trusts what it answers, so its functions promise no more than that they return. Where
-//! numbers grow too large, sums wrap.
+//! A linear program over routes, with cuts, in fixed point: a primal and a dual simplex with the inverse of the basis, and the guide of
+//! a search that asks it for prices. Its answers are not trusted, so its functions promise only that they return. If numbers grow too
+//! large, sums wrap.
 #![tactic(auto)]
 
 mod alignment;

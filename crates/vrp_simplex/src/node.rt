@@ -1,4 +1,4 @@
-//! A node of the search: its program is solved, and cuts are added, round by round.
+//! A node of the search: rounds of solving its program and adding cuts.
 use crate::bound::NO_BOUND;
 use crate::dual_simplex::DualEnd;
 use crate::fixed_point::UNIT;
@@ -7,21 +7,21 @@ use crate::row_prices::RowPrices;
 use std::alloc::{AllocError, Global};
 use vrp_partition::{Ask, Fleet, Route};
 
-/// The program has about so many routes in sight.
+/// About the number of routes that the program has in sight.
 pub(crate) const MOST_IN_SIGHT: usize = 20_000;
 
-// With so few routes within the gap the search needs no more cuts.
+// With this few routes within the gap the search needs no more cuts.
 const FEW_ROUTES: usize = 300;
 
-// With no more routes than these the search tries the exact cover, so prices for fewer routes would not pay.
+// With at most this many routes the search tries the exact cover, so prices for fewer routes would not pay.
 const MANY_ROUTES: usize = 3_000;
 
-// Of more columns than these the dual simplex looks at a shortlist, which has so many.
+// With more columns than this the dual simplex looks at a shortlist of this length.
 const MOST_LISTED: usize = 5_000;
 
 const MOST_CUTS: usize = 150;
 
-// How many rounds of cuts there are at the root, and in other nodes.
+// The number of rounds of cuts at the root, and in other nodes.
 const ROOT_ROUNDS: u32 = 15;
 
 const OTHER_ROUNDS: u32 = 6;
@@ -32,20 +32,20 @@ const MOST_FIRST_STEPS: u64 = 20_000;
 
 const MOST_STEPS_A_PASS: u64 = 20_000;
 
-// The rest is looked through so often, and each time so many routes come in.
+// The number of passes over the rest, and the number of routes that each pass brings in.
 const MOST_PASSES: usize = 60;
 
 const MOST_COMING: usize = 3_000;
 
-/// How far the rounds of a node are.
+/// The progress of a node's rounds.
 #[derive(Clone, Copy, Debug)]
 pub(crate) struct Progress {
     pub(crate) is_root: bool,
     pub(crate) round: u32,
-    // How many rounds gained next to nothing.
+    // The number of rounds with next to no gain.
     stale: u32,
     bound: i64,
-    // Whether the rounds go on once the search has left out the routes above the gap.
+    // Whether the rounds continue after the search has dropped the routes above the gap.
     pub(crate) is_paused: bool,
 }
 
@@ -61,7 +61,7 @@ impl Progress {
         }
     }
 
-    // Takes the bound of a round, and the gap that it leaves.
+    // Notes the bound of a round, and the gap that it leaves.
     fn count_gain(&mut self, bound: i64, gap: i64) {
         let least = (UNIT / 50).max(gap / 128);
         if bound.saturating_sub(self.bound) < least {
@@ -82,7 +82,7 @@ impl Progress {
     }
 }
 
-/// A node: its program, and the routes of its pool that the program doesn't see.
+/// A node: its program, and the routes of its pool that are out of sight.
 #[derive(Drop)]
 pub(crate) struct Node<'a, A: Ask> {
     pub(crate) alloc: Global,
@@ -90,13 +90,13 @@ pub(crate) struct Node<'a, A: Ask> {
     pub(crate) fleet: Fleet<'a>,
     pub(crate) program: Program,
     pub(crate) rest: Vec<Route>,
-    // What a choice that is sought costs at most, as a price.
+    // The highest cost of a choice that is sought, as a price.
     pub(crate) limit: i64,
     pub(crate) progress: Progress,
-    // The prices that bound best, of those before this node too.
+    // The prices that bound best, earlier nodes included.
     pub(crate) best: Option<RowPrices>,
     pub(crate) best_bound: i64,
-    // What the program's own prices bound at best.
+    // The best bound by the program's own prices.
     pub(crate) own_bound: i64,
 }
 
@@ -136,13 +136,13 @@ impl<A: Ask> Node<'_, A> {
         Ok(())
     }
 
-    // Whether the search would leave out so many routes that it had better do so now.
+    // Whether the search would drop enough routes that it should do so now.
     fn is_worth_a_pause(&self, within: usize) -> bool {
         let count = self.program.routes.len().saturating_add(self.rest.len());
         count > MANY_ROUTES && within < count / 4 * 3
     }
 
-    // Adds cuts, but before the first solution. False where the solution breaks none.
+    // Adds cuts, except before the first solution. False if the solution violates none.
     fn cut(&mut self) -> Result<bool, AllocError> {
         if self.progress.round == 0 {
             if !self.progress.is_root {
@@ -166,7 +166,7 @@ impl<A: Ask> Node<'_, A> {
         self.look_through_rest()
     }
 
-    // Solves the program after a change. False where the bound is above the limit.
+    // Solves the program after a change. False if the bound is above the limit.
     fn solve_anew(&mut self) -> Result<bool, AllocError> {
         self.finish_primal()?;
         let limit = if self.rest.is_empty() {
@@ -190,7 +190,7 @@ impl<A: Ask> Node<'_, A> {
         }
     }
 
-    // The dual simplex wants reduced costs that are not negative: where steps ended early, the primal simplex goes on first.
+    // The dual simplex needs nonnegative reduced costs: if steps ended early, the primal simplex continues first.
     fn finish_primal(&mut self) -> Result<(), AllocError> {
         self.program.make_prices()?;
         self.program.reduce();
@@ -216,7 +216,7 @@ impl<A: Ask> Node<'_, A> {
         Ok(())
     }
 
-    // The routes of the rest with the least reduced costs come into sight, if those are negative. False where none is.
+    // The routes of the rest with the least reduced costs come into sight, if these are negative. False if none is.
     fn take_negative(&mut self) -> Result<bool, AllocError> {
         self.program.make_prices()?;
         let prices = RowPrices::new(&self.program)?;
@@ -244,7 +244,7 @@ impl<A: Ask> Node<'_, A> {
         Ok(!some.is_empty())
     }
 
-    // Takes the prices of today, if they bound better than those before. Returns their bound.
+    // Keeps the current prices if they bound better than earlier ones. Returns their bound.
     fn record(&mut self) -> Result<i64, AllocError> {
         let bound = self.program.lower_bound(self.rest.as_slice())?;
         self.own_bound = self.own_bound.max(bound);
@@ -255,7 +255,7 @@ impl<A: Ask> Node<'_, A> {
         Ok(bound)
     }
 
-    // Brings the whole pool into sight where it is small enough, and takes routes out of sight that are too many.
+    // Brings the whole pool into sight if it is small enough, and takes surplus routes out of sight.
     fn bring_in(&mut self) -> Result<(), AllocError> {
         let count = self.program.routes.len();
         if count > MOST_IN_SIGHT * 2 {
@@ -269,7 +269,7 @@ impl<A: Ask> Node<'_, A> {
         Ok(())
     }
 
-    // How many routes have no reduced cost above this one.
+    // The number of routes whose reduced cost is not above this one.
     fn within(&self, gap: i64) -> Result<usize, AllocError> {
         let reduced = self.program.reduced.iter();
         let in_sight = reduced.filter(|reduced| **reduced <= gap).count();

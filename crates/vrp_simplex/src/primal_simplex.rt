@@ -28,10 +28,10 @@ struct Candidate {
     entering: Entering,
 }
 
-// So many columns are looked at in turn.
+// The number of columns that are looked at in turn.
 const MOST_CANDIDATES: usize = 300;
 
-// The row that leaves, and the value of what comes.
+// The leaving row, and the value of the entering column.
 #[derive(Clone, Copy)]
 struct Leaving {
     row: usize,
@@ -39,8 +39,8 @@ struct Leaving {
 }
 
 impl Program {
-    /// The best of some hundred columns in turn comes into the basis, until none has a negative reduced cost, so many steps are
-    /// taken, or the search doesn't go on. What comes of it is left open, since nobody trusts it.
+    /// The best of some hundred columns enters the basis, again and again, until none has a negative reduced cost, the steps are spent, or
+    /// the search is stopped. No clause pins the result, since it is not trusted.
     pub fn primal_simplex<A: Ask>(&mut self, ask: &A, most: u64) -> Result<(), AllocError> {
         let last = self.primal_steps.saturating_add(most);
         for _ in 0..u64::MAX {
@@ -78,7 +78,7 @@ impl Program {
         Ok(some)
     }
 
-    // The best of these in turn. Whether one came.
+    // Lets the best of these enter. Answers whether one did.
     fn primal_steps_among(&mut self, some: &mut Vec<Candidate>) -> Result<bool, AllocError> {
         let nothing = self.tolerance().wrapping_neg();
         let mut direction = vec![in self.alloc; 0; self.stride]?;
@@ -107,7 +107,7 @@ impl Program {
         Ok(moved > 0)
     }
 
-    // The least reduced cost of these, and whose it is.
+    // The least reduced cost of these, and its column.
     fn best(&self, some: &[Candidate]) -> Option<(i64, usize)> {
         let prices = table(self.prices.as_slice());
         let mut best = None;
@@ -125,7 +125,7 @@ impl Program {
         best
     }
 
-    // The row whose value comes to 0 first.
+    // The row whose value reaches 0 first.
     fn leaving(&self, direction: &[i64]) -> Option<Leaving> {
         let mut best = None;
         let (mut least, mut largest) = (i64::MAX, 0i64);
@@ -143,7 +143,7 @@ impl Program {
     }
 }
 
-// Leaves the least of these, in order.
+// Keeps the least of these, in order.
 fn truncate(some: &mut Vec<Candidate>) {
     if some.len() > MOST_CANDIDATES {
         let _ = some.as_mut_slice().select_nth_unstable(MOST_CANDIDATES);

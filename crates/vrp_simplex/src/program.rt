@@ -8,7 +8,7 @@ use crate::shortlist::Shortlist;
 use std::alloc::{AllocError, Global};
 use vrp_partition::Route;
 
-/// A column that stands in the basis. The last two have to leave it.
+/// A column of the basis. The last two kinds have to leave it.
 #[derive(Clone, Copy, Debug)]
 pub(crate) enum Basic {
     Route(usize),
@@ -41,7 +41,7 @@ impl Basic {
     }
 }
 
-/// Where a route's rows stand in the list of all, and what it costs, as a price.
+/// The position of a route's rows in the list of all, and its cost as a price.
 #[derive(Clone, Copy, Debug)]
 pub(crate) struct Column {
     pub(crate) start: usize,
@@ -57,15 +57,15 @@ impl Column {
     }
 }
 
-/// A linear program over routes. Its rows are the customers, each of whom is served once, and a little more against ties, then the
-/// cuts. Nothing is promised of its answers, since nobody trusts them.
+/// A linear program over routes. Its rows are the customers, each served once, plus a small raise against ties, and then the cuts. No
+/// clause pins its answers, since they are not trusted.
 #[derive(Clone, Debug, Drop)]
 pub struct Program {
     pub(crate) alloc: Global,
     pub(crate) customers: u128,
     pub(crate) routes: Vec<Route>,
     pub(crate) columns: Vec<Column>,
-    // The numbers of the rows that the routes stand in, four by four, column by column.
+    // The row numbers of the routes, four by four, column by column.
     pub(crate) quads: Vec<Quad>,
     pub(crate) reduced: Vec<i64>,
     // The columns that the dual simplex looks at.
@@ -74,34 +74,34 @@ pub struct Program {
     // The right-hand sides.
     pub(crate) sides: Vec<i64>,
     pub(crate) basis: Vec<Basic>,
-    // What the columns of the basis cost.
+    // The costs of the columns in the basis.
     pub(crate) costs: Vec<i64>,
     pub(crate) values: Vec<i64>,
-    // The inverse of the basis by its columns, each as long as the stride, with nothing behind the last row.
+    // The inverse of the basis by columns, each as long as the stride, padded with zeros after the last row.
     pub(crate) inverse: Vec<i64>,
     pub(crate) stride: usize,
     pub(crate) prices: Vec<i64>,
-    // The same in units of 1/2^40, as they were when the inverse last changed.
+    // The values in units of 1/2^40, when the inverse last changed.
     pub(crate) wide_prices: Vec<i128>,
     pub(crate) artificial_cost: i64,
     pub(crate) dearest: i64,
     pub(crate) primal_steps: u64,
     pub(crate) dual_steps: u64,
     pub(crate) looked_at: u64,
-    // How many exchanges there were since the inverse was made anew.
+    // The number of exchanges since the inverse was computed.
     pub(crate) exchanges: u64,
-    // The rows that the last exchange moved.
+    // The rows that the last exchange changed.
     pub(crate) touched: Vec<Touched>,
-    // By which the right-hand sides are raised.
+    // The raises of the right-hand sides.
     pub(crate) raises: Vec<Raise>,
     pub(crate) random: u64,
-    // By how many bits the right-hand sides are raised less than at first.
+    // The number of bits by which the raises are smaller than at first.
     pub(crate) raise_shift: u32,
 }
 
 impl Program {
-    /// The program over those of the routes that serve none but these customers, a bit for each, by at most so many trucks. It has
-    /// no other cut, and only artificial columns in its basis. What it holds is left open, since nobody trusts it.
+    /// The program over the routes that serve only these customers, a bit for each, with at most this many trucks. It has no other cut, and
+    /// only artificial columns in its basis. No clause pins its contents, since they are not trusted.
     pub fn new(
         alloc: Global,
         customers: u128,
@@ -111,7 +111,7 @@ impl Program {
         Program::with_cuts(alloc, customers, trucks, &[], pool)
     }
 
-    /// The same with cuts, as many as there is room for.
+    /// Adds cuts, as many as there is room for.
     pub(crate) fn with_cuts(
         alloc: Global,
         customers: u128,
@@ -136,7 +136,7 @@ impl Program {
         Ok(program)
     }
 
-    // A program with no row and no column.
+    // An empty program.
     fn empty(alloc: Global, customers: u128) -> Program {
         Program {
             alloc,
@@ -168,7 +168,7 @@ impl Program {
         }
     }
 
-    /// Adds those of the routes that serve none but the program's customers.
+    /// Adds the routes that serve only the program's customers.
     pub(crate) fn add_routes(&mut self, pool: &[Route]) -> Result<(), AllocError> {
         let mut rows = Vec::new(self.alloc);
         for route in pool {
@@ -179,7 +179,7 @@ impl Program {
         Ok(())
     }
 
-    /// Adds a route, which serves none but the program's customers. What stands in `rows` is overwritten.
+    /// Adds a route, which serves only the program's customers. `rows` is overwritten.
     pub(crate) fn add_route(
         &mut self,
         route: Route,
@@ -191,7 +191,7 @@ impl Program {
         self.push_column(route, rows)
     }
 
-    /// A number of the inverse is put by its column and row.
+    /// Sets an entry of the inverse by column and row.
     pub(crate) fn put_inverse(&mut self, column: usize, row: usize, value: i64) {
         let place = column.saturating_mul(self.stride).saturating_add(row);
         if let Some(cell) = self.inverse.as_mut_slice().get_mut(place) {
@@ -206,17 +206,17 @@ impl Program {
         self.inverse.as_slice().get(start..end).unwrap_or(&[])
     }
 
-    /// What a reduced cost may be below 0: what rounding leaves grows with the costs.
+    /// The tolerance for negative reduced costs: rounding errors grow with the costs.
     pub(crate) fn tolerance(&self) -> i64 {
         (self.dearest / 2).max(64)
     }
 
-    /// How many rows the customers have.
+    /// The number of rows of customers.
     pub(crate) fn customer_rows(&self) -> usize {
         self.customers.count_ones() as usize
     }
 
-    /// How many rows there are.
+    /// The number of rows.
     pub(crate) fn height(&self) -> usize {
         self.customer_rows().saturating_add(self.cuts.len())
     }
@@ -236,12 +236,12 @@ impl Program {
         at(self.prices.as_slice(), self.cut_row(cut))
     }
 
-    /// How many steps were taken, primal and dual. Nothing is promised of either.
+    /// The numbers of primal and dual steps; no clause pins them.
     pub fn steps(&self) -> (u64, u64) {
         (self.primal_steps, self.dual_steps)
     }
 
-    /// How many reduced costs were looked at, about. Nothing is promised of it.
+    /// About the number of reduced costs that were looked at; no clause pins it.
     pub fn looked_at(&self) -> u64 {
         self.looked_at
     }

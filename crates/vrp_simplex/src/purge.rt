@@ -1,14 +1,14 @@
-//! Cuts that the solution doesn't touch go out of the program.
+//! Purging: cuts that are not tight leave the program.
 use crate::cut::CutKind;
 use crate::fixed_point::{ONE, put};
 use crate::program::{Basic, Program};
 use crate::rows::{kept, renumber};
 use std::alloc::AllocError;
 
-// A slack of so much shows that the solution doesn't touch its cut.
+// With a slack of at least this a cut is not tight.
 const UNTOUCHED: i64 = ONE / 50;
 
-// Which rows stay, by rows and by places in the basis.
+// The rows that stay, by row and by position in the basis.
 #[derive(Drop)]
 struct Stays {
     rows: Vec<bool>,
@@ -16,7 +16,7 @@ struct Stays {
 }
 
 impl Program {
-    /// Takes the cuts out whose slacks stand in the basis with a value; that of the trucks stays. The basis stays one.
+    /// Removes the cuts whose slacks are in the basis with a positive value, except that of the trucks. The basis stays a basis.
     pub(crate) fn purge(&mut self) -> Result<(), AllocError> {
         let stays = self.untouched()?;
         if stays.rows.iter().all(|&stays| stays) {
@@ -37,7 +37,7 @@ impl Program {
         Ok(())
     }
 
-    // Which rows and places stay.
+    // The rows and positions that stay.
     fn untouched(&self) -> Result<Stays, AllocError> {
         let mut rows = vec![in self.alloc; true; self.height()]?;
         let mut places = vec![in self.alloc; true; self.basis.len()]?;
@@ -78,7 +78,7 @@ impl Program {
         Ok(())
     }
 
-    // The inverse without the columns of the rows that go, and without the places that go.
+    // The inverse without the removed rows and positions.
     fn keep_inverse(&mut self, stays: &Stays) -> Result<(), AllocError> {
         let stride = self.stride;
         let mut inverse = vec![in self.alloc; 0; stride.saturating_mul(stride)]?;
@@ -105,7 +105,7 @@ fn mark(stays: &mut [bool], index: usize) {
     }
 }
 
-// Copies the numbers that stay, one behind the other.
+// Copies the entries that stay, one after another.
 fn copy_kept(to: &mut [i64], from: &[i64], stays: &[bool]) {
     let mut next = 0usize;
     for (&number, &stays) in from.iter().zip(stays) {

@@ -1,11 +1,11 @@
-//! The right-hand sides are raised a little, since with ties the steps would go round in circles: by small parts of some routes, so
-//! that a program with a solution keeps one.
+//! Raises of the right-hand sides, which break ties so that steps don't cycle: small parts of some routes are added, so a feasible
+//! program stays feasible.
 use crate::cut::{Cut, only};
 use crate::fixed_point::{HALF, ONE, low_half, wide_product};
 use crate::program::Program;
 use std::alloc::AllocError;
 
-/// So much of a route is added to the right-hand sides; it serves the customer, a bit, for whom it was drawn.
+/// The part of a route that is added to the right-hand sides. The route serves the customer, a bit, for whom it was drawn.
 #[derive(Clone, Copy, Debug)]
 pub(crate) struct Raise {
     customer: u128,
@@ -13,11 +13,11 @@ pub(crate) struct Raise {
     amount: i64,
 }
 
-// No route's number.
+// The mark for no route.
 const NO_ROUTE: usize = usize::MAX;
 
 impl Program {
-    /// Draws a route for each customer, and makes the right-hand sides by them.
+    /// Draws a route for each customer, and computes the right-hand sides.
     pub(crate) fn draw_raises(&mut self) -> Result<(), AllocError> {
         self.raises.clear();
         for customer in 0..128 {
@@ -36,7 +36,7 @@ impl Program {
         Ok(())
     }
 
-    /// Gives the routes of the raises their new numbers, by their old ones. Whether one is gone.
+    /// Renumbers the routes of the raises. Answers whether one is gone.
     pub(crate) fn renumber_raises(&mut self, numbers: &[Option<usize>]) -> bool {
         let mut is_gone = false;
         for raise in self.raises.iter_mut() {
@@ -50,7 +50,7 @@ impl Program {
         is_gone
     }
 
-    /// Draws other routes for those that are gone, and makes the right-hand sides and the values by them.
+    /// Replaces the routes that are gone, and computes the right-hand sides and the values.
     pub(crate) fn replace_raises(&mut self) -> Result<(), AllocError> {
         for index in 0..self.raises.len() {
             let raise = self.raises.get(index).copied();
@@ -130,7 +130,7 @@ impl Program {
             .wrapping_add(self.raise_of(|set| cut.has(set)))
     }
 
-    // What the raises add up to over the routes that count.
+    // The sum of the raises over the routes that count.
     fn raise_of<F: Fn(u128) -> bool>(&self, counts: F) -> i64
         requires { F.IsAlwaysCallable counts }
     {

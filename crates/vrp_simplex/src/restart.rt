@@ -1,26 +1,26 @@
-//! The program made anew.
+//! A restart of the program.
 use crate::program::{Basic, Program};
 use std::alloc::AllocError;
 use vrp_partition::Ask;
 
-// How many bits the right-hand sides lose of their raises each time.
+// The number of bits that the raises lose each time.
 const LESS_RAISED: u32 = 1;
 
-// How often artificial columns are made dearer, while some have a value.
+// How often the cost of artificial columns is raised while some have a value.
 const DEARER: u32 = 4;
 
 const MOST_ARTIFICIAL_COST: i64 = 1 << 28;
 
 impl Program {
-    /// Solves the program from artificial columns on, over its routes and with its cuts, its right-hand sides raised less: for where
-    /// the dual simplex left a basis that is not feasible. What comes of it is left open.
+    /// Solves the program from artificial columns on, with the same routes and cuts and smaller raises. It is used if the dual simplex left
+    /// an infeasible basis. No clause pins the result.
     pub(crate) fn restart<A: Ask>(&mut self, ask: &A, most: u64) -> Result<(), AllocError> {
         self.raise_shift = self.raise_shift.saturating_add(LESS_RAISED);
         self.begin()?;
         self.solve_first(ask, most)
     }
 
-    /// Solves the program from artificial columns on. They are made dearer while some have a value. What comes of it is left open.
+    /// Solves the program from artificial columns on. Their cost is raised while some have a value. No clause pins the result.
     pub(crate) fn solve_first<A: Ask>(&mut self, ask: &A, most: u64) -> Result<(), AllocError> {
         self.primal_simplex(ask, most)?;
         for _ in 0..DEARER {

@@ -5,10 +5,10 @@ use crate::program::Program;
 use std::alloc::{AllocError, Global};
 use vrp_partition::{Cut, PriceOffer, Route};
 
-// The dual of a customer whom no route may serve.
+// The dual of a customer that no route may serve.
 const SHUT_OUT: i64 = -(1 << 50);
 
-// How far the dual of a customer, and the price of a cut, may be from 0.
+// The greatest absolute dual of a customer, and price of a cut.
 const MOST_DUAL: i64 = 1 << 52;
 
 const MOST_CUT_PRICE: u64 = 1 << 50;
@@ -23,7 +23,7 @@ pub(crate) struct RowPrices {
 }
 
 impl RowPrices {
-    /// Those of a program whose prices have the signs that a bound wants.
+    /// The prices of a program, with the signs that a bound needs.
     pub(crate) fn new(program: &Program) -> Result<RowPrices, AllocError> {
         let mut prices = RowPrices {
             duals: [SHUT_OUT; 128],
@@ -99,7 +99,7 @@ impl RowPrices {
         self.capacity_cuts.as_slice()
     }
 
-    /// These prices as an offer, found by so many looks.
+    /// These prices as an offer, found by this many looks.
     pub(crate) fn offer(&self, alloc: Global, work: u64) -> Result<PriceOffer, AllocError> {
         Ok(PriceOffer {
             duals: Vec::from_slice(alloc, &self.duals)?,

@@ -10,10 +10,10 @@ pub(crate) const MOST_ROWS: usize = 511;
 // The last number is no row's.
 const MANY: usize = 512;
 
-// What fills four rows up.
+// The padding of four rows.
 const NO_ROW: u16 = 511;
 
-/// A number for each row; for no row, nothing.
+/// A number for each row, 0 for no row.
 pub(crate) type Table = [i64; MANY];
 
 /// A list as a table.
@@ -31,17 +31,17 @@ pub(crate) fn of(table: &Table, row: u16) -> i64 {
     table[usize::from(row & NO_ROW)]
 }
 
-/// A price, and what the row of the inverse holds that leaves.
+/// A price, and the entry of the leaving row of the inverse.
 #[derive(Clone, Copy, Debug)]
 pub(crate) struct Pair {
     pub(crate) price: i64,
     pub(crate) line: i64,
 }
 
-/// Both for each row; for no row, nothing.
+/// Both for each row, 0 for no row.
 pub(crate) type Pairs = [Pair; MANY];
 
-/// Nothing for any row.
+/// 0 for each row.
 pub(crate) fn no_pairs() -> Pairs {
     [Pair { price: 0, line: 0 }; MANY]
 }
@@ -99,7 +99,7 @@ fn quad(part: &[u16]) -> Quad {
     quad
 }
 
-/// Gives rows the numbers that they have once those are left out that don't stay.
+/// Renumbers rows after the removal of those that don't stay.
 pub(crate) fn renumber(
     alloc: Global,
     quads: &mut [Quad],
@@ -121,7 +121,7 @@ pub(crate) fn renumber(
     Ok(())
 }
 
-/// Those of a list that stay.
+/// The elements of a list that stay.
 pub(crate) fn kept<T: Copy + Drop>(
     alloc: Global,
     list: &[T],

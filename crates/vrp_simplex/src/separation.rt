@@ -1,25 +1,25 @@
-//! Cuts that the solution breaks.
+//! Separation: cuts that the solution violates.
 use crate::cut::{Cut, CutKind, holds};
 use crate::fixed_point::{ONE, at, put};
 use crate::program::{Basic, Program};
 use std::alloc::AllocError;
 use vrp_partition::Fleet;
 
-/// A route that the solution uses, and how much of it.
+/// A route that the solution uses, and its value.
 #[derive(Clone, Copy, Debug)]
 pub(crate) struct Used {
     pub(crate) set: u128,
     pub(crate) value: i64,
 }
 
-/// A cut, and by how much the solution breaks it.
+/// A cut, and its violation.
 #[derive(Clone, Copy, Debug)]
 pub(crate) struct Broken {
     pub(crate) excess: i64,
     pub(crate) cut: Cut,
 }
 
-// So many cuts are added at once; so many before capacity cuts are left out; and so many subset rows with a customer.
+// The most cuts added at once, the most before capacity cuts are left out, and the most subset rows with one customer.
 const MOST_AT_ONCE: usize = 30;
 
 const MOST_BEFORE_CAPACITY: usize = 20;
@@ -41,7 +41,7 @@ impl Program {
         Ok(used)
     }
 
-    /// Adds cuts that the solution breaks: subset rows, and capacity cuts. Returns how many; nothing is promised of that.
+    /// Adds violated cuts: subset rows, and capacity cuts. Returns their number; no clause pins it.
     pub fn add_broken_cuts(&mut self, fleet: &Fleet<'_>) -> Result<usize, AllocError> {
         let used = self.used()?;
         let mut broken = Vec::new(self.alloc);
@@ -67,7 +67,7 @@ impl Program {
         Ok(added)
     }
 
-    // Whether a cut is added, after so many. A subset row is counted with its customers then.
+    // Whether a cut is added after this many others. If so, a subset row is counted for its customers.
     fn is_taken(&self, cut: &Cut, counts: &mut [u64; 128], added: usize) -> bool {
         if !self.has_room() || self.cuts.contains(cut) {
             return false;
@@ -78,7 +78,7 @@ impl Program {
         }
     }
 
-    // Adds a cut, with its slack in the basis, negative where the cut is broken.
+    // Adds a cut, with its slack in the basis; the slack is negative if the cut is violated.
     fn add_cut(&mut self, cut: Cut) -> Result<(), AllocError> {
         self.widen()?;
         let row = self.height();
@@ -139,7 +139,7 @@ fn sum_of(numbers: &[i64], counts: &[i64]) -> i64 {
     sum
 }
 
-// Counts a subset row with its customers, if none has too many.
+// Counts a subset row for its customers, if none has too many.
 fn is_counted(set: u128, counts: &mut [u64; 128]) -> bool {
     for (customer, count) in counts.iter().enumerate() {
         if holds(set, customer) && *count >= MOST_WITH_A_CUSTOMER {

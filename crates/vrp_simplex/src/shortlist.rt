@@ -1,9 +1,9 @@
-//! The columns that the dual simplex looks at: those of the least reduced costs.
+//! The shortlist: the columns that the dual simplex looks at, those with the least reduced costs.
 use crate::program::{Column, Program};
 use crate::rows::Quad;
 use std::alloc::{AllocError, Global};
 
-/// A column that is looked at, whose rows stand in the shortlist, and its route.
+/// A column of the shortlist, with its rows, and its route.
 #[derive(Clone, Copy, Debug)]
 pub(crate) struct Listed {
     pub(crate) route: usize,
@@ -26,7 +26,7 @@ impl Shortlist {
         }
     }
 
-    // Takes a column in.
+    // Adds a column.
     fn push(&mut self, route: usize, column: &Column, quads: &[Quad]) -> Result<(), AllocError> {
         let start = self.quads.len();
         self.quads.extend_from_slice(column.of(quads))?;
@@ -42,7 +42,7 @@ impl Shortlist {
 }
 
 impl Program {
-    /// Looks at so many columns from now on, those of the least reduced costs, or at all where there are no more.
+    /// Makes a shortlist of this many columns, those with the least reduced costs, or of all if there are no more.
     pub(crate) fn make_shortlist(&mut self, many: usize) -> Result<(), AllocError> {
         let mark = self.mark(many)?;
         self.shortlist.listed.clear();
@@ -55,7 +55,7 @@ impl Program {
         Ok(())
     }
 
-    // The most that the reduced costs of so many columns are.
+    // The greatest reduced cost among the least ones of this many columns.
     pub(crate) fn mark(&self, many: usize) -> Result<i64, AllocError> {
         if many >= self.reduced.len() {
             return Ok(i64::MAX);
@@ -69,7 +69,7 @@ impl Program {
         }
     }
 
-    /// Whether some column isn't looked at.
+    /// Whether some column is not in the shortlist.
     pub(crate) fn is_shortened(&self) -> bool {
         self.shortlist.listed.len() < self.columns.len()
     }

@@ -1,16 +1,16 @@
-//! Triples of customers, of which at most one route has two.
+//! Subset rows: triples of customers of which at most one route has two.
 use crate::cut::{Cut, CutKind, holds, only};
 use crate::fixed_point::{ONE, at};
 use crate::separation::{Broken, Used};
 use std::alloc::{AllocError, Global};
 
-/// Places for each customer of a set of 128 bits.
+/// One entry for each customer of a set of 128 bits.
 pub(crate) const PLACES: usize = 128;
 
-// A solution breaks a cut if it is above one by so much.
+// A solution violates a cut if it exceeds one by at least this.
 const MORE: i64 = ONE + ONE / 50;
 
-/// By two customers: how much of the routes that are used has both.
+/// For each two customers the total value of the routes that have both.
 pub(crate) fn pair_sums(alloc: Global, used: &[Used]) -> Result<Vec<i64>, AllocError> {
     let mut pairs = vec![in alloc; 0; PLACES * PLACES]?;
     for route in used {
@@ -23,7 +23,7 @@ pub(crate) fn pair_sums(alloc: Global, used: &[Used]) -> Result<Vec<i64>, AllocE
     Ok(pairs)
 }
 
-// Adds the value of a route to its customers, but the first.
+// Adds the value of a route to its customers, except the first.
 fn add_members(row: &mut [i64], route: &Used, first: usize) {
     for (customer, sum) in row.iter_mut().enumerate() {
         if customer != first && holds(route.set, customer) {
@@ -32,7 +32,7 @@ fn add_members(row: &mut [i64], route: &Used, first: usize) {
     }
 }
 
-/// Adds the triples that are broken.
+/// Adds the violated triples.
 pub(crate) fn push_broken(
     alloc: Global,
     customers: u128,
@@ -83,7 +83,7 @@ fn push_thirds(
     Ok(())
 }
 
-// Adds a triple, if it is broken.
+// Adds a triple if it is violated.
 fn push_if_broken(set: u128, used: &[Used], broken: &mut Vec<Broken>) -> Result<(), AllocError> {
     let cut = Cut {
         set,

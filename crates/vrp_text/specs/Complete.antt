@@ -1,4 +1,4 @@
--- What is missing in a CVRP file, which counts and node numbers are wrong, and what a file states where nothing is (TSPLIB
+-- What is missing in a CVRP file, which counts and node numbers are wrong, and what a file without such faults states (TSPLIB
 -- 95, sections 1.1 and 1.2).
 use Rattle.std.specs.Prelude.{◌++◌, take, ℕ, ◌+◌, ◌*◌, ℤ, pos, neg_ℤ, unsigned_abs, Bool, not, ◌&&◌, ◌==◌, if◌then◌else◌, Option, Some, None, Result, Ok, Err, List, [], ◌∷◌, length, map, get_or}
 use Rattle.std.specs.List.{list_any, position_or_len, range_with_len}
@@ -27,23 +27,23 @@ abbrev pub needed : {A : Type 0} → Key → Option A → Result A TextError
 needed key None = Err (Missing key)
 needed key (Some a) = Ok a
 
--- Where the weights come from: a metric and the numbers of the coordinates, three for each node, or a layout and the numbers
--- of a matrix.
+-- The source of the weights: a metric and the numbers of the coordinates, three for each node, or a layout and the numbers of
+-- a matrix.
 pub data Source : Type 0 where
   Points : Metric → List ℤ → Source
   Matrix : Layout → List ℤ → Source
 
--- a file in which nothing is missing
+-- a file with nothing missing
 pub record Complete : Type 0 where
   pub nodes : ℕ
   pub capacity : ℕ
   pub source : Source
-  -- a node and its demand, one after the other
+  -- a node and its demand, alternating
   pub demands : List ℤ
-  -- the numbers of the depots, and what stands behind them
+  -- the numbers of the depots, and any numbers after them
   pub depots : List ℤ
 
--- An explicit file whose format is `FUNCTION` has a fault in that line, so a layout it is.
+-- In an explicit file the format `FUNCTION` is a fault of its line, so here the format is a layout.
 abbrev pub matrix_from : WeightFormat → List ℤ → Result Source TextError
 matrix_from format.Function weights = Err (Missing key.WeightFormat)
 matrix_from (format.Matrix layout) weights = Ok (Matrix layout weights)
@@ -58,7 +58,7 @@ abbrev pub source_of : WeightKind → Stated → Result Source TextError
 source_of (kind.Points metric) stated = needed key.NodeCoord stated.coordinates >>= λ numbers. Ok (Points metric numbers)
 source_of kind.Explicit stated = matrix_of stated.format stated.weights
 
--- what is stated, or the first key that is missing
+-- the statements, or the first missing key
 abbrev pub complete_of : Stated → Result Complete TextError
 complete_of stated =
     needed key.Problem stated.problem >>= λ problem.
@@ -70,7 +70,7 @@ complete_of stated =
     needed key.Depot stated.depots >>= λ depots.
     Ok (record { nodes = nodes; capacity = capacity; source = source; demands = demands; depots = depots })
 
--- the depots: the numbers before the first -1, or all where there is none
+-- the depots: the numbers before the first -1, or all if there is none
 abbrev pub listed_depots : List ℤ → List ℤ
 listed_depots numbers = take (position_or_len (λ number. int_eq number (neg_ℤ (pos 1))) numbers) numbers
 
@@ -88,18 +88,18 @@ count_fault complete =
 abbrev pub is_node : ℕ → ℤ → Bool
 is_node nodes number = le_z (pos 1) number && le_z number (pos nodes)
 
--- the first number that is no node, or is given a second time
+-- the first number that is not a node, or that is given a second time
 abbrev pub bad_node : ℕ → List ℤ → List ℤ → Option ℤ
 bad_node nodes given [] = None
 bad_node nodes given (number ∷ numbers) =
     if is_node nodes number && not (list_any (int_eq number) given) then bad_node nodes (given ++ number ∷ []) numbers else Some number
 
--- the first number that is no node
+-- the first number that is not a node
 abbrev pub no_node : ℕ → List ℤ → Option ℤ
 no_node nodes [] = None
 no_node nodes (number ∷ numbers) = if is_node nodes number then no_node nodes numbers else Some number
 
--- the first numbers of rows of numbers that lie one after the other
+-- the first number of each row, of rows stored one after the other
 abbrev pub row_nodes : ℕ → ℕ → List ℤ → List ℤ
 row_nodes width rows numbers = map (λ row. get_or numbers (width * row) (pos 0)) (range_with_len 0 rows)
 
@@ -117,7 +117,7 @@ nodes_fault complete =
     (option_or (node_fault key.Demand (bad_node complete.nodes [] (row_nodes 2 complete.nodes complete.demands)))
     (node_fault key.Depot (no_node complete.nodes (listed_depots complete.depots))))
 
--- what stands beside each node, by rising node
+-- the value beside each node, by rising node
 abbrev pub by_node : {X : Type 0} → X → ℕ → List ℤ → List X → List X
 by_node absent nodes given beside = map (λ node. get_or beside (position_or_len (int_eq (pos node)) given) absent) (range_with_len 1 nodes)
 

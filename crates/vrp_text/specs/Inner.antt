@@ -1,4 +1,4 @@
--- What a reader of the meaning of a file need not believe: only contracts of private functions cite it.
+-- Cited only by contracts of private functions; no reader has to believe it.
 pub mod Answered
 pub mod InMemory
 pub mod MarkedKeys

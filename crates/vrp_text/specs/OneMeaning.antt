@@ -1,14 +1,14 @@
--- What is true of all files: each means just one thing.
+-- Laws about all files: each has exactly one meaning.
 use Rattle.std.specs.Prelude.{◌≡◌, ◌⊎◌, ℕ, Option, List}
 use Rattle.vrp_model.specs.Problem.{Problem}
 use Rattle.vrp_text.specs.Meaning.{MeansProblem, MeansRefusal}
 use Rattle.vrp_text.specs.declared.error.TextError.{TextError}
 
--- any two problems that the bytes mean, with this node chosen, are one
+-- any two problems that the bytes mean, with this node chosen, are equal
 abbrev pub AtMostOneProblem : List ℕ → Option ℕ → Type 0
 AtMostOneProblem bytes chosen = (p q : Problem) → MeansProblem bytes chosen p → MeansProblem bytes chosen q → p ≡ q
 
--- any two refusals that the bytes mean, with this node chosen, are one
+-- any two refusals that the bytes mean, with this node chosen, are equal
 abbrev pub AtMostOneRefusal : List ℕ → Option ℕ → Type 0
 AtMostOneRefusal bytes chosen = (e f : TextError) → MeansRefusal bytes chosen e → MeansRefusal bytes chosen f → e ≡ f
 

@@ -1,4 +1,4 @@
--- The data of a part: which tokens may stand in it, and the numbers that they write (TSPLIB 95, section 1.2).
+-- The data of a part: the allowed tokens, and the numbers that they write (TSPLIB 95, section 1.2).
 use Rattle.std.specs.Int.Signed.{◌≤ℤ◌}
 use Rattle.std.specs.Prelude.{◌≡◌, ◌<◌, get_or, ℕ, ◌+◌, ◌%◌, ℤ, pos, neg_ℤ, Bool, ◌==◌, nat_lt, if◌then◌else◌, Option, Some, None, Result, Ok, Err, List, [], ◌∷◌, ◌++◌, length}
 use Rattle.std.specs.Option.{option_or}
@@ -27,7 +27,7 @@ at_line line fault.Unsupported = error.Unsupported line
 at_line line fault.BadNumber = error.BadNumber line
 at_line line fault.NotWhole = error.NotWhole line
 
--- from 0, the lowest and the highest number that may stand at a place of a section
+-- the lowest and the highest number allowed at a position of a section, counted from 0
 abbrev pub lowest : Section → ℕ → ℤ
 lowest section.Coordinates place = if place % 3 == 0 then neg_ℤ MAX_NODE else neg_ℤ MAX_COORDINATE
 lowest section.Weights place = pos 0
@@ -47,7 +47,7 @@ abbrev pub fault_of : Result ℤ FileLineFault → Option FileLineFault
 fault_of (Ok number) = None
 fault_of (Err fault) = Some fault
 
--- the fault of the first faulty token, where the first of these tokens stands at this place of the section
+-- the fault of the first faulty token; the first of these tokens is at this position of the section
 abbrev pub tokens_fault : Section → ℕ → List (List ℕ) → Option FileLineFault
 tokens_fault section place [] = None
 tokens_fault section place (token ∷ tokens) = option_or (fault_of (token_number section place token)) (tokens_fault section (place + 1) tokens)
@@ -56,18 +56,18 @@ abbrev pub on_line : ℕ → Option FileLineFault → Option TextError
 on_line line None = None
 on_line line (Some fault) = Some (at_line line fault)
 
--- the fault of the first faulty line, where the first of these lines has this number
+-- the fault of the first faulty line; the first of these lines has this number
 abbrev pub data_fault : Section → ℕ → ℕ → List (List (List ℕ)) → Option TextError
 data_fault section line place [] = None
 data_fault section line place (tokens ∷ lines) =
     option_or (on_line line (tokens_fault section place tokens)) (data_fault section (line + 1) (place + length tokens) lines)
 
--- the first line that is not blank, where none may have data
+-- the first line that is not blank, if none may have data
 abbrev pub outside_fault : ℕ → List (List (List ℕ)) → Option TextError
 outside_fault line [] = None
 outside_fault line (tokens ∷ lines) = if nat_lt 0 (length tokens) then Some (error.DataOutside line) else outside_fault (line + 1) lines
 
--- the number of a token that is no fault
+-- the number of a token without fault
 abbrev pub number_or_zero : Result ℤ FileLineFault → ℤ
 number_or_zero (Ok number) = number
 number_or_zero (Err fault) = pos 0
@@ -76,13 +76,13 @@ abbrev pub numbers_from : Section → ℕ → List (List ℕ) → List ℤ
 numbers_from section place [] = []
 numbers_from section place (token ∷ tokens) = number_or_zero (token_number section place token) ∷ numbers_from section (place + 1) tokens
 
--- the numbers that data lines write, from this place of the section on
+-- the numbers in data lines, from this position of the section on
 abbrev pub data_numbers : Section → ℕ → List (List (List ℕ)) → List ℤ
 data_numbers section place [] = []
 data_numbers section place (tokens ∷ lines) = numbers_from section place tokens ++ data_numbers section (place + length tokens) lines
 
--- What may stand in the data lines behind a keyword: nothing, anything, which is not looked at, or the numbers of a section.
--- An explicit file has weights, and its coordinates are not used; in any other file it is the other way round.
+-- What the data lines behind a keyword may contain: nothing, anything, which is not read, or the numbers of a section. An
+-- explicit file uses its weights and skips its coordinates; any other file does the reverse.
 abbrev pub content_of : Bool → Option Keyword → Content
 content_of explicit None = Nothing
 content_of explicit (Some keyword.Remark) = Nothing
@@ -104,13 +104,13 @@ content_fault Nothing line lines = outside_fault line lines
 content_fault Anything line lines = None
 content_fault (Numbers section) line lines = data_fault section line 0 lines
 
--- the numbers of a part; those that are not used are no numbers
+-- the numbers of a part; none if they are not used
 abbrev pub content_numbers : Content → List (List (List ℕ)) → List ℤ
 content_numbers Nothing lines = []
 content_numbers Anything lines = []
 content_numbers (Numbers section) lines = data_numbers section 0 lines
 
--- each number may stand at its place, the first of them at this one
+-- each number is allowed at its position; the first one is at this position
 abbrev pub AreWithin : Section → ℕ → List ℤ → Type 0
 AreWithin section place numbers =
     (k : ℕ) → k < length numbers → (lowest section (place + k) ≤ℤ get_or numbers k (pos 0)) × (get_or numbers k (pos 0) ≤ℤ highest section (place + k))

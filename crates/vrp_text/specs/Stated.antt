@@ -1,4 +1,4 @@
--- What the parts of a CVRP file state, and the first fault of a line.
+-- The statements of a CVRP file's parts, and the first fault of a line.
 use Rattle.std.specs.Prelude.{ℕ, ◌+◌, ℤ, Bool, false, ◌==◌, if◌then◌else◌, Option, Some, None, option_map, is_some, Result, Ok, Err, List, [], ◌∷◌, ◌++◌, codes}
 use Rattle.std.specs.List.{find, list_any}
 use Rattle.std.specs.Option.{option_or, option_and_then}
@@ -34,7 +34,7 @@ bears key part = is_same_key key part.keyword
 abbrev pub part_of : Key → List Part → Option Part
 part_of key parts = find (bears key) parts
 
--- A file is explicit where the first EDGE_WEIGHT_TYPE that it has is EXPLICIT.
+-- A file is explicit if its first EDGE_WEIGHT_TYPE is EXPLICIT.
 abbrev pub is_explicit : List Part → Bool
 is_explicit parts = is_some (option_and_then (λ part. if bytes_eq (value_of part.behind) (codes "EXPLICIT") then Some part else None) (part_of key.WeightKind parts))
 
@@ -42,7 +42,7 @@ abbrev pub fault_in : {X : Type 0} → Result X FileLineFault → Option FileLin
 fault_in (Ok x) = None
 fault_in (Err fault) = Some fault
 
--- what is wrong with the tokens behind the keyword of a key
+-- the fault of the tokens behind the keyword of a key
 abbrev pub value_fault : Bool → Key → List (List ℕ) → Option FileLineFault
 value_fault explicit key.Problem tokens = fault_in (problem_type (value_of tokens))
 value_fault explicit key.Dimension tokens = fault_in (dimension (value_of tokens))
@@ -54,7 +54,7 @@ value_fault explicit key.EdgeWeight tokens = fault_in (no_value tokens)
 value_fault explicit key.Demand tokens = fault_in (no_value tokens)
 value_fault explicit key.Depot tokens = fault_in (no_value tokens)
 
--- What is wrong with a line that begins with this keyword, where some keys are borne by earlier lines: a key is borne once.
+-- The fault of a line that begins with this keyword, given the keys of earlier lines: each key may occur once.
 abbrev pub keyword_fault : Bool → (Key → Bool) → Option Keyword → List (List ℕ) → Option FileLineFault
 keyword_fault explicit borne None tokens = Some UnknownKeyword
 keyword_fault explicit borne (Some keyword.Unsupported) tokens = Some Unsupported
@@ -74,12 +74,12 @@ part_fault explicit earlier part =
     (on_line part.line (keyword_fault explicit (is_borne earlier) part.keyword part.behind))
     (content_fault (content_of explicit part.keyword) (part.line + 1) part.data_lines)
 
--- the first fault of the lines of these parts, which stand behind earlier ones
+-- the first fault of the lines of these parts, which follow earlier ones
 abbrev pub parts_fault : Bool → List Part → List Part → Option TextError
 parts_fault explicit earlier [] = None
 parts_fault explicit earlier (part ∷ parts) = option_or (part_fault explicit earlier part) (parts_fault explicit (earlier ++ part ∷ []) parts)
 
--- what keywords and sections state, each where it is there
+-- the statements of keywords and sections, each if it is present
 pub record Stated : Type 0 where
   pub problem : Option (Unit {0})
   pub nodes : Option ℕ

@@ -1,4 +1,4 @@
-//! A file in which nothing is missing, and whether its sections have the numbers that they need.
+//! A file with nothing missing, and the check that its sections have the numbers that they need.
 ghost use Rattle.std.specs.Prelude.{◌≡◌, ◌≤◌, OnOk, None};
 ghost use Rattle.vrp_text.specs.Complete.{count_fault, listed_depots};
 ghost use Rattle.vrp_text.specs.Inner.Answered.{FailsWith};
@@ -8,10 +8,10 @@ use crate::error::TextError;
 use vrp_model::{Layout, MAX_NODES, Metric};
 use vrp_text_lexer::Key;
 
-// What ends a list of depots.
+// The number that ends a list of depots.
 const LAST_DEPOT: i64 = -1;
 
-/// Where the weights come from.
+/// The source of the weights.
 #[derive(Debug, Drop)]
 pub(crate) enum Source {
     /// The distances of points: a node and its two coordinates, for each node.
@@ -28,12 +28,12 @@ pub(crate) struct Complete {
     pub source: Source,
     /// A node and its demand, for each node.
     pub demands: Vec<i64>,
-    /// The depots, and what stands behind them.
+    /// The depots, and any numbers after them.
     pub depots: Vec<i64>,
 }
 
 impl Complete {
-    /// Whether each section has as many numbers as it needs: the first in the order of `Key` that has not is refused.
+    /// Checks that each section has as many numbers as it needs; refuses the first, in the order of `Key`, that has not.
     pub(crate) fn check_counts(&self) -> Result<(), TextError>
         requires { self.now.nodes ≤ MAX_NODES }
         ensures sound { OnOk result (count_fault (complete_in self.now) ≡ None) }
@@ -62,7 +62,7 @@ impl Complete {
     }
 }
 
-/// The depots that a section lists: the numbers before the first -1, or all where there is none.
+/// The depots that a section lists: the numbers before the first -1, or all if there is none.
 pub(crate) fn listed_depots(numbers: &[i64]) -> &[i64]
     ensures { result.now ≡ listed_depots numbers.now }
 {

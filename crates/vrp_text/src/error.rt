@@ -11,43 +11,43 @@ use vrp_text_lexer::Key;
 /// Why a file is refused. Lines are numbered from 1.
 #[derive(Clone, Copy, Debug, PartialEq, Eq, Error)]
 pub enum TextError {
-    /// A data line stands where no section is.
+    /// A data line stands outside any section.
     #[error("line {0}: data outside a section")]
     DataOutside(u32),
-    /// A keyword that the standard doesn't have.
+    /// The keyword is not one of the standard.
     #[error("line {0}: unknown keyword")]
     UnknownKeyword(u32),
-    /// A keyword of `Key` that an earlier line bears.
+    /// The keyword belongs to a `Key` that an earlier line has.
     #[error("line {0}: repeated keyword")]
     Repeated(u32),
-    /// A keyword's value is missing, unknown, no whole number or out of range, or text stands behind a section's keyword.
+    /// A keyword's value is missing, unknown, not a whole number or out of range, or text follows a section's keyword.
     #[error("line {0}: bad value")]
     BadValue(u32),
-    /// A keyword or a value of the standard that is left out here.
+    /// A keyword or value of the standard that is not supported.
     #[error("line {0}: not supported")]
     Unsupported(u32),
-    /// A token that is no numeral, or whose whole value is out of range.
+    /// A token is not a numeral, or its whole value is out of range.
     #[error("line {0}: bad number")]
     BadNumber(u32),
-    /// A numeral whose value is not whole.
+    /// A numeral has a value that is not whole.
     #[error("line {0}: number is not whole")]
     NotWhole(u32),
-    /// A keyword or a section that is needed is not there: the first in the order of `Key`.
+    /// A needed keyword or section is missing: the first in the order of `Key`.
     #[error("missing {0}")]
     Missing(Key),
-    /// A section has another number of tokens than it needs, or lists no depot: the first in the order of `Key`.
+    /// A section has too many or too few tokens, or lists no depot: the first in the order of `Key`.
     #[error("wrong count in {0}")]
     WrongCount(Key),
-    /// A node number from 1 to the dimension is wanted, and each once where the section has one line a node.
+    /// A number is not a node from 1 to the dimension, or occurs twice in a section with one line for each node.
     #[error("bad node {1} in {0}")]
     BadNode(Key, i64),
-    /// The file can be read, but no instance can be made from it. Never with `InstanceError::OutOfMemory`.
+    /// The file can be read, but no instance can be made from it. Never holds `InstanceError::OutOfMemory`.
     #[error("{0}")]
     Instance(InstanceError),
-    /// More than `MAX_BYTES` bytes.
+    /// The file has more than `MAX_BYTES` bytes.
     #[error("input too long")]
     TooLong,
-    /// A growth was refused.
+    /// An allocation was refused.
     #[error("out of memory")]
     OutOfMemory,
 }

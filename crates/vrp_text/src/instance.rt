@@ -16,10 +16,10 @@ use crate::statements::Statements;
 use std::alloc::Global;
 use vrp_model::{Instance, MAX_NODES, Weights};
 
-/// The instance that a CVRP file means (TSPLIB 95, section 1), with the chosen node as its depot, or the first listed
-/// depot where none is chosen. The refusal is the first that the file means, in this order: too long; the fault of the
-/// first faulty line; a missing keyword or section; a wrong count; a bad node; a fault of the instance. `OutOfMemory` may
-/// come in place of any answer.
+/// The instance that a CVRP file means (TSPLIB 95, section 1), with the chosen node as its depot, or the first listed depot
+/// if none is chosen. A refusal is the first that the file means, in this order: too long; the fault of the first faulty
+/// line; a missing keyword or section; a wrong count; a bad node; a fault of the instance. `OutOfMemory` may come instead of
+/// any answer.
 pub fn read(alloc: Global, bytes: &[u8], chosen: Option<u16>) -> Result<Instance, TextError>
     ensures meant { IfOk result (MeansProblem bytes.now chosen) }
     ensures refused { Refuses result (λ error. MeansRefusal bytes.now chosen error) }
@@ -28,7 +28,7 @@ pub fn read(alloc: Global, bytes: &[u8], chosen: Option<u16>) -> Result<Instance
     instance_of(alloc, &complete, chosen)
 }
 
-// What a file states, where no line is at fault, nothing is missing and the counts are right.
+// The statements of a file, if no line is at fault, nothing is missing and the counts are right.
 fn read_complete(alloc: Global, bytes: &[u8]) -> Result<Complete, TextError>
     ensures read { IfOk result (λ file. reading_of bytes.now ≡ nodes_checked file) }
     ensures counted { IfOk result (λ file. count_fault (complete_in file) ≡ None) }
@@ -38,8 +38,8 @@ fn read_complete(alloc: Global, bytes: &[u8]) -> Result<Complete, TextError>
     counted(read_statements(alloc, bytes)?)
 }
 
-// What is stated, where nothing is missing and the counts are right. With no allocator, so that no refusal is answered as
-// want of memory.
+// The statements, if nothing is missing and the counts are right. It has no allocator, so no refusal is reported as lack of
+// memory.
 fn counted(statements: Statements) -> Result<Complete, TextError>
     ensures read { IfOk result (λ file. checked (complete_of statements) ≡ nodes_checked file) }
     ensures counted { IfOk result (λ file. count_fault (complete_in file) ≡ None) }
@@ -51,7 +51,7 @@ fn counted(statements: Statements) -> Result<Complete, TextError>
     Ok(complete)
 }
 
-// The instance that is stated, where the nodes are right and a truck can serve each customer.
+// The stated instance, if the nodes are right and a truck can serve each customer.
 fn instance_of(
     alloc: Global,
     complete: &Complete,

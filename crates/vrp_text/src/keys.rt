@@ -1,11 +1,11 @@
-//! The keys that the lines of a file bear.
+//! The keys of a file's lines.
 ghost use Rattle.std.specs.Prelude.{◌≡◌, ◌<◌};
 ghost use Rattle.vrp_text_lexer.specs.Keyword.{rank};
 
 use std::marker::Model;
 use vrp_text_lexer::Key;
 
-// How many keys there are.
+// The number of keys.
 const KEYS: usize = 9;
 
 /// A set of keys.
@@ -29,7 +29,7 @@ impl Keys {
     ghost use Rattle.vrp_text.specs.Inner.MarkedKeys.{AddsKey, is_marked};
     ghost use Rattle.vrp_text_lexer.specs.declared.key.Key.{Key};
 
-    /// No key.
+    /// The empty set.
     pub(crate) fn new() -> Self
         ensures { (key : Key) → is_marked result key ≡ false }
     {
@@ -38,7 +38,7 @@ impl Keys {
         }
     }
 
-    /// Takes a key in, and tells whether it was not in yet.
+    /// Inserts a key, and answers whether it is new.
     pub(crate) fn insert(&mut self, key: Key) -> bool
         ensures fresh { result ≡ not (is_marked self.old key) }
         ensures marked { AddsKey self.old key self.new }
@@ -50,7 +50,7 @@ impl Keys {
     }
 }
 
-// The place of a key among all keys.
+// The position of a key among all keys.
 fn rank(key: Key) -> usize
     ensures value { result ≡ rank key }
     ensures within { result < 9 }

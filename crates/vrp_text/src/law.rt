@@ -1,10 +1,10 @@
-//! What is true of CVRP files, whatever reads them.
+//! Laws about CVRP files.
 ghost use Rattle.std.specs.Prelude.{ℕ, Option, List};
 ghost use Rattle.vrp_text.specs.OneMeaning.{AtMostOneProblem, AtMostOneRefusal, NotBoth, ProblemOrRefusal};
 
 use vrp_model::one_distance;
 
-/// With a node chosen as its depot, or none, a file means one problem or one refusal, and not both.
+/// With a node chosen as its depot, or none, a file means at most one problem or one refusal, and not both.
 pub fn one_meaning()
     ensures problem { (bytes : List ℕ) (chosen : Option ℕ) → AtMostOneProblem bytes chosen }
     ensures refusal { (bytes : List ℕ) (chosen : Option ℕ) → AtMostOneRefusal bytes chosen }
@@ -14,7 +14,7 @@ pub fn one_meaning()
     one_distance();
 }
 
-/// With a node chosen as its depot, or none, a file means something, whatever its bytes are: a problem, or a refusal.
+/// With a node chosen as its depot, or none, every file means a problem or a refusal, whatever its bytes are.
 pub fn some_meaning()
     ensures { (bytes : List ℕ) (chosen : Option ℕ) → ProblemOrRefusal bytes chosen }
 {}

@@ -1,4 +1,4 @@
-//! The sections that have a row for each node, and the depots: numbers become nodes.
+//! Sections with a row for each node, and the depots: turns numbers into nodes.
 ghost use Rattle.std.specs.Prelude.{◌≡◌, ◌+◌, ◌*◌, ◌≤◌, ◌<◌, pos, true, false, unsigned_abs, map, length, replicate, IfOk, IfErr, OnOk, OnErr, None, MatchOption, []};
 ghost use Rattle.std.specs.List.{All};
 ghost use Rattle.vrp_text.specs.Complete.{bad_node, demands_of, is_node, no_node, points_of, row_nodes};
@@ -14,7 +14,7 @@ use std::marker::Model;
 use vrp_model::MAX_NODES;
 use vrp_text_lexer::Key;
 
-// The nodes that were given so far.
+// The nodes given so far.
 #[derive(Debug, Drop)]
 struct GivenNodes {
     // A mark for each node.
@@ -39,7 +39,7 @@ impl GivenNodes {
         })
     }
 
-    // Marks a node as given, and tells its place, from 0. None where the number is no node, or was given before.
+    // Marks a node as given, and answers its position, from 0. None if the number is not a node, or was given before.
     fn give(&mut self, number: i64) -> Option<usize>
         requires few { length self.old ≤ MAX_NODES }
         ensures { MatchOption result
@@ -58,7 +58,7 @@ impl GivenNodes {
     }
 }
 
-/// The points of all nodes, by rising node, from a node and two coordinates for each.
+/// The points of all nodes, by rising node, from rows of a node and two coordinates.
 pub(crate) fn points_of(
     alloc: Global,
     nodes: u16,
@@ -78,7 +78,7 @@ pub(crate) fn points_of(
     Ok(points)
 }
 
-// Puts each point in the place of its node. With no allocator, so that no bad node is answered as want of memory.
+// Puts each point at the position of its node. It has no allocator, so no bad node is reported as lack of memory.
 fn place_points(
     nodes: u16,
     numbers: &[i64],
@@ -105,7 +105,7 @@ fn place_points(
     Ok(())
 }
 
-/// The demands of all nodes, by rising node, from a node and its demand for each.
+/// The demands of all nodes, by rising node, from rows of a node and its demand.
 pub(crate) fn demands_of(alloc: Global, nodes: u16, numbers: &[i64]) -> Result<Vec<u64>, TextError>
     requires few { nodes ≤ MAX_NODES }
     requires rows { length numbers.now ≡ 2 * nodes }
@@ -119,7 +119,7 @@ pub(crate) fn demands_of(alloc: Global, nodes: u16, numbers: &[i64]) -> Result<V
     Ok(demands)
 }
 
-// Puts each demand in the place of its node. With no allocator, so that no bad node is answered as want of memory.
+// Puts each demand at the position of its node. It has no allocator, so no bad node is reported as lack of memory.
 fn place_demands(
     nodes: u16,
     numbers: &[i64],

@@ -31,7 +31,7 @@ fn is_explicit(lines: &mut Lines<'_>) -> bool
     false
 }
 
-// Reads what stands on the line of a keyword, where the keys of earlier lines are known.
+// Reads the rest of a keyword's line, given the keys of earlier lines.
 fn read_keyword(
     explicit: bool,
     keyword: Option<Keyword>,
@@ -60,7 +60,7 @@ fn read_keyword(
     }
 }
 
-// Reads the line of a keyword. With no allocator, so that no fault of it is answered as want of memory.
+// Reads the line of a keyword. It has no allocator, so none of its faults is reported as lack of memory.
 fn read_heading(
     explicit: bool,
     heading: &Heading<'_>,
@@ -78,7 +78,7 @@ fn read_heading(
     }
 }
 
-// Reads a part behind its keyword: what stands on the keyword's line, and the data lines.
+// Reads a part behind its keyword: the rest of the keyword's line, and the data lines.
 fn read_part(
     alloc: Global,
     explicit: bool,
@@ -102,7 +102,7 @@ fn read_part(
     Ok(())
 }
 
-// Reads all parts that are left.
+// Reads all remaining parts.
 fn read_parts(alloc: Global, explicit: bool, lines: &mut Lines<'_>) -> Result<Statements, TextError>
     ensures sound { OnOk result (parts_fault explicit [] (parts_left lines.old) ≡ None) }
     ensures read { IfOk result (λ stated. stated ≡ stated_by explicit (parts_left lines.old)) }
@@ -127,7 +127,7 @@ fn check_length(bytes: &[u8]) -> Result<(), TextError>
     Ok(())
 }
 
-/// Reads what the lines of a file state.
+/// Reads the statements of a file's lines.
 pub(crate) fn read_statements(alloc: Global, bytes: &[u8]) -> Result<Statements, TextError>
     ensures short { OnOk result (length bytes.now ≤ MAX_BYTES) }
     ensures sound { OnOk result (file_line_fault (before_end (lines_of bytes.now)) ≡ None) }

@@ -1,4 +1,4 @@
-//! The sections whose numbers are used.
+//! The sections with numbers that are used.
 ghost use Rattle.std.specs.Prelude.{◌≡◌, IfOk, OnOk, Ok, None};
 ghost use Rattle.vrp_text.specs.Section.{lowest, highest, token_number, content_of, AreWithin, FitContent};
 ghost use Rattle.vrp_text_lexer.specs.Inner.LinesLeft.{parts_left};
@@ -11,7 +11,7 @@ use std::alloc::Global;
 use vrp_model::{MAX_COORDINATE, MAX_WEIGHT};
 use vrp_text_lexer::{FileLineFault, Key, Keyword, Lines, MAX_DEMAND, MAX_NODE, Tokens, number};
 
-/// A section whose tokens are numbers that are used.
+/// A section with numbers that are used.
 #[derive(Clone, Copy, Debug, PartialEq, Eq)]
 pub enum Section {
     /// A node and its two coordinates, for each node.
@@ -24,18 +24,18 @@ pub enum Section {
     Depots,
 }
 
-/// What may stand in the data lines behind a keyword.
+/// What the data lines behind a keyword may contain.
 #[derive(Clone, Copy, Debug, PartialEq, Eq)]
 pub(crate) enum Content {
     /// No token.
     Nothing,
-    /// Any tokens, which are not looked at.
+    /// Any tokens; they are not read.
     Anything,
     /// The numbers of a section.
     Numbers(Section),
 }
 
-/// What may stand behind a keyword, in a file that is explicit or not.
+/// What may follow a keyword, in a file that is explicit or not.
 pub(crate) fn content_of(explicit: bool, keyword: Option<Keyword>) -> Content
     ensures { result ≡ content_of explicit keyword }
 {
@@ -52,7 +52,7 @@ pub(crate) fn content_of(explicit: bool, keyword: Option<Keyword>) -> Content
 }
 
 impl Section {
-    // The lowest number that may stand at this place, from 0.
+    // The lowest number allowed at this position, counted from 0.
     fn lowest(self, place: usize) -> i64
         ensures { result ≡ lowest self place }
     {
@@ -66,7 +66,7 @@ impl Section {
         }
     }
 
-    // The highest number that may stand at this place, from 0.
+    // The highest number allowed at this position, counted from 0.
     fn highest(self, place: usize) -> i64
         ensures { result ≡ highest self place }
     {
@@ -80,15 +80,15 @@ impl Section {
         }
     }
 
-    // The number that a token writes at this place, from 0.
+    // The number that a token writes at this position, counted from 0.
     fn number(self, place: usize, token: &[u8]) -> Result<i64, FileLineFault>
         ensures { result ≡ token_number self place token.now }
     {
         number(token, self.lowest(place), self.highest(place))
     }
 
-    // The number that a token on a line writes at this place. With no allocator, so that no bad number is answered as want
-    // of memory.
+    // The number that a token on a line writes at this position. It has no allocator, so no bad number is reported as lack of
+    // memory.
     fn number_on(self, line: u32, place: usize, token: &[u8]) -> Result<i64, TextError>
         ensures value { IfOk result (λ value. token_number self place token.now ≡ Ok value) }
         ensures refused { FailsWith result (token_error self line place token.now) }
@@ -137,7 +137,7 @@ fn read_numbers(
     Ok(numbers)
 }
 
-/// Passes over the lines up to the next keyword, where no section is: none has a token.
+/// Skips the lines up to the next keyword outside a section: none may have a token.
 pub(crate) fn pass_no_data(lines: &mut Lines<'_>) -> Result<(), TextError>
     ensures none { OnOk result (next_outside_fault lines.old ≡ None) }
     ensures passed { OnOk result (parts_left lines.new ≡ parts_left lines.old) }
@@ -151,7 +151,7 @@ pub(crate) fn pass_no_data(lines: &mut Lines<'_>) -> Result<(), TextError>
     Ok(())
 }
 
-/// Reads what stands behind a keyword, up to the next keyword: the numbers, where they are used.
+/// Reads everything behind a keyword, up to the next keyword; answers the numbers, if they are used.
 pub(crate) fn read_content(
     alloc: Global,
     lines: &mut Lines<'_>,

@@ -1,4 +1,4 @@
-//! What the keywords and sections of a file have stated so far.
+//! The statements of a file's keywords and sections so far.
 ghost use Rattle.std.specs.Prelude.{◌≡◌, Ok, Err, IfOk, IfErr, OnOk, OnErr, Some, None, option_map};
 ghost use Rattle.vrp_text_lexer.specs.Line.{tokens_of};
 ghost use Rattle.vrp_text.specs.Stated.{value_fault};
@@ -16,7 +16,7 @@ use vrp_text_lexer::{
     weight_format, weight_kind,
 };
 
-/// What is stated, each where it is.
+/// The statements, each if it is present.
 #[derive(Debug, Drop)]
 pub(crate) struct Statements {
     // The file is of the type CVRP.
@@ -66,7 +66,7 @@ impl Model for Statements {
 }
 
 impl Statements {
-    /// Nothing is stated.
+    /// No statements.
     pub(crate) fn new() -> Self
         ensures { result ≡ nothing_stated }
     {
@@ -83,7 +83,7 @@ impl Statements {
         }
     }
 
-    /// Reads the value that stands behind a key. Behind a section's there is none.
+    /// Reads the value behind a key. A section's keyword has none.
     pub(crate) fn read_value(
         &mut self,
         explicit: bool,
@@ -123,7 +123,7 @@ impl Statements {
         }
     }
 
-    /// What is stated, where nothing is missing. Otherwise the first key that is.
+    /// The complete statements, or the first missing key.
     pub(crate) fn complete(self) -> Result<Complete, TextError>
         ensures value { IfOk result (λ complete. complete_of self ≡ Ok (complete_in complete)) }
         ensures refused { IfErr result (λ error. complete_of self ≡ Err error) }
@@ -172,12 +172,12 @@ fn matrix(format: Option<WeightFormat>, weights: Option<Vec<i64>>) -> Result<Sou
     let weights = needed(Key::EdgeWeight, weights)?;
     match format {
         WeightFormat::Matrix(layout) => Ok(Source::Matrix(layout, weights)),
-        // Does not happen: in an explicit file this is a bad value.
+        // Can't happen: in an explicit file this is a bad value.
         WeightFormat::Function => Err(TextError::Missing(Key::WeightFormat)),
     }
 }
 
-// What a key states, which must be there.
+// The statement of a key, which must be present.
 fn needed<T: Drop>(key: Key, value: Option<T>) -> Result<T, TextError>
     ensures value { IfOk result (λ given. value ≡ Some given) }
     ensures none { OnErr result (value ≡ None) }
@@ -189,14 +189,14 @@ fn needed<T: Drop>(key: Key, value: Option<T>) -> Result<T, TextError>
     }
 }
 
-/// The first token, and nothing where there is none.
+/// The first token, or nothing if there is none.
 pub(crate) fn value<'a>(behind: &'a [u8]) -> &'a [u8]
     ensures { result.now ≡ value_of (tokens_of behind.now) }
 {
     Tokens::of(behind).next().unwrap_or(&[])
 }
 
-/// Behind the keyword of a section nothing stands.
+/// Nothing may follow the keyword of a section.
 pub(crate) fn no_value(behind: &[u8]) -> Result<(), FileLineFault>
     ensures { result ≡ no_value (tokens_of behind.now) }
 {

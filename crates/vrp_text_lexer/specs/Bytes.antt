@@ -11,6 +11,6 @@ is_blank byte = (byte == 32 || byte == 9) || byte == 13
 abbrev pub is_keyword_byte : ℕ → Bool
 is_keyword_byte byte = is_ascii_alphanumeric byte || byte == 95
 
--- what stands behind the bytes at the front that pass
+-- the rest behind the leading bytes that pass
 abbrev pub skip_while : (ℕ → Bool) → List ℕ → List ℕ
 skip_while test text = drop (prefix_len test text) text

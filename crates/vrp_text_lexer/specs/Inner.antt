@@ -1,4 +1,4 @@
--- What a reader of the meaning of a file need not believe: no definition outside cites it, only contracts.
+-- Cited only by contracts; no definition outside uses it, and no reader of a file's meaning has to believe it.
 pub mod KeptNumeral
 pub mod LinesLeft
 pub mod WordTable

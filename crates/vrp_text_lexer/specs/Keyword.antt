@@ -30,7 +30,7 @@ keywords =
     ∷ (codes "EOF", keyword.End)
     ∷ []
 
--- what a keyword is, where it is one
+-- the meaning of a keyword, if the text is one
 abbrev pub keyword_of : List ℕ → Option Keyword
 keyword_of text = lookup (bytes_eq text) keywords
 

@@ -7,22 +7,23 @@ use Rattle.vrp_text_lexer.specs.Bytes.{is_blank, is_keyword_byte, skip_while}
 use Rattle.vrp_text_lexer.specs.Keyword.{keyword_of}
 use Rattle.vrp_text_lexer.specs.declared.keyword.Keyword.{Keyword}
 
--- what stands between blanks
+-- the tokens between blanks
 abbrev pub tokens_of : List ℕ → List (List ℕ)
 tokens_of text = filter (λ token. nat_lt 0 (length token)) (slice_split is_blank text)
 
--- A line of blanks alone, or of nothing, has no tokens.
+-- A blank or empty line has no tokens.
 pub data Line : Type 0 where
-  -- what its keyword is, where it is one, and the tokens behind the keyword and its colon
+  -- the meaning of its keyword, if it is known, and the tokens behind the keyword and its colon
   Heading : Option Keyword → List (List ℕ) → Line
   -- its tokens
   Data : List (List ℕ) → Line
 
--- without the one colon that may stand between a keyword and its value
+-- the text without the one colon that may separate a keyword from its value
 abbrev pub without_colon : List ℕ → List ℕ
 without_colon text = if slice_index text 0 == 58 then drop 1 text else text
 
--- A line whose first token begins with a letter begins with a keyword: its longest front of letters, digits and underscores.
+-- A line whose first token begins with a letter begins with a keyword: the longest beginning of letters, digits and
+-- underscores.
 abbrev pub line_of : List ℕ → Line
 line_of text =
     let bare = skip_while is_blank text in
@@ -30,6 +31,6 @@ line_of text =
     then Heading (keyword_of (take_while is_keyword_byte bare)) (tokens_of (without_colon (skip_while is_blank (skip_while is_keyword_byte bare))))
     else Data (tokens_of text)
 
--- what stands between line feeds
+-- the lines between line feeds
 abbrev pub lines_of : List ℕ → List Line
 lines_of bytes = map line_of (slice_split (λ byte. byte == 10) bytes)

@@ -17,11 +17,11 @@ AreDigits text = EachIndex text (λ k. IsTrue (is_ascii_digit (slice_index text 
 abbrev pub is_minus : List ℕ → Bool
 is_minus text = slice_index text 0 == 45
 
--- without the one sign that may stand at the front
+-- the text without its optional sign
 abbrev pub without_sign : List ℕ → List ℕ
 without_sign text = if slice_index text 0 == 43 || slice_index text 0 == 45 then drop 1 text else text
 
--- what stands behind digits and their point
+-- the rest behind digits and their point
 abbrev pub has_point : List ℕ → Bool
 has_point text = slice_index text 0 == 46
 
@@ -30,7 +30,7 @@ pub record Power : Type 0 where
   pub up : ℕ
   pub down : ℕ
 
--- digits that write at most `MAX_POWER`, one to `MAX_POWER_DIGITS` of them, behind a sign or alone
+-- one to `MAX_POWER_DIGITS` digits, with or without a sign, that write at most `MAX_POWER`
 abbrev pub power_of_digits : List ℕ → Option Power
 power_of_digits text =
     let digits = without_sign text in
@@ -43,11 +43,11 @@ abbrev pub power_of : List ℕ → Option Power
 power_of [] = Some (record { up = 0; down = 0 })
 power_of (letter ∷ text) = if letter == 101 || letter == 69 then power_of_digits text else None
 
--- digits, perhaps with a point among them, before or behind them, and a power of ten
+-- digits, with an optional point among, before or behind them, and a power of ten
 pub record Numeral : Type 0 where
   pub negative : Bool
   pub digits : List ℕ
-  -- how many of the digits stand behind the point
+  -- how many of the digits are behind the point
   pub places : ℕ
   pub power : Power
 
@@ -58,7 +58,7 @@ numeral_with negative whole fraction power =
     then Some (record { negative = negative; digits = whole ++ fraction; places = length fraction; power = power })
     else None
 
--- a sign, digits, a point and digits, a power of ten; each but the digits may be absent
+-- an optional sign, digits with an optional point, and an optional power of ten
 abbrev pub numeral_of : List ℕ → Option Numeral
 numeral_of text =
     let whole = take_while is_ascii_digit (without_sign text) in
@@ -70,7 +70,7 @@ numeral_of text =
 abbrev pub signed : Bool → ℕ → ℤ
 signed negative size = if negative then neg_ℤ (pos size) else pos size
 
--- the exact value, where it is whole
+-- the exact value, if it is whole
 abbrev pub whole_value : Numeral → Option ℤ
 whole_value numeral =
     let size = digits_value 10 numeral.digits * 10 ^ numeral.power.up in
@@ -85,6 +85,6 @@ abbrev pub value_in_range : ℤ → ℤ → Option Numeral → Result ℤ FileLi
 value_in_range low high None = Err BadNumber
 value_in_range low high (Some numeral) = in_range low high (whole_value numeral)
 
--- the whole number of a range that a token writes
+-- the whole number within a range that a token writes
 abbrev pub number_of : ℤ → ℤ → List ℕ → Result ℤ FileLineFault
 number_of low high token = value_in_range low high (numeral_of token)

@@ -21,7 +21,7 @@ before_end (Heading keyword tokens ∷ lines) = if ends_file keyword then [] els
 pub record Part : Type 0 where
   -- the number of the keyword's line; the first line is line 1
   pub line : ℕ
-  -- what its keyword is, where it is one
+  -- the meaning of its keyword, if it is known
   pub keyword : Option Keyword
   -- the tokens behind the keyword
   pub behind : List (List ℕ)

@@ -14,11 +14,11 @@ use Rattle.vrp_text_lexer.specs.declared.value.WeightFormat.TheVariants as forma
 use Rattle.vrp_text_lexer.specs.Numeral.{number_of}
 use Rattle.vrp_model.specs.declared.limits.TheConstants.{MAX_CAPACITY, MAX_NODES}
 
--- the first token behind a keyword, and nothing where there is none
+-- the first token behind a keyword, or nothing if there is none
 abbrev pub value_of : List (List ℕ) → List ℕ
 value_of tokens = slice_index_or tokens 0 []
 
--- A word that the standard has and this project leaves out is not supported; any other is a bad value.
+-- A word of the standard that this project leaves out is not supported; any other word is a bad value.
 abbrev pub refused_word : List (List ℕ) → List ℕ → FileLineFault
 refused_word left_out word = if list_any (bytes_eq word) left_out then Unsupported else BadValue
 
@@ -26,7 +26,7 @@ abbrev pub word_or_fault : {X : Type 0} → FileLineFault → Option X → Resul
 word_or_fault fault None = Err fault
 word_or_fault fault (Some x) = Ok x
 
--- what TYPE states
+-- the values of TYPE
 abbrev pub problem_types : List (List ℕ × Unit {0})
 problem_types = (codes "CVRP", tt) ∷ []
 
@@ -36,7 +36,7 @@ other_problem_types = codes "TSP" ∷ codes "ATSP" ∷ codes "SOP" ∷ codes "HC
 abbrev pub problem_type : List ℕ → Result (Unit {0}) FileLineFault
 problem_type word = word_or_fault (refused_word other_problem_types word) (lookup (bytes_eq word) problem_types)
 
--- what EDGE_WEIGHT_TYPE states
+-- the values of EDGE_WEIGHT_TYPE
 abbrev pub weight_kinds : List (List ℕ × WeightKind)
 weight_kinds =
     (codes "EXPLICIT", kind.Explicit)
@@ -54,7 +54,7 @@ other_weight_kinds =
 abbrev pub weight_kind : List ℕ → Result WeightKind FileLineFault
 weight_kind word = word_or_fault (refused_word other_weight_kinds word) (lookup (bytes_eq word) weight_kinds)
 
--- what EDGE_WEIGHT_FORMAT states
+-- the values of EDGE_WEIGHT_FORMAT
 abbrev pub weight_formats : List (List ℕ × WeightFormat)
 weight_formats =
     (codes "FUNCTION", format.Function)
@@ -69,7 +69,7 @@ weight_formats =
     ∷ (codes "LOWER_DIAG_COL", format.Matrix layout.LowerDiagCol)
     ∷ []
 
--- An explicit file has a matrix, and no function gives its weights.
+-- An explicit file has a matrix, so no function gives its weights.
 abbrev pub fitting_format : Bool → WeightFormat → Result WeightFormat FileLineFault
 fitting_format explicit format.Function = if explicit then Err BadValue else Ok format.Function
 fitting_format explicit (format.Matrix layout) = Ok (format.Matrix layout)
@@ -81,7 +81,7 @@ format_or_fault explicit (Some format) = fitting_format explicit format
 abbrev pub weight_format : Bool → List ℕ → Result WeightFormat FileLineFault
 weight_format explicit word = format_or_fault explicit (lookup (bytes_eq word) weight_formats)
 
--- a number that a keyword states, which is never below 0; whatever is wrong with it, it is a bad value
+-- a number that a keyword states, which is never negative; any fault makes it a bad value
 abbrev pub stated_number : Result ℤ FileLineFault → Result ℕ FileLineFault
 stated_number (Ok value) = Ok (unsigned_abs value)
 stated_number (Err fault) = Err BadValue
@@ -92,6 +92,6 @@ dimension word = stated_number (number_of (pos 1) (pos MAX_NODES) word)
 abbrev pub capacity : List ℕ → Result ℕ FileLineFault
 capacity word = stated_number (number_of (pos 1) (pos MAX_CAPACITY) word)
 
--- behind a section's keyword nothing stands
+-- nothing may follow a section's keyword
 abbrev pub no_value : List (List ℕ) → Result (Unit {0}) FileLineFault
 no_value tokens = if nat_lt 0 (length tokens) then Err BadValue else Ok tt

@@ -1,19 +1,19 @@
-//! What is wrong with a line, apart from its number.
+//! The faults of a line, without its number.
 
-/// What is wrong with a line.
+/// The fault of a line.
 #[derive(Clone, Copy, Debug, PartialEq, Eq)]
 pub enum FileLineFault {
-    /// It has data, and stands where no section is.
+    /// The line has data outside any section.
     DataOutside,
-    /// The standard doesn't have its keyword.
+    /// Its keyword is not one of the standard.
     UnknownKeyword,
     /// An earlier line has its keyword too.
     Repeated,
-    /// Its keyword's value is missing, unknown, no whole number or out of range, or text stands behind a section's keyword.
+    /// Its keyword's value is missing, unknown, not a whole number or out of range, or text follows a section's keyword.
     BadValue,
-    /// Its keyword or value belongs to the standard, and is left out here.
+    /// Its keyword or value belongs to the standard, but is not supported.
     Unsupported,
-    /// It has a token that is no numeral, or whose whole value is out of range.
+    /// It has a token that is not a numeral, or whose whole value is out of range.
     BadNumber,
     /// It has a numeral whose value is not whole.
     NotWhole,

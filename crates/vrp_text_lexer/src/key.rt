@@ -1,10 +1,10 @@
-//! The keys: what a file states once.
+//! The keys: the keywords that a file may have once.
 ghost use Rattle.std.specs.Prelude.{Some};
 ghost use Rattle.vrp_text_lexer.specs.Keyword.{key_text};
 
 use std::fmt;
 
-/// What a file states once, in the order in which it is looked for.
+/// A keyword that a file may have once, in the order of the checks.
 #[derive(Clone, Copy, Debug, PartialEq, Eq)]
 pub enum Key {
     /// TYPE

@@ -7,16 +7,16 @@ ghost use Rattle.vrp_text_lexer.specs.Inner.WordTable.{words_of};
 
 use crate::key::Key;
 
-/// What a keyword is.
+/// The meaning of a keyword.
 #[derive(Clone, Copy, Debug, PartialEq, Eq)]
 pub enum Keyword {
     /// States something, once.
     Key(Key),
     /// Is ignored, with its value.
     Remark,
-    /// Begins data that are not looked at.
+    /// Begins data that are skipped.
     Display,
-    /// Belongs to the standard, and is left out here.
+    /// Belongs to the standard, but is not supported.
     Unsupported,
     /// Ends the file.
     End,
@@ -44,7 +44,7 @@ const KEYWORDS: [(&[u8], Keyword); 19] = [
     (b"EOF", Keyword::End),
 ];
 
-// What stands in a table beside this word.
+// The table's value for this word.
 fn lookup(table: &[(&[u8], Keyword)], word: &[u8]) -> Option<Keyword>
     ensures { result ≡ lookup (bytes_eq word.now) (words_of table.now) }
 {
@@ -56,7 +56,7 @@ fn lookup(table: &[(&[u8], Keyword)], word: &[u8]) -> Option<Keyword>
     None
 }
 
-/// What a keyword is, where it is one.
+/// The meaning of a keyword, if the text is one.
 pub fn keyword_of(text: &[u8]) -> Option<Keyword>
     ensures { result ≡ keyword_of text.now }
 {

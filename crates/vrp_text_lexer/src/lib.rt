@@ -1,4 +1,4 @@
-//! What stands in a line of a CVRP file of TSPLIB 95: lines, tokens, keywords, numerals and the values of keywords.
+//! The parts of a line in a CVRP file of TSPLIB 95: lines, tokens, keywords, numerals and the values of keywords.
 #![tactic(auto)]
 
 mod fault;
@@ -14,9 +14,9 @@ pub use fault::FileLineFault;
 pub use key::Key;
 pub use keyword::{Keyword, keyword_of};
 pub use limits::{MAX_BYTES, MAX_DEMAND, MAX_DIGITS, MAX_NODE, MAX_POWER, MAX_POWER_DIGITS};
-pub use lines::{DataLine, Heading, Lines};
+pub use lines::{DataLine, Heading, Lines, keyword_len, without_colon};
 pub use numeral::number;
-pub use tokens::Tokens;
+pub use tokens::{Tokens, is_blank, skip_blanks};
 pub use value::{
     WeightFormat, WeightKind, capacity, dimension, problem_type, weight_format, weight_kind,
 };

@@ -1,18 +1,18 @@
-//! The limits of a file's text. Clauses, definitions and code name them; each has its number here alone.
+//! The limits of a file's text. Clauses, definitions and code use these names; the numbers are only here.
 
-/// The most bytes that a file may have.
+/// The greatest number of bytes of a file.
 pub const MAX_BYTES: usize = 16_777_216;
 
-/// The most digits that a numeral may have, those of its power of ten apart.
+/// The greatest number of digits of a numeral, not counting its power of ten.
 pub const MAX_DIGITS: usize = 18;
 
-/// The most digits that a numeral's power of ten may have.
+/// The greatest number of digits of a numeral's power of ten.
 pub const MAX_POWER_DIGITS: usize = 4;
 
-/// The greatest power of ten that a numeral may have, up or down.
+/// The greatest power of ten of a numeral, positive or negative.
 pub const MAX_POWER: u64 = 18;
 
-/// How far from 0 a token that stands for a node may lie. Whether there is such a node is another question.
+/// The greatest absolute value of a token that stands for a node. Whether there is such a node is checked later.
 pub const MAX_NODE: i64 = 1_000_000_000;
 
 /// The greatest demand that a token may state.

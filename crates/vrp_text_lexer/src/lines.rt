@@ -14,14 +14,14 @@ use crate::tokens::skip_blanks;
 use memchr::memchr;
 use std::marker::Model;
 
-// A line, and what stands behind its line feed where it has one.
+// A line, and the text behind its line feed, if it has one.
 fn split_line(bytes: &[u8]) -> (&[u8], Option<&[u8]>)
     ensures { MatchOption result.1
         (slice_split (λ byte. byte == 10) bytes.now ≡ result.0.now ∷ [])
         (λ rest. (length rest.now < length bytes.now)
         × (slice_split (λ byte. byte == 10) bytes.now ≡ result.0.now ∷ slice_split (λ byte. byte == 10) rest.now)) }
 {
-    // Blank lines are many in odd files, and need no search.
+    // Odd files have many blank lines; these need no search.
     if let [b'\n', rest @ ..] = bytes {
         return (&[], Some(rest));
     }
@@ -31,8 +31,8 @@ fn split_line(bytes: &[u8]) -> (&[u8], Option<&[u8]>)
     }
 }
 
-// How many bytes of a keyword stand at the front.
-fn keyword_len(text: &[u8]) -> usize
+/// The length of the keyword at the front.
+pub fn keyword_len(text: &[u8]) -> usize
     ensures value { result ≡ prefix_len is_keyword_byte text.now }
     ensures within { result ≤ length text.now }
 {
@@ -41,8 +41,8 @@ fn keyword_len(text: &[u8]) -> usize
         .count()
 }
 
-// What stands behind a colon at the front.
-fn without_colon(text: &[u8]) -> &[u8]
+/// The text behind a colon at the front, or all of it if there is none.
+pub fn without_colon(text: &[u8]) -> &[u8]
     ensures { result.now ≡ without_colon text.now }
 {
     match text {
@@ -51,7 +51,7 @@ fn without_colon(text: &[u8]) -> &[u8]
     }
 }
 
-// What the keyword of a line is, and what stands behind it and its colon. None where the line begins with no keyword.
+// The meaning of a line's keyword, and the text behind it and its colon. None if the line begins with no keyword.
 fn heading_of(text: &[u8]) -> Option<(Option<Keyword>, &[u8])>
     ensures { MatchOption result
         (line_of text.now ≡ Data (tokens_of text.now))
@@ -65,12 +65,12 @@ fn heading_of(text: &[u8]) -> Option<(Option<Keyword>, &[u8])>
     Some((keyword_of(keyword), without_colon(skip_blanks(behind))))
 }
 
-/// The lines that are left of a file of at most `MAX_BYTES` bytes.
+/// The remaining lines of a file of at most `MAX_BYTES` bytes.
 #[derive(Drop)]
 pub struct Lines<'a> {
-    // What stands behind the last line feed that was passed, and nothing once the last line was given.
+    // The text behind the last line feed that was passed; empty once the last line was given.
     rest: &'a [u8],
-    // The number of the first line that is left.
+    // The number of the first remaining line.
     number: u32,
     ended: bool,
 }
@@ -79,9 +79,9 @@ pub struct Lines<'a> {
 #[derive(Clone, Copy)]
 pub struct Heading<'a> {
     pub number: u32,
-    /// What the keyword is, where it is one.
+    /// The meaning of the keyword, if it is known.
     pub keyword: Option<Keyword>,
-    /// What stands behind the keyword and its colon.
+    /// The text behind the keyword and its colon.
     pub behind: &'a [u8],
 }
 
@@ -116,7 +116,7 @@ impl<'a> Lines<'a> {
         }
     }
 
-    // The next line with its number, and the lines behind it. None where none is left.
+    // The next line with its number, and the lines behind it. None if no line is left.
     fn split_first(&self) -> Option<(u32, &'a [u8], Lines<'a>)>
         ensures { MatchOption result
             (self.now.lines ≡ [])
@@ -135,7 +135,7 @@ impl<'a> Lines<'a> {
         Some((self.number, text, behind))
     }
 
-    /// The next line where it begins with no keyword. None, and no line is passed, where it begins with one or none is left.
+    /// The next line, if it begins with no keyword. None, without passing a line, if it begins with one or no line is left.
     pub fn next_data(&mut self) -> Option<DataLine<'a>>
         ensures { MatchOption result
             ((data_left self.old ≡ []) × (self.new ≡ self.old))
@@ -150,7 +150,7 @@ impl<'a> Lines<'a> {
         Some(DataLine { number, text })
     }
 
-    /// The next line that begins with a keyword. The data lines before it are skipped. None where no such line is left.
+    /// The next line that begins with a keyword, skipping the data lines before it. None if no such line is left.
     pub fn next_heading(&mut self) -> Option<Heading<'a>>
         ensures value { MatchOption result
             (parts_left self.old ≡ [])

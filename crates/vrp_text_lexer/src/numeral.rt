@@ -10,7 +10,7 @@ ghost use Rattle.vrp_text_lexer.specs.Inner.KeptNumeral.{IsSmallPower, IsSmallNu
 use crate::fault::FileLineFault;
 use crate::limits::{MAX_DIGITS, MAX_POWER, MAX_POWER_DIGITS};
 
-// The most bytes that a numeral has: a sign, digits, a point, a letter, a sign and the digits of a power.
+// The greatest length of a numeral in bytes: a sign, digits, a point, a letter, a sign and the digits of a power.
 const MAX_LENGTH: usize = 1 + MAX_DIGITS + 1 + 1 + 1 + MAX_POWER_DIGITS;
 
 // A power of ten: 10 to the `up` over 10 to the `down`.
@@ -20,7 +20,7 @@ struct Power {
     down: u32,
 }
 
-// What a numeral writes: its digits as one number, and how many of them stand behind the point.
+// The parts of a numeral: its digits as one number, and how many of them are behind the point.
 #[derive(Clone, Copy)]
 struct Numeral {
     negative: bool,
@@ -36,7 +36,7 @@ fn is_minus(text: &[u8]) -> bool
     matches!(text, [b'-', ..])
 }
 
-// Without the one sign that may stand at the front.
+// The text without its optional sign.
 fn without_sign(text: &[u8]) -> &[u8]
     ensures { result.now ≡ without_sign text.now }
 {
@@ -46,7 +46,7 @@ fn without_sign(text: &[u8]) -> &[u8]
     }
 }
 
-// How many digits stand at the front.
+// The number of digits at the front.
 fn leading_digits(text: &[u8]) -> usize
     ensures { result ≡ prefix_len is_ascii_digit text.now }
 {
@@ -60,7 +60,7 @@ fn leading_digits(text: &[u8]) -> usize
     count
 }
 
-// The digits at the front, and what stands behind them.
+// The digits at the front, and the text behind them.
 fn split_digits(text: &[u8]) -> (&[u8], &[u8])
     ensures digits { result.0.now ≡ take_while is_ascii_digit text.now }
     ensures behind { result.1.now ≡ skip_while is_ascii_digit text.now }
@@ -69,7 +69,7 @@ fn split_digits(text: &[u8]) -> (&[u8], &[u8])
     text.split_at(leading_digits(text))
 }
 
-// The number that digits write when they follow those of `value`.
+// The number that these digits write after those of `value`.
 fn value_after(value: u64, digits: &[u8]) -> u64
     requires small { (value + 1) * 10 ^ length digits.now ≤ 10 ^ MAX_DIGITS }
     requires all_digits { AreDigits digits.now }
@@ -83,7 +83,7 @@ fn value_after(value: u64, digits: &[u8]) -> u64
     number
 }
 
-// The power of ten that one to `MAX_POWER_DIGITS` digits write, behind a sign or alone, where it is at most `MAX_POWER`.
+// The power of ten that one to `MAX_POWER_DIGITS` digits write, with or without a sign, if it is at most `MAX_POWER`.
 fn power_of_digits(text: &[u8]) -> Option<Power>
     ensures value { power_of_digits text.now ≡ option_map written_power result }
     ensures small { IfSome result IsSmallPower }
@@ -107,7 +107,7 @@ fn power_of_digits(text: &[u8]) -> Option<Power>
     }
 }
 
-// The power of ten that stands behind a numeral's digits.
+// The power of ten behind a numeral's digits.
 fn power_of(text: &[u8]) -> Option<Power>
     ensures value { power_of text.now ≡ option_map written_power result }
     ensures small { IfSome result IsSmallPower }
@@ -119,7 +119,7 @@ fn power_of(text: &[u8]) -> Option<Power>
     }
 }
 
-// What a text writes, where it is a numeral.
+// The numeral that a text writes, if it is one.
 fn numeral_of(text: &[u8]) -> Option<Numeral>
     ensures value { result ≡ option_map read_numeral (numeral_of text.now) }
     ensures small { IfSome result IsSmallNumeral }
@@ -156,7 +156,7 @@ fn numeral_with(negative: bool, whole: &[u8], fraction: &[u8], power: Power) -> 
     })
 }
 
-// A number over 10 to the `down`, where that is whole.
+// A number divided by 10 to the `down`, if that is whole.
 fn over_power(size: u128, down: u32) -> Option<u128>
     requires { down ≤ MAX_DIGITS + MAX_POWER }
     ensures value { result ≡ (if size % 10 ^ down == 0 then Some (size / 10 ^ down) else None) }
@@ -173,7 +173,7 @@ fn over_power(size: u128, down: u32) -> Option<u128>
     }
 }
 
-// The exact value of a numeral, where it is whole.
+// The exact value of a numeral, if it is whole.
 fn whole_value(numeral: Numeral) -> Option<i128>
     requires { IsSmallNumeral numeral }
     ensures { result ≡ read_value numeral }
@@ -183,7 +183,7 @@ fn whole_value(numeral: Numeral) -> Option<i128>
     Some(if numeral.negative { -value } else { value })
 }
 
-// The value, where it is from `low` to `high`.
+// The value, if it is from `low` to `high`.
 fn in_range(low: i64, high: i64, value: i128) -> Result<i64, FileLineFault>
     ensures value { result ≡ in_range low high (Some value) }
     ensures in_range { IfOk result (λ number. (low ≤ℤ number) × (number ≤ℤ high)) }

@@ -6,14 +6,14 @@ ghost use Rattle.vrp_text_lexer.specs.Line.{tokens_of};
 
 use std::marker::Model;
 
-// Whether a byte stands between tokens.
-fn is_blank(byte: u8) -> bool
+/// Whether a byte separates tokens.
+pub fn is_blank(byte: u8) -> bool
     ensures { result ≡ is_blank byte }
 {
     matches!(byte, b' ' | b'\t' | b'\r')
 }
 
-// How many blanks stand at the front.
+// The number of blanks at the front.
 fn blanks_len(text: &[u8]) -> usize
     ensures value { result ≡ prefix_len is_blank text.now }
     ensures within { result ≤ length text.now }
@@ -21,7 +21,7 @@ fn blanks_len(text: &[u8]) -> usize
     text.iter().take_while(|byte| is_blank(**byte)).count()
 }
 
-// How many bytes stand before the first blank.
+// The number of bytes before the first blank.
 fn token_len(text: &[u8]) -> usize
     ensures value { result ≡ position_or_len is_blank text.now }
     ensures within { result ≤ length text.now }
@@ -29,14 +29,14 @@ fn token_len(text: &[u8]) -> usize
     text.iter().take_while(|byte| !is_blank(**byte)).count()
 }
 
-/// What stands behind the blanks at the front.
-pub(crate) fn skip_blanks(text: &[u8]) -> &[u8]
+/// The text behind the blanks at the front.
+pub fn skip_blanks(text: &[u8]) -> &[u8]
     ensures { result.now ≡ skip_while is_blank text.now }
 {
     &text[blanks_len(text)..]
 }
 
-/// The tokens that are left of a text.
+/// The remaining tokens of a text.
 #[derive(Drop)]
 pub struct Tokens<'a> {
     rest: &'a [u8],
@@ -63,7 +63,7 @@ impl<'a> Tokens<'a> {
         skip_blanks(self.rest).is_empty()
     }
 
-    /// The next token. None where none is left.
+    /// The next token. None if no token is left.
     pub fn next(&mut self) -> Option<&'a [u8]>
         ensures { MatchOption result
             ((self.old ≡ []) × (self.new ≡ []))

@@ -9,7 +9,7 @@ use crate::fault::FileLineFault;
 use crate::numeral::number;
 use vrp_model::{Layout, MAX_CAPACITY, MAX_NODES, Metric};
 
-/// Where the weights come from.
+/// The source of the weights.
 #[derive(Clone, Copy, Debug, PartialEq, Eq)]
 pub enum WeightKind {
     /// A matrix.
@@ -27,7 +27,7 @@ pub enum WeightFormat {
     Matrix(Layout),
 }
 
-/// Whether a file of the type `word` is read: of CVRP alone.
+/// Whether a file of the type `word` can be read: only CVRP can.
 pub fn problem_type(word: &[u8]) -> Result<(), FileLineFault>
     ensures { result ≡ problem_type word.now }
 {
@@ -60,7 +60,7 @@ pub fn capacity(word: &[u8]) -> Result<u64, FileLineFault>
     }
 }
 
-// Whether the standard has the word and it is left out here.
+// Whether the standard has the word, but it is not supported.
 fn is_other_weight_kind(word: &[u8]) -> bool
     ensures { result ≡ list_any (bytes_eq word.now) other_weight_kinds }
 {
@@ -73,7 +73,7 @@ fn is_other_weight_kind(word: &[u8]) -> bool
         || word == b"SPECIAL".as_slice()
 }
 
-/// Where a file says by `word` that its weights come from.
+/// The source of the weights that a file names by `word`.
 pub fn weight_kind(word: &[u8]) -> Result<WeightKind, FileLineFault>
     ensures { result ≡ weight_kind word.now }
 {
@@ -96,7 +96,7 @@ pub fn weight_kind(word: &[u8]) -> Result<WeightKind, FileLineFault>
     }
 }
 
-// The format of this name.
+// The format with this name.
 fn named_format(word: &[u8]) -> Option<WeightFormat>
     ensures { result ≡ lookup (bytes_eq word.now) weight_formats }
 {
@@ -125,7 +125,7 @@ fn named_format(word: &[u8]) -> Option<WeightFormat>
     }
 }
 
-/// How a file says by `word` that its weights are given; in an explicit file no function gives them.
+/// The format of the weights that a file names by `word`; in an explicit file it can't be a function.
 pub fn weight_format(explicit: bool, word: &[u8]) -> Result<WeightFormat, FileLineFault>
     ensures { result ≡ weight_format explicit word.now }
 {

@@ -1,4 +1,4 @@
-//! The least of some arcs, taken out.
+//! Removing the least of some arcs.
 
 use crate::assertion::assert_same;
 use std::alloc::Global;

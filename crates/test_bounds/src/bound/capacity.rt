@@ -19,7 +19,7 @@ const TWO_CUSTOMERS: &[([u64; 3], Asked)] = &[
     // a truck that isn't full
     ([0, 1, 2], (0, 0, 10, 3, 20)),
     ([0, 1, 2], (1, 1, 5, 2, 15)),
-    // customers of no demand
+    // customers without demand
     ([0, 0, 0], (0, 0, 10, 0, 10)),
 ];
 

@@ -1,4 +1,4 @@
-//! What the tests ask of an instance. No place need be one of it.
+//! Queries on an instance for tests; places need not belong to it.
 ghost use Rattle.std.specs.Prelude.{◌≤◌, All, Contains, IsTrue};
 ghost use Rattle.std.specs.List.Sorted.{IsStrictlyIncreasing};
 ghost use Rattle.vrp_model.specs.Problem.{customers, demand_of};
@@ -21,7 +21,7 @@ pub(crate) fn are_customers(instance: &Instance, places: &[u16]) -> bool
     true
 }
 
-/// What these places demand together.
+/// The total demand of these places.
 pub(crate) fn demand_of_all(instance: &Instance, places: &[u16]) -> u64
     ensures { result ≤ load_of instance.now places.now }
 {

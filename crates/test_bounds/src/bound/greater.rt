@@ -7,10 +7,10 @@ use std::process::Abort;
 use test_fixtures::{LINE, at_points};
 use vrp_bound::bound;
 
-// The second customer lies farther out on the line.
+// The second customer is farther out on the line.
 const FAR: &[(i64, i64)] = &[(0, 0), (3, 4), (30, 40)];
 
-// A place, a load, the sum of the least arcs in, a rest, how many routes may still be opened, and what is answered.
+// A place, a load, the sum of the least arcs in, a rest, how many routes may still be opened, and the answer.
 type Asked = (u16, u64, u64, u64, Option<u16>, Option<u64>);
 
 const TWO_CUSTOMERS: &[(&[(i64, i64)], [u64; 3], Asked)] = &[
@@ -33,7 +33,7 @@ fn bounds_of_two_customers(rt: HostRuntime) {
 }
 
 const SO_MANY_TRUCKS: &[([u64; 3], Asked)] = &[
-    // at the depot: too few, exactly enough, more
+    // at the depot: too few trucks, exactly enough, more than enough
     ([0, 1, 1], (0, 0, 10, 2, Some(0), None)),
     ([0, 1, 1], (0, 0, 10, 2, Some(1), Some(20))),
     ([0, 1, 1], (0, 0, 10, 2, Some(65_535), Some(20))),
@@ -41,7 +41,7 @@ const SO_MANY_TRUCKS: &[([u64; 3], Asked)] = &[
     ([0, 2, 2], (0, 0, 10, 4, Some(2), Some(20))),
     // enough, but nothing carries exactly the rest
     ([0, 2, 2], (0, 0, 10, 1, Some(1), None)),
-    // at a customer what the truck can still take counts
+    // at a customer, the room on the current truck counts
     ([0, 1, 1], (1, 1, 5, 1, Some(0), Some(15))),
     ([0, 1, 1], (1, 2, 5, 1, Some(0), None)),
     ([0, 1, 1], (1, 2, 5, 1, Some(1), Some(15))),
@@ -54,7 +54,7 @@ const SO_MANY_TRUCKS: &[([u64; 3], Asked)] = &[
     // nothing is left
     ([0, 1, 1], (0, 0, 0, 0, Some(0), Some(0))),
     ([0, 1, 1], (2, 2, 0, 0, Some(0), Some(10))),
-    // what is left demands nothing
+    // the remaining customer demands nothing
     ([0, 0, 1], (0, 0, 5, 0, Some(0), Some(5))),
     // no tables
     ([0, 0, 1], (0, 0, 10, 1, Some(0), None)),

@@ -1,16 +1,17 @@
-//! Bounds by ng-walks: by hand, beside a slow program that tries every walk, and at the limits of an instance.
+//! Bounds by ng-walks: by hand, compared with a slow program that tries every walk, and at the limits of an instance.
 ghost use Rattle.std.specs.Prelude.{◌≡◌};
+ghost use Rattle.vrp_model.specs.Problem.{place_count};
 
 use crate::assertion::assert_same;
 use crate::bound::slow_walks::{Stand, Walkers, every_walk};
 use std::alloc::Global;
 use std::process::Abort;
 use test_fixtures::{at_points, one_each, with_arcs};
-use vrp_bound::NgTables;
+use vrp_bound::{NgTables, least_ng_tours};
 use vrp_bound_ng::NgSets;
 use vrp_model::{Instance, MAX_NODES};
 
-// A place, a load, a rest, and what is answered.
+// A place, a load, a rest, and the answer.
 type Asked = (u16, u64, u64, Option<u64>);
 
 fn assert_answers(rt: &impl Abort, tables: &NgTables<'_>, instance: &Instance, asked: &[Asked])
@@ -30,7 +31,7 @@ fn assert_answer(rt: &impl Abort, tables: &NgTables<'_>, instance: &Instance, as
     assert_same(rt, tables.bound(at, load, rest), answer, (at, load, rest));
 }
 
-// The ng-sets of walks through so many places: so many customers are near each place, those near one place listed after another.
+// The ng-sets of walks through this many places, with `size` near customers for each place, listed one place after another.
 fn ng_sets_of(rt: &impl Abort, alloc: Global, places: usize, size: usize, near: &[u16]) -> NgSets
     ensures { result.places ≡ places }
 {
@@ -52,7 +53,12 @@ const NEAR_THE_SECOND: &[Asked] = &[
     (2, 1, 2, Some(40)),
 ];
 
-// How many customers are near each place, those near one place after another, and what is asked.
+// The loads from 0 to 3, and the arcs between three customers.
+const THREE_STEPS: u64 = 4 * 9;
+
+const MANY_STEPS: u64 = 200_000_000;
+
+// The number of near customers of each place, these customers, one place after another, and the questions.
 type Three<'a> = (usize, &'a [u16], &'a [Asked]);
 
 const THREE: &[Three<'_>] = &[
@@ -62,9 +68,9 @@ const THREE: &[Three<'_>] = &[
     (2, &[0, 0, 2, 3, 1, 3, 2, 1], NEAR_THE_SECOND),
 ];
 
-// Three customers on a line, 10 apart, the first of them 10 from the depot; each has a demand of 1, and a truck takes 3. Who remembers
-// its next stop alone goes to and fro: from the depot to the first, the second and the first again for 40. Where the first is near the
-// second it may not, and a tour of three goes on to the third.
+// Three customers on a line, 10 apart, the first of them 10 from the depot; each has a demand of 1, and the capacity is 3. A
+// walk that remembers only its next stop goes to and fro: from the depot to the first, the second and the first again for 40.
+// If the first is near the second, that is not allowed, and a tour of three continues to the third.
 #[test]
 fn three_on_a_line(rt: HostRuntime) {
     let points = [(0, 0), (10, 0), (20, 0), (30, 0)];
@@ -78,11 +84,38 @@ fn assert_three(rt: &impl Abort, alloc: Global, instance: &Instance, three: Thre
     let (size, near, asked) = three;
     assert!(rt; instance.customers() == 3);
     let ng_sets = ng_sets_of(rt, alloc, 4, size, near);
+    let (_, _, _, tours) = *asked.first().expect(rt, "a question");
+    assert_tours(rt, alloc, instance, &ng_sets, (THREE_STEPS, tours));
+    assert_tours(rt, alloc, instance, &ng_sets, (THREE_STEPS - 1, None));
     let tables = NgTables::new(alloc, instance, ng_sets).expect(rt, "memory");
     assert_answers(rt, &tables, instance, asked);
 }
 
-// What the places demand, and what a truck carries.
+// The least tours of all demands by tables that may take so many steps.
+fn assert_tours(
+    rt: &impl Abort,
+    alloc: Global,
+    instance: &Instance,
+    ng_sets: &NgSets,
+    tours: (u64, Option<u64>),
+)
+    requires { ng_sets.now.places ≡ place_count instance.now }
+{
+    let (most_steps, cost) = tours;
+    let least = least_ng_tours(alloc, instance, ng_sets, most_steps).expect(rt, "memory");
+    assert_same(rt, least, cost, most_steps);
+}
+
+// No tables are made over a customer without demand.
+#[test]
+fn tours_with_a_customer_without_demand(rt: HostRuntime) {
+    let points = [(0, 0), (10, 0), (20, 0), (30, 0)];
+    let instance = at_points(rt.alloc(), &points, &[0, 1, 0, 1], 3).expect(&rt, "an instance");
+    let ng_sets = NgSets::nearest(rt.alloc(), &instance, 2).expect(&rt, "memory");
+    assert_tours(&rt, rt.alloc(), &instance, &ng_sets, (MANY_STEPS, None));
+}
+
+// The demands of the places, and the capacity.
 type Loaded = ([u64; 5], u64);
 
 const EVERY_WALK: &[Loaded] = &[
@@ -92,8 +125,8 @@ const EVERY_WALK: &[Loaded] = &[
     ([0, 2, 4, 2, 2], 7),
 ];
 
-// How many customers are near each place, those near one place after another, and a bit for each of them by place. Near a customer are
-// the next ones, round and round, and so is the customer itself where there are too few others.
+// The number of near customers of each place, these customers, one place after another, and a bit for each of them by place.
+// The next customers in cyclic order are near a customer, and the customer itself if there are too few others.
 type Near<'a> = (usize, &'a [u16], &'a [u32]);
 
 const NEXT_CUSTOMERS: &[Near<'_>] = &[
@@ -140,7 +173,7 @@ fn assert_one_direction(rt: &impl Abort, alloc: Global, (demands, capacity): Loa
     assert_sizes(rt, alloc, &instance);
 }
 
-// Weights between five places, where the reverse arc weighs another number.
+// Weights between five places, with a different weight for each reverse arc.
 fn one_direction(rt: &impl Abort, alloc: Global) -> Vec<u64> {
     let mut arcs = Vec::new(alloc);
     for from in 0..5 {
@@ -162,12 +195,14 @@ fn assert_size(rt: &impl Abort, alloc: Global, instance: &Instance, near: Near<'
     let (size, listed, bits) = near;
     assert!(rt; instance.customers() == 4);
     let ng_sets = ng_sets_of(rt, alloc, 5, size, listed);
-    let tables = NgTables::new(alloc, instance, ng_sets).expect(rt, "memory");
     let walkers = Walkers {
         instance,
         customers: &[1, 2, 3, 4],
         near: bits,
     };
+    let slow = every_walk(walkers, Stand::begun(0, 0, instance.whole_demand()), 20);
+    assert_tours(rt, alloc, instance, &ng_sets, (MANY_STEPS, slow));
+    let tables = NgTables::new(alloc, instance, ng_sets).expect(rt, "memory");
     assert_every_walk(rt, &tables, walkers);
 }
 
@@ -180,7 +215,7 @@ fn assert_every_walk(rt: &impl Abort, tables: &NgTables<'_>, walkers: Walkers<'_
     }
 }
 
-// With each load; at the depot there is none.
+// For each load; at the depot there is none.
 fn assert_loads(rt: &impl Abort, tables: &NgTables<'_>, walkers: Walkers<'_>, at: u16)
     requires { tables.now.problem ≡ walkers.instance.now }
 {
@@ -205,7 +240,7 @@ fn assert_rests(rt: &impl Abort, tables: &NgTables<'_>, walkers: Walkers<'_>, at
 
 const CROWDED: &[Asked] = &[(0, 0, 1_199, Some(8_000)), (1, 1, 1_198, Some(7_990))];
 
-// Customers at one point, 10 from the depot: a truck for three of them each.
+// Customers at one point, 10 from the depot: three fit on each truck.
 #[test]
 fn as_many_customers_as_there_may_be(rt: HostRuntime) {
     let instance = crowded(&rt, rt.alloc());
@@ -216,6 +251,7 @@ fn as_many_customers_as_there_may_be(rt: HostRuntime) {
 fn assert_crowded(rt: &impl Abort, alloc: Global, instance: &Instance, size: usize) {
     assert!(rt; size <= 4);
     let ng_sets = NgSets::nearest(alloc, instance, size).expect(rt, "memory");
+    assert_tours(rt, alloc, instance, &ng_sets, (MANY_STEPS, Some(8_000)));
     let tables = NgTables::new(alloc, instance, ng_sets).expect(rt, "memory");
     assert!(rt; tables.shape().is_some());
     assert_answers(rt, &tables, instance, CROWDED);

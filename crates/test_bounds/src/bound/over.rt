@@ -1,4 +1,4 @@
-//! Tables over some customers, with their instance and what they demand: so each answer can be asked for.
+//! Tables over some customers, with their instance and total demand, so that every question can be asked.
 ghost use Rattle.std.specs.Prelude.{◌≡◌, ◌≤◌};
 ghost use Rattle.vrp_model.specs.Route.{load_of};
 
@@ -8,7 +8,7 @@ use std::process::Abort;
 use vrp_bound::Tables;
 use vrp_model::Instance;
 
-/// Tables over some customers of an instance, and what these demand together.
+/// Tables over some customers of an instance, and their total demand.
 #[derive(Drop)]
 pub(crate) struct Over<'a> {
     pub(crate) tables: Tables<'a>,
@@ -19,7 +19,7 @@ pub(crate) struct Over<'a> {
 }
 
 impl<'a> Over<'a> {
-    /// Over these customers, by rising place.
+    /// Tables over these customers, by rising place.
     pub(crate) fn these(
         rt: &impl Abort,
         alloc: Global,
@@ -36,7 +36,7 @@ impl<'a> Over<'a> {
         }
     }
 
-    /// Over all customers.
+    /// Tables over all customers.
     pub(crate) fn all(rt: &impl Abort, alloc: Global, instance: &'a Instance) -> Over<'a> {
         let tables = Tables::over_all(alloc, instance).expect(rt, "memory");
         let demand = instance.whole_demand();
@@ -47,7 +47,7 @@ impl<'a> Over<'a> {
         }
     }
 
-    /// Whether there is a completion table, where the tables are made.
+    /// Whether there is a completion table, if the tables are made.
     pub(crate) fn has_completion_table(&self) -> Option<bool> {
         match self.tables.shape() {
             Some(shape) => Some(shape.has_completion_table),

@@ -5,7 +5,7 @@ use std::alloc::Global;
 use std::process::Abort;
 use vrp_bound::Quotients;
 
-// A unit, the greatest amount that is looked up, how many are, an amount, and its whole units.
+// A unit, the greatest amount in the table, the size of the table, an amount, and its whole units.
 type Counted = (u64, u64, usize, u64, u64);
 
 const QUOTIENTS: &[Counted] = &[

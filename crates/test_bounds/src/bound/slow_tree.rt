@@ -1,11 +1,11 @@
-//! A plain slow program beside the tree bound: it tries every tree, every choice of arcs home and every completion.
+//! A plain slow program to compare with the tree bound: it tries every tree, every choice of arcs home and every completion.
 
 use crate::bound::fixture::{arc, demand, demand_of_all};
 use std::alloc::Global;
 use std::process::Abort;
 use vrp_model::Instance;
 
-/// A place, a load, and the customers that are unserved, each with its bit.
+/// A place, a load, and the unserved customers as bits.
 #[derive(Clone, Copy, Debug)]
 pub(crate) struct Situation {
     pub(crate) at: u16,
@@ -19,7 +19,7 @@ impl Situation {
         customer < 32 && self.unserved >> customer & 1 == 1
     }
 
-    // With one unserved customer less, at this place.
+    // The situation after serving this customer, at its place.
     fn with(self, customer: u16, load: u64) -> Situation {
         let mut unserved = self.unserved;
         if self.leaves(customer) {
@@ -63,7 +63,7 @@ pub(crate) fn situations(rt: &impl Abort, alloc: Global, instance: &Instance) ->
     listed
 }
 
-// A situation with each load; at the depot there is none.
+// Adds a situation with each load; at the depot there is none.
 fn push_loads(
     rt: &impl Abort,
     listed: &mut Vec<Situation>,
@@ -81,7 +81,7 @@ fn push_loads(
     }
 }
 
-/// The tree bound by its definition; `None` where there are more than five places to join.
+/// The tree bound by its definition; `None` if there are more than five places to link.
 pub(crate) fn slow_bound(
     rt: &impl Abort,
     alloc: Global,
@@ -120,7 +120,7 @@ fn places_to_join(
     places
 }
 
-// The first number of routes that is enough.
+// The least sufficient number of routes.
 fn later_routes(instance: &Instance, situation: Situation, customers: &[u16]) -> u64 {
     let capacity = instance.capacity();
     let rest = demand_of_all(instance, customers);
@@ -139,7 +139,7 @@ fn later_routes(instance: &Instance, situation: Situation, customers: &[u16]) ->
     10
 }
 
-// The least weight of a tree: each place but the first has some place as its parent, and none goes round in a circle.
+// The least weight of a tree: each place but the first has a parent, and there is no cycle.
 fn least_of_trees(instance: &Instance, places: &[u16]) -> u64 {
     let count = places.len().min(5);
     let mut least = u64::MAX;
@@ -160,7 +160,7 @@ fn parent(code: usize, child: usize) -> usize {
     digits % 5
 }
 
-// Whether every place comes to the first one by its parents.
+// Whether following parents leads from every place to the first one.
 fn is_tree(code: usize, count: usize) -> bool {
     if parent(code, 0) != 0 {
         return false;
@@ -192,7 +192,7 @@ fn weight_of_tree(instance: &Instance, places: &[u16], code: usize) -> u64 {
     weight
 }
 
-// The least sum of this many customers' arcs home: by each choice of some of five.
+// The least sum of this many customers' arcs home: over each choice among five.
 fn least_of_arcs_home(instance: &Instance, customers: &[u16], count: u64) -> u64 {
     let mut least = u64::MAX;
     for choice in 0..32u32 {
@@ -211,8 +211,8 @@ fn least_of_arcs_home(instance: &Instance, customers: &[u16], count: u64) -> u64
     least
 }
 
-/// The least cost of a completion, by each next stop and each behind it, with this many steps at most; the greatest number where
-/// there is none.
+/// The least cost of a completion, over each next stop and each that follows, with at most this many steps; the greatest
+/// number if there is none.
 pub(crate) fn least_completion(instance: &Instance, situation: Situation, steps: u16) -> u64 {
     let at = situation.at;
     if at == 0 && situation.unserved == 0 {

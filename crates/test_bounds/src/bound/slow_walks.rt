@@ -1,4 +1,4 @@
-//! A plain slow program beside the tables: it tries every walk.
+//! A plain slow program to compare with the tables: it tries every walk.
 
 use crate::bound::fixture::{arc, demand};
 use vrp_model::Instance;
@@ -11,7 +11,7 @@ pub(crate) struct Walkers<'a> {
     pub(crate) near: &'a [u32],
 }
 
-/// Where a walk is, and whom it may not come back to yet.
+/// The position of a walk, and the customers that it may not visit yet.
 #[derive(Clone, Copy)]
 pub(crate) struct Stand {
     pub(crate) at: u16,
@@ -22,7 +22,7 @@ pub(crate) struct Stand {
 }
 
 impl Stand {
-    /// At a place where a walk begins.
+    /// The beginning of a walk at a place.
     pub(crate) fn begun(at: u16, load: u64, rest: u64) -> Stand {
         let barred = if at == 0 { 0 } else { bit_of(at) };
         Stand {
@@ -33,7 +33,7 @@ impl Stand {
         }
     }
 
-    // At the next stop, if the walk may go there.
+    // The position after the next stop, if the walk may go there.
     fn gone_to(self, walkers: Walkers<'_>, customer: u16) -> Option<Stand> {
         let demand = demand(walkers.instance, customer);
         let load = self.load.saturating_add(demand);
@@ -55,8 +55,8 @@ impl Stand {
     }
 }
 
-/// The least cost by trying each next stop, and each behind it, with this many steps at most. No walk comes back to a customer to
-/// whom each stop in between is near, nor stays where it is.
+/// The least cost, over each next stop and each that follows, with at most this many steps. A walk returns to a customer only
+/// if the customer is not near some stop in between, and never stays at a place.
 pub(crate) fn every_walk(walkers: Walkers<'_>, stand: Stand, steps: u16) -> Option<u64> {
     if stand.at == 0 && stand.rest == 0 {
         return Some(0);

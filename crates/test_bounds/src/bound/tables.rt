@@ -1,4 +1,4 @@
-//! Bounds over some customers: by hand, at the limits of the tables, and beside a slow program that tries every walk.
+//! Bounds over some customers: by hand, at the limits of the tables, and compared with a slow program that tries every walk.
 
 use crate::assertion::assert_same;
 use crate::bound::over::Over;
@@ -9,10 +9,10 @@ use test_fixtures::{FOUR, LINE, at_points, with_arcs};
 use vrp_bound::Shape;
 use vrp_model::Instance;
 
-// A place, a load, a rest, and what is answered.
+// A place, a load, a rest, and the answer.
 type Asked = (u16, u64, u64, Option<u64>);
 
-// Asserts what the tables over these customers answer.
+// Asserts the answers of the tables over these customers.
 fn assert_over(
     rt: &impl Abort,
     alloc: Global,
@@ -39,7 +39,7 @@ fn assert_answer(rt: &impl Abort, over: &Over<'_>, asked: Asked) {
     assert_same(rt, found, answer, (at, load, rest));
 }
 
-// What the places demand, and what is asked.
+// The demands of the places, and the questions.
 const TWO_CUSTOMERS: &[([u64; 3], &[Asked])] = &[
     (
         [0, 1, 1],
@@ -62,7 +62,7 @@ const TWO_CUSTOMERS: &[([u64; 3], &[Asked])] = &[
             (2, 2, 2, Some(20)),
         ],
     ),
-    // a customer of no demand
+    // a customer without demand
     (
         [0, 0, 1],
         &[(0, 0, 0, Some(0)), (0, 0, 1, Some(0)), (2, 1, 1, Some(0))],
@@ -77,7 +77,7 @@ fn bounds_over_two_customers(rt: HostRuntime) {
     }
 }
 
-// Over the near customer alone, and over the far one.
+// Tables over the near customer alone, and over the far one alone.
 const ONE_CUSTOMER: &[(&[u16], &[Asked])] = &[
     (
         &[1],
@@ -107,7 +107,7 @@ fn a_place_outside_the_list(rt: HostRuntime) {
     }
 }
 
-// What the one customer demands, and what is asked: the tables are made, and are too large.
+// The demand of the only customer, and the questions: the tables are made, and are too large.
 const LARGEST: &[(u64, &[Asked])] = &[
     (14_142, &[(0, 0, 14_142, Some(10)), (0, 0, 1, None)]),
     (14_143, &[(0, 0, 14_143, Some(0)), (0, 0, 1, Some(0))]),
@@ -124,8 +124,8 @@ fn the_largest_tables(rt: HostRuntime) {
     }
 }
 
-// The completion table has at most 64,000,000 cells. Two customers who together demand 4,617 need a few less, and where they
-// demand 4,618 a few more. What the two demand, and whether the table is made.
+// The completion table has at most 64,000,000 cells. Two customers who together demand 4,617 need a few less, and 4,618 a few
+// more. The two demands, and whether the table is made.
 type Demanded = (u64, u64, bool);
 
 const DEMANDS: &[Demanded] = &[(1, 2, true), (2_308, 2_309, true), (2_307, 2_311, false)];
@@ -141,7 +141,7 @@ fn the_largest_completion_table(rt: HostRuntime) {
     }
 }
 
-// Of two customers on a line, who demand so much.
+// Tests two customers on a line with these demands.
 fn assert_of_two(rt: &impl Abort, alloc: Global, instance: &Instance, demanded: Demanded) {
     let (first, second, made) = demanded;
     let over = Over::all(rt, alloc, instance);
@@ -182,14 +182,14 @@ fn demands_in_hundreds(rt: HostRuntime) {
     assert_answers(&rt, &over, IN_HUNDREDS);
 }
 
-// What the places demand, and what a truck carries.
+// The demands of the places, and the capacity.
 type Loaded = ([u64; 4], u64);
 
 const EVERY_WALK: &[Loaded] = &[
     ([0, 1, 2, 1], 3),
     ([0, 2, 3, 2], 4),
     ([0, 2, 2, 2], 2),
-    // counted in units of 2, with loads and rests that are no whole number of them
+    // counted in units of 2, with loads and rests that are not whole units
     ([0, 2, 4, 2], 7),
     ([0, 4, 2, 4], 6),
 ];
@@ -242,7 +242,7 @@ fn assert_lists(rt: &impl Abort, alloc: Global, instance: &Instance, near: bool)
     }
 }
 
-// At every place. Over all customers with the completion table or without.
+// For every place. Over all customers with the completion table or without.
 fn assert_list(rt: &impl Abort, alloc: Global, instance: &Instance, customers: &[u16], near: bool) {
     let over = Over::these(rt, alloc, instance, customers);
     let completion_table = over.has_completion_table().expect(rt, "tables");
@@ -257,7 +257,7 @@ fn assert_list(rt: &impl Abort, alloc: Global, instance: &Instance, customers: &
     }
 }
 
-// With each load; at the depot there is none.
+// For each load; at the depot there is none.
 fn assert_loads(rt: &impl Abort, over: &Over<'_>, walkers: Walkers<'_>, at: u16) {
     let most = if at == 0 { 0 } else { over.instance.capacity() };
     for load in 0..most + 1 {

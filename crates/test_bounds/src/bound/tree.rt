@@ -1,4 +1,4 @@
-//! The tree bound by hand, and beside the slow program.
+//! The tree bound by hand, and compared with the slow program.
 ghost use Rattle.std.specs.Prelude.{◌≡◌, ◌≤◌};
 ghost use Rattle.vrp_model.specs.Problem.{place_count};
 
@@ -11,7 +11,7 @@ use test_fixtures::{LINE, at_points, one_each, with_arcs};
 use vrp_bound::TreeScratch;
 use vrp_model::{Instance, MAX_NODES};
 
-// A place, a load, the unserved customers, what they demand, and the bound.
+// A place, a load, the unserved customers, their demand, and the bound.
 type Asked<'a> = (u16, u64, &'a [u16], u64, u64);
 
 fn assert_bound(rt: &impl Abort, alloc: Global, instance: &Instance, asked: Asked<'_>) {
@@ -46,7 +46,7 @@ const TWO_CUSTOMERS: &[([u64; 3], Asked<'_>)] = &[
     ([0, 2, 2], (0, 0, &[1], 4, 10)),
 ];
 
-// The two customers lie on a line with the depot, five apart.
+// The two customers are on a line with the depot, five apart.
 #[test]
 fn bounds_of_two_customers(rt: HostRuntime) {
     for &(demands, asked) in TWO_CUSTOMERS {
@@ -75,7 +75,7 @@ fn there_and_back_differ(rt: HostRuntime) {
     }
 }
 
-// Of 1,199 customers at the places 1 to 1,199 of a line: five trucks, of which the arcs home are 1 to 5.
+// 1,199 customers at the places 1 to 1,199 of a line need five trucks, with arcs home of 1 to 5.
 #[test]
 fn customers_on_a_line(rt: HostRuntime) {
     let instance = on_a_line(&rt, rt.alloc(), MAX_NODES);
@@ -84,11 +84,10 @@ fn customers_on_a_line(rt: HostRuntime) {
     assert_bound(&rt, rt.alloc(), &instance, asked);
 }
 
-// What the places demand, and what a truck carries.
+// The demands of the places, and the capacity.
 type Loaded<'a> = (&'a [u64], u64);
 
-// Where nothing is demanded, where each truck carries one customer, where some demand nothing and some all that a truck carries,
-// and where trucks have room to spare.
+// No demands; one customer for each truck; some demands of 0 and some of a whole truck; trucks with room to spare.
 const FOUR_CUSTOMERS: &[Loaded<'_>] = &[
     (&[0, 0, 0, 0, 0], 1),
     (&[0, 3, 3, 3, 3], 3),
@@ -101,7 +100,7 @@ fn every_completion_of_four_customers(rt: HostRuntime) {
     assert_scattered(&rt, rt.alloc(), FOUR_CUSTOMERS, 3);
 }
 
-// The same cases.
+// No demands; room for one customer in each truck; some demands of 0 and some of a whole truck; trucks with room to spare.
 const FIVE_CUSTOMERS: &[Loaded<'_>] = &[
     (&[0, 0, 0, 0, 0, 0], 1),
     (&[0, 2, 2, 2, 2, 2], 3),
@@ -114,7 +113,8 @@ fn every_completion_of_five_customers(rt: HostRuntime) {
     assert_scattered(&rt, rt.alloc(), FIVE_CUSTOMERS, 3);
 }
 
-// The same cases, and where one truck can carry all.
+// No demands; one customer for each truck; some demands of 0 and one of a whole truck; trucks with room to spare; one truck
+// that can carry all.
 const SIX_CUSTOMERS: &[Loaded<'_>] = &[
     (&[0, 0, 0, 0, 0, 0, 0], 1),
     (&[0, 1, 1, 1, 1, 1, 1], 1),
@@ -128,7 +128,7 @@ fn every_completion_of_six_customers(rt: HostRuntime) {
     assert_scattered(&rt, rt.alloc(), SIX_CUSTOMERS, 2);
 }
 
-// Of this many instances of each case whose arcs cost the same there and back, and of as many whose arcs don't.
+// For this many instances of each case with symmetric arcs, and as many with asymmetric ones.
 fn assert_scattered(rt: &impl Abort, alloc: Global, cases: &[Loaded<'_>], seeds: u64) {
     for &loaded in cases {
         for seed in 1..seeds.min(9) + 1 {
@@ -138,7 +138,7 @@ fn assert_scattered(rt: &impl Abort, alloc: Global, cases: &[Loaded<'_>], seeds:
     }
 }
 
-// At every place, load and choice of unserved customers.
+// For every place, load and choice of unserved customers.
 fn assert_bounds(rt: &impl Abort, alloc: Global, instance: &Instance) {
     let mut room = TreeScratch::new(alloc, instance).expect(rt, "memory");
     let listed = situations(rt, alloc, instance);
@@ -147,8 +147,8 @@ fn assert_bounds(rt: &impl Abort, alloc: Global, instance: &Instance) {
     }
 }
 
-// The number that every tree and every choice of arcs home give, where these can be tried, and no more than the least completion
-// costs.
+// The bound is the number given by trying every tree and every choice of arcs home, if that is possible, and at most the cost
+// of the least completion.
 fn assert_situation(
     rt: &impl Abort,
     alloc: Global,
@@ -167,7 +167,7 @@ fn assert_situation(
     assert_same(rt, bound <= least, true, situation);
 }
 
-// The tree bound in a situation that leaves these customers.
+// The tree bound in a situation with these unserved customers.
 fn bound_of(
     rt: &impl Abort,
     room: &mut TreeScratch,
@@ -186,10 +186,10 @@ fn bound_of(
     room.tree_bound(instance, at, load, customers, rest)
 }
 
-// By what weights are scattered, and whether they are the same there and back.
+// The seed of the weights, and whether they are symmetric.
 type Seed = (u64, bool);
 
-// An instance of at most six customers, its weights scattered.
+// An instance of at most six customers with scattered weights.
 fn scattered(rt: &impl Abort, alloc: Global, seed: Seed, loaded: Loaded<'_>) -> Instance {
     let (demands, capacity) = loaded;
     assert!(rt; demands.len() <= 7);

@@ -7,7 +7,7 @@ use test_fixtures::{FOUR, at_points};
 use vrp_bound::{Scope, unit_of};
 use vrp_model::Instance;
 
-// What the places demand, some customers, and their unit.
+// The demands of the places, some customers, and their unit.
 const UNITS: &[([u64; 4], &[u16], u64)] = &[
     ([0, 200, 650, 300], &[1, 2, 3], 50),
     ([0, 200, 650, 300], &[1, 3], 100),

@@ -1,4 +1,4 @@
-//! A better bound than that of the pieces: JSON has both, and a report has the better one where a time is set.
+//! A bound better than that of the pieces: JSON has both, and a report has the better one if a time is set.
 ghost use Rattle.std.specs.Prelude.{true};
 
 use crate::assertion::assert_same;
@@ -12,7 +12,7 @@ use std::thread::Threads;
 use std::time::Clock;
 use vrp_command::{Event, Gate, Resources, run_words};
 
-// Stops the search where routes are to be listed: prices are found by then, and each piece ends after one partial plan.
+// Stops the search when routes are to be listed: prices are found by then, and each piece ends after one partial plan.
 #[derive(Drop)]
 struct StopsAtRoutes {
     // 1 from then on.
@@ -35,14 +35,14 @@ impl Gate for StopsAtRoutes {
     }
 }
 
-// Twelve customers on a line, a step apart, and trucks that carry two. In pairs from the far end they cost 24 + 20 + .. + 4 = 84, and no
-// plan is cheaper.
+// Twelve customers on a line, a step apart, with capacity two. In pairs from the far end they cost 24 + 20 + .. + 4 = 84, and
+// no plan is cheaper.
 const PAIRS: &str =
     "TYPE : CVRP\nDIMENSION : 13\nEDGE_WEIGHT_TYPE : EUC_2D\nCAPACITY : 2\nNODE_COORD_SECTION\n1 0 0\n2 1 0\n3 2 0\n4 3 0\n5 4 0\n6 5 0\n7 6 0\n8 7 0\n9 8 0\n10 9 0\n11 10 0\n12 11 0\n13 12 0\nDEMAND_SECTION\n1 0\n2 1\n3 1\n4 1\n5 1\n6 1\n7 1\n8 1\n9 1\n10 1\n11 1\n12 1\n13 1\nDEPOT_SECTION\n1\n-1\nEOF\n";
 
 const LEAST_COST: u64 = 84;
 
-// With so small a budget the plan is by savings alone, and prices are found in a moment.
+// With such a small budget the plan comes from savings alone, and prices are found in a moment.
 const JSON: &[&str] = &["--budget", "1000", "--format", "json"];
 
 const REPORT: &[&str] = &["--budget", "1000"];
@@ -55,7 +55,7 @@ const LOWER_BOUND: &str = "\"lower_bound\":";
 
 const BEST_LOWER_BOUND: &str = "\"best_lower_bound\":";
 
-// Without a limit of seconds the number of the report is that of the pieces, and the gap goes by the best one.
+// Without a limit of seconds the report has the bound of the pieces, and the gap uses the best bound.
 #[test]
 fn both_bounds(rt: HostRuntime) {
     let text = printed(&rt, rt.alloc(), JSON);
@@ -73,7 +73,7 @@ fn both_bounds(rt: HostRuntime) {
     assert_same(&rt, open, lower, "the report");
 }
 
-// With one both are the best one.
+// With a limit of seconds both bounds are the best one.
 #[test]
 fn best_bound_alone(rt: HostRuntime) {
     let text = printed(&rt, rt.alloc(), JSON);
@@ -88,7 +88,7 @@ fn best_bound_alone(rt: HostRuntime) {
     assert_same(&rt, open, best, "the report");
 }
 
-// What is printed of the pairs, where these words are given and the search stops at routes.
+// The output for the pairs, with these words, when the search stops at routes.
 fn printed<R: Abort + Files + Threads + Wait + Clock + Eprint + Sync>(
     rt: &R,
     alloc: Global,
@@ -106,7 +106,7 @@ fn printed<R: Abort + Files + Threads + Wait + Clock + Eprint + Sync>(
     String::from_utf8(output).expect(rt, "text")
 }
 
-// The whole number that stands behind the first such name in a text.
+// The whole number behind the first such name in a text.
 fn number_in(rt: &impl Abort, text: &str, name: &str) -> u64 {
     let (_, behind) = text.split_once(name).expect(rt, "the name");
     let digits = behind.bytes().take_while(|byte| byte.is_ascii_digit());

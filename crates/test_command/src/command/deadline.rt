@@ -5,7 +5,7 @@ use std::sync::atomic::{AtomicU64, Ordering};
 use std::time::{Clock, Duration};
 use vrp_command::{Deadline, Gate, NoGate};
 
-// What a clock says at each reading, by seconds; nothing where it fails. The last one is said again and again.
+// The seconds that a clock shows at each reading; nothing if it fails. The last reading is repeated.
 #[derive(Drop)]
 struct Readings {
     seconds: &'static [Option<u64>],
@@ -27,7 +27,7 @@ impl Clock for Readings {
     }
 }
 
-// With a limit of two seconds, whether the search goes on at the first look and at the second.
+// With a limit of two seconds, whether the search continues at the first look and at the second.
 const GOES_ON: &[(&[Option<u64>], bool, bool)] = &[
     (&[Some(5), Some(6), Some(7)], true, false),
     (&[Some(5), Some(7), Some(8)], false, false),

@@ -9,7 +9,7 @@ use std::thread::Threads;
 use vrp_command::{NoGate, Options, Resources, RunError, Status, run, run_words};
 use vrp_text::TextError;
 
-// Gives its bytes, this many at a time. One of its reads fails, and the next goes on behind it.
+// Gives its bytes, this many at a time. One of its reads fails, and the next continues behind it.
 #[derive(Drop)]
 struct Flaky<'a> {
     rest: &'a [u8],
@@ -59,7 +59,8 @@ impl Read for Endless {
     }
 }
 
-// Takes this many bytes at a time, up to its room; then it takes nothing. One of its writes fails, and the next goes on behind it.
+// Takes this many bytes at a time, up to its room; then it takes nothing. One of its writes fails, and the next continues
+// behind it.
 #[derive(Drop)]
 struct Narrow {
     taken: Vec<u8>,
@@ -182,7 +183,7 @@ fn endless_input(rt: HostRuntime) {
     assert!(rt; output.taken.is_empty());
 }
 
-// A report is written five bytes at a time; the second write fails, or the first, at which nothing was taken.
+// A report is written five bytes at a time; the second write fails, or the first, before anything was taken.
 const FAILED_WRITES: &[(usize, ErrorKind, &str)] = &[
     (2, ErrorKind::BrokenPipe, "Route"),
     (2, ErrorKind::Interrupted, "Route"),
@@ -224,12 +225,12 @@ fn failed_flush(rt: HostRuntime) {
     assert_same(&rt, ended.taken.as_slice(), REPORT.as_bytes(), "the report");
 }
 
-// The program over a reader and a writer: its words, which read and which write fails, the status, and what it tells.
+// The program with a reader and a writer: its words, which read and which write fails, the status, and standard error.
 const TOLD: &[(&str, usize, usize, u8, &str)] = &[
     ("--", 0, 0, 0, ""),
     ("--", 1, 0, 5, "cvrp: read fault\n"),
     ("--", 0, 1, 5, "cvrp: write fault\n"),
-    // the help is not told where it can't be written, and nothing is read
+    // if the help can't be written, nothing says so, and nothing is read
     ("--help", 1, 1, 0, ""),
 ];
 
@@ -248,7 +249,7 @@ fn faults_are_told(rt: HostRuntime) {
     }
 }
 
-// Where the words are refused the input is not looked at, and nothing is printed.
+// If the words are refused, the input is not read, and nothing is printed.
 #[test]
 fn refused_words_read_nothing(rt: HostRuntime) {
     let mut input = small_in_parts(70_000, 0, ErrorKind::Other);

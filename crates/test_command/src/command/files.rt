@@ -1,4 +1,4 @@
-//! The reports on whole files, and files that are refused.
+//! The reports on whole files, and refused files.
 use crate::assertion::assert_same;
 use crate::command::fixture::{MIDDLE, REPORT, SMALL, assert_run, with};
 use std::alloc::Global;
@@ -89,7 +89,7 @@ const REFUSED: &[(&str, &str, Option<u16>, TextError)] = &[
     ),
 ];
 
-// The small file with one text in place of another, and with a chosen depot, is refused for this.
+// The small file with one text replaced, and with a chosen depot, is refused for this reason.
 #[test]
 fn refused(rt: HostRuntime) {
     for &(old, new, depot, refusal) in REFUSED {
@@ -99,7 +99,7 @@ fn refused(rt: HostRuntime) {
     }
 }
 
-// Two depots are listed: the first is the depot unless the other is chosen, and neither is a customer.
+// Two depots are listed: the first is used unless the other is chosen, and neither is a customer.
 #[test]
 fn chosen_depots(rt: HostRuntime) {
     let text = with(&rt, rt.alloc(), SMALL, "\n2 1\n", "\n2 0\n");

@@ -19,12 +19,12 @@ pub(crate) const MIDDLE: &str =
 /// The report on the small file.
 pub(crate) const REPORT: &str = "Route #1: 2 3\nCost 20\nProven\n";
 
-/// A text with another one in place of the first such part.
+/// The text with the first such part replaced.
 pub(crate) fn with(rt: &impl Abort, alloc: Global, text: &str, old: &str, new: &str) -> String {
     text.replacen(alloc, old, new, 1).expect(rt, "memory")
 }
 
-/// Asserts how a run over these bytes ends, with this node chosen as the depot, and all that it writes.
+/// Asserts the outcome of a run over these bytes, with this chosen depot, and all that it writes.
 pub(crate) fn assert_run<R: Abort + Threads + Wait + Sync>(
     rt: &R,
     alloc: Global,
@@ -42,7 +42,7 @@ pub(crate) fn assert_run<R: Abort + Threads + Wait + Sync>(
     assert_same(rt, written.as_slice(), report.as_bytes(), report);
 }
 
-/// Asserts how a run over a text ends that may make this many pieces, and spend so much on each, and what it writes last.
+/// Asserts the outcome of a run over a text with this many pieces and this budget, and the end of its output.
 pub(crate) fn assert_end<R: Abort + Threads + Wait + Sync>(
     rt: &R,
     alloc: Global,
@@ -66,7 +66,7 @@ pub(crate) fn assert_end<R: Abort + Threads + Wait + Sync>(
     );
 }
 
-/// What a run over these bytes answers, and what it writes.
+/// The answer of a run over these bytes, and its output.
 pub(crate) fn run_as<R: Threads + Wait + Sync>(
     rt: &R,
     alloc: Global,

@@ -1,4 +1,4 @@
-//! What standard error is told beside faults and answers, where that is asked for.
+//! Hints on standard error, beside faults and answers.
 use crate::command::fixture::{REPORT, SMALL};
 use crate::command::runs::{End, assert_run_by};
 use crate::command::trucks::THREE;
@@ -9,7 +9,7 @@ const DEPOTS: &str =
 
 const BY_TWO: &str = "Route #1: 3\nCost 10\nProven\n";
 
-// Words, a file, and how the program ends.
+// Words, a file, and the outcome of the program.
 const RUNS: &[(&[&str], &str, End<'static>)] = &[
     (&["--explain"], SMALL, (0, REPORT, "")),
     (&[], "", (3, "", "cvrp: missing TYPE\n")),

@@ -1,14 +1,14 @@
-//! Files of as many nodes as there may be.
+//! Files with the greatest number of nodes.
 use crate::command::fixture::assert_end;
 use itoa::Buffer;
 use std::alloc::{AllocError, Global};
 use vrp_command::Status;
 use vrp_model::MAX_NODES;
 
-// The nodes stand on a line, a step apart, the depot first. Each customer demands 1, and a truck carries 2. One truck for each
-// costs 2 + 4 + .. + 2,398 = 1,438,800. With a budget of 1,000 a plan by savings is offered: 1198 and 1199 share a truck, 1196 and
-// 1197, and so on down to 2 and 3, which saves 2,396 + 2,392 + .. + 4 = 718,800. The search itself comes to no plan with so little.
-// Each unit can be carried to the first customer and back: no less than 2,398.
+// The nodes are on a line, a step apart, the depot first. Each customer demands 1, and the capacity is 2. One truck for each
+// costs 2 + 4 + .. + 2,398 = 1,438,800. With a budget of 1,000 a plan by savings is offered: 1198 and 1199 share a truck,
+// 1196 and 1197, and so on down to 2 and 3, which saves 2,396 + 2,392 + .. + 4 = 718,800. The search itself finds no plan
+// with so small a budget. Each unit can be carried to the first customer and back: no less than 2,398.
 #[test]
 fn most_nodes(rt: HostRuntime) {
     let points = points_file(rt.alloc()).expect(&rt, "memory");
@@ -22,7 +22,7 @@ fn most_nodes(rt: HostRuntime) {
     }
 }
 
-// With their points.
+// The file with points.
 fn points_file(alloc: Global) -> Result<String, AllocError> {
     let mut text = String::new(alloc);
     text.push_str("TYPE : CVRP\nDIMENSION : 1200\nEDGE_WEIGHT_TYPE : EUC_2D\nCAPACITY : 2\n")?;
@@ -34,7 +34,7 @@ fn points_file(alloc: Global) -> Result<String, AllocError> {
     Ok(text)
 }
 
-// With the arc from each to each.
+// The file with an arc from each node to each.
 fn matrix_file(alloc: Global) -> Result<String, AllocError> {
     let mut text = String::new(alloc);
     text.push_str("TYPE : CVRP\nDIMENSION : 1200\nEDGE_WEIGHT_TYPE : EXPLICIT\n")?;

@@ -1,6 +1,7 @@
-//! What the lines say.
+//! The text of progress lines.
 use std::alloc::Global;
 use std::process::Abort;
+use vrp_bound::LowerBound;
 use vrp_command::{Line, LongRun, Stage, Status};
 
 const NOTHING: Line = Line {
@@ -18,12 +19,12 @@ const NOTHING: Line = Line {
     looked: 0,
 };
 
-// What is known once a choice has begun.
+// The state once a choice has begun.
 const CHOSEN: Line = Line {
     stage: Stage::Choice,
     seconds: Some(5),
     cost: Some(521),
-    bound: Some(520),
+    bound: Some(LowerBound { hundredths: 52_000 }),
     labels: 30_000,
     routes: 2_212,
     nodes_done: 17,
@@ -47,54 +48,56 @@ const LINES: &[(Line, &str)] = &[
             stage: Stage::BetterPlans,
             seconds: Some(30),
             cost: Some(90_539),
-            bound: Some(88_900),
+            bound: Some(LowerBound {
+                hundredths: 8_890_000,
+            }),
             ..NOTHING
         },
-        "30 s, better plans, cost 90539, lower bound 88900, gap 1.85%",
+        "30 s, better plans, cost 90539, lower bound 88900.00, gap 1.85%",
     ),
     (
         Line {
             stage: Stage::Choice,
             seconds: Some(5),
             cost: Some(521),
-            bound: Some(518),
+            bound: Some(LowerBound { hundredths: 51_718 }),
             routes: 2_212,
             ..NOTHING
         },
-        "5 s, choice, cost 521, lower bound 518, gap 0.58%, 2212 useful routes",
+        "5 s, choice, cost 521, lower bound 517.18, gap 0.58%, 2212 useful routes",
     ),
     (
         Line {
             stage: Stage::Routes,
             cost: Some(521),
-            bound: Some(518),
+            bound: Some(LowerBound { hundredths: 51_718 }),
             ..NOTHING
         },
-        "0 s, routes, cost 521, lower bound 518, gap 0.58%",
+        "0 s, routes, cost 521, lower bound 517.18, gap 0.58%",
     ),
     (
         Line {
             stage: Stage::Routes,
             seconds: Some(4),
             cost: Some(521),
-            bound: Some(518),
+            bound: Some(LowerBound { hundredths: 51_718 }),
             labels: 1_234_567,
             ..NOTHING
         },
-        "4 s, routes, cost 521, lower bound 518, gap 0.58%, 1234567 labels",
+        "4 s, routes, cost 521, lower bound 517.18, gap 0.58%, 1234567 labels",
     ),
     (
         CHOSEN,
-        "5 s, choice, cost 521, lower bound 520, gap 0.20%, 2212 useful routes, 17 nodes done, 4 open",
+        "5 s, choice, cost 521, lower bound 520.00, gap 0.20%, 2212 useful routes, 17 nodes done, 4 open",
     ),
-    // The root alone, before and behind it.
+    // Only the root, before and after it.
     (
         Line {
             nodes_done: 0,
             nodes_open: 1,
             ..CHOSEN
         },
-        "5 s, choice, cost 521, lower bound 520, gap 0.20%, 2212 useful routes, 0 nodes done, 1 open",
+        "5 s, choice, cost 521, lower bound 520.00, gap 0.20%, 2212 useful routes, 0 nodes done, 1 open",
     ),
     (
         Line {
@@ -102,48 +105,48 @@ const LINES: &[(Line, &str)] = &[
             nodes_open: 0,
             ..CHOSEN
         },
-        "5 s, choice, cost 521, lower bound 520, gap 0.20%, 2212 useful routes, 1 nodes done, 0 open",
+        "5 s, choice, cost 521, lower bound 520.00, gap 0.20%, 2212 useful routes, 1 nodes done, 0 open",
     ),
-    // Behind the choice nothing is told of its nodes.
+    // After the choice its nodes are not mentioned.
     (
         Line {
             stage: Stage::Search,
             pieces: 64,
             ..CHOSEN
         },
-        "5 s, search, cost 521, lower bound 520, gap 0.20%, 2212 useful routes, 0 of 64 pieces done, 0 left open, 0 partial plans",
+        "5 s, search, cost 521, lower bound 520.00, gap 0.20%, 2212 useful routes, 0 of 64 pieces done, 0 left open, 0 partial plans",
     ),
     (
         Line {
             stage: Stage::Ended(Status::Proven),
-            bound: Some(521),
+            bound: Some(LowerBound { hundredths: 52_100 }),
             ..CHOSEN
         },
-        "5 s, Proven, cost 521, lower bound 521, gap 0.00%, 2212 useful routes",
+        "5 s, Proven, cost 521, lower bound 521.00, gap 0.00%, 2212 useful routes",
     ),
     (
         Line {
             stage: Stage::Search,
             seconds: Some(12),
             cost: Some(521),
-            bound: Some(518),
+            bound: Some(LowerBound { hundredths: 51_718 }),
             done: 3,
             left_open: 2,
             pieces: 64,
             looked: 1_234_567,
             ..NOTHING
         },
-        "12 s, search, cost 521, lower bound 518, gap 0.58%, 3 of 64 pieces done, 2 left open, 1234567 partial plans",
+        "12 s, search, cost 521, lower bound 517.18, gap 0.58%, 3 of 64 pieces done, 2 left open, 1234567 partial plans",
     ),
     (
         Line {
             stage: Stage::Ended(Status::Proven),
             seconds: Some(1),
             cost: Some(0),
-            bound: Some(0),
+            bound: Some(LowerBound { hundredths: 0 }),
             ..NOTHING
         },
-        "1 s, Proven, cost 0, lower bound 0, gap 0.00%",
+        "1 s, Proven, cost 0, lower bound 0.00, gap 0.00%",
     ),
 ];
 
@@ -154,12 +157,12 @@ fn lines_of_a_run(rt: HostRuntime) {
     }
 }
 
-// What is said once of a run that takes long.
+// The one message of a long run.
 #[test]
 fn long_run(rt: HostRuntime) {
     let told = format!(in rt.alloc(); "{}", LongRun(CHOSEN)).expect(&rt, "memory");
     let text =
-        "cvrp: 5 s, choice, cost 521, lower bound 520, gap 0.20%, 2212 useful routes, 17 nodes done, 4 open; --seconds N ends a run with the best that it has, --progress tells how it goes";
+        "cvrp: 5 s, choice, cost 521, lower bound 520.00, gap 0.20%, 2212 useful routes, 17 nodes done, 4 open; --seconds N ends a run with the best that it has, --progress tells how it goes";
     assert!(rt; told.as_str() == text, "{told}");
 }
 

@@ -1,4 +1,4 @@
-//! Command lines: what they ask for, and how they are refused.
+//! Command lines: their requests, and their refusals.
 use crate::assertion::assert_same;
 use clap::Error;
 use std::alloc::{AllocError, Global};
@@ -11,7 +11,7 @@ use vrp_command::{
 };
 use vrp_model::MAX_NODES;
 
-// What a table says of words that give options.
+// The default options.
 const DEFAULT: Options = Options {
     workers: 1,
     pieces: 64,
@@ -134,7 +134,7 @@ fn all_options(rt: HostRuntime) {
     }
 }
 
-// Words, and what they ask for beside the options: the seconds, the budget, whether that is given, and whether to tell of progress.
+// Words, and their request besides the options: the seconds, the budget, whether it is given, and whether to report progress.
 const LIMITS: &[(&[&str], Option<u32>, u64, bool, bool)] = &[
     (&[], None, 10_000_000, false, false),
     (&["--seconds", "1"], Some(1), MAX_BUDGET, false, false),
@@ -171,7 +171,7 @@ fn assert_request<'a>(rt: &impl Abort, alloc: Global, words: &'a [&'a str], want
     }
 }
 
-// A limit of seconds is the only one, unless a budget is named.
+// A limit of seconds is the only limit, unless a budget is given.
 #[test]
 fn seconds(rt: HostRuntime) {
     for (words, seconds, budget, states_budget, progress) in LIMITS {
@@ -183,17 +183,13 @@ fn seconds(rt: HostRuntime) {
             states_budget: *states_budget,
             seconds: *seconds,
             progress: *progress,
-            start: None,
-            check: false,
-            strict: false,
-            explain: false,
-            format: Format::Report,
+            ..Request::report(DEFAULT)
         };
         assert_request(&rt, rt.alloc(), words, wanted);
     }
 }
 
-// Words that name a plan to begin with, and whether it is only checked.
+// Words that name a start plan, and whether it is only checked.
 const STARTS: &[(&[&str], bool)] = &[
     (&["--start", "a.sol"], false),
     (&["--start=a.sol"], false),
@@ -205,15 +201,9 @@ const STARTS: &[(&[&str], bool)] = &[
 fn starts(rt: HostRuntime) {
     for (words, check) in STARTS {
         let wanted = Request {
-            options: DEFAULT,
-            states_budget: false,
-            seconds: None,
-            progress: false,
             start: Some("a.sol"),
             check: *check,
-            strict: false,
-            explain: false,
-            format: Format::Report,
+            ..Request::report(DEFAULT)
         };
         assert_request(&rt, rt.alloc(), words, wanted);
     }
@@ -231,21 +221,14 @@ const FORMATS: &[(&[&str], Format)] = &[
 fn formats(rt: HostRuntime) {
     for (words, format) in FORMATS {
         let wanted = Request {
-            options: DEFAULT,
-            states_budget: false,
-            seconds: None,
-            progress: false,
-            start: None,
-            check: false,
-            strict: false,
-            explain: false,
             format: *format,
+            ..Request::report(DEFAULT)
         };
         assert_request(&rt, rt.alloc(), words, wanted);
     }
 }
 
-// Asserts that these words are refused, and how the text begins that says why.
+// Asserts that these words are refused, and the beginning of the message.
 fn assert_refused(rt: &impl Abort, alloc: Global, words: &[&str], begins: &str) {
     match parse_words(alloc, words) {
         Err(LineFault::Refused(text)) => {
@@ -259,13 +242,13 @@ fn assert_refused(rt: &impl Abort, alloc: Global, words: &[&str], begins: &str) 
     }
 }
 
-// How the text begins where a value is of another kind or out of its range.
+// The beginning of the message for a value of another kind or out of its range.
 const INVALID: &str = "error: invalid value";
 
 const FILE_NAMED: &str =
     "error: unexpected argument 'a.vrp' found\n\nUsage: cvrp [OPTIONS] < FILE\n\nThe file comes on standard input.\n";
 
-// Words, and how the text begins that says why they are refused.
+// Words, and the beginning of the message that refuses them.
 const REFUSED: &[(&[&str], &str)] = &[
     // A number out of its range.
     (
@@ -283,7 +266,7 @@ const REFUSED: &[(&[&str], &str)] = &[
     (&["--depot", "1201"], INVALID),
     (&["--trucks", "0"], INVALID),
     (&["--trucks", "1201"], INVALID),
-    // No number, none at all, or two.
+    // Not a number, no value, or two values.
     (&["--workers", " 2"], INVALID),
     (&["--workers", "2.0"], INVALID),
     (&["--workers="], INVALID),
@@ -294,12 +277,12 @@ const REFUSED: &[(&[&str], &str)] = &[
         &["--pieces", "2", "--pieces", "2"],
         "error: the argument '--pieces <PIECES>' cannot",
     ),
-    // Who gives the file's name is told how the file comes.
+    // A user who gives a file's name is told that the file comes on standard input.
     (&["a.vrp"], FILE_NAMED),
     (&["--pieces", "2", "a.vrp"], FILE_NAMED),
     (&[""], "error: unexpected argument '' found\n"),
     (&["-w"], "error: unexpected argument '-w' found\n"),
-    // A form that there is not, and a check of no plan.
+    // A form that doesn't exist, and a check without a plan.
     (
         &["--format", "pdf"],
         "error: invalid value 'pdf' for '--format <FORM>'\n  [possible values: report, sol, json, svg]\n",
@@ -318,7 +301,7 @@ fn refused_words(rt: HostRuntime) {
     }
 }
 
-// The text of the help that these words ask for.
+// The help printed for these words.
 fn help(rt: &impl Abort, alloc: Global, words: &[&str]) -> String {
     help_of(parse_words(alloc, words)).expect(rt, "a help")
 }
@@ -365,7 +348,7 @@ fn helps_tell_ranges_and_defaults(rt: HostRuntime) {
     }
 }
 
-// The help has the statuses that the program ends with, and ends its last line.
+// The help lists the program's exit statuses, and its last line ends.
 #[test]
 fn helps_tell_statuses(rt: HostRuntime) {
     let help = help(&rt, rt.alloc(), &["--help"]);
@@ -392,7 +375,7 @@ fn statuses(rt: HostRuntime) {
     assert_same(&rt, line_status(&LineFault::OutOfMemory), 4, "no memory");
 }
 
-// Asserts what is told of a fault, which prints nothing on standard output, and its status.
+// Asserts the message of a fault, which prints nothing on standard output, and its status.
 fn assert_told(rt: &impl Abort, alloc: Global, fault: &LineFault, status: u8, told: &str) {
     let mut output = Vec::new(alloc);
     let mut errors = Vec::new(alloc);
@@ -406,7 +389,7 @@ fn assert_told(rt: &impl Abort, alloc: Global, fault: &LineFault, status: u8, to
     assert_same(rt, errors.as_slice(), told.as_bytes(), told);
 }
 
-// A word that is no text is refused; want of memory is told as that, wherever it comes.
+// A word that is not text is refused; lack of memory is reported as such, wherever it comes.
 #[test]
 fn words_that_cannot_be_had(rt: HostRuntime) {
     let no_text =

@@ -1,4 +1,4 @@
-//! The options, the texts and the exit statuses, and growths that are refused.
+//! The options, the texts and the exit statuses, and refused allocations.
 use crate::assertion::assert_same;
 use crate::command::fixture::{REPORT, SMALL};
 use std::alloc::Global;
@@ -22,7 +22,7 @@ fn default_options(rt: HostRuntime) {
     assert_same(&rt, Options::default(), options, "the defaults");
 }
 
-// An outcome, its status, and what is told of it on standard error.
+// An outcome, its status, and its message on standard error.
 const OUTCOMES: &[(Result<Status, RunError>, u8, &str)] = &[
     (Ok(Status::Proven), 0, ""),
     (Ok(Status::NoPlan), 0, ""),
@@ -49,7 +49,7 @@ fn outcomes(rt: HostRuntime) {
     }
 }
 
-// Why a request is not answered though its file is read, the status, and what is told of it.
+// Why a request has no answer though its file is read, the status, and the message.
 const NOT_ANSWERED: &[(RequestError, u8, &str)] = &[
     (
         RequestError::Start(StartError::Read),
@@ -99,7 +99,7 @@ fn fault_lines(rt: HostRuntime) {
     }
 }
 
-// Asserts the text of a fault, as it is told and as it prints itself.
+// Asserts the text of a fault, from `fault_line` and from its `Display`.
 fn assert_fault_line(rt: &impl Abort, alloc: Global, fault: &RunError, line: &str) {
     let told = fault_line(alloc, fault).expect(rt, "memory");
     assert_same(rt, told.as_str(), line, "told");
@@ -161,7 +161,7 @@ const REFUSAL_LINES: &[(TextError, &str)] = &[
     (TextError::OutOfMemory, "out of memory"),
 ];
 
-// The text of a refused file is the one that the refusal itself prints.
+// The text of a refused file is the same as the refusal's own `Display`.
 #[test]
 fn refusal_lines(rt: HostRuntime) {
     for &(refusal, line) in REFUSAL_LINES {
@@ -176,7 +176,7 @@ fn assert_refusal_line(rt: &impl Abort, alloc: Global, refusal: TextError, line:
     assert_same(rt, printed.as_str(), line, "the refusal");
 }
 
-// Says something where a growth is refused: run it by `rt try --test --fail-alloc N`, N from 1 on.
+// Shows something only if an allocation is refused: run it by `rt try --test --fail-alloc N`, N from 1 on.
 #[test]
 fn refused_growth(rt: HostRuntime) {
     let mut written = [0u8; 29];

@@ -1,4 +1,4 @@
-//! The plans of small files, and the verdicts on them, as the options ask for them.
+//! The plans of small files and their verdicts, for various options.
 use crate::command::fixture::{SMALL, assert_end, assert_run, with};
 use std::alloc::Global;
 use std::process::Abort;
@@ -6,19 +6,19 @@ use std::sync::Wait;
 use std::thread::Threads;
 use vrp_command::{MAX_PIECES, Options, Status};
 
-// Three nodes, where it matters which way a road is taken.
+// Three nodes with asymmetric arcs.
 pub(crate) const ONE_DIRECTION: &str =
     "TYPE : CVRP\nDIMENSION : 3\nEDGE_WEIGHT_TYPE : EXPLICIT\nEDGE_WEIGHT_FORMAT : FULL_MATRIX\nCAPACITY : 2\nEDGE_WEIGHT_SECTION\n0 1 9\n9 0 1\n1 9 0\nDEMAND_SECTION\n1 0\n2 1\n3 1\nDEPOT_SECTION\n1\n-1\nEOF\n";
 
-// Three nodes, where the cheap way serves the second customer first.
+// Three nodes where the cheap route serves the second customer first.
 const SECOND_FIRST: &str =
     "TYPE : CVRP\nDIMENSION : 3\nEDGE_WEIGHT_TYPE : EXPLICIT\nEDGE_WEIGHT_FORMAT : FULL_MATRIX\nCAPACITY : 2\nEDGE_WEIGHT_SECTION\n0 9 1\n1 0 1\n20 1 0\nDEMAND_SECTION\n1 0\n2 1\n3 1\nDEPOT_SECTION\n1\n-1\nEOF\n";
 
-// The small file with a fourth node, which has no demand and lies a step from the depot.
+// The small file with a fourth node, which has no demand and is a step from the depot.
 pub(crate) const FOUR: &str =
     "TYPE : CVRP\nDIMENSION : 4\nEDGE_WEIGHT_TYPE : EUC_2D\nCAPACITY : 2\nNODE_COORD_SECTION\n1 0 0\n2 3 4\n3 6 8\n4 0 1\nDEMAND_SECTION\n1 0\n2 1\n3 1\n4 0\nDEPOT_SECTION\n1\n-1\nEOF\n";
 
-// The small file with such demands that the completion table would be too large: a bound looks through the walks and tours.
+// The small file with demands for which the completion table would be too large: a bound searches the walks and tours.
 const LARGE: &str =
     "TYPE : CVRP\nDIMENSION : 3\nEDGE_WEIGHT_TYPE : EUC_2D\nCAPACITY : 14000\nNODE_COORD_SECTION\n1 0 0\n2 3 4\n3 6 8\nDEMAND_SECTION\n1 0\n2 7001\n3 6999\nDEPOT_SECTION\n1\n-1\nEOF\n";
 
@@ -55,7 +55,7 @@ const CANONICAL_PLANS: &[(&str, &str, &str)] = &[
     (SMALL, STEPS, "Route #1: 2\nRoute #2: 3 4\nCost 5\nProven\n"),
 ];
 
-// However many pieces there are, the canonical plan is found and proved.
+// With any number of pieces the canonical plan is found and proved.
 #[test]
 fn start_plans(rt: HostRuntime) {
     for &(old, new, report) in CANONICAL_PLANS {
@@ -87,7 +87,7 @@ const SMALL_BUDGETS: &[(&str, &str, u32, u64, Status, &str)] = &[
     ("EOF", "EOF", 1, 7, Status::Open, "Cost 20\nOpen 20\n"),
     ("EOF", "EOF", 1, 8, Status::Proven, "Cost 20\nProven\n"),
     ("EOF", "EOF", 1, 11, Status::Proven, "Cost 20\nProven\n"),
-    // the pieces are the first customers: 5 paid and 15 to pay, 10 paid and 10 to pay
+    // the pieces begin with the first customers: 5 paid and 15 to pay, 10 paid and 10 to pay
     ("EOF", "EOF", 2, 1, Status::Open, "Cost 30\nOpen 20\n"),
     (
         "EOF",
@@ -97,7 +97,7 @@ const SMALL_BUDGETS: &[(&str, &str, u32, u64, Status, &str)] = &[
         Status::Proven,
         "Cost 20\nProven\n",
     ),
-    // twice to the nearer customer: a walk may come to it again
+    // twice to the nearer customer, since a walk may visit it again
     (
         "CAPACITY : 2",
         "CAPACITY : 1",
@@ -115,7 +115,7 @@ const SMALL_BUDGETS: &[(&str, &str, u32, u64, Status, &str)] = &[
         Status::Open,
         "Cost 30\nOpen 30\n",
     ),
-    // the bound is what the canonical plan costs: another plan may cost as much
+    // the bound is the canonical plan's cost, since another plan may cost as much
     (
         "\n2 1\n",
         "\n2 2\n",
@@ -132,12 +132,12 @@ const SMALL_BUDGETS: &[(&str, &str, u32, u64, Status, &str)] = &[
         Status::Proven,
         "Cost 30\nProven\n",
     ),
-    // a customer of no demand: the arcs into the customers, 4, 5 and 1, and one arc home, 1
+    // a customer without demand: the arcs into the customers, 4, 5 and 1, and one arc home, 1
     (SMALL, FOUR, 1, 1, Status::Open, "Cost 32\nOpen 11\n"),
-    // three pieces: two are left at 12 and 16; with the last customer first no route can be opened any more for the others
+    // three pieces: two are left at 12 and 16; with the last customer first no other route can be opened for the rest
     (SMALL, FOUR, 3, 1, Status::Open, "Cost 32\nOpen 12\n"),
     (SMALL, FOUR, 3, 10, Status::Open, "Cost 20\nOpen 12\n"),
-    // two pieces, left at 30 and 3; then the last one is finished, and its plan costs less than 30, so none under the first is of use
+    // two pieces, left at 30 and 3; then the last one is finished, and its plan costs less than 30, so the first is of no use
     (SMALL, SECOND_FIRST, 2, 1, Status::Open, "Cost 31\nOpen 3\n"),
     (
         SMALL,
@@ -149,7 +149,7 @@ const SMALL_BUDGETS: &[(&str, &str, u32, u64, Status, &str)] = &[
     ),
 ];
 
-// What is left open with a small budget. The whole tree of the small file has ten partial plans: eight are looked at.
+// What a small budget leaves open. The whole tree of the small file has ten partial plans: eight are looked at.
 #[test]
 fn small_budgets(rt: HostRuntime) {
     for &(old, new, pieces, budget, status, end) in SMALL_BUDGETS {
@@ -159,7 +159,7 @@ fn small_budgets(rt: HostRuntime) {
     }
 }
 
-// Without customers there is one plan, which has no routes.
+// Without customers there is one plan, without routes.
 #[test]
 fn depot_alone(rt: HostRuntime) {
     let bytes =

@@ -1,4 +1,6 @@
-//! Requests over files in memory: what they ask for is what is done.
+//! Requests over files in memory, and their outcomes.
+ghost use Rattle.vrp_command_request.specs.Options.{AreInRange};
+
 use crate::assertion::assert_same;
 use crate::command::fixture::{REPORT, SMALL};
 use crate::command::plans::STEPS;
@@ -16,7 +18,7 @@ use vrp_command::{
 use vrp_plan_read::SolutionError;
 use vrp_text::TextError;
 
-// How much may be searched.
+// The effort of a search.
 #[derive(Clone, Copy)]
 enum Search {
     // As much as without options.
@@ -50,51 +52,25 @@ impl Search {
     }
 }
 
-// What is asked for: how much may be searched, whether the plan to begin with is only to be checked, and in which form.
+// A request: the effort, whether the start plan is only to be checked, and the output form.
 #[derive(Clone, Copy)]
-struct Asked {
-    search: Search,
-    check: bool,
-    format: Format,
-}
+struct Asked(Search, bool, Format);
 
-const PLAIN: Asked = Asked {
-    search: Search::Default,
-    check: false,
-    format: Format::Report,
-};
+const PLAIN: Asked = Asked(Search::Default, false, Format::Report);
 
-const LITTLE: Asked = Asked {
-    search: Search::Little,
-    ..PLAIN
-};
+const LITTLE: Asked = Asked(Search::Little, false, Format::Report);
 
-const CHECK: Asked = Asked {
-    check: true,
-    ..PLAIN
-};
+const CHECK: Asked = Asked(Search::Default, true, Format::Report);
 
-const SOLUTION: Asked = Asked {
-    format: Format::Solution,
-    ..PLAIN
-};
+const SOLUTION: Asked = Asked(Search::Default, false, Format::Solution);
 
-const JSON_LITTLE: Asked = Asked {
-    format: Format::Json,
-    ..LITTLE
-};
+const JSON_LITTLE: Asked = Asked(Search::Little, false, Format::Json);
 
-const JSON_CHECK: Asked = Asked {
-    format: Format::Json,
-    ..CHECK
-};
+const JSON_CHECK: Asked = Asked(Search::Default, true, Format::Json);
 
-const PICTURE: Asked = Asked {
-    format: Format::Picture,
-    ..PLAIN
-};
+const PICTURE: Asked = Asked(Search::Default, false, Format::Picture);
 
-// A file of a plan to begin with, in memory.
+// The file of a start plan, in memory.
 #[derive(Clone, Copy)]
 enum Start {
     Nothing,
@@ -112,7 +88,7 @@ impl Start {
     }
 }
 
-// What is asked for, of which file, with which plan to begin with; how it ends, and what is printed.
+// The request, the file, the start plan, the outcome, and the output.
 type Row = (
     Asked,
     &'static str,
@@ -121,7 +97,7 @@ type Row = (
     &'static str,
 );
 
-// Two routes are the costlier plan of the small file, and the only one with trucks that carry one customer.
+// Two routes are the costlier plan of the small file, and the only one with capacity 1.
 const TWO: Start = Start::Text("Route #1: 2\nRoute #2: 1\nCost 30\n");
 
 const REQUESTS: &[Row] = &[
@@ -134,7 +110,7 @@ const REQUESTS: &[Row] = &[
         Ok(Status::Open),
         "Route #1: 2\nRoute #2: 3\nCost 30\nOpen 20\n",
     ),
-    // no printed plan costs more than the one to begin with
+    // no printed plan costs more than the start plan
     (
         LITTLE,
         SMALL,
@@ -158,7 +134,7 @@ const REQUESTS: &[Row] = &[
         Ok(Status::Proven),
         "Route #1: 1 2\nCost 20\n",
     ),
-    // the pieces' bound is the best one where no other is known
+    // the pieces' bound is the best one if no other is known
     (
         JSON_LITTLE,
         SMALL,
@@ -166,7 +142,7 @@ const REQUESTS: &[Row] = &[
         Ok(Status::Open),
         "{\"best_lower_bound\":20,\"capacity\":2,\"cost\":30,\"customers\":2,\"depot\":1,\"gap\":5000,\"lower_bound\":20,\"name\":\"A\",\"options\":{\"budget\":null,\"depot\":null,\"pieces\":1,\"seconds\":null,\"trucks\":null,\"workers\":1},\"routes\":[{\"cost\":10,\"customers\":[1],\"load\":1,\"nodes\":[2]},{\"cost\":20,\"customers\":[2],\"load\":1,\"nodes\":[3]}],\"stated_cost\":null,\"verdict\":\"Open\",\"version\":\"1.0.0\"}\n",
     ),
-    // of a plan that is only checked no bound is known
+    // no bound is known for a plan that is only checked
     (
         JSON_CHECK,
         SMALL,
@@ -188,7 +164,7 @@ const REQUESTS: &[Row] = &[
         Err(RequestError::Start(StartError::Refused(SolutionError::NotServed(2)))),
         "",
     ),
-    // the file comes first
+    // a fault of the file is reported first
     (
         CHECK,
         "",
@@ -196,7 +172,7 @@ const REQUESTS: &[Row] = &[
         Err(RequestError::Run(RunError::Text(TextError::Missing(vrp_text::Key::Problem)))),
         "",
     ),
-    // a file of weights has no coordinates, whatever the plan
+    // a file of weights has no coordinates, for any plan
     (
         PICTURE,
         STEPS,
@@ -218,17 +194,37 @@ fn assert_request<R: Abort + Threads + Wait + Clock + Eprint + Sync>(
     alloc: Global,
     (asked, text, start, wanted, printed): &Row,
 ) {
+    let Asked(search, check, format) = *asked;
     let request = Request {
-        options: asked.search.options(),
-        states_budget: false,
-        seconds: None,
-        progress: false,
-        start: None,
-        check: asked.check,
-        strict: false,
-        explain: false,
-        format: asked.format,
+        options: search.options(),
+        check,
+        format,
+        ..Request::report(Options::default())
     };
+    let ran = run(rt, alloc, request, start.file(), text);
+    assert_same(rt, ran.ended, *wanted, printed);
+    assert_same(rt, ran.output.as_slice(), printed.as_bytes(), printed);
+    assert!(rt; ran.errors.is_empty(), "{printed}");
+}
+
+// The outcome of a request, and its output.
+#[derive(Drop)]
+struct Ran {
+    ended: Result<Status, RequestError>,
+    output: Vec<u8>,
+    errors: Vec<u8>,
+}
+
+// Runs a request over a text.
+fn run<R: Abort + Threads + Wait + Clock + Eprint + Sync>(
+    rt: &R,
+    alloc: Global,
+    request: Request<'_>,
+    start: Option<StartFile<&[u8]>>,
+    text: &str,
+) -> Ran
+    requires { AreInRange request.options }
+{
     let mut input = text.as_bytes();
     let mut output = Vec::new(alloc);
     let mut errors = Vec::new(alloc);
@@ -236,26 +232,28 @@ fn assert_request<R: Abort + Threads + Wait + Clock + Eprint + Sync>(
     let ended = run_request(
         &resources,
         request,
-        start.file(),
+        start,
         &mut input,
         &mut output,
         &mut errors,
     );
-    assert_same(rt, ended, *wanted, printed);
-    assert_same(rt, output.as_slice(), printed.as_bytes(), printed);
-    assert!(rt; errors.is_empty(), "{printed}");
+    Ran {
+        ended,
+        output,
+        errors,
+    }
 }
 
-// How much may be searched, and a part of the last line of a run that is told of.
+// The effort of a search, and a part of the last line of progress.
 const LAST_LINES: &[(Search, &str)] = &[
     (
         Search::Default,
-        " s, Proven, cost 20, lower bound 20, gap 0.00%",
+        " s, Proven, cost 20, lower bound 20.00, gap 0.00%",
     ),
     (Search::Little, " s, Open, cost 30"),
 ];
 
-// The last line of a run that is told of has the verdict of its report.
+// The last line of progress has the verdict of the report.
 #[test]
 fn last_lines(rt: HostRuntime) {
     for &(search, wanted) in LAST_LINES {
@@ -271,27 +269,10 @@ fn assert_last_line<R: Abort + Threads + Wait + Clock + Eprint + Sync>(
 ) {
     let request = Request {
         options: search.options(),
-        states_budget: false,
-        seconds: None,
         progress: true,
-        start: None,
-        check: false,
-        strict: false,
-        explain: false,
-        format: Format::Report,
+        ..Request::report(Options::default())
     };
-    let mut input = SMALL.as_bytes();
-    let mut output = Vec::new(alloc);
-    let mut errors = Vec::new(alloc);
-    let resources = Resources::new(rt, alloc, &NoGate);
-    let ended = run_request(
-        &resources,
-        request,
-        Start::Nothing.file(),
-        &mut input,
-        &mut output,
-        &mut errors,
-    );
-    let told = str::from_utf8(&errors).expect(rt, "text");
-    assert!(rt; ended.is_ok() && told.contains(wanted), "{told}");
+    let ran = run(rt, alloc, request, Start::Nothing.file(), SMALL);
+    let told = str::from_utf8(&ran.errors).expect(rt, "text");
+    assert!(rt; ran.ended.is_ok() && told.contains(wanted), "{told}");
 }

@@ -1,4 +1,4 @@
-//! Runs as a user asks for them: the words, a file, and all that comes of it.
+//! Runs of the program: the words, a file, and the whole outcome.
 use crate::assertion::assert_same;
 use crate::command::fixture::{REPORT, SMALL, with};
 use crate::command::plans::{FOUR, ONE_DIRECTION, STEPS};
@@ -25,7 +25,7 @@ const ALONE: &str =
 const CORNER: &str =
     "TYPE : CVRP\nDIMENSION : 2\nEDGE_WEIGHT_TYPE : EUC_2D\nCAPACITY : 2\nNODE_COORD_SECTION\n1 0 0\n2 1 1\nDEMAND_SECTION\n1 0\n2 1\nDEPOT_SECTION\n1\n-1\nEOF\n";
 
-// One customer, as far away as a point can be.
+// One customer, as far away as possible.
 const FAR_CORNER: &str =
     "TYPE : CVRP\nDIMENSION : 2\nEDGE_WEIGHT_TYPE : EUC_2D\nCAPACITY : 2\nNODE_COORD_SECTION\n1 -100000000 -100000000\n2 100000000 100000000\nDEMAND_SECTION\n1 0\n2 1\nDEPOT_SECTION\n1\n-1\nEOF\n";
 
@@ -54,10 +54,10 @@ const FOURTEEN: &str = "Route #1: 2\nRoute #2: 3\nRoute #3: 4\nCost 14\nProven\n
 const SIX: &str =
     "TYPE : CVRP\nDIMENSION : 6\nEDGE_WEIGHT_TYPE : EUC_2D\nCAPACITY : 2\nNODE_COORD_SECTION\n1 0 0\n2 8 0\n3 4 3\n4 8 6\n5 12 3\n6 8 2\nDEMAND_SECTION\n1 0\n2 0\n3 1\n4 1\n5 1\n6 1\nDEPOT_SECTION\n1 2\n-1\nEOF\n";
 
-/// The exit status, and all that is written to standard output and to standard error.
+/// The exit status, and all output on standard output and standard error.
 pub(crate) type End<'a> = (u8, &'a str, &'a str);
 
-/// Asserts how the program ends that is asked for by these words over a text.
+/// Asserts the outcome of the program with these words over a text.
 pub(crate) fn assert_run_by<R: Abort + Files + Threads + Wait + Clock + Eprint + Sync>(
     rt: &R,
     alloc: Global,
@@ -75,7 +75,7 @@ pub(crate) fn assert_run_by<R: Abort + Files + Threads + Wait + Clock + Eprint +
     assert_same(rt, errors.as_slice(), told.as_bytes(), words);
 }
 
-// A file, a text in it and what stands in its place, and the report by a line without words.
+// A file, a text in it and its replacement, and the report without words.
 const PLAIN_RUNS: &[(&str, &str, &str, &str)] = &[
     (SMALL, "EOF", "EOF", REPORT),
     (SMALL, "CAPACITY : 2", "CAPACITY : 1", SINGLES),
@@ -142,7 +142,7 @@ fn without_words(rt: HostRuntime) {
     }
 }
 
-/// Asserts how the program ends that is asked for by these words over a file with one text in place of another.
+/// Asserts the outcome of the program with these words over a file with one text replaced.
 fn assert_changed<R: Abort + Files + Threads + Wait + Clock + Eprint + Sync>(
     rt: &R,
     alloc: Global,
@@ -154,7 +154,7 @@ fn assert_changed<R: Abort + Files + Threads + Wait + Clock + Eprint + Sync>(
     assert_run_by(rt, alloc, words, text.as_str(), end);
 }
 
-// A text in the small file and what stands in its place, and the line on standard error.
+// A text in the small file and its replacement, and the line on standard error.
 const REFUSED: &[(&str, &str, &str)] = &[
     (
         "\n2 3 4\n",
@@ -192,7 +192,7 @@ const REFUSED: &[(&str, &str, &str)] = &[
     ),
 ];
 
-// No report is written, whatever the words.
+// No report is written, for any words.
 #[test]
 fn refused_files(rt: HostRuntime) {
     for &(old, new, told) in REFUSED {
@@ -202,7 +202,7 @@ fn refused_files(rt: HostRuntime) {
     }
 }
 
-// However many work and however many pieces there are, the report is the same.
+// With any number of workers and pieces the report is the same.
 #[test]
 fn crews(rt: HostRuntime) {
     for workers in ["1", "2", "8"] {
@@ -212,7 +212,7 @@ fn crews(rt: HostRuntime) {
     }
 }
 
-// Asserts the reports of so many workers over so many pieces.
+// Asserts the reports of this many workers over this many pieces.
 fn assert_crew<R: Abort + Files + Threads + Wait + Clock + Eprint + Sync>(
     rt: &R,
     alloc: Global,
@@ -226,17 +226,17 @@ fn assert_crew<R: Abort + Files + Threads + Wait + Clock + Eprint + Sync>(
     }
 }
 
-// What who gives a file's name is told.
+// The message for a user who gives a file's name.
 const NO_FILE: &str =
     "error: unexpected argument 'a.vrp' found\n\nUsage: cvrp [OPTIONS] < FILE\n\nThe file comes on standard input.\n\nFor more information, try '--help'.\ncvrp: hint: a file comes on standard input, as in cvrp < a.vrp\n";
 
 const NO_WORKERS: &str =
     "error: invalid value '0' for '--workers <THREADS>': 0 is not in 1..=64\n\nFor more information, try '--help'.\ncvrp: hint: --workers takes a whole number from 1 to 64\n";
 
-// Words between blanks, a file, and how the program ends.
+// Words between blanks, a file, and the outcome of the program.
 const BY_WORDS: &[(&str, &str, End<'static>)] = &[
     ("--", SMALL, (0, REPORT, "")),
-    // a budget and pieces of its own: with one of them alone the plan is proven
+    // given both a budget and a number of pieces: with only one of them the plan is proven
     (
         "--budget 1 --pieces 1",
         SMALL,
@@ -306,7 +306,7 @@ fn by_words(rt: HostRuntime) {
     }
 }
 
-// The same of words between blanks.
+// Asserts the outcome for words between blanks.
 fn assert_line<R: Abort + Files + Threads + Wait + Clock + Eprint + Sync>(
     rt: &R,
     alloc: Global,
@@ -318,15 +318,15 @@ fn assert_line<R: Abort + Files + Threads + Wait + Clock + Eprint + Sync>(
     assert_run_by(rt, alloc, &words, text, end);
 }
 
-// How often a worker may look whether the others have begun.
+// How often a worker may check whether the others have begun.
 const TURNS: u64 = 1_000_000;
 
-// Holds each piece until this many have begun, or it has looked too often. A worker that is held begins no other piece.
+// Holds each piece until this many have begun, or it has checked too often. A worker that is held begins no other piece.
 #[derive(Drop)]
 struct HoldsAll {
     wanted: u64,
     begun: AtomicU64,
-    // How many pieces were let go for no other reason than that they had looked too often.
+    // How many pieces were released only because they had checked too often.
     let_go: AtomicU64,
 }
 
@@ -347,7 +347,7 @@ impl Gate for HoldsAll {
 const LINE: &str =
     "TYPE : CVRP\nDIMENSION : 8\nEDGE_WEIGHT_TYPE : EUC_2D\nCAPACITY : 7\nNODE_COORD_SECTION\n1 0 0\n2 1 0\n3 2 0\n4 3 0\n5 4 0\n6 5 0\n7 6 0\n8 7 0\nDEMAND_SECTION\n1 0\n2 1\n3 1\n4 1\n5 1\n6 1\n7 1\n8 1\nDEPOT_SECTION\n1\n-1\nEOF\n";
 
-// As many work at once as the words ask for.
+// As many workers are at work at once as the words request.
 #[test]
 fn by_workers(rt: HostRuntime) {
     for (workers, wanted) in [("1", 1), ("2", 2), ("3", 3), ("64", 64)] {
@@ -356,7 +356,7 @@ fn by_workers(rt: HostRuntime) {
     }
 }
 
-// One worker never makes two, however long it waits: this test has to fail.
+// One worker never counts as two, however long it waits: this test must fail.
 #[test]
 #[should_panic(expected = "1 is not 0")]
 fn one_worker_waits_for_two(rt: HostRuntime) {
@@ -364,7 +364,7 @@ fn one_worker_waits_for_two(rt: HostRuntime) {
     assert_all_begin(&rt, rt.alloc(), &words, 2);
 }
 
-// Asserts that so many pieces are begun before any is let go, where these words ask for it.
+// Asserts that this many pieces are begun before any is released, with these words.
 fn assert_all_begin<R: Abort + Files + Threads + Wait + Clock + Eprint + Sync>(
     rt: &R,
     alloc: Global,
@@ -385,7 +385,7 @@ fn assert_all_begin<R: Abort + Files + Threads + Wait + Clock + Eprint + Sync>(
     assert_same(rt, gate.let_go.load(Ordering::SeqCst), 0, wanted);
 }
 
-// Sixty customers on a lattice, and a truck that can serve them all.
+// Sixty customers on a lattice, all of whom fit on a truck.
 fn lattice(alloc: Global) -> Result<String, AllocError> {
     let mut text = String::from_str(
         alloc,
@@ -403,7 +403,7 @@ fn lattice(alloc: Global) -> Result<String, AllocError> {
     Ok(text)
 }
 
-// A search that would take days ends where its time is up, and prints what it has. Without the limit this test wouldn't end.
+// A search that would take days ends when its time is up, and prints what it has. Without the limit this test wouldn't end.
 #[test]
 fn by_seconds(rt: HostRuntime) {
     let text = lattice(rt.alloc()).expect(&rt, "memory");

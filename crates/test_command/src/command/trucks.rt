@@ -8,11 +8,11 @@ use std::thread::Threads;
 use vrp_command::{MAX_BUDGET, MAX_PIECES, Options, Status};
 use vrp_model::MAX_NODES;
 
-// Three customers on a line, a step apart, of demand 2 each: no truck takes two of them.
+// Three customers on a line, a step apart, with demand 2 each: no two fit on a truck.
 pub(crate) const THREE: &str =
     "TYPE : CVRP\nDIMENSION : 4\nEDGE_WEIGHT_TYPE : EUC_2D\nCAPACITY : 3\nNODE_COORD_SECTION\n1 0 0\n2 0 1\n3 0 2\n4 0 3\nDEMAND_SECTION\n1 0\n2 2\n3 2\n4 2\nDEPOT_SECTION\n1\n-1\nEOF\n";
 
-// The same with trucks of capacity 2: two of them can't even carry the sum.
+// The same customers with capacity 2: two trucks can't even carry the sum.
 const HEAVY: &str =
     "TYPE : CVRP\nDIMENSION : 4\nEDGE_WEIGHT_TYPE : EUC_2D\nCAPACITY : 2\nNODE_COORD_SECTION\n1 0 0\n2 0 1\n3 0 2\n4 0 3\nDEMAND_SECTION\n1 0\n2 2\n3 2\n4 2\nDEPOT_SECTION\n1\n-1\nEOF\n";
 
@@ -23,10 +23,10 @@ const APART: &str =
 const ALONE: &str =
     "TYPE : CVRP\nDIMENSION : 1\nEDGE_WEIGHT_TYPE : EUC_2D\nCAPACITY : 2\nNODE_COORD_SECTION\n1 0 0\nDEMAND_SECTION\n1 0\nDEPOT_SECTION\n1\n-1\nEOF\n";
 
-// A file, how many trucks there are, and the status and the report.
+// A file, the limit on trucks, the status and the report.
 type Ending<'a> = (&'a str, Option<u16>, Status, &'a str);
 
-// How runs end, whatever the pieces.
+// The outcomes of runs, for any pieces.
 const ENDINGS: &[Ending<'static>] = &[
     (THREE, Some(1), Status::NoPlan, "NoPlan\n"),
     (THREE, Some(2), Status::NoPlan, "NoPlan\n"),
@@ -71,7 +71,7 @@ fn endings(rt: HostRuntime) {
     }
 }
 
-// What is left open with a budget of one partial plan, or known at once.
+// What a budget of one partial plan leaves open, and what is known at once.
 #[test]
 fn small_budgets(rt: HostRuntime) {
     for ending in [
@@ -89,7 +89,7 @@ fn small_budgets(rt: HostRuntime) {
     }
 }
 
-// Asserts how a run ends with so many pieces and partial plans for each, and all that it writes.
+// Asserts the outcome of a run with this many pieces and this budget, and all that it writes.
 fn assert_limited<R: Abort + Threads + Wait + Sync>(
     rt: &R,
     alloc: Global,

@@ -4,7 +4,7 @@ use std::process::Abort;
 use vrp_command_hints::{AnswerHint, depot_hint, no_plan_hint};
 use vrp_text::read;
 
-// Two customers with a demand of 3 and 4, and trucks that carry 5.
+// Two customers with demands of 3 and 4, and capacity 5.
 const SMALL: &str =
     "TYPE : CVRP\nDIMENSION : 3\nEDGE_WEIGHT_TYPE : EUC_2D\nCAPACITY : 5\nNODE_COORD_SECTION\n1 0 0\n2 3 4\n3 6 8\nDEMAND_SECTION\n1 0\n2 3\n3 4\nDEPOT_SECTION\n1\n-1\nEOF\n";
 
@@ -39,7 +39,7 @@ fn few_trucks(rt: HostRuntime) {
     );
 }
 
-// What stands in a section of depots, which one of them is used, and the hint.
+// The contents of a section of depots, the depot used, and the hint.
 const DEPOTS: &[(&str, u16, &str)] = &[
     (
         "DEPOT_SECTION\n3\n1\n-1\n",

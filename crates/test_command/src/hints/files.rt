@@ -1,10 +1,10 @@
-//! Files that are refused, and the hint on each.
+//! Refused files, and the hint on each.
 use std::alloc::Global;
 use std::process::Abort;
 use vrp_command_hints::file_hint;
 use vrp_text::read;
 
-// A file, and the hint on it; nothing where there is none.
+// A file, and the hint on it; empty if there is none.
 const FILES: &[(&str, &str)] = &[
     (
         "",
@@ -91,7 +91,7 @@ const FILES: &[(&str, &str)] = &[
     ),
 ];
 
-// Asserts the hint on a file, which is refused.
+// Asserts the hint on a refused file.
 fn assert_hint(rt: &impl Abort, alloc: Global, file: &str, wanted: &str) {
     let Err(refusal) = read(alloc, file.as_bytes(), None) else {
         assert!(rt; false, "not refused: {file}");
@@ -112,7 +112,7 @@ fn hints_on_files(rt: HostRuntime) {
     }
 }
 
-// What a file has is printed without control characters, and cut.
+// Text from a file is printed without control characters, and cut.
 #[test]
 fn strange_tokens(rt: HostRuntime) {
     assert_hint(

@@ -1,4 +1,4 @@
-//! Plans to begin with that are refused, and the hint on each.
+//! Refused start plans, and the hint on each.
 use std::alloc::Global;
 use std::process::Abort;
 use vrp_command_hints::{start_hint, stated_cost};
@@ -6,7 +6,7 @@ use vrp_command_hints::{start_hint, stated_cost};
 // A file of four nodes.
 const FILE: &str = "TYPE : CVRP\nDIMENSION : 4\n";
 
-// The text of a plan, and the hint on it; nothing where there is none.
+// The text of a plan, and the hint on it; empty if there is none.
 const PLANS: &[(&str, &str)] = &[
     (
         "Route #1: 2 3\nCost 20\nProven\n",
@@ -41,7 +41,7 @@ fn hints_on_plans(rt: HostRuntime) {
     }
 }
 
-// What a text states as its cost.
+// A text, and its stated cost.
 const COSTS: &[(&str, Option<&str>)] = &[
     ("Route #1: 2 3\nCost 20\n", Some("20")),
     ("cost: 20.5\r\n", Some("20.5")),

@@ -9,7 +9,7 @@ use vrp_model::{MAX_NODES, Plan};
 use vrp_plan_write::{json_text, picture_text};
 use vrp_pool_answer::{Finding, Status};
 
-// Read as a solution, the text gives the same plan.
+// Read as a solution, the text gives the same plan back.
 #[test]
 fn solutions(rt: HostRuntime) {
     let alloc = rt.alloc();
@@ -19,7 +19,8 @@ fn solutions(rt: HostRuntime) {
     assert_text(&rt, text.as_str(), TWO_ROUTES);
 }
 
-// The customers are the nodes but the depot, numbered from 1. 17 is 1 below 18, and 1 of 17 is 588.2 hundredths of a percent.
+// The customers are the nodes except the depot, numbered from 1. 17 is 1 below 18, and 1 of 17 is 588.2 hundredths of a
+// percent.
 const TWO_ROUTES_JSON: &str =
     "{\"best_lower_bound\":17,\"capacity\":10,\"cost\":18,\"customers\":3,\"depot\":2,\"gap\":589,\"lower_bound\":9,\"name\":\"four\",\"options\":{\"budget\":1000,\"depot\":2,\"pieces\":64,\"seconds\":null,\"trucks\":null,\"workers\":2},\"routes\":[{\"cost\":12,\"customers\":[1,2],\"load\":9,\"nodes\":[1,3]},{\"cost\":6,\"customers\":[3],\"load\":7,\"nodes\":[4]}],\"stated_cost\":18,\"verdict\":\"Open\",\"version\":\"1.2.3\"}\n";
 
@@ -42,7 +43,7 @@ fn objects(rt: HostRuntime) {
     assert_text(&rt, text.as_str(), NO_PLAN_JSON);
 }
 
-// What is known of a plan that costs 18, the best bound, and the gap by that. The other bound is 0.
+// The verdict on a plan of cost 18, the best bound, and the gap by that. The other bound is 0.
 const GAPS: &[(Status, Option<u64>, &str)] = &[
     (Status::Proven, Some(18), "0"),
     (Status::Open, Some(18), "0"),
@@ -75,7 +76,7 @@ fn gaps(rt: HostRuntime) {
     }
 }
 
-// Six units of the plane are 9,200 of the page, and the depot's point is half way between the left and the right one.
+// Six units of the plane are 9,200 of the page, and the depot's point is halfway between the left and the right one.
 const TWO_ROUTES_SVG: &str = concat!(
     "<svg xmlns=\"http://www.w3.org/2000/svg\" viewBox=\"0 0 14220 7333\" width=\"1422\" height=\"733\" font-family=\"sans-serif\">\n",
     "<title>Cost 18, lower bound 17, Open</title>\n",
@@ -111,7 +112,7 @@ fn pictures(rt: HostRuntime) {
     assert_text(&rt, text.as_str(), TWO_ROUTES_SVG);
 }
 
-// What is known, and what stands below the map.
+// The verdict and the bound, and the caption below the map.
 const CAPTIONS: &[(Status, Option<u64>, &str)] = &[
     (Status::Proven, Some(18), ">Cost 18, Proven</text>\n"),
     (
@@ -131,7 +132,7 @@ fn captions(rt: HostRuntime) {
     }
 }
 
-// The places are drawn, and no route.
+// The places are drawn, without routes.
 #[test]
 fn no_plan(rt: HostRuntime) {
     let alloc = rt.alloc();
@@ -150,7 +151,7 @@ fn no_plan(rt: HostRuntime) {
 // The corners of the picture of the four places, by the coordinates of a file.
 const CORNERS: &str = "M5000 6533L5000 400L9600 6533Z";
 
-// Sections of a file, and whether they have whole coordinates for the four places: always the same.
+// Sections of a file, and whether they have whole coordinates for the four places, which are always the same.
 const SECTIONS: &[(&str, bool)] = &[
     ("NODE_COORD_SECTION\n1 0 4\n2 0 0\n3 3 0\n4 -3 0\n", true),
     (
@@ -194,7 +195,7 @@ fn coordinates(rt: HostRuntime) {
     }
 }
 
-// As many routes as there may be.
+// The greatest number of routes.
 #[test]
 fn largest(rt: HostRuntime) {
     let alloc = rt.alloc();

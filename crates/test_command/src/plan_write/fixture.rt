@@ -1,4 +1,4 @@
-//! Instances, plans and what is told of them.
+//! Instances, plans and findings.
 ghost use Rattle.std.specs.Option.{option_map};
 ghost use Rattle.std.specs.Prelude.{◌≡◌};
 ghost use Rattle.vrp_model.specs.Route.{IsPlanOf};
@@ -11,14 +11,14 @@ use vrp_plan_read::Solution;
 use vrp_plan_write::{Context, Points, Settings, picture_text};
 use vrp_pool_answer::{Finding, Status};
 
-/// Three customers around a depot that is node 2. A truck carries ten.
+/// Three customers around a depot that is node 2. The capacity is ten.
 pub(crate) const FOUR: &str =
     "NAME: four\nTYPE: CVRP\nDIMENSION: 4\nCAPACITY: 10\nEDGE_WEIGHT_TYPE: EUC_2D\nNODE_COORD_SECTION\n1 0 4\n2 0 0\n3 3 0\n4 -3 0\nDEMAND_SECTION\n1 5\n2 0\n3 4\n4 7\nDEPOT_SECTION\n2\n-1\nEOF\n";
 
-/// A plan of it.
+/// A plan for that instance.
 pub(crate) const TWO_ROUTES: &str = "Route #1: 1 2\nRoute #2: 3\nCost 18\n";
 
-/// What is told of it beside a finding.
+/// The context of its findings.
 pub(crate) const CONTEXT: Context<'static> = Context {
     name: Some("four"),
     version: "1.2.3",
@@ -33,7 +33,7 @@ pub(crate) const CONTEXT: Context<'static> = Context {
     },
 };
 
-/// What is told where hardly anything is known.
+/// A context with hardly any data.
 pub(crate) const BARE: Context<'static> = Context {
     name: None,
     version: "",
@@ -62,7 +62,7 @@ pub(crate) fn plan(rt: &impl Abort, alloc: Global, instance: &Instance, text: &s
         .plan
 }
 
-/// What is told of a plan, if there is one, where no better lower bound is known.
+/// The finding of a plan, if there is one, without a better lower bound.
 pub(crate) fn told(plan: Option<&Plan>, status: Status, lower_bound: Option<u64>) -> Finding<'_>
     ensures { option_map (λ plan. plan.now) result.plan ≡ option_map (λ plan. plan.now) plan.entry }
 {
@@ -100,12 +100,12 @@ pub(crate) fn drawn(
     Some(picture_text(alloc, &four, &finding, &points).expect(rt, "memory"))
 }
 
-/// How often a text has a part.
+/// How often a text contains a part.
 pub(crate) fn count(text: &str, part: &str) -> usize {
     text.matches(part).count()
 }
 
-/// A file of so many nodes, each with a demand of 0. The node n is the point (n times the step, 7), and the depot is node 1.
+/// A file of this many nodes, each with a demand of 0. Node n is the point (n times the step, 7), and the depot is node 1.
 pub(crate) fn file_of(rt: &impl Abort, alloc: Global, nodes: u16, step: u32) -> String {
     let mut text = String::new(alloc);
     let heading = format!(in alloc;
@@ -123,7 +123,7 @@ pub(crate) fn file_of(rt: &impl Abort, alloc: Global, nodes: u16, step: u32) -> 
     text
 }
 
-// Appends a line for each of so many nodes.
+// Appends a line for each of this many nodes.
 fn push_coordinates(rt: &impl Abort, alloc: Global, text: &mut String, nodes: u16, step: u32) {
     for index in 0..nodes {
         let node = u64::from(index) + 1;

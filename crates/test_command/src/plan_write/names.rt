@@ -1,4 +1,4 @@
-//! What files call themselves, in many spellings.
+//! The names of files, in many spellings.
 use std::test::*;
 use vrp_plan_write::name_of;
 
@@ -22,7 +22,7 @@ const NAMES: &[(&[u8], Option<&str>)] = &[
     ),
     (b"NAME: caf\xc3\xa9\n", Some("café")),
     (b"NAME-four\n", Some("-four")),
-    // nothing stands there
+    // an empty name
     (b"NAME:\nTYPE: CVRP\n", None),
     (b"NAME : \t\r\nNAME: four\n", None),
     (b"NAME", None),

@@ -1,4 +1,4 @@
-//! How large a page is, and where its list of the routes lies.
+//! The size of a page, and the position of its route list.
 ghost use Rattle.std.specs.Prelude.{◌≤◌};
 
 use crate::plan_write::fixture::{count, drawn, file_of, instance, plan, points, told};
@@ -8,10 +8,10 @@ use std::test::*;
 use vrp_plan_write::picture_text;
 use vrp_pool_answer::Status;
 
-// Four places, what is known of a plan that costs 18, the size of its page, and where its two routes are listed. A line of the list has
-// room for 26 letters, which is 3,120 wide, and 700 before it and 400 behind it.
+// Four places, the bound for a plan of cost 18, the size of its page, and where its two routes are listed. A line of the list
+// has room for 26 letters, which is 3,120 wide, with 700 before it and 400 behind it.
 const PAGES: &[(&str, Option<u64>, &str, &str, &str)] = &[
-    // As high as the list at least.
+    // At least as high as the list.
     (
         "NODE_COORD_SECTION\n1 0 4\n2 0 0\n3 3 0\n4 -3 0\n",
         None,
@@ -35,7 +35,7 @@ const PAGES: &[(&str, Option<u64>, &str, &str, &str)] = &[
         "M800 400h600",
         "M800 720h600",
     ),
-    // One point: in one column below it.
+    // One point: in one column below the map.
     (
         "NODE_COORD_SECTION\n1 5 5\n2 5 5\n3 5 5\n4 5 5\n",
         None,
@@ -87,7 +87,7 @@ fn long_numbers(rt: HostRuntime) {
     assert!(&rt; text.contains(told), "{text}");
 }
 
-// A solution with so many routes of two customers.
+// A solution with this many routes of two customers.
 fn pairs(rt: &impl Abort, alloc: Global, routes: u16) -> String {
     let mut text = String::new(alloc);
     for index in 0..routes {
@@ -99,7 +99,7 @@ fn pairs(rt: &impl Abort, alloc: Global, routes: u16) -> String {
     text
 }
 
-// The picture of so many routes of two customers.
+// The picture of this many routes of two customers.
 fn drawn_pairs(rt: &impl Abort, alloc: Global, routes: u16) -> String
     requires { routes ≤ 599 }
 {
@@ -108,7 +108,7 @@ fn drawn_pairs(rt: &impl Abort, alloc: Global, routes: u16) -> String
     picture(rt, alloc, file.as_str(), solution.as_str())
 }
 
-// Up to 24 routes are listed, and drawn from the depot and back to it.
+// Up to 24 routes are listed, and drawn from the depot and back.
 #[test]
 fn few_routes(rt: HostRuntime) {
     let text = drawn_pairs(&rt, rt.alloc(), 24);
@@ -121,7 +121,7 @@ fn few_routes(rt: HostRuntime) {
     assert!(&rt; !text.contains("opacity"), "{text}");
 }
 
-// Of more the arcs to the depot and back are thin and pale.
+// With more routes, the arcs to and from the depot are thin and pale.
 #[test]
 fn many_routes(rt: HostRuntime) {
     let text = drawn_pairs(&rt, rt.alloc(), 25);

@@ -1,21 +1,23 @@
-//! The instances that tests are made on, and cuttings of them. What has no memory for them ends the test.
+//! Instances for tests, and cuttings of them. Lack of memory ends the test.
 ghost use Rattle.std.specs.Prelude.{length, ◌*◌, ◌≤◌};
 ghost use Rattle.vrp_search_tree.specs.Cutting.{IsCutting};
 ghost use Rattle.vrp_search_tree.specs.declared.cutting.TheConstants.{MAX_REFINED};
 
 use std::alloc::Global;
 use std::process::Abort;
-use test_fixtures::{E_N22_K4_POINTS, LINE, SCATTERED, at_points, one_each, with_arcs};
+use test_fixtures::{
+    E_N22_K4_DEMANDS, E_N22_K4_POINTS, LINE, SCATTERED, at_points, one_each, with_arcs,
+};
 use vrp_model::Instance;
 use vrp_search::{Cutting, MAX_PIECES};
 
-/// Places at these points, the depot first, a rounded Euclidean distance apart. Each customer demands 1.
+/// Places at these points, the depot first, at rounded Euclidean distances. Each customer demands 1.
 fn alike(rt: &impl Abort, alloc: Global, points: &[(i64, i64)], capacity: u64) -> Instance {
     let demands = one_each(alloc, points.len()).expect(rt, "demands");
     at_points(alloc, points, &demands, capacity).expect(rt, "an instance")
 }
 
-/// Three nodes at (0, 0), (3, 4) and (6, 8): two customers, whom one truck of capacity 2 can carry together.
+/// Three nodes at (0, 0), (3, 4) and (6, 8): two customers, who both fit on one truck of capacity 2.
 pub(crate) fn three_nodes(rt: &impl Abort, alloc: Global, capacity: u64) -> Instance {
     alike(rt, alloc, LINE, capacity)
 }
@@ -31,7 +33,8 @@ pub(crate) fn depot_alone(rt: &impl Abort, alloc: Global) -> Instance {
     alike(rt, alloc, &[(0, 0)], 1)
 }
 
-/// Ten nodes at two rows of five, ten apart: one truck can go round them all by steps of 10, in one way and its reverse.
+/// Ten nodes in two rows of five, ten apart: one truck can go around all of them by steps of 10, in one direction and its
+/// reverse.
 pub(crate) fn ring(rt: &impl Abort, alloc: Global) -> Instance {
     let points = [
         (0, 0),
@@ -48,12 +51,12 @@ pub(crate) fn ring(rt: &impl Abort, alloc: Global) -> Instance {
     alike(rt, alloc, &points, 9)
 }
 
-// How far each of twenty customers is from the depot.
+// The distances of twenty customers from the depot.
 const AWAY: [i64; 20] = [
     80, 160, 30, 110, 190, 60, 140, 10, 90, 170, 40, 120, 200, 70, 150, 20, 100, 180, 50, 130,
 ];
 
-/// Twenty customers on a line from the depot, ten apart, in no order: one truck can go out and back by 400.
+/// Twenty customers on a line from the depot, ten apart, in no order: one truck can go out and back for 400.
 pub(crate) fn line(rt: &impl Abort, alloc: Global) -> Instance {
     let mut points = Vec::new(alloc);
     points.push((0, 0)).expect(rt, "memory");
@@ -63,7 +66,7 @@ pub(crate) fn line(rt: &impl Abort, alloc: Global) -> Instance {
     alike(rt, alloc, &points, 20)
 }
 
-/// Seven scattered nodes: six customers, of whom a truck carries three.
+/// Seven scattered nodes: six customers, three to a truck.
 pub(crate) fn seven_nodes(rt: &impl Abort, alloc: Global) -> Instance {
     let points = [
         (68, 88),
@@ -77,12 +80,12 @@ pub(crate) fn seven_nodes(rt: &impl Abort, alloc: Global) -> Instance {
     alike(rt, alloc, &points, 3)
 }
 
-/// Ten scattered nodes: nine customers, whom one truck can carry together, by 322.
+/// Ten scattered nodes: nine customers, who fit on one truck, at a cost of 322.
 pub(crate) fn ten_nodes(rt: &impl Abort, alloc: Global) -> Instance {
     alike(rt, alloc, &SCATTERED[1..11], 9)
 }
 
-/// A grid of so many columns and rows, ten apart, whose middle place is the depot. The customers are numbered row by row.
+/// A grid with this many columns and rows, ten apart, whose middle place is the depot. The customers are numbered row by row.
 pub(crate) fn grid(
     rt: &impl Abort,
     alloc: Global,
@@ -102,7 +105,7 @@ pub(crate) fn grid(
     alike(rt, alloc, &points, capacity)
 }
 
-// Where the place of this number is in a grid of so many columns.
+// The position of the place with this number in a grid with this many columns.
 fn place(number: u16, columns: u16) -> (i64, i64)
     requires { 1 ≤ columns }
 {
@@ -114,13 +117,10 @@ fn place(number: u16, columns: u16) -> (i64, i64)
 
 /// E-n22-k4 of Christofides and Eilon (1969), in hundreds: 21 customers, whose cheapest plan costs 375.
 pub(crate) fn four_trucks(rt: &impl Abort, alloc: Global) -> Instance {
-    let demands = [
-        0, 11, 7, 8, 14, 21, 4, 8, 1, 5, 6, 12, 13, 13, 3, 9, 21, 10, 9, 25, 18, 7,
-    ];
-    at_points(alloc, E_N22_K4_POINTS, &demands, 60).expect(rt, "an instance")
+    at_points(alloc, E_N22_K4_POINTS, E_N22_K4_DEMANDS, 60).expect(rt, "an instance")
 }
 
-/// The tree, cut into this many pieces at least where it has as many.
+/// The tree, cut into at least this many pieces if it has as many.
 pub(crate) fn cut_into(rt: &impl Abort, alloc: Global, instance: &Instance, pieces: u32) -> Cutting
     ensures cutting { IsCutting instance.now result }
     ensures few { length result ≤ 2 * MAX_REFINED }

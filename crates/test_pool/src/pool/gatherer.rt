@@ -6,7 +6,7 @@ use vrp_pool::{Finished, GatherError, Gatherer, SolveError};
 #[test]
 fn each_once(rt: HostRuntime) {
     let mut gatherer = Gatherer::new(rt.alloc(), 2).expect(&rt, "memory");
-    // the number that is added, what comes of it, and what is missing then
+    // the number added, the answer, and the lowest missing number afterwards
     let table = [
         (1, Ok(()), Some(0)),
         (1, Err(GatherError::Double(1)), Some(0)),

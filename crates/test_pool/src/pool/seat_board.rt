@@ -1,4 +1,4 @@
-//! A board on a register of its own.
+//! A board with its own register.
 ghost use Rattle.std.specs.Prelude.{◌≡◌};
 ghost use Rattle.std.specs.Option.{ForSome};
 ghost use Rattle.vrp_model.specs.Route.{IsPlanOf};
@@ -43,7 +43,7 @@ fn check_one_seat<L: Ledger, R: Wait + Abort>(rt: &R, alloc: Global, blank: Blan
     assert!(rt; kept.is_some_and(|plan| plan.word() == joined.word()));
 }
 
-// Of two plans that cost the same the one with the earlier word is kept, whichever comes first.
+// Of two plans of the same cost the one with the earlier word is kept, whichever comes first.
 #[test]
 fn ties_go_by_the_word(rt: HostRuntime) {
     for first in [1, 2] {
@@ -78,7 +78,7 @@ fn check_ties_of<L: Ledger, R: Wait + Abort>(rt: &R, alloc: Global, blank: Blank
     assert!(rt; is_earlier, "{first}");
 }
 
-// What a board answers once it was offered a plan.
+// The board's answer after it was offered a plan.
 fn least_after<R: Wait, L: Ledger>(
     rt: &impl Abort,
     alloc: Global,

@@ -20,13 +20,13 @@ mod stopped;
 
 const AMPLE: u64 = 1_000_000;
 
-// The largest budget with which nothing comes before the pieces; it is enough for each piece of a small tree.
+// The largest budget without a look before the pieces; it is enough for each piece of a small tree.
 const ENOUGH: u64 = 999;
 
 // Workers, pieces, and the budget of each piece.
 type Asked = (u32, u32, u64);
 
-// What workers answer behind a gate, of a cutting into at least so many pieces.
+// The workers' answer behind a gate, for a cutting into at least this many pieces.
 fn answer_behind<R: Abort + Threads + Wait + Sync, G: Gate + Sync>(
     rt: &R,
     alloc: Global,
@@ -38,7 +38,7 @@ fn answer_behind<R: Abort + Threads + Wait + Sync, G: Gate + Sync>(
     answer_of_pieces(rt, alloc, instance, cutting, (workers, budget), gate)
 }
 
-// What this many workers answer of a cutting, each of whose pieces is searched with this budget.
+// The answer of this many workers for a cutting, with this budget for each piece.
 fn answer_of_pieces<R: Abort + Threads + Wait + Sync, G: Gate + Sync>(
     rt: &R,
     alloc: Global,
@@ -56,7 +56,7 @@ fn answer_of_pieces<R: Abort + Threads + Wait + Sync, G: Gate + Sync>(
     answer.expect(rt, "memory")
 }
 
-// What an answer says: a verdict, and what its plan costs, if there is one.
+// The content of an answer: a verdict, and the cost of its plan, if there is one.
 #[derive(Clone, Copy, Debug, PartialEq, Eq)]
 enum Told {
     Proven(u64),
@@ -74,7 +74,7 @@ impl Told {
     }
 }
 
-// Asserts what is answered of an instance where there is no gate.
+// Asserts the answer for an instance without a gate.
 fn assert_told<R: Abort + Threads + Wait + Sync>(
     rt: &R,
     alloc: Global,
@@ -86,8 +86,8 @@ fn assert_told<R: Abort + Threads + Wait + Sync>(
     assert!(rt; told == wanted, "{told:?} is not {wanted:?}, at {asked:?}");
 }
 
-// Asserts that a search by this many workers of this many pieces proves a plan, its cost and its word: by the pieces, and by a look before
-// them.
+// Asserts that a search by this many workers of this many pieces proves a plan, its cost and its word: by the pieces, and by
+// a look before them.
 fn assert_proven<R: Abort + Threads + Wait + Sync>(
     rt: &R,
     alloc: Global,
@@ -143,7 +143,7 @@ fn left_open(rt: HostRuntime) {
     }
 }
 
-// The tree is too large for either budget, as one piece and as several, and with any number of trucks.
+// The tree is too large for either budget, as one piece and as several, with any number of trucks.
 #[test]
 fn start_plan_by_savings(rt: HostRuntime) {
     let free = line(&rt, rt.alloc());
@@ -166,7 +166,7 @@ fn start_plan_by_savings(rt: HostRuntime) {
     }
 }
 
-// Asserts that no plan as cheap is found with a budget by which none is made before.
+// Asserts that no plan as cheap is found with a budget that is too small for a heuristic plan.
 fn assert_costlier_without<R: Abort + Threads + Wait + Sync>(
     rt: &R,
     alloc: Global,
@@ -178,8 +178,8 @@ fn assert_costlier_without<R: Abort + Threads + Wait + Sync>(
     assert!(rt; !is_as_cheap, "{workers} {pieces}");
 }
 
-// From the plan by savings, which is the cheapest, one worker looks at 432 partial plans, and from one truck for each customer at
-// more than 11,000.
+// Starting from the plan by savings, which is the cheapest, one worker looks at 432 partial plans, and from one truck for
+// each customer at more than 11,000.
 #[test]
 fn start_plan_comes_before_the_search(rt: HostRuntime) {
     let instance = ten_nodes(&rt, rt.alloc());
@@ -188,8 +188,8 @@ fn start_plan_comes_before_the_search(rt: HostRuntime) {
     assert_told(&rt, rt.alloc(), &instance, (1, 1, 1_000), Told::Proven(322));
 }
 
-// A budget is what a piece may take, no less and no more: the tree of the ring has 621 partial plans that one worker looks at, and
-// that of the line has more than 5,001.
+// A piece uses its whole budget and no more: in the tree of the ring one worker looks at 621 partial plans, and the tree of
+// the line has more than 5,001.
 #[test]
 fn budget_of_a_piece(rt: HostRuntime) {
     let (ring, line) = (ring(&rt, rt.alloc()), line(&rt, rt.alloc()));

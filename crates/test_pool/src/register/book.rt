@@ -1,4 +1,4 @@
-//! Books of one thread: which offers are kept, and what is noted of each.
+//! Books with one thread: which offers are kept, and the entry of each.
 use crate::assertion::assert_same;
 use crate::register::fixture::{copied, forward_and_backward, singles_and_joined};
 use std::alloc::Global;
@@ -34,7 +34,7 @@ fn earlier_words_are_kept(rt: HostRuntime) {
     check_book(rt, alloc, Some(&backward), &offers, Some(&forward));
 }
 
-// A book opens with this plan, these offers are made to it, and then this one is kept.
+// A book opens with this plan, gets these offers, and then keeps this plan.
 fn check_book(
     rt: &impl Abort,
     alloc: Global,
@@ -54,7 +54,7 @@ fn check_book(
     assert_entries(rt, &book, offers);
 }
 
-// The book has noted these offers, the first by caller 0, the next by caller 1 and so on.
+// The book has entries for these offers, the first by caller 0, the next by caller 1 and so on.
 fn assert_entries(rt: &impl Abort, book: &Book, offers: Offers<'_>) {
     assert!(rt; book.entries() == offers.len());
     for (place, (plan, answer)) in offers.iter().enumerate() {

@@ -1,4 +1,4 @@
-//! The instances and plans that tests are made on. What has no memory for them ends the test.
+//! Instances and plans for tests. Lack of memory ends the test.
 
 use crate::pool::fixture::{both_directions_equal, three_nodes};
 use std::alloc::Global;
@@ -6,8 +6,8 @@ use std::process::Abort;
 use test_fixtures::{at_points, joined};
 use vrp_model::{Instance, Plan};
 
-/// Two plans of three nodes at (0, 0), (3, 4) and (6, 8): one truck for each of the two customers, which costs 30, and one truck for
-/// both, which costs 20.
+/// Two plans of three nodes at (0, 0), (3, 4) and (6, 8): one truck for each of the two customers, which costs 30, and one
+/// truck for both, which costs 20.
 pub(crate) fn singles_and_joined(rt: &impl Abort, alloc: Global) -> (Plan, Plan) {
     let instance = three_nodes(rt, alloc, 2);
     (

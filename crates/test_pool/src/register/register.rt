@@ -1,4 +1,4 @@
-//! Registers of one thread and of several.
+//! Registers with one thread and with several.
 ghost use Rattle.std.specs.Prelude.{◌≡◌, ◌≤◌};
 ghost use Rattle.std.specs.List.{All};
 ghost use Rattle.vrp_pool_register.specs.Caller.{IsCallerOf};
@@ -15,7 +15,7 @@ use std::thread::{Threads, join};
 use vrp_model::{NO_COST, NoMemory, Plan};
 use vrp_pool_register::{Book, Caller, Closed, Register, Reply};
 
-// Asserts how many offers a register had, which plan it kept, and the least cost.
+// Asserts the number of a register's offers, the plan it kept, and the least cost.
 fn assert_closed(
     rt: &impl Abort,
     closed: &Closed,
@@ -51,7 +51,7 @@ fn opened_for_two<L: Ledger>(
     (register, zero, one)
 }
 
-// What is left of a register of two callers.
+// The closed register of two callers.
 fn closed_for_two<L: Ledger>(
     rt: &impl Abort,
     alloc: Global,
@@ -80,7 +80,7 @@ fn one_thread(rt: HostRuntime) {
     assert_closed(&rt, &closed, 1, Some(&joined), 20);
 }
 
-// What is left of a register to which one caller has offered a plan of 20, and which the other has asked.
+// The closed register after one caller has offered a plan of cost 20 and the other has asked.
 fn closed_by_one<L: Ledger, R: Wait + Abort>(
     rt: &R,
     alloc: Global,
@@ -111,7 +111,7 @@ fn assert_look<L: Ledger, R: Wait + Abort>(
     assert_same(rt, found, Some(wanted.word()), "a look");
 }
 
-// The offers that are made to a register, and the answers.
+// The offers to a register, and the answers.
 type Offers<'a> = &'a [(&'a Plan, bool, u64)];
 
 #[test]
@@ -140,7 +140,7 @@ fn refused_offers(rt: HostRuntime) {
     check_register(rt, alloc, Some(joined), &many, Some(joined));
 }
 
-// One caller makes these offers to a register that opens with this plan, and then this one is kept.
+// One caller makes these offers to a register that opens with this plan, and then this plan is kept.
 fn check_register<R: Wait + Abort>(
     rt: &R,
     alloc: Global,
@@ -154,7 +154,7 @@ fn check_register<R: Wait + Abort>(
     assert_closed(rt, &closed, offers.len(), kept, least);
 }
 
-// What is left of a register to which one caller has made these offers.
+// The closed register after one caller has made these offers.
 fn closed_by_offers<L: Ledger, R: Wait + Abort>(
     rt: &R,
     alloc: Global,
@@ -174,7 +174,7 @@ fn closed_by_offers<L: Ledger, R: Wait + Abort>(
     register.close(callers.expect(rt, "memory"))
 }
 
-// A caller makes these offers, and is answered so.
+// A caller makes these offers, and gets these answers.
 fn assert_replies<L: Ledger, R: Wait + Abort>(
     rt: &R,
     alloc: Global,
@@ -208,7 +208,7 @@ fn two_threads(rt: HostRuntime) {
     assert_answers_to(&rt, &closed.book, 20, &[true, false]);
 }
 
-// Asserts what the plans of a caller cost, in the order of the book.
+// Asserts the costs of a caller's plans, in the order of the book.
 fn assert_costs_by(rt: &impl Abort, book: &Book, caller: u32, costs: &[u64]) {
     let mut costs = costs.iter();
     for index in 0..book.entries() {
@@ -232,7 +232,7 @@ fn assert_answers_to(rt: &impl Abort, book: &Book, cost: u64, answers: &[bool]) 
     assert_same(rt, answers.next(), None, cost);
 }
 
-// What is left of a register to which two threads have each made two offers, in either order.
+// The closed register after two threads have each made two offers, in either order.
 fn closed_by_two<L: Ledger + Send + Sync, R: Threads + Wait + Abort + Sync>(
     rt: &R,
     alloc: Global,
@@ -292,7 +292,7 @@ fn one_offers_and_one_asks(rt: HostRuntime) {
     assert_closed(&rt, &closed, 1, Some(&joined), 20);
 }
 
-// One thread offers a plan of 20 to a register of 30, while the other asks: whether it was answered 30 and then 20.
+// One thread offers a plan of cost 20 to a register with 30, while the other asks: whether it got 30 and then 20.
 fn closed_while_asked<L: Ledger + Send + Sync, R: Threads + Wait + Abort + Sync>(
     rt: &R,
     alloc: Global,
@@ -320,7 +320,7 @@ fn closed_while_asked<L: Ledger + Send + Sync, R: Threads + Wait + Abort + Sync>
     (closed_for_two(rt, alloc, register, zero, one), falls)
 }
 
-// Asks 1,000 times, and tells whether the answers were 30 or 20 and never rose.
+// Asks 1,000 times, and answers whether the answers were 30 or 20 and never rose.
 fn ask_often<L: Ledger>(register: &Register<L>, mut caller: Caller<L>) -> (Caller<L>, bool)
     requires { IsCallerOf register.now caller }
     ensures { IsCallerOf register.now result.0 }
@@ -335,7 +335,7 @@ fn ask_often<L: Ledger>(register: &Register<L>, mut caller: Caller<L>) -> (Calle
     (caller, falls)
 }
 
-// How many callers there are, all of whom but the first offer all plans, how many offers that makes, and the least cost.
+// The number of callers, all of whom but the first offer all plans, the number of offers, and the least cost.
 const MANY: &[(u64, usize, u64)] = &[(1, 0, NO_COST), (8, 70, 2), (64, 630, 2)];
 
 #[test]
@@ -378,8 +378,7 @@ fn assert_costs_by_many(rt: &impl Abort, book: &Book, callers: u32) {
     }
 }
 
-// What is left of a register that opened without a plan, to which eight threads have offered these plans for all callers but the
-// first.
+// The closed register that opened without a plan, after eight threads have offered these plans for all callers but the first.
 fn closed_by_many<L: Ledger + Send + Sync, R: Threads + Wait + Sync>(
     rt: &R,
     alloc: Global,

@@ -1,4 +1,4 @@
-//! Prices for a list of routes: demands are counted in finer units than for a search, where there are steps enough.
+//! Prices for a list of routes: demands are counted in finer units than for a search, if there are enough steps.
 use crate::assertion::assert_same;
 use std::alloc::Global;
 use std::process::Abort;
@@ -6,13 +6,13 @@ use test_fixtures::at_points;
 use vrp_bound_ascent::{FoundPrices, find_prices, find_prices_for_routes};
 use vrp_model::{Instance, NoMemory};
 
-// What a truck carries, in units of 1.
+// The capacity, in units of 1.
 const CAPACITY: u64 = 100;
 
-// More than a plan costs.
+// More than the cost of a plan.
 const COST: u64 = 20_000;
 
-// A round in units of 1 takes some 1,500,000 steps: so these are enough for more than 300, and for fewer.
+// A round in units of 1 takes about 1,500,000 steps: so these suffice for more than 300 rounds, and for fewer.
 const MANY_STEPS: u64 = 600_000_000;
 
 const FEW_STEPS: u64 = 200_000_000;
@@ -30,7 +30,7 @@ fn finer_units(rt: HostRuntime) {
     assert_same(&rt, capacity_by(&rt, few), coarse, "few steps");
 }
 
-// Ninety-nine customers who demand 30 to 70 each, so that a table by place, room and rest has 50,000,000 cells in units of 1.
+// Ninety-nine customers with demands of 30 to 70, so that a table by place, room and rest has 50,000,000 cells in units of 1.
 fn demanding(rt: &impl Abort, alloc: Global) -> Instance {
     let mut points = vec![in alloc; (0, 0); 1].expect(rt, "memory");
     let mut demands = vec![in alloc; 0; 1].expect(rt, "memory");
@@ -44,7 +44,7 @@ fn demanding(rt: &impl Abort, alloc: Global) -> Instance {
     at_points(alloc, &points, &demands, CAPACITY).expect(rt, "an instance")
 }
 
-// What a truck carries in the units of the prices.
+// The capacity in the units of the prices.
 fn capacity_by(rt: &impl Abort, found: Result<Option<FoundPrices<'_>>, NoMemory>) -> u64 {
     let found = found.expect(rt, "memory").expect(rt, "prices");
     found.relaxation.relaxed().capacity()

@@ -1,4 +1,4 @@
-//! How well prices that were found bound the plans of four points, and where none are found.
+//! How well the prices found bound the plans of four points, and when none are found.
 ghost use Rattle.std.specs.Prelude.{◌≡◌};
 ghost use Rattle.vrp_model.specs.Problem.{place_count};
 
@@ -21,7 +21,7 @@ fn found_prices_bound(rt: HostRuntime) {
     assert_bounds(&rt, &relaxation, least);
 }
 
-// The prices and the ng-sets that are found where a plan costs 46, in a million steps, or in none if it doesn't go on.
+// The prices and the ng-sets found for a plan of cost 46, in a million steps, or in none if it is stopped.
 fn found_prices<'a>(
     rt: &impl Abort,
     alloc: Global,
@@ -34,20 +34,20 @@ fn found_prices<'a>(
     found.expect(rt, "memory").expect(rt, "prices")
 }
 
-// What the least tours cost together that carry everything.
+// The least cost of tours that carry everything.
 fn least_of_tours(rt: &impl Abort, alloc: Global, instance: &Instance) -> u64 {
     let tables = Tables::over_all(alloc, instance).expect(rt, "memory");
     let least = tables.q_bound(0, 0, instance.whole_demand());
     least.expect(rt, "tours")
 }
 
-// Tours that cost so much together in a relaxation of the four points tell that no plan costs 44, and let one cost 46.
+// Tours of this total cost in a relaxation of the four points show that no plan costs 44, and allow a cost of 46.
 fn assert_bounds(rt: &impl Abort, relaxation: &Relaxation<'_>, least: u64) {
     assert!(rt; relaxation.limit(44).is_some_and(|limit| limit < least));
     assert!(rt; relaxation.limit(46).is_some_and(|limit| least <= limit));
 }
 
-// Prices that were found bound the ng-walks too, and these bound as well as walks that don't.
+// The prices found bound the ng-walks too, which bound as well as plain walks.
 #[test]
 fn found_prices_bound_walks(rt: HostRuntime) {
     let instance = at_points(rt.alloc(), FOUR, &[0, 1, 2, 1], 3).expect(&rt, "an instance");
@@ -59,7 +59,7 @@ fn found_prices_bound_walks(rt: HostRuntime) {
     assert_bounds(&rt, &found.relaxation, least);
 }
 
-// What the least tours cost together by the arcs of an instance.
+// The least cost of tours by the arcs of an instance.
 fn least_of_walks(rt: &impl Abort, alloc: Global, instance: &Instance, looks: NearLooks) -> u64 {
     let size = Size::in_units(instance, 1);
     let mut walks = Walks::new(alloc, instance, 1, 1, size, looks).expect(rt, "memory");
@@ -68,7 +68,7 @@ fn least_of_walks(rt: &impl Abort, alloc: Global, instance: &Instance, looks: Ne
     u64::try_from(least).unwrap_or(0)
 }
 
-// Told to stop before the first round, it has found no prices: arcs cost what they do in the instance.
+// When stopped before the first round, it has found no prices: arcs cost what they do in the instance.
 #[test]
 fn stopped_before_the_first_round(rt: HostRuntime) {
     let instance = at_points(rt.alloc(), FOUR, &[0, 1, 2, 1], 3).expect(&rt, "an instance");
@@ -79,7 +79,7 @@ fn stopped_before_the_first_round(rt: HostRuntime) {
     }
 }
 
-// The arc to a customer costs by the scale what it does in the instance.
+// The arc to a customer costs `scale` times its cost in the instance.
 fn assert_scaled(rt: &impl Abort, instance: &Instance, relaxation: &Relaxation<'_>, customer: u16) {
     let (scale, priced) = (relaxation.scale(), relaxation.relaxed());
     assert!(rt; customer <= instance.customers() && customer <= priced.customers());

@@ -1,4 +1,4 @@
-//! Prices of more customers than a search can end with: they bound alone.
+//! Prices with more customers than a search can finish: they serve only as a bound.
 ghost use Rattle.std.specs.Prelude.{◌≡◌};
 ghost use Rattle.vrp_model.specs.Problem.{place_count};
 
@@ -10,9 +10,9 @@ use vrp_bound::NgTables;
 use vrp_bound_ascent::{FoundPrices, MOST_SEARCHED, find_prices};
 use vrp_model::Instance;
 
-// Customers about the depot, of whom a truck serves four. `radial` is half of what it costs to drive to each of them: each plan costs as
-// much, since a route that serves a customer costs no less than there and back. `savings` is what a plan by savings costs. Both are
-// from a program outside.
+// Customers around the depot, four to a truck. `radial` is half the cost of driving to each of them and back: each plan costs
+// at least as much, since a route that serves a customer costs no less than there and back. `savings` is the cost of a plan
+// by savings. Both are from a program outside.
 #[derive(Clone, Copy, Debug)]
 struct Many {
     customers: usize,
@@ -66,7 +66,7 @@ fn scattered(rt: &impl Abort, alloc: Global, customers: usize) -> Instance {
     at_points(alloc, &points, &demands, 4).expect(rt, "an instance")
 }
 
-// The prices that are found where a plan costs so much.
+// The prices found for a plan of this cost.
 fn prices_of<'a>(
     rt: &impl Abort,
     alloc: Global,
@@ -89,6 +89,9 @@ fn assert_bounds(rt: &impl Abort, alloc: Global, found: FoundPrices<'_>, low: u6
         relaxation,
         ng_sets,
     } = found;
+    let bound = relaxation.lower_bound(alloc, &ng_sets, 200_000_000);
+    let bound = bound.expect(rt, "memory").expect(rt, "tours").rounded_up();
+    assert!(rt; low < bound && bound <= high, "{bound}");
     let tables = NgTables::new(alloc, relaxation.relaxed(), ng_sets).expect(rt, "memory");
     assert!(rt; tables.shape().is_some() && low <= 50_000 && high <= 50_000);
     let least = tables.bound(0, 0, relaxation.relaxed().whole_demand());
@@ -97,7 +100,7 @@ fn assert_bounds(rt: &impl Abort, alloc: Global, found: FoundPrices<'_>, low: u6
     assert!(rt; relaxation.limit(high).is_some_and(|limit| least <= limit));
 }
 
-// Where arcs cost otherwise back, and demands have no common divisor but 1.
+// With asymmetric arcs, and demands whose only common divisor is 1.
 #[test]
 fn many_customers_with_one_way_streets(rt: HostRuntime) {
     let instance = one_direction(&rt, rt.alloc());
@@ -128,7 +131,7 @@ fn push_arcs(rt: &impl Abort, arcs: &mut Vec<u64>, from: u64) {
     }
 }
 
-// What a plan costs in which each customer has a truck of its own.
+// The cost of the plan with a truck for each customer.
 fn cost_alone(instance: &Instance) -> u64 {
     let mut cost = 0u64;
     for index in 0..instance.customers() {

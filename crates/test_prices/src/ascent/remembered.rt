@@ -1,4 +1,4 @@
-//! How much the walks of the rounds remember.
+//! The ng-sets of the walks of the rounds.
 use crate::assertion::assert_same;
 use std::alloc::Global;
 use std::process::Abort;
@@ -7,7 +7,7 @@ use vrp_bound_ascent::{Remembered, find_prices, is_affordable};
 use vrp_bound_walks::Size;
 use vrp_model::Instance;
 
-// What a round takes, the steps, and whether these are enough.
+// The steps of a round, the given steps, and whether these are enough.
 const ROUNDS: &[(u64, u64, bool)] = &[
     (1, 150, true),
     (1, 149, false),
@@ -36,7 +36,7 @@ fn crowd(rt: &impl Abort, alloc: Global, customers: usize) -> Instance {
     at_points(alloc, &points[..places], &demands[..places], 2).expect(rt, "an instance")
 }
 
-// The whole demand, the steps, how many ng-sets there are, and what a round takes. With 4 places each load takes 16 looks
+// The whole demand, the steps, the number of ng-sets, and the steps of a round. With 4 places each load takes 16 looks
 // without ng-sets, 12 more for ng-sets of one customer, and 28 more for those of two.
 type NgWalks = (u64, u64, usize, u64);
 
@@ -80,7 +80,7 @@ fn assert_largest(
     assert_same(rt, found, (masks, round), (whole, steps));
 }
 
-// How many customers there are, the steps, and how many ng-sets, where there are prices.
+// The number of customers, the steps, and the number of ng-sets, if there are prices.
 type FewCustomers = (usize, u64, Option<usize>);
 
 const FEW_CUSTOMERS: &[FewCustomers] = &[

@@ -1,4 +1,4 @@
-//! What the words of small instances cost in their relaxations, by hand and by trying every word.
+//! The costs of the words of small instances in their relaxations, by hand and by trying every word.
 ghost use Rattle.std.specs.Prelude.{All};
 ghost use Rattle.vrp_bound_prices.specs.Cut.{IsCut};
 
@@ -6,10 +6,12 @@ use crate::assertion::assert_same;
 use std::alloc::Global;
 use std::process::Abort;
 use test_fixtures::{FOUR, LINE, at_points, with_arcs};
+use vrp_bound_ng::NgSets;
 use vrp_bound_prices::{Cut, Relaxation};
 use vrp_model::{Instance, NO_COST};
 
-// A partial plan: its last place, the customers that it serves, each with its bit, how many it leaves, and its loads and costs.
+// A partial plan: its last place, the customers that it serves, as bits, the number of unserved ones, and its loads and
+// costs.
 #[derive(Clone, Copy, Debug, Default)]
 struct Prefix {
     at: u16,
@@ -60,7 +62,7 @@ fn every_word_within_its_limit(rt: HostRuntime) {
     assert!(rt; words > 5_000);
 }
 
-// With each unit and all prices; and with a cut of each set of customers.
+// With each unit and all prices, and with a cut for each set of customers.
 fn words_of_all(rt: &impl Abort, alloc: Global, instance: &Instance) -> u64 {
     words_by_prices(rt, alloc, instance).saturating_add(words_by_cuts(rt, alloc, instance))
 }
@@ -91,7 +93,7 @@ fn words_by_cuts(rt: &impl Abort, alloc: Global, instance: &Instance) -> u64 {
     words
 }
 
-// The cut of a set of customers, each of which has its bit.
+// The cut of a set of customers, given as bits.
 fn cut(rt: &impl Abort, alloc: Global, instance: &Instance, set: u8, cut_price: u64) -> Cut
     ensures { IsCut instance.now result }
 {
@@ -111,7 +113,7 @@ fn marks(rt: &impl Abort, alloc: Global, places: usize, set: u8) -> Vec<bool> {
     inside
 }
 
-// How many feasible words there are, if there is a relaxation.
+// The number of feasible words, if there is a relaxation.
 fn words_of(rt: &impl Abort, made: Option<Relaxation<'_>>) -> u64 {
     let Some(relaxation) = made else {
         return 0;
@@ -123,8 +125,8 @@ fn words_of(rt: &impl Abort, made: Option<Relaxation<'_>>) -> u64 {
     words_under(rt, &relaxation, prefix, 20)
 }
 
-// How many words go on from a partial plan, with this many symbols at most. Each is feasible in the relaxation, and costs there no
-// more than its limit is.
+// The number of words that continue a partial plan with at most this many symbols. Each is feasible in the relaxation, and
+// costs there no more than its limit.
 fn words_under(rt: &impl Abort, relaxation: &Relaxation<'_>, prefix: Prefix, steps: u16) -> u64 {
     let room = relaxation.relaxed().capacity();
     assert_same(rt, prefix.relaxed_load <= room, true, prefix);
@@ -177,7 +179,7 @@ fn after(relaxation: &Relaxation<'_>, prefix: Prefix, symbol: u16) -> Prefix {
     }
 }
 
-// The relaxation by a scale and a unit, prices and cuts, if there is one.
+// The relaxation by this scale, unit, prices and cuts, if there is one.
 fn relaxed<'a>(
     rt: &impl Abort,
     alloc: Global,
@@ -207,7 +209,7 @@ const PRICED_ARCS: &[(u16, u16, u64)] = &[
     (2, 1, 54),
 ];
 
-// Costs of plans, and what such plans cost in the relaxation at most.
+// Costs of plans, and the highest costs of such plans in the relaxation.
 const WITH_CHARGES: &[(u64, Option<u64>)] = &[
     (20, Some(208)),
     (0, Some(8)),
@@ -215,6 +217,21 @@ const WITH_CHARGES: &[(u64, Option<u64>)] = &[
 ];
 
 const WITH_REBATES: &[(u64, Option<u64>)] = &[(0, None), (1, Some(2))];
+
+// Costs in the relaxation, and what a plan that costs no less there costs at least, in hundredths.
+const BOUNDS_WITH_CHARGES: &[(u64, u64)] = &[
+    (0, 0),
+    (8, 0),
+    (9, 10),
+    (208, 2_000),
+    (209, 2_010),
+    (40_000_000_000_008, 100 * NO_COST),
+    (40_000_000_000_018, 100 * NO_COST),
+];
+
+const BOUNDS_WITH_REBATES: &[(u64, u64)] = &[(0, 80), (2, 100), (3, 110)];
+
+const BOUNDS_IN_THIRDS: &[(u64, u64)] = &[(9, 300), (10, 334), (11, 367), (12, 400)];
 
 #[test]
 fn values_on_three_nodes(rt: HostRuntime) {
@@ -225,8 +242,38 @@ fn values_on_three_nodes(rt: HostRuntime) {
     assert_same(rt, charged.scale(), 10, "the scale");
     assert_arcs(rt, charged.relaxed(), 2, PRICED_ARCS);
     assert_limits(rt, &charged, WITH_CHARGES);
+    assert_bounds(rt, &charged, BOUNDS_WITH_CHARGES);
+    // The least tour serves both customers, and costs 57, 54 and 97.
+    assert_tours_bound(rt, alloc, &charged, Some(2_000));
     let rebated = relaxed(rt, alloc, &instance, (10, 1), &[0, -7, 3], &[]);
-    assert_limits(rt, &rebated.expect(rt, "a relaxation"), WITH_REBATES);
+    let rebated = rebated.expect(rt, "a relaxation");
+    assert_limits(rt, &rebated, WITH_REBATES);
+    assert_bounds(rt, &rebated, BOUNDS_WITH_REBATES);
+    let thirds = relaxed(rt, alloc, &instance, (3, 1), &[0, 0, 0], &[]);
+    assert_bounds(rt, &thirds.expect(rt, "a relaxation"), BOUNDS_IN_THIRDS);
+}
+
+fn assert_bounds(rt: &impl Abort, relaxation: &Relaxation<'_>, bounds: &[(u64, u64)]) {
+    for &(least, hundredths) in bounds {
+        assert!(rt; least < 4_000_000_000_000_000_000);
+        let bound = relaxation.lower_bound_by(least);
+        assert_same(rt, bound.hundredths, hundredths, least);
+        assert_same(rt, bound.rounded_up(), hundredths.div_ceil(100), least);
+    }
+}
+
+// What every plan costs at least, in hundredths, by walks that remember nobody.
+fn assert_tours_bound(
+    rt: &impl Abort,
+    alloc: Global,
+    relaxation: &Relaxation<'_>,
+    hundredths: Option<u64>,
+) {
+    let ng_sets = NgSets::nearest(alloc, relaxation.problem(), 0).expect(rt, "memory");
+    let bound = relaxation
+        .lower_bound(alloc, &ng_sets, 1_000)
+        .expect(rt, "memory");
+    assert_same(rt, bound.map(|bound| bound.hundredths), hundredths, "tours");
 }
 
 fn assert_arcs(rt: &impl Abort, instance: &Instance, customers: u16, arcs: &[(u16, u16, u64)]) {
@@ -244,8 +291,8 @@ fn assert_limits(rt: &impl Abort, relaxation: &Relaxation<'_>, limits: &[(u64, O
     }
 }
 
-// A set of customers, what one truck can carry, the arcs from the depot to each and between them, and what a plan of no cost
-// would cost there at most.
+// A set of customers, the capacity, the arcs from the depot to each and between them, and the highest cost in the relaxation
+// of a plan of cost 0.
 type PricedCut = (u8, u64, [u64; 3], Option<u64>);
 
 const PRICED_CUTS: &[PricedCut] = &[
@@ -322,7 +369,7 @@ fn prices_at_their_ends(rt: HostRuntime) {
     }
 }
 
-// What the places demand, what one truck can carry, a unit, what the customers demand in units, and what a truck can carry then.
+// The demands of the places, the capacity, a unit, the customers' demands in units, and the capacity in units.
 type Counted = ([u64; 3], u64, u64, [u64; 2], u64);
 
 const COUNTED: &[Counted] = &[
@@ -359,6 +406,8 @@ fn the_most_nodes(rt: HostRuntime) {
     let instance = most_nodes(&rt, rt.alloc());
     let relaxation = charged(&rt, rt.alloc(), &instance, &[]);
     assert_limits(&rt, &relaxation, &[(0, Some(1_199_000_000_000))]);
+    // No tables are made over customers without demand.
+    assert_tours_bound(&rt, rt.alloc(), &relaxation, None);
 }
 
 // 1,200 nodes in one place, whose customers demand nothing.
@@ -368,7 +417,7 @@ fn most_nodes(rt: &impl Abort, alloc: Global) -> Instance {
     at_points(alloc, &points, &demands, 7).expect(rt, "an instance")
 }
 
-// The relaxation by these cuts, and the same price for each of so many nodes.
+// The relaxation by these cuts, and the same price for each of this many nodes.
 fn charged<'a>(
     rt: &impl Abort,
     alloc: Global,
@@ -382,7 +431,7 @@ fn charged<'a>(
     made.expect(rt, "a relaxation")
 }
 
-// The set of all has arcs to and from the depot alone, and customers of no demand need no truck.
+// The set of all customers has only arcs to and from the depot, and customers without demand need no truck.
 #[test]
 fn a_cut_of_the_most_customers(rt: HostRuntime) {
     let instance = most_nodes(&rt, rt.alloc());
@@ -393,7 +442,7 @@ fn a_cut_of_the_most_customers(rt: HostRuntime) {
     assert_limits(&rt, &relaxation, &[(0, Some(1_199_000_000_000))]);
 }
 
-// The cut of all customers, who demand nothing.
+// The cut of all customers, none of whom has a demand.
 fn cut_of_all(rt: &impl Abort, alloc: Global, instance: &Instance) -> Cut
     ensures { IsCut instance.now result }
 {

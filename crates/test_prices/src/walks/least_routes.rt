@@ -7,13 +7,14 @@ use vrp_bound_ng::NgSets;
 use vrp_bound_walks::{LeastRoutes, NearLooks, Size, UsedArc, WHOLE_TOUR, Walks};
 use vrp_model::Instance;
 
-// Three customers who demand 1 each; a truck serves two.
+// Three customers who demand 1 each; the capacity is 2.
 const ARCS: [u64; 16] = [0, 3, 4, 9, 3, 0, 2, 8, 4, 2, 0, 7, 9, 8, 7, 0];
 
 const DEMANDS: &[u64] = &[0, 1, 1, 1];
 
-// The customer, the prices of all places, and what the route costs and carries. Alone customers cost 6, 8 and 18; two of them 9, 20
-// and 20 together, so two cost less for each unit. By the prices of the third row customer 2 costs 2 alone, and 1 and 2 cost 5.
+// The customer, the prices of all places, and the cost and the load of the route. Alone customers cost 6, 8 and 18; two of
+// them together 9, 20 and 20, so two cost less for each unit. By the prices of the third row customer 2 costs 2 alone, and 1
+// and 2 cost 5.
 type Least = (usize, [i64; 4], i64, usize);
 
 const LEAST: &[Least] = &[
@@ -51,8 +52,8 @@ fn assert_least(
     assert_same(rt, cost_of(&used, &prices), cost, (customer, near));
 }
 
-// A route of so many customers has one arc more, and comes to each place once; of each arc as large a part is used as falls to a
-// customer.
+// A route with this many customers has one arc more, and visits each place once; each arc is used with the part that falls to
+// a customer.
 fn assert_used(rt: &impl Abort, used: &[UsedArc], load: usize) {
     assert_same(rt, used.len(), load.wrapping_add(1), "ways");
     let part = if load == 1 {
@@ -67,7 +68,7 @@ fn assert_used(rt: &impl Abort, used: &[UsedArc], load: usize) {
     }
 }
 
-// What the arcs cost with these prices.
+// The cost of the arcs with these prices.
 fn cost_of(used: &[UsedArc], prices: &[i64]) -> i64 {
     let mut cost = 0i64;
     for arc in used {
@@ -84,7 +85,7 @@ fn cost_of(used: &[UsedArc], prices: &[i64]) -> i64 {
     cost
 }
 
-// The tables by these prices, where so many customers are near each place.
+// The tables by these prices, with this many near customers for each place.
 fn filled(
     rt: &impl Abort,
     alloc: Global,

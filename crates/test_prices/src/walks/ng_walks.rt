@@ -1,4 +1,4 @@
-//! The least ng-walks, and the least tours, beside a program that tells each walk stop by stop.
+//! The least ng-walks and the least tours, compared with a program that follows each walk stop by stop.
 use crate::assertion::assert_same;
 use crate::walks::slow::Slow;
 use std::alloc::Global;
@@ -47,7 +47,7 @@ const CASES: &[Case] = &[
         capacity: 4,
         prices: &[0, -8, -2, 5, 0, -4],
     },
-    // Fewer customers than are to be near.
+    // Fewer customers than should be near.
     Case {
         weights: &FEW,
         demands: &[0, 1, 1],
@@ -85,7 +85,7 @@ fn every_ng_walk(rt: HostRuntime) {
     assert!(rt; walks > 10_000);
 }
 
-// With none to four customers near each place; how many walks there are together.
+// With none to four near customers for each place; answers the total number of walks.
 fn compare_sizes(rt: &impl Abort, alloc: Global, case: Case) -> u32 {
     let instance = instance_of(rt, alloc, case);
     let mut walks = 0u32;
@@ -107,7 +107,7 @@ fn walks_by_many_prices(rt: HostRuntime) {
     }
 }
 
-// With the prices of this round, and one to three customers near each place.
+// With the prices of this round, and one to three near customers for each place.
 fn compare_round(rt: &impl Abort, alloc: Global, instance: &Instance, places: usize, round: i64) {
     let prices = prices_of(rt, alloc, places, round);
     for size in 1..4 {
@@ -115,7 +115,7 @@ fn compare_round(rt: &impl Abort, alloc: Global, instance: &Instance, places: us
     }
 }
 
-// Prices from -9 to 3, others in each round.
+// Prices from -9 to 3, different in each round.
 fn prices_of(rt: &impl Abort, alloc: Global, places: usize, round: i64) -> Vec<i64> {
     let mut prices = vec![in alloc; 0; 1].expect(rt, "memory");
     let mut last = round;
@@ -130,7 +130,8 @@ fn instance_of(rt: &impl Abort, alloc: Global, case: Case) -> Instance {
     with_arcs(alloc, case.weights, case.demands, case.capacity).expect(rt, "an instance")
 }
 
-// Fills the tables where this many customers are near each place, and compares them with all walks; how many these are.
+// Fills the tables with this many near customers for each place, and compares them with all walks; answers the number of
+// walks.
 fn compare(
     rt: &impl Abort,
     alloc: Global,
@@ -152,14 +153,14 @@ fn compare(
     count
 }
 
-// Compares the arcs of the least tours, which cost so much together.
+// Compares the arcs of the least tours, which have this total cost.
 fn compare_used(rt: &impl Abort, alloc: Global, slow: &Slow, walks: &Walks, cost: i64) {
     let mut used = Vec::new(alloc);
     walks.list_used(&mut used).expect(rt, "memory");
     slow.compare_used(rt, &used, cost, walks.whole());
 }
 
-// The tables where this many customers are near each place.
+// The tables with this many near customers for each place.
 fn empty_walks(rt: &impl Abort, alloc: Global, instance: &Instance, size: usize) -> Walks {
     assert!(rt; size <= 4);
     let ng_sets = NgSets::nearest(alloc, instance, size).expect(rt, "memory");

@@ -1,4 +1,4 @@
-//! The slow program: it tells every walk, stop by stop from its end, and keeps the least.
+//! The slow program: it follows every walk, stop by stop from its end, and keeps the least.
 ghost use Rattle.std.specs.Prelude.{◌<◌};
 ghost use Rattle.vrp_model.specs.Problem.{place_count};
 
@@ -11,26 +11,26 @@ use vrp_model::Instance;
 // More walks than any of these instances has.
 const MOST_WALKS: u32 = 1_000_000;
 
-// A walk home, told from its end.
+// A walk home, followed from its end.
 #[derive(Clone, Copy, Debug)]
 struct Walk {
     at: usize,
-    // What it carries behind the place.
+    // The load behind the place.
     load: usize,
-    // Whom it remembers behind the place, each with its bit.
+    // The customers remembered behind the place, as bits.
     remembered: u32,
     cost: i64,
 }
 
-// Where tours that are gone through from their end have come to.
+// A position in tours that are followed from their end.
 #[derive(Clone, Copy, Debug)]
 struct Back {
     place: usize,
-    // Whom the tour remembers behind the place, each with its bit.
+    // The customers that the tour remembers behind the place, as bits.
     remembered: u32,
-    // What the arcs before cost.
+    // The cost of the arcs still to come.
     left: i64,
-    // What is carried behind.
+    // The load behind.
     load: usize,
 }
 
@@ -39,18 +39,18 @@ struct Back {
 pub(crate) struct Slow {
     places: usize,
     loads: usize,
-    // How many customers are near each place, and who: of one place after another.
+    // How many customers are near each place, and these customers, one place after another.
     size: usize,
     near: Vec<usize>,
     demands: Vec<usize>,
-    // By place, of each to each: its price and the other's, and the weight.
+    // The arcs, by place, from each to each: the weight plus the prices of both ends.
     arcs: Vec<i64>,
-    // By load, of each by place, and of each by ng-set: the least walk that remembers just this.
+    // By load, then by place, then by ng-set: the least walk with exactly this ng-set.
     least: Vec<i64>,
 }
 
 impl Slow {
-    /// No walks yet, of so many loads, where this many customers are near each place.
+    /// No walks yet, for this many loads, with this many near customers for each place.
     pub(crate) fn new(
         rt: &impl Abort,
         alloc: Global,
@@ -88,7 +88,7 @@ impl Slow {
         }
     }
 
-    // Each customer demands a unit at least.
+    // Adds a demand: each customer demands at least a unit.
     fn push_demand(&mut self, rt: &impl Abort, instance: &Instance, place: u16)
         requires place { place < place_count instance.now }
     {
@@ -100,7 +100,7 @@ impl Slow {
         self.demands.push(demand as usize).expect(rt, "memory");
     }
 
-    // Lists who is near a place: one by one who is nearest of those who are left.
+    // Lists the near customers of a place: one by one the nearest of the remaining ones.
     fn push_near(&mut self, rt: &impl Abort, instance: &Instance, place: u16)
         requires place { place < place_count instance.now }
     {
@@ -123,7 +123,7 @@ impl Slow {
         }
     }
 
-    /// Tells every walk, and how many there are.
+    /// Follows every walk, and answers their number.
     pub(crate) fn tell_all(&mut self, rt: &impl Abort, alloc: Global) -> u32 {
         let mut stack = self.straight_home(rt, alloc);
         for count in 0..MOST_WALKS {
@@ -136,7 +136,7 @@ impl Slow {
         panic!(rt; "too many walks");
     }
 
-    // The walks of one way.
+    // The walks of one arc.
     fn straight_home(&self, rt: &impl Abort, alloc: Global) -> Vec<Walk> {
         let mut walks = Vec::new(alloc);
         for at in 1..self.places {
@@ -151,7 +151,7 @@ impl Slow {
         walks
     }
 
-    // The walks with one more place before. None is before the depot.
+    // Adds the walks with one more place before. None is before the depot.
     fn push_longer(&self, rt: &impl Abort, stack: &mut Vec<Walk>, walk: Walk) {
         let load = walk.load.saturating_add(self.demand(walk.at));
         if walk.at == 0 || load >= self.loads {
@@ -171,7 +171,7 @@ impl Slow {
         }
     }
 
-    // Whom a walk remembers before this stop: the stop, and who is near it of those whom it remembers behind.
+    // The memory of a walk before this stop: the stop, and the customers near it that are remembered behind.
     fn remembered(&self, stop: usize, behind: u32) -> u32 {
         let mut remembered = bit(stop);
         for &customer in self.near_of(stop) {
@@ -180,7 +180,7 @@ impl Slow {
         remembered
     }
 
-    // What is remembered of those near a place, as the bits of a number. A tour needs no memory.
+    // The remembered customers near a place, as the bits of a number. A tour needs no memory.
     fn ng_set(&self, walk: Walk) -> usize {
         let mut ng_set = 0;
         for (index, &customer) in self.near_of(walk.at).iter().enumerate() {
@@ -209,7 +209,7 @@ impl Slow {
         pair.saturating_mul(16).saturating_add(ng_set)
     }
 
-    // The least walk that remembers no more than this.
+    // The least walk that remembers no more than this ng-set.
     fn least(&self, load: usize, place: usize, ng_set: usize) -> i64 {
         let mut least = NO_WALK;
         for lesser in 0..ng_set.saturating_add(1) {
@@ -238,7 +238,7 @@ impl Slow {
         }
     }
 
-    /// The least tours that carry so much together.
+    /// The least tours with this total load.
     pub(crate) fn least_tours(&self, rt: &impl Abort, alloc: Global, whole: usize) -> Option<i64> {
         let mut tours = vec![in alloc; 0; 1].expect(rt, "memory");
         for rest in 1..whole.saturating_add(1) {
@@ -249,7 +249,7 @@ impl Slow {
         if least < NO_WALK { Some(least) } else { None }
     }
 
-    // The least tours that carry the rest, by those that carry less.
+    // The least tours that carry the rest, from those that carry less.
     fn least_split(&self, tours: &[i64], rest: usize) -> i64 {
         let mut least = NO_WALK;
         for load in 1..self.loads.min(rest.saturating_add(1)) {
@@ -262,7 +262,7 @@ impl Slow {
         least
     }
 
-    /// Whether the arcs are those of ng-tours, which cost so much and carry so much.
+    /// Checks that the arcs are those of ng-tours with this cost and load.
     pub(crate) fn compare_used(&self, rt: &impl Abort, used: &[UsedArc], cost: i64, whole: usize) {
         let mut back = Back {
             place: 0,
@@ -277,7 +277,7 @@ impl Slow {
         assert_same(rt, end, (0, 0, whole), used.len());
     }
 
-    // One arc further back, from a place that isn't remembered behind it.
+    // The position one arc further back; its place must not be remembered behind it.
     fn before(&self, rt: &impl Abort, back: Back, arc: UsedArc) -> Back {
         assert_same(rt, arc.to, back.place, arc);
         let remembered = if arc.to == 0 {
@@ -306,7 +306,7 @@ impl Slow {
     }
 }
 
-// The nearest customer of a place who is not listed, or the depot if there is none.
+// The nearest customer of a place that is not yet listed, or the depot if there is none.
 fn nearest(instance: &Instance, place: u16, listed: u32) -> u16
     requires place { place < place_count instance.now }
 {
@@ -329,7 +329,7 @@ fn has(places: u32, place: usize) -> bool {
     places & bit(place) != 0
 }
 
-// The number that stands at a place of a list; 0 past its end.
+// The number at a position of a list; 0 past its end.
 fn at(values: &[i64], place: usize) -> i64 {
     values.get(place).copied().unwrap_or(0)
 }

@@ -1,4 +1,4 @@
-//! What words are keywords.
+//! Which words are keywords.
 use crate::assertion::assert_same;
 use vrp_text_lexer::{Key, Keyword, keyword_of};
 

@@ -1,4 +1,4 @@
-//! Which lines files have.
+//! The lines of files.
 use crate::assertion::assert_same;
 use std::process::Abort;
 use vrp_text_lexer::{DataLine, Heading, Key, Keyword, Lines};
@@ -22,7 +22,7 @@ const HEADINGS: &[(&str, Option<Keyword>, &str)] = &[
     ("CAPACITY\u{e9}", CAPACITY, "\u{e9}"),
 ];
 
-// Each line begins with this keyword, behind which this stands.
+// Each line begins with this keyword, followed by this text.
 #[test]
 fn headings(rt: HostRuntime) {
     for &(text, keyword, behind) in HEADINGS {
@@ -32,7 +32,7 @@ fn headings(rt: HostRuntime) {
     }
 }
 
-// The one line has this keyword, behind which this stands.
+// The only line has this keyword, followed by this text.
 fn assert_heading_alone(
     rt: &impl Abort,
     lines: &mut Lines<'_>,
@@ -86,7 +86,7 @@ const ENDS: &[(&str, Option<u32>)] = &[
     ("\n\n", None),
 ];
 
-// No line behind EOF is read, and EOF ends a file as a keyword alone.
+// No line behind EOF is read, and a keyword EOF alone ends a file.
 #[test]
 fn ends(rt: HostRuntime) {
     for &(text, number) in ENDS {
@@ -121,7 +121,7 @@ fn assert_data_line(rt: &impl Abort, lines: &mut Lines<'_>, number: u32, text: &
     assert_same(rt, line.text, text, number);
 }
 
-// The next line is a heading of this number, and no data line.
+// The next line is a heading of this number, and not a data line.
 fn assert_heading(rt: &impl Abort, lines: &mut Lines<'_>, number: u32) {
     assert!(rt; lines.next_data().is_none(), "at {number}");
     assert_same(rt, next_number(lines), Some(number), number);

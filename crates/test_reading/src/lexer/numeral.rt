@@ -1,4 +1,4 @@
-//! What numerals mean, and which are none.
+//! The meaning of numerals, and texts that are not numerals.
 use crate::assertion::assert_same;
 use vrp_text_lexer::{FileLineFault, number};
 

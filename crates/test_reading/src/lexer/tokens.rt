@@ -1,4 +1,4 @@
-//! Which tokens texts have.
+//! The tokens of texts.
 use crate::assertion::assert_same;
 use std::process::Abort;
 use vrp_text_lexer::Tokens;
@@ -16,7 +16,7 @@ const TOKENS: &[(&str, [&str; 3])] = &[
     ("a\u{b}b\u{c}c\0d", ["a\u{b}b\u{c}c\0d", "", ""]),
 ];
 
-// The texts have three tokens at most. An empty one stands for none.
+// The texts have at most three tokens. An empty one stands for none.
 #[test]
 fn tokens_of_texts(rt: HostRuntime) {
     for (text, expected) in TOKENS {

@@ -1,4 +1,4 @@
-//! What the values of keywords mean.
+//! The meaning of keywords' values.
 use crate::assertion::assert_same;
 use vrp_model::{Layout, MAX_CAPACITY, MAX_NODES, Metric};
 use vrp_text_lexer::FileLineFault::{BadValue, Unsupported};
@@ -7,7 +7,7 @@ use vrp_text_lexer::{
     weight_kind,
 };
 
-// A word, and what it is read as.
+// A word, and its meaning.
 type Row<T> = (&'static str, Result<T, FileLineFault>);
 
 const PROBLEM_TYPES: &[Row<()>] = &[
@@ -110,7 +110,7 @@ const LAYOUTS: &[(&str, Layout)] = &[
     ("LOWER_DIAG_COL", Layout::LowerDiagCol),
 ];
 
-// A layout is the same for explicit weights and for others.
+// A layout is the same for explicit weights and for other files.
 #[test]
 fn layouts(rt: HostRuntime) {
     for &(word, layout) in LAYOUTS {

@@ -1,4 +1,4 @@
-//! Files that are spelled in other ways, or state other instances.
+//! Files in other spellings, or with other instances.
 use crate::assertion::assert_same;
 use crate::text::fixture::{
     MATRIX, Places, SMALL, assert_singles_cost, matrix_places, places_of, small_places, with,
@@ -58,7 +58,7 @@ const SAME_AS_SMALL: &[(&str, &str)] = &[
     ("\n-1\n", "\n-10e-1\n"),
     ("\n-1\n", "\n-1 7 -5\n1000000000 -1 0\n"),
     ("\n-1\n", "\n"),
-    // What is not looked at.
+    // Text that is ignored.
     ("EOF", "EDGE_WEIGHT_FORMAT : FUNCTION"),
     ("EOF", "EDGE_WEIGHT_FORMAT : LOWER_DIAG_COL"),
     ("EOF", "EDGE_WEIGHT_SECTION\n1 0x1 .5 \0\n: -\nEOF"),
@@ -76,7 +76,7 @@ const SAME_AS_SMALL: &[(&str, &str)] = &[
     ("EOF", "EOF\nEDGE_WEIGHT_TYPE : EXPLICIT"),
 ];
 
-// The small file with one text in place of another, wherever it stands, means the same.
+// The small file with one text replaced, wherever it occurs, means the same.
 #[test]
 fn same_as_the_small_file(rt: HostRuntime) {
     for &(old, new) in SAME_AS_SMALL {
@@ -86,7 +86,7 @@ fn same_as_the_small_file(rt: HostRuntime) {
     }
 }
 
-// The instance of a file with one text in place of another, wherever that stands.
+// The instance of a file with one text replaced, wherever it occurs.
 fn changed(rt: &impl Abort, alloc: Global, file: &str, old: &str, new: &str) -> Instance {
     let text = with(rt, alloc, file, old, new);
     read(alloc, text.as_bytes(), None).expect(rt, new)
@@ -95,17 +95,17 @@ fn changed(rt: &impl Abort, alloc: Global, file: &str, old: &str, new: &str) -> 
 const SAME_AS_MATRIX: &[(&str, &str)] = &[
     ("EOF", "EOF"),
     ("\n0 1 2\n3 0 4\n5 6 0\n", "\n0 1\n2 3 0 4 5 6.0\n0\n"),
-    // Coordinates are not looked at, before the file is known as explicit either.
+    // Coordinates are ignored, even before the file is known to be explicit.
     ("EOF", "NODE_COORD_SECTION\n1 x .5\n: \0"),
     ("NAME : M", "NODE_COORD_SECTION\n1 x .5\n: \0"),
-    // The type may stand behind all that rests on it.
+    // The type may come after everything that depends on it.
     (
         MATRIX,
         "EDGE_WEIGHT_SECTION\n0 1 2\n3 0 4\n5 6 0\nEDGE_WEIGHT_FORMAT : FULL_MATRIX\nDEPOT_SECTION\n1\nDEMAND_SECTION\n1 0\n2 1\n3 1\nCAPACITY : 2\nDIMENSION : 3\nTYPE : CVRP\nEDGE_WEIGHT_TYPE : EXPLICIT",
     ),
 ];
 
-// The same of the file with a matrix.
+// The file with a matrix, with one text replaced, means the same.
 #[test]
 fn same_as_the_file_with_a_matrix(rt: HostRuntime) {
     for &(old, new) in SAME_AS_MATRIX {
@@ -114,7 +114,7 @@ fn same_as_the_file_with_a_matrix(rt: HostRuntime) {
     }
 }
 
-// Each number of a row goes to its node, in whatever order the rows stand.
+// Each number of a row goes to its node, in any order of the rows.
 #[test]
 fn rows_in_another_order(rt: HostRuntime) {
     let text =
@@ -129,7 +129,7 @@ fn rows_in_another_order(rt: HostRuntime) {
     assert_same(&rt, places_of(&rt, &instance), places, "other rows");
 }
 
-// The points that lie farthest from one another.
+// The two points farthest apart.
 const LOW: &str = "-100000000 -1e8";
 
 const HIGH: &str = "100000000 +1e8";
@@ -150,7 +150,7 @@ const COSTS_BY_METRIC: &[(&str, &str, &str, u64)] = &[
     ("MAX_2D", "3 20", "4 18", 4),
 ];
 
-// The distances of two points, there and back.
+// The distances of two points, in both directions.
 #[test]
 fn costs_by_metric(rt: HostRuntime) {
     for &(metric, from, to, cost) in COSTS_BY_METRIC {
@@ -175,7 +175,7 @@ const DEPOTS: &[(&str, Option<u16>, u16, u16, u64)] = &[
     ("1 2 1 1", Some(2), 2, 3, 10),
 ];
 
-// The first depot that is listed, or the chosen one; another one is neither depot nor customer.
+// The depot is the first listed one, or the chosen one; another depot is neither depot nor customer.
 #[test]
 fn depots(rt: HostRuntime) {
     for &(listed, chosen, depot, customer, cost) in DEPOTS {
@@ -204,7 +204,7 @@ fn one_node(rt: HostRuntime) {
     assert_singles_cost(&rt, rt.alloc(), &instance, 0);
 }
 
-// Says something where a growth is refused: run it by `rt try --test --fail-alloc N`, N from 1 on.
+// Shows something only if an allocation is refused: run it by `rt try --test --fail-alloc N`, N from 1 on.
 #[test]
 fn refused_growth(rt: HostRuntime) {
     for (text, places) in [(SMALL, small_places()), (MATRIX, matrix_places())] {

@@ -4,7 +4,7 @@ use crate::text::fixture::{SMALL, refusal_of};
 use vrp_text::TextError::{BadNumber, BadValue, Missing, UnknownKeyword, WrongCount};
 use vrp_text::{Key, TextError};
 
-// From this length on the small file is refused for this when it is cut off there, or is not.
+// From this length on, the small file cut off there is refused for this reason, or is not refused.
 const REFUSALS: &[(usize, Option<TextError>)] = &[
     (0, Some(Missing(Key::Problem))),
     // NAME : A
@@ -48,7 +48,7 @@ const REFUSALS: &[(usize, Option<TextError>)] = &[
     (182, None),
 ];
 
-// Why the small file is refused when it is cut off after this many bytes, where it is.
+// The refusal of the small file when it is cut off after this many bytes, if it is refused.
 fn refusal_after(length: usize) -> Option<TextError> {
     let mut refusal = None;
     for &(from, row) in REFUSALS {
@@ -59,7 +59,7 @@ fn refusal_after(length: usize) -> Option<TextError> {
     refusal
 }
 
-// Cut off after each byte in turn.
+// The file is cut off after each byte in turn.
 #[test]
 fn cut_after_every_byte(rt: HostRuntime) {
     let bytes = SMALL.as_bytes();

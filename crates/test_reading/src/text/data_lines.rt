@@ -6,15 +6,15 @@ use vrp_text::TextError::{
 };
 
 const DATA_LINES: &[Change<'_>] = &[
-    // No section.
+    // Data outside any section.
     ("NAME : A", "5\nNAME : A", DataOutside(1)),
-    // A byte order mark is no blank: with what stands beside it, it is a token.
+    // A byte order mark is not a blank: it is part of a token.
     ("NAME : A", "\u{feff}NAME : A", DataOutside(1)),
     ("NAME : A", "\n \t\r\n: NAME", DataOutside(3)),
     ("CAPACITY : 2\n", "CAPACITY : 2\n5\n", DataOutside(7)),
     ("EOF", "COMMENT\n1\nEOF", DataOutside(19)),
     ("-1\nEOF", "-1\nDISPLAY_DATA_TYPE\n\n-1\n", DataOutside(20)),
-    // No numeral.
+    // Not a numeral.
     ("2 3 4", "2 1000000000000000000 4", BadNumber(9)),
     ("2 3 4", "2 1e19 4", BadNumber(9)),
     ("2 3 4", "2 . 4", BadNumber(9)),
@@ -45,14 +45,14 @@ const DATA_LINES: &[Change<'_>] = &[
     ("\n2 1\n", "\n2 .5\n", NotWhole(13)),
     ("\n-1\n", "\n-1.5\n", NotWhole(17)),
     ("\n-1\n", "\n-1\n0.1\n", NotWhole(18)),
-    // Behind the last row the kinds of numbers go on in turn.
+    // Behind the last row the kinds of numbers continue in turn.
     ("3 6 8", "3 6 8 1000000001", BadNumber(10)),
     ("3 6 8", "3 6 8 4 100000001", BadNumber(10)),
     ("\n3 1\n", "\n3 1\n4 -1\n", BadNumber(15)),
     ("\n3 1\n", "\n3 1\n4 1 -7\n0\n", WrongCount(Key::Demand)),
 ];
 
-// The small file with one text in place of another is refused for this.
+// The small file with one text replaced is refused for this reason.
 #[test]
 fn data_lines(rt: HostRuntime) {
     assert_changes_refused(&rt, rt.alloc(), SMALL, DATA_LINES);
@@ -76,11 +76,11 @@ const FIRST_FAULTS: &[Change<'_>] = &[
     ("NAME : A", "VEHICLES : 2\n0", UnknownKeyword(1)),
     ("NAME : A\nCOMMENT", "TYPE : TSP\nTYPE", Unsupported(1)),
     ("NAME : A\nCOMMENT", "TYPE : VRP\nTYPE", BadValue(1)),
-    // Before what is missing.
+    // Reported before missing keywords.
     ("TYPE : CVRP\nDIMENSION : 3", "DIMENSION : 0", BadValue(3)),
     (SMALL, "0", DataOutside(1)),
     ("DEPOT_SECTION\n1\n-1\n", "eof", UnknownKeyword(15)),
-    // Before a wrong count, bad nodes and faults of the instance.
+    // Reported before a wrong count, bad nodes and faults of the instance.
     (
         "\n3 1\nDEPOT_SECTION\n1\n",
         "\n3\nDEPOT_SECTION\n?\n",
@@ -98,7 +98,7 @@ const FIRST_FAULTS: &[Change<'_>] = &[
     ),
 ];
 
-// The first faulty line, and in it the first faulty token, comes before all that is found out later.
+// The first faulty line, and in it the first faulty token, is reported before all later checks.
 #[test]
 fn first_faults(rt: HostRuntime) {
     assert_changes_refused(&rt, rt.alloc(), SMALL, FIRST_FAULTS);

@@ -1,4 +1,4 @@
-//! Files that are explicit or not.
+//! Files that are explicit, and files that are not.
 use crate::text::fixture::{FileChange, MATRIX, SMALL, assert_files_refused};
 use vrp_text::Key;
 use vrp_text::TextError::{BadNumber, BadValue, Missing, NotWhole, Repeated, Unsupported};
@@ -18,7 +18,7 @@ const EXPLICIT_FILES: &[FileChange<'_>] = &[
     (MATRIX, "NAME : M", "EDGE_WEIGHT_SECTION\n-1", BadNumber(2)),
     (MATRIX, "EOF", "NODE_COORD_SECTION 1", BadValue(18)),
     (MATRIX, "EOF", "EDGE_WEIGHT_TYPE : EUC_2D", Repeated(18)),
-    // Behind skipped data too.
+    // The type may come after skipped data.
     (
         SMALL,
         "EDGE_WEIGHT_TYPE : EUC_2D\nCAPACITY : 2",
@@ -31,7 +31,7 @@ const EXPLICIT_FILES: &[FileChange<'_>] = &[
         "EXPLICIT\nEDGE_WEIGHT_FORMAT : FUNCTION",
         BadValue(6),
     ),
-    // Its coordinates are not looked at, nor the weights of another file.
+    // An explicit file's coordinates are ignored, and so are another file's weights.
     (
         SMALL,
         "EUC_2D\nCAPACITY : 2\nNODE_COORD_SECTION\n1 0 0",
@@ -44,7 +44,7 @@ const EXPLICIT_FILES: &[FileChange<'_>] = &[
         "ATT\nEDGE_WEIGHT_FORMAT : FUNCTION\nEDGE_WEIGHT_SECTION\n?",
         Missing(Key::NodeCoord),
     ),
-    // A faulty first one makes no file explicit, and a second one neither.
+    // A faulty first type makes no file explicit, and neither does a second one.
     (
         MATRIX,
         "EXPLICIT\nEDGE_WEIGHT_FORMAT : FULL_MATRIX\n",
@@ -63,7 +63,7 @@ const EXPLICIT_FILES: &[FileChange<'_>] = &[
         "EDGE_WEIGHT_SECTION\n?\nEDGE_WEIGHT_TYPE",
         BadValue(3),
     ),
-    // Without one, or with one behind EOF, a file is not explicit.
+    // Without a type, or with one behind EOF, a file is not explicit.
     (
         MATRIX,
         "EDGE_WEIGHT_TYPE : EXPLICIT\nEDGE_WEIGHT_FORMAT : FULL_MATRIX\nEDGE_WEIGHT_SECTION\n0",
@@ -84,7 +84,7 @@ const EXPLICIT_FILES: &[FileChange<'_>] = &[
     ),
 ];
 
-// Whether a file is explicit is told by its first EDGE_WEIGHT_TYPE before EOF, wherever that stands.
+// The first EDGE_WEIGHT_TYPE before EOF says whether a file is explicit, wherever it is.
 #[test]
 fn explicit_files(rt: HostRuntime) {
     assert_files_refused(&rt, rt.alloc(), EXPLICIT_FILES);

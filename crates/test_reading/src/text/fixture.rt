@@ -1,4 +1,4 @@
-//! Small files, changes of them, and what their instances tell of themselves.
+//! Small files, changes to them, and the data of their instances.
 
 use crate::assertion::assert_same;
 use std::alloc::Global;
@@ -10,17 +10,17 @@ use vrp_text::{TextError, read};
 pub(crate) const SMALL: &str =
     "NAME : A\nCOMMENT : three nodes\nTYPE : CVRP\nDIMENSION : 3\nEDGE_WEIGHT_TYPE : EUC_2D\nCAPACITY : 2\nNODE_COORD_SECTION\n1 0 0\n2 3 4\n3 6 8\nDEMAND_SECTION\n1 0\n2 1\n3 1\nDEPOT_SECTION\n1\n-1\nEOF\n";
 
-/// Three nodes with a weight of its own for each arc between two of them.
+/// Three nodes with a different weight for each arc.
 pub(crate) const MATRIX: &str =
     "NAME : M\nTYPE : CVRP\nDIMENSION : 3\nCAPACITY : 2\nEDGE_WEIGHT_TYPE : EXPLICIT\nEDGE_WEIGHT_FORMAT : FULL_MATRIX\nEDGE_WEIGHT_SECTION\n0 1 2\n3 0 4\n5 6 0\nDEMAND_SECTION\n1 0\n2 1\n3 1\nDEPOT_SECTION\n1\n-1\nEOF\n";
 
-/// What an instance of three places tells of itself.
+/// The data of an instance of three places.
 #[derive(Debug, PartialEq, Eq, Drop)]
 pub(crate) struct Places {
     pub nodes: [u16; 3],
     pub demands: [u64; 3],
     pub capacity: u64,
-    /// From place 0 to 1 and to 2, from 1 to 0 and to 2, from 2 to 0 and to 1.
+    /// The weights from place 0 to 1 and to 2, from 1 to 0 and to 2, from 2 to 0 and to 1.
     pub weights: [u64; 6],
 }
 
@@ -44,7 +44,7 @@ pub(crate) fn matrix_places() -> Places {
     }
 }
 
-/// The places of an instance, of which there are three.
+/// The places of an instance with three places.
 pub(crate) fn places_of(rt: &impl Abort, instance: &Instance) -> Places {
     assert!(rt; instance.customers() == 2);
     Places {
@@ -62,25 +62,25 @@ pub(crate) fn places_of(rt: &impl Abort, instance: &Instance) -> Places {
     }
 }
 
-/// Asserts what the plan of one truck for each customer costs.
+/// Asserts the cost of the plan of one truck for each customer.
 pub(crate) fn assert_singles_cost(rt: &impl Abort, alloc: Global, instance: &Instance, cost: u64) {
     let plan = Plan::singles(alloc, instance).expect(rt, "memory");
     let plan = plan.expect(rt, "a truck for each");
     assert_same(rt, plan.cost(), cost, "the cost");
 }
 
-/// A text with another one in place of a part, wherever that stands.
+/// The text with a part replaced, wherever it occurs.
 pub(crate) fn with(rt: &impl Abort, alloc: Global, text: &str, old: &str, new: &str) -> String {
     assert!(rt; text.contains(old), "no {old}");
     text.replace(alloc, old, new).expect(rt, "memory")
 }
 
-/// Why these bytes are refused, or None where they are not.
+/// The refusal of these bytes, or None if they are accepted.
 pub(crate) fn refusal_of(alloc: Global, bytes: &[u8], chosen: Option<u16>) -> Option<TextError> {
     read(alloc, bytes, chosen).err()
 }
 
-/// Asserts that a text is refused for this.
+/// Asserts that a text is refused for this reason.
 pub(crate) fn assert_refused(
     rt: &impl Abort,
     alloc: Global,
@@ -92,7 +92,7 @@ pub(crate) fn assert_refused(
     assert_same(rt, found, Some(refusal), text);
 }
 
-/// One text, another in its place, and why a file is refused with that where the first one stands first.
+/// A text, its replacement, and the refusal of a file with the first occurrence replaced.
 pub(crate) type Change<'a> = (&'a str, &'a str, TextError);
 
 /// Asserts that a file is refused with each of these changes.

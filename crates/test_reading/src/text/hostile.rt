@@ -1,4 +1,4 @@
-//! Long files, and bytes that are no text.
+//! Long files, and bytes that are not text.
 use crate::assertion::assert_same;
 use crate::text::fixture::{SMALL, places_of, refusal_of, small_places};
 use std::alloc::Global;
@@ -8,7 +8,7 @@ use vrp_text::TextError::{
 };
 use vrp_text::{Key, MAX_BYTES, TextError, read};
 
-// A file of this many bytes: `prefix`, and behind it `filling` again and again.
+// A file of this many bytes: `prefix`, followed by `filling` again and again.
 fn filled(rt: &impl Abort, alloc: Global, prefix: &str, filling: &[u8], length: usize) -> Vec<u8> {
     let block = filling.repeat(alloc, 4096).expect(rt, "memory");
     let blocks = length.checked_div(block.len()).unwrap_or(0);
@@ -35,7 +35,7 @@ const LONG_FILES: &[(&str, &[u8], TextError)] = &[
     ("TYPE : CVRP\n", b"TYPE : CVRP\n", Repeated(2)),
 ];
 
-// Files of a million bytes: what stands at their front, and what fills them.
+// Files of a million bytes: their prefix and their filling.
 #[test]
 fn long_files(rt: HostRuntime) {
     for &(prefix, filling, answer) in LONG_FILES {
@@ -58,7 +58,7 @@ fn line_feeds(rt: HostRuntime) {
     assert_same(&rt, found, Some(TooLong), "one more");
 }
 
-// As many blanks.
+// As many blanks as a file may have bytes.
 #[test]
 fn blanks(rt: HostRuntime) {
     let bytes = filled(&rt, rt.alloc(), "", b" \t\r ", 16_777_216);
@@ -66,7 +66,7 @@ fn blanks(rt: HostRuntime) {
     assert_same(&rt, found, Some(Missing(Key::Problem)), "blanks");
 }
 
-// One token of as many digits, and one keyword of as many letters.
+// One token of as many digits as a file may have bytes, and one keyword of as many letters.
 #[test]
 fn longest_tokens(rt: HostRuntime) {
     for (filling, answer) in [(b"7", DataOutside(1)), (b"X", UnknownKeyword(1))] {
@@ -76,7 +76,7 @@ fn longest_tokens(rt: HostRuntime) {
     }
 }
 
-// The small file behind a remark is read up to its last byte, and refused with one byte more.
+// The small file behind a long remark is read up to its last byte, and refused with one byte more.
 #[test]
 fn longest_file_with_an_instance(rt: HostRuntime) {
     let mut bytes = longest_file(&rt, rt.alloc());
@@ -111,7 +111,7 @@ const NO_TEXT: &[(&str, &[u8], Option<TextError>)] = &[
     ("CAPACITY : 2", b"CAPACITY\0: 2", Some(BadValue(6))),
 ];
 
-// Bytes that are no blanks belong to a token or a remark.
+// Bytes that are not blanks belong to a token or a remark.
 #[test]
 fn bytes_that_are_no_text(rt: HostRuntime) {
     for &(old, new, answer) in NO_TEXT {
@@ -121,7 +121,7 @@ fn bytes_that_are_no_text(rt: HostRuntime) {
     }
 }
 
-// The small file with these bytes in place of a text, where that stands first.
+// The small file with the first occurrence of a text replaced by these bytes.
 fn with_bytes(rt: &impl Abort, alloc: Global, old: &str, new: &[u8]) -> Vec<u8> {
     let (before, after) = SMALL.split_once(old).expect(rt, old);
     let parts = [before.as_bytes(), new, after.as_bytes()];

@@ -3,7 +3,7 @@ use crate::text::fixture::{Change, SMALL, assert_changes_refused};
 use vrp_text::TextError::{BadValue, Repeated, UnknownKeyword, Unsupported};
 
 const KEYWORD_LINES: &[Change<'_>] = &[
-    // No keyword.
+    // Not a keyword.
     (
         "CAPACITY : 2\n",
         "CAPACITY : 2\nVEHICLES : 2\n",
@@ -13,12 +13,12 @@ const KEYWORD_LINES: &[Change<'_>] = &[
     ("TYPE : CVRP", "Type : CVRP", UnknownKeyword(3)),
     ("2 3 4", "e5 3 4", UnknownKeyword(9)),
     ("EOF", "EOF2", UnknownKeyword(18)),
-    // A keyword that is left out.
+    // A keyword that is not supported.
     ("EOF", "EDGE_DATA_FORMAT : EDGE_LIST", Unsupported(18)),
     ("EOF", "EDGE_DATA_SECTION", Unsupported(18)),
     ("EOF", "FIXED_EDGES_SECTION 1", Unsupported(18)),
     ("NAME : A", "TOUR_SECTION\nTOUR_SECTION", Unsupported(1)),
-    // A keyword for the second time, whatever stands behind it and whether or not it is used.
+    // A repeated keyword, with any text behind it and whether it is used or not.
     (
         "CAPACITY : 2\n",
         "CAPACITY : 2\nCAPACITY : 2\n",
@@ -45,7 +45,7 @@ const KEYWORD_LINES: &[Change<'_>] = &[
         "EDGE_WEIGHT_FORMAT : FUNCTION\nEDGE_WEIGHT_FORMAT : FUNCTION",
         Repeated(19),
     ),
-    // A value that is left out.
+    // A value that is not supported.
     ("CVRP", "TOUR", Unsupported(3)),
     ("EUC_2D", "GEO", Unsupported(5)),
     ("EUC_2D", "EUC_3D 5", Unsupported(5)),
@@ -74,7 +74,7 @@ const KEYWORD_LINES: &[Change<'_>] = &[
     ("EOF", "DISPLAY_DATA_SECTION 1", BadValue(18)),
 ];
 
-// The small file with one text in place of another is refused for this.
+// The small file with one text replaced is refused for this reason.
 #[test]
 fn keyword_lines(rt: HostRuntime) {
     assert_changes_refused(&rt, rt.alloc(), SMALL, KEYWORD_LINES);

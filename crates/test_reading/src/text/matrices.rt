@@ -10,7 +10,7 @@ use vrp_text::read;
 const FOUR: &str =
     "TYPE : CVRP\nDIMENSION : 4\nCAPACITY : 1\nEDGE_WEIGHT_TYPE : EXPLICIT\nEDGE_WEIGHT_FORMAT : LAYOUT\nEDGE_WEIGHT_SECTION\nENTRIES\nDEMAND_SECTION\n1 0\n2 1\n3 1\n4 1\nDEPOT_SECTION\n1\n-1\nEOF\n";
 
-// A full matrix tells the arc from its reverse.
+// A full matrix distinguishes an arc from its reverse.
 #[test]
 fn arcs_there_and_back(rt: HostRuntime) {
     let instance = read(rt.alloc(), MATRIX.as_bytes(), None).expect(&rt, MATRIX);
@@ -55,7 +55,7 @@ const SIX: &str = "1 2 3 4 5 6";
 
 const TEN: &str = "1 2 3 4 5 6 7 8 9 10";
 
-// A layout, what it lists, the weights, and what the plan of one truck for each customer costs.
+// A layout, its entries, the weights, and the cost of the plan of one truck for each customer.
 const LAYOUTS: &[(&str, &str, Arcs, u64)] = &[
     ("UPPER_ROW", SIX, ROWS, 12),
     ("LOWER_COL", SIX, ROWS, 12),
@@ -77,7 +77,9 @@ const LAYOUTS: &[(&str, &str, Arcs, u64)] = &[
 fn layouts_of_four_nodes(rt: HostRuntime) {
     for &(layout, entries, arcs, cost) in LAYOUTS {
         let instance = four_nodes(&rt, rt.alloc(), layout, entries);
-        assert_same(&rt, arcs_of(&rt, &instance), arcs, layout);
+        let (there, back) = arcs;
+        assert_weights(&rt, &instance, &THERE, &there);
+        assert_weights(&rt, &instance, &BACK, &back);
         assert_singles_cost(&rt, rt.alloc(), &instance, cost);
     }
 }
@@ -89,24 +91,14 @@ fn four_nodes(rt: &impl Abort, alloc: Global, layout: &str, entries: &str) -> In
     read(alloc, text.as_bytes(), None).expect(rt, layout)
 }
 
-// The weights between four places, there and back.
-fn arcs_of(rt: &impl Abort, instance: &Instance) -> Arcs {
-    assert!(rt; instance.customers() == 3);
-    let there = [
-        instance.weight(0, 1),
-        instance.weight(0, 2),
-        instance.weight(0, 3),
-        instance.weight(1, 2),
-        instance.weight(1, 3),
-        instance.weight(2, 3),
-    ];
-    let back = [
-        instance.weight(1, 0),
-        instance.weight(2, 0),
-        instance.weight(3, 0),
-        instance.weight(2, 1),
-        instance.weight(3, 1),
-        instance.weight(3, 2),
-    ];
-    (there, back)
+const THERE: [(u16, u16); 6] = [(0, 1), (0, 2), (0, 3), (1, 2), (1, 3), (2, 3)];
+
+const BACK: [(u16, u16); 6] = [(1, 0), (2, 0), (3, 0), (2, 1), (3, 1), (3, 2)];
+
+// The arcs of an instance have these weights.
+fn assert_weights(rt: &impl Abort, instance: &Instance, arcs: &[(u16, u16)], weights: &[u64]) {
+    for (&(from, to), &weight) in arcs.iter().zip(weights) {
+        assert!(rt; from.max(to) <= instance.customers());
+        assert_same(rt, instance.weight(from, to), weight, (from, to));
+    }
 }

@@ -1,4 +1,4 @@
-//! Numbers that are no nodes, and files of which no instance can be made.
+//! Numbers that are not nodes, and files from which no instance can be made.
 use crate::text::fixture::{MATRIX, SMALL, assert_refused, with};
 use vrp_model::InstanceError;
 use vrp_model::InstanceError::{DemandOverCapacity, DepotDemand, NotADepot};
@@ -33,7 +33,7 @@ const BAD_NODES: &[(&str, &str, &str, Key, i64)] = &[
     (SMALL, "\n1\n-1\n", "\n1 1 -2 9\n-1\n", Key::Depot, -2),
     (SMALL, "\n1\n-1\n", "\n65537\n", Key::Depot, 65_537),
     (MATRIX, "\n2 1\n", "\n4 1\n", Key::Demand, 4),
-    // Sections in the order of the keys, whichever stands first.
+    // Sections are checked in the order of the keys, in any order of the file.
     (
         SMALL,
         "3 6 8\nDEMAND_SECTION\n1 0\n",
@@ -55,7 +55,7 @@ const BAD_NODES: &[(&str, &str, &str, Key, i64)] = &[
         Key::NodeCoord,
         2,
     ),
-    // Before faults of the instance.
+    // Reported before faults of the instance.
     (
         SMALL,
         "\n1 0\n2 1\n3 1\nDEPOT_SECTION\n1\n",
@@ -65,14 +65,14 @@ const BAD_NODES: &[(&str, &str, &str, Key, i64)] = &[
     ),
 ];
 
-// A number is no node, or is given a second time: the first by its place.
+// A number that is not a node, or that is given twice: the first by position is reported.
 #[test]
 fn bad_nodes(rt: HostRuntime) {
     for &(text, old, new, key, node) in BAD_NODES {
         assert!(rt; text.contains(old), "no {old}");
         let text = text.replacen(rt.alloc(), old, new, 1).expect(&rt, "memory");
         let refusal = TextError::BadNode(key, node);
-        // Whichever depot is chosen.
+        // For any chosen depot.
         assert_refused(&rt, rt.alloc(), text.as_str(), None, refusal);
         assert_refused(&rt, rt.alloc(), text.as_str(), Some(1200), refusal);
     }
@@ -94,7 +94,7 @@ const NO_INSTANCE: &[(&str, &str, Option<u16>, InstanceError)] = &[
     ("1 0 2 0 3 3", "1 2", Some(2), DemandOverCapacity(3)),
 ];
 
-// No instance can be made of the small file with these demands and depots, where this depot is chosen.
+// No instance can be made from the small file with these demands and depots, and this chosen depot.
 #[test]
 fn no_instance(rt: HostRuntime) {
     for &(demands, depots, chosen, refusal) in NO_INSTANCE {

@@ -1,4 +1,4 @@
-//! Files in which something is missing, and sections of the wrong length.
+//! Files with something missing, and sections of the wrong length.
 use crate::text::fixture::{FileChange, MATRIX, SMALL, assert_files_refused};
 use vrp_text::Key;
 use vrp_text::TextError::{Missing, WrongCount};
@@ -36,7 +36,7 @@ const MISSING: &[FileChange<'_>] = &[
         Missing(Key::EdgeWeight),
     ),
     (MATRIX, "EXPLICIT", "MAN_2D", Missing(Key::NodeCoord)),
-    // More than one.
+    // More than one keyword is missing.
     (
         SMALL,
         "TYPE : CVRP\nDIMENSION : 3\n",
@@ -79,7 +79,7 @@ const MISSING: &[FileChange<'_>] = &[
         "",
         Missing(Key::EdgeWeight),
     ),
-    // Before a wrong count.
+    // Reported before a wrong count.
     (
         SMALL,
         "DEPOT_SECTION\n1\n-1\n",
@@ -94,7 +94,7 @@ const MISSING: &[FileChange<'_>] = &[
     ),
 ];
 
-// Something is missing: the first in the order of the keys.
+// Something is missing: the first in the order of the keys is reported.
 #[test]
 fn missing(rt: HostRuntime) {
     assert_files_refused(&rt, rt.alloc(), MISSING);
@@ -136,7 +136,7 @@ const WRONG_COUNTS: &[FileChange<'_>] = &[
         "LOWER_DIAG_COL",
         WrongCount(Key::EdgeWeight),
     ),
-    // More than one.
+    // More than one count is wrong.
     (
         SMALL,
         "3 6 8\nDEMAND_SECTION\n1 0\n",
@@ -155,7 +155,7 @@ const WRONG_COUNTS: &[FileChange<'_>] = &[
         "DEMAND_SECTION\n",
         WrongCount(Key::EdgeWeight),
     ),
-    // Before bad nodes.
+    // Reported before bad nodes.
     (
         SMALL,
         "2 3 4\n3 6 8\nDEMAND_SECTION\n1 0\n",
@@ -176,7 +176,7 @@ const WRONG_COUNTS: &[FileChange<'_>] = &[
     ),
 ];
 
-// A section has too many numbers or too few: the first in the order of the keys.
+// A section has too many numbers or too few: the first in the order of the keys is reported.
 #[test]
 fn wrong_counts(rt: HostRuntime) {
     assert_files_refused(&rt, rt.alloc(), WRONG_COUNTS);

@@ -1,4 +1,4 @@
-//! Plans found from the pool that is listed by a known plan.
+//! Plans found from the pool listed with a known plan.
 
 use crate::guides::Asks;
 use std::alloc::Global;
@@ -10,16 +10,16 @@ use vrp_bound_prices::Relaxation;
 use vrp_canonical::{PlanSearch, canonical_plan};
 use vrp_model::{Instance, NO_COST, NoMemory, Plan};
 use vrp_partition::{Guide, Team};
-use vrp_routes::{Listed, can_list, list_routes};
+use vrp_routes::{Listed, Listers, can_list, list_routes};
 
-/// How long a search may take.
+/// The effort that a search may spend.
 #[derive(Clone, Copy, Debug)]
 pub(crate) struct Effort {
     pub(crate) ask: Asks,
     pub(crate) budget: u64,
 }
 
-/// What is found by two workers from a known plan, by a guide and with so much effort.
+/// The result of two workers from a known plan, with this guide and effort.
 pub(crate) fn found_plan<R: Abort + Threads + Sync, P: Guide + Send>(
     rt: &R,
     alloc: Global,
@@ -35,16 +35,13 @@ pub(crate) fn found_plan<R: Abort + Threads + Sync, P: Guide + Send>(
     let relaxation = made.expect(rt, "prices");
     let ng_sets = NgSets::nearest(alloc, relaxation.relaxed(), 2)?;
     let tables = NgTables::new(alloc, relaxation.relaxed(), ng_sets)?;
-    let listed = list_routes(
+    let listers = Listers {
         rt,
         alloc,
-        &relaxation,
-        &tables,
-        limit,
-        2,
-        u32::MAX,
-        &|_labels| true,
-    )?;
+        workers: 2,
+        should_continue: &|_labels| true,
+    };
+    let listed = list_routes(&listers, &relaxation, &tables, limit, u32::MAX)?;
     let mut left = effort.budget;
     let team = Team {
         rt,

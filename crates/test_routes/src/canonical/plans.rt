@@ -1,4 +1,4 @@
-//! Plans found are the canonical ones, as a slow program finds them.
+//! The plans found are the canonical ones, compared with a slow program.
 
 use crate::assertion::assert_same;
 use crate::canonical::found::{Effort, found_plan};
@@ -67,7 +67,8 @@ fn by_chance(rt: &impl Abort, alloc: Global, random: &mut Random) -> Instance {
     with_arcs(alloc, arcs.as_slice(), demands.as_slice(), 4).expect(rt, "an instance")
 }
 
-// How many plans were found and are the canonical one: from it, and from the plan of one truck to each customer, by several guides.
+// How many of the plans found are the canonical one: starting from it, and from the plan of one truck for each customer, by
+// several guides.
 fn plans_of<R: Abort + Threads + Sync>(rt: &R, alloc: Global, instance: &Instance) -> u64 {
     let canonical = canonical_plan(alloc, instance).expect(rt, "memory");
     let Some(canonical) = canonical else {
@@ -83,7 +84,7 @@ fn plans_of<R: Abort + Threads + Sync>(rt: &R, alloc: Global, instance: &Instanc
     plans
 }
 
-// The canonical plan, where it was found.
+// The canonical plan, if it was found.
 fn canonical_of(found: Option<PlanSearch>) -> Option<Plan> {
     match found {
         Some(PlanSearch::Canonical(plan)) => Some(plan),
@@ -91,7 +92,7 @@ fn canonical_of(found: Option<PlanSearch>) -> Option<Plan> {
     }
 }
 
-// What the plan costs that a search tells of which ended unfinished, if its word is one.
+// The cost of the plan that an unfinished search reports, if its word is one.
 fn cost_told(
     rt: &impl Abort,
     alloc: Global,
@@ -153,8 +154,8 @@ fn by_guides<R: Abort + Threads + Sync>(
     plans
 }
 
-// A guide, a budget, whether the canonical plan is found, and whether a cheapest one is told of else: then the lower bound is its
-// cost.
+// A guide, a budget, whether the canonical plan is found, and whether otherwise a cheapest one is reported: then the lower
+// bound is its cost.
 const LIMITS: &[(Habit, u64, bool, bool)] = &[
     (Habit::Zeros, 1_000, true, false),
     (Habit::Zeros, 4, true, false),
@@ -165,8 +166,8 @@ const LIMITS: &[(Habit, u64, bool, bool)] = &[
     (Habit::Stopping, 1_000, false, false),
 ];
 
-// One truck carries all, and one round is the cheapest: the pool is narrowed, one search finds it, the pool is narrowed again, and one
-// more search finds that no earlier route will do. Each takes one of the budget.
+// One truck carries all, and one round is the cheapest: the pool is narrowed, one search finds that round, the pool is
+// narrowed again, and one more search finds that no earlier route is possible. Each takes one of the budget.
 #[test]
 fn budgets_and_guides_that_stop(rt: HostRuntime) {
     let (rt, alloc) = (&rt, rt.alloc());

@@ -1,4 +1,4 @@
-//! The cheapest choice by hand, and beside every choice of random pools, by guides that know nothing.
+//! The cheapest choice by hand, and compared with every choice of random pools, by guides that know nothing.
 
 use crate::assertion::assert_same;
 use crate::by_hand::{FOUR, Pair, THREE, pool_of};
@@ -10,7 +10,8 @@ use std::process::Abort;
 use std::thread::Threads;
 use test_fixtures::Random;
 use vrp_partition::{
-    Chosen, Fleet, Found, MOST_CUSTOMERS, Route, Team, all_fit, cheapest_choice, routes_within,
+    Chosen, Fleet, Found, MOST_CUSTOMERS, Query, Route, Task, Team, all_fit, cheapest_choice,
+    routes_within,
 };
 
 const MUCH: u64 = 1 << 32;
@@ -72,7 +73,7 @@ fn choices_by_hand(rt: HostRuntime) {
     }
 }
 
-// What is asked of a search. Each customer demands 1.
+// The parameters of a search. Each customer demands 1.
 #[derive(Clone, Copy, Debug)]
 struct Asked {
     habit: Habit,
@@ -83,7 +84,7 @@ struct Asked {
     budget: u64,
 }
 
-// The cheapest choice, where the search ends, by any number of workers.
+// The cheapest choice, if the search ends, with any number of workers.
 fn choice<R: Abort + Threads + Sync>(
     rt: &R,
     alloc: Global,
@@ -98,7 +99,7 @@ fn choice<R: Abort + Threads + Sync>(
     cheapest(one)
 }
 
-// The choice, where the search ended.
+// The choice, if the search ended.
 fn cheapest(found: Found) -> Option<Chosen> {
     match found {
         Found::Cheapest(chosen) => Some(chosen),
@@ -106,7 +107,7 @@ fn cheapest(found: Found) -> Option<Chosen> {
     }
 }
 
-// What so many workers find.
+// The result of this many workers.
 fn found_by<R: Abort + Threads + Sync>(
     rt: &R,
     alloc: Global,
@@ -133,7 +134,7 @@ fn guide(alloc: Global, habit: Habit, seed: u64) -> Habitual {
     }
 }
 
-// What comes of a search by so many workers.
+// The outcome of a search by this many workers.
 fn searched_by<R: Abort + Threads + Sync>(
     rt: &R,
     alloc: Global,
@@ -160,18 +161,16 @@ fn searched_by<R: Abort + Threads + Sync>(
         capacity: asked.capacity,
         trucks: asked.trucks,
     };
-    cheapest_choice(
-        &team,
-        guide,
-        &fleet,
-        Vec::from_slice(alloc, pool).expect(rt, "memory"),
-        asked.customers,
-        asked.incumbent,
-        budget,
-    )
+    let task = Task {
+        fleet,
+        customers: asked.customers,
+        incumbent: asked.incumbent,
+    };
+    let routes = Vec::from_slice(alloc, pool).expect(rt, "memory");
+    cheapest_choice(&team, guide, &task, routes, budget)
 }
 
-// What is compared of what is found.
+// The compared part of a result.
 #[derive(Clone, Copy, Debug, PartialEq)]
 struct Told {
     finished: bool,
@@ -206,10 +205,10 @@ fn assert_routes(rt: &impl Abort, found: &Chosen, asked: Asked) {
     }
 }
 
-// How many trucks there are, in turn.
+// The limits on trucks, in turn.
 const TRUCKS: &[u8] = &[128, 3, 2];
 
-// Many ties where costs are below 4; often no choice at all.
+// Many ties, since costs are below 4; often no choice at all.
 #[test]
 fn choices_beside_every_choice(rt: HostRuntime) {
     let (rt, alloc) = (&rt, rt.alloc());
@@ -261,10 +260,10 @@ fn fitting(
     routes
 }
 
-// More than any choice of cheap routes costs.
+// More than the cost of any choice of cheap routes.
 const DEAR: u64 = 600;
 
-// All customers of random pools, three at most to a truck, where that costs less than dear routes do.
+// All customers of random pools, at most three to a truck, if that costs less than costly routes do.
 const CHEAP: Asked = Asked {
     habit: Habit::Zeros,
     capacity: 3,
@@ -274,7 +273,7 @@ const CHEAP: Asked = Asked {
     budget: 1_000,
 };
 
-// Of each route there are so many costlier ones that a node is branched on before it is searched.
+// Each route has so many costlier copies that a node must branch before it is searched.
 #[test]
 fn pools_that_are_branched_on(rt: HostRuntime) {
     let (rt, alloc) = (&rt, rt.alloc());
@@ -299,7 +298,7 @@ fn pools_that_are_branched_on(rt: HostRuntime) {
     }
 }
 
-// The same, where no cost is known and the search doesn't end.
+// A search that doesn't end, without a known cost.
 fn unfinished(habit: Habit, budget: u64) -> Asked {
     Asked {
         habit,
@@ -309,7 +308,7 @@ fn unfinished(habit: Habit, budget: u64) -> Asked {
     }
 }
 
-// A guide that gets no memory ends a search with that error, whoever works.
+// A guide that gets no memory ends a search with that error, with any number of workers.
 #[test]
 fn memory_refused_to_a_guide(rt: HostRuntime) {
     let (rt, alloc) = (&rt, rt.alloc());
@@ -329,7 +328,8 @@ fn memory_refused_to_a_guide(rt: HostRuntime) {
     }
 }
 
-// Which routes are asked for: those that stand in a choice within the limit. Each customer demands 1, and a truck carries 3.
+// The parameters of marking: the routes that are in a choice within the limit. Each customer demands 1, and the capacity is
+// 3.
 #[derive(Clone, Copy, Debug)]
 struct Within {
     habit: Habit,
@@ -337,7 +337,7 @@ struct Within {
     limit: u32,
 }
 
-// A route is marked where it stands in a choice within the limit: what costs least with it is found by a slow program.
+// A route is marked if it is in a choice within the limit: a slow program finds the least cost with it.
 #[test]
 fn routes_within_limits(rt: HostRuntime) {
     let (rt, alloc) = (&rt, rt.alloc());
@@ -375,7 +375,7 @@ fn assert_marks(rt: &impl Abort, alloc: Global, within: Within, pool: &[Route], 
     }
 }
 
-// Without a budget no round is asked for, and each route is marked.
+// Without a budget there are no rounds, and each route is marked.
 #[test]
 fn no_budget_marks_all(rt: HostRuntime) {
     let (rt, alloc) = (&rt, rt.alloc());
@@ -409,20 +409,16 @@ fn marks(
     let ask = Asks {
         should_continue: true,
     };
-    let marks = routes_within(
-        alloc,
-        &mut guide,
-        &ask,
-        &fleet,
-        pool,
-        ALL_CUSTOMERS,
-        within.limit,
-        budget,
-    );
+    let query = Query {
+        fleet,
+        customers: ALL_CUSTOMERS,
+        limit: within.limit,
+    };
+    let marks = routes_within(alloc, &mut guide, &ask, &query, pool, budget);
     marks.expect(rt, "memory")
 }
 
-// The least cost of a choice with the route there, if there is one.
+// The least cost of a choice with the route at this position, if there is one.
 fn least_with(
     rt: &impl Abort,
     alloc: Global,

@@ -1,4 +1,4 @@
-//! The exact cover by hand, and beside every choice of random columns.
+//! The exact cover by hand, and compared with every choice of random columns.
 
 use crate::assertion::assert_same;
 use crate::random::{self, ALL_CUSTOMERS};
@@ -6,7 +6,7 @@ use crate::slow::{cost_of_choice, least_cost};
 use std::alloc::Global;
 use std::process::Abort;
 use test_fixtures::Random;
-use vrp_partition::{Column, Cover, Route, cheapest_cover};
+use vrp_partition::{Column, Cover, CoverNode, Route, cheapest_cover};
 
 // A column: its customers, its reduced cost and its cost.
 type Told = (u128, u64, u32);
@@ -21,7 +21,7 @@ const THREE: &[Told] = &[
     (0b1110, 25, 25),
 ];
 
-// Of the ways to pair four customers the reduced costs favour another than the costs do.
+// Of the ways to pair four customers, the reduced costs favour a different one than the costs.
 const FOUR: &[Told] = &[
     (0b00110, 5, 5),
     (0b11000, 5, 5),
@@ -69,15 +69,15 @@ fn covers_by_hand(rt: HostRuntime) {
     let (rt, alloc) = (&rt, rt.alloc());
     for &(told, customers, trucks, incumbent, gap, cost) in BY_HAND {
         let columns = columns_of(rt, alloc, told);
-        let asked = Asked {
-            customers,
+        let root = CoverNode {
+            unserved: customers,
             trucks,
             incumbent,
             gap,
         };
-        let found = cover(rt, alloc, &columns, asked);
+        let found = cover(rt, alloc, &columns, root);
         assert_same(rt, found.cost, cost, (customers, incumbent, gap));
-        assert_parts(rt, alloc, &found, asked);
+        assert_parts(rt, alloc, &found, root);
     }
 }
 
@@ -94,33 +94,15 @@ fn columns_of(rt: &impl Abort, alloc: Global, told: &[Told]) -> Vec<Column> {
     columns
 }
 
-// What is asked of a search.
-#[derive(Clone, Copy, Debug)]
-struct Asked {
-    customers: u128,
-    trucks: u8,
-    incumbent: u64,
-    gap: u64,
-}
-
-fn cover(rt: &impl Abort, alloc: Global, columns: &[Column], asked: Asked) -> Cover {
+fn cover(rt: &impl Abort, alloc: Global, columns: &[Column], root: CoverNode) -> Cover {
     let mut budget = MUCH;
-    let found = cheapest_cover(
-        alloc,
-        columns,
-        asked.customers,
-        asked.trucks,
-        asked.incumbent,
-        asked.gap,
-        &mut budget,
-    );
-    found
+    cheapest_cover(alloc, columns, root, &mut budget)
         .expect(rt, "memory")
         .expect(rt, "a budget that suffices")
 }
 
-// Below the incumbent the parts are a choice of that cost; else there are none.
-fn assert_parts(rt: &impl Abort, alloc: Global, found: &Cover, asked: Asked) {
+// Below the incumbent the parts are a choice of that cost; otherwise there are none.
+fn assert_parts(rt: &impl Abort, alloc: Global, found: &Cover, root: CoverNode) {
     let mut routes = Vec::new(alloc);
     for column in &found.parts {
         let route = Route {
@@ -129,19 +111,25 @@ fn assert_parts(rt: &impl Abort, alloc: Global, found: &Cover, asked: Asked) {
         };
         routes.push(route).expect(rt, "memory");
     }
-    if found.cost < asked.incumbent {
-        let cost = cost_of_choice(&routes, asked.customers, asked.trucks);
-        assert_same(rt, cost, Some(found.cost), asked.customers);
+    if found.cost < root.incumbent {
+        let cost = cost_of_choice(&routes, root.unserved, root.trucks);
+        assert_same(rt, cost, Some(found.cost), root.unserved);
     } else {
-        assert_same(rt, routes.len(), 0, asked.customers);
+        assert_same(rt, routes.len(), 0, root.unserved);
     }
 }
 
-// How much budget there is, whether that suffices, and what is left: the search of two columns looks at three nodes.
+// A budget, whether it suffices, and what is left: the search of two columns looks at three nodes.
 #[test]
 fn budgets_that_are_spent(rt: HostRuntime) {
     let (rt, alloc) = (&rt, rt.alloc());
     let columns = columns_of(rt, alloc, &[(0b0010, 1, 1), (0b0100, 1, 1)]);
+    let root = CoverNode {
+        unserved: 0b0110,
+        trucks: 128,
+        incumbent: MUCH,
+        gap: MUCH,
+    };
     for (budget, suffices, left) in [
         (0, false, 0),
         (1, false, 0),
@@ -150,14 +138,14 @@ fn budgets_that_are_spent(rt: HostRuntime) {
         (9, true, 6),
     ] {
         let mut nodes = budget;
-        let found = cheapest_cover(alloc, &columns, 0b0110, 128, MUCH, MUCH, &mut nodes);
+        let found = cheapest_cover(alloc, &columns, root, &mut nodes);
         let found = found.expect(rt, "memory");
         assert_same(rt, found.is_some(), suffices, budget);
         assert_same(rt, nodes, left, budget);
     }
 }
 
-// Many ties where costs are below 4; often no choice; routes of nobody, and several of the same customers.
+// Many ties, since costs are below 4; often no choice; empty routes, and several with the same customers.
 #[test]
 fn covers_beside_every_choice(rt: HostRuntime) {
     let (rt, alloc) = (&rt, rt.alloc());
@@ -175,16 +163,16 @@ fn covers_beside_every_choice(rt: HostRuntime) {
             };
             columns.push(column).expect(rt, "memory");
         }
-        let asked = Asked {
-            customers: ALL_CUSTOMERS,
+        let root = CoverNode {
+            unserved: ALL_CUSTOMERS,
             trucks: if round % 4 == 0 { 2 } else { 128 },
             incumbent: MUCH,
             gap: 0,
         };
-        let wanted = least_cost(rt, &pool, asked.customers, asked.trucks);
-        let found = cover(rt, alloc, &columns, asked);
+        let wanted = least_cost(rt, &pool, root.unserved, root.trucks);
+        let found = cover(rt, alloc, &columns, root);
         assert_same(rt, found.cost, wanted.unwrap_or(MUCH), round);
-        assert_parts(rt, alloc, &found, asked);
+        assert_parts(rt, alloc, &found, root);
         solved = solved.saturating_add(u32::from(wanted.is_some()));
     }
     assert!(rt;

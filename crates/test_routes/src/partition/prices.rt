@@ -12,7 +12,7 @@ const UNIT: i64 = SCALE as i64;
 
 const THREE: u128 = 0b1110;
 
-// Each customer demands 1, and a truck carries 2.
+// Each customer demands 1, and the capacity is 2.
 const CAPACITY: u32 = 2;
 
 fn offer(
@@ -35,8 +35,8 @@ fn offer(
     }
 }
 
-// A route, and its reduced cost in units of cost. Customers 1, 2 and 3 have prices 5, 7 and 8, their triple 2; they need two trucks, at
-// a price of 3 for each. So a choice costs at least 20 - 2 + 6 = 24.
+// A route, and its reduced cost in units of cost. Customers 1, 2 and 3 have prices 5, 7 and 8, their triple 2; they need two
+// trucks, at a price of 3 for each. So a choice costs at least 20 - 2 + 6 = 24.
 const REDUCED: &[(u128, u32, i64)] = &[
     (0, 1, 2),
     (0b0010, 10, 3),
@@ -96,7 +96,7 @@ fn reduced_costs_by_hand(rt: HostRuntime) {
     }
 }
 
-// The duals of an offer, how many cuts it has of each kind, and what they are.
+// The duals of an offer, how many cuts it has of each kind, and these cuts.
 #[derive(Clone, Copy, Debug)]
 struct Offered {
     dual: i64,
@@ -188,7 +188,7 @@ const ADMITTED: &[(Offered, bool)] = &[
     ),
 ];
 
-// Cuts of which a good offer has many: the set, the count, the price, and whether they are admitted.
+// A cut of which a good offer has many: the set, the count, the price, and whether it is admitted.
 type Admitted = (u128, u32, u64, bool);
 
 const SUBSET_ROWS: &[Admitted] = &[
@@ -264,8 +264,8 @@ fn admitted(
     Prices::admit(offer, demands, capacity, customers)
 }
 
-// The price of each customer, the lower bound and the reduced cost of a route with all 128 customers that costs 2 ^ 32 - 1. The cuts
-// of each kind cost 2 ^ 59 together, and each capacity cut asks for 2 ^ 32 - 1 routes.
+// The price of each customer, the lower bound and the reduced cost of a route with all 128 customers that costs 2 ^ 32 - 1.
+// The cuts of each kind cost 2 ^ 59 together, and each capacity cut requires 2 ^ 32 - 1 routes.
 const AT_THE_LIMITS: &[(i64, i128, i64)] = &[
     (
         FARTHEST,

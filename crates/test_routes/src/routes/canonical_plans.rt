@@ -1,4 +1,4 @@
-//! The routes of a canonical plan are in each pool for a limit that it doesn't exceed, and each route of a pool is one.
+//! The routes of a canonical plan are in each pool with a limit of at least its cost, and each route of a pool is feasible.
 
 use crate::assertion::assert_same;
 use crate::five_places::{DEMANDS, LEVEL, ONE_DIRECTION};
@@ -76,7 +76,7 @@ fn canonical_plans_are_in_pools(rt: HostRuntime) {
     assert!(rt; pools >= 500);
 }
 
-// How many pools there are, by all prices, for limits at the canonical plan's cost, above it and below it.
+// The number of pools, for all prices, with limits at the canonical plan's cost, above it and below it.
 fn pools_of<R: Abort + Threads + Sync>(rt: &R, alloc: Global, instance: &Instance) -> u64 {
     let canonical = canonical_plan(alloc, instance).expect(rt, "memory");
     let cost = canonical
@@ -99,7 +99,7 @@ fn pools_of<R: Abort + Threads + Sync>(rt: &R, alloc: Global, instance: &Instanc
     pools
 }
 
-// Each route of a pool can be driven, and what is told of it is true; no two have the same customers.
+// Each route of a pool is feasible with its stated data; no two have the same customers.
 fn assert_are_routes(rt: &impl Abort, alloc: Global, instance: &Instance, pool: &RoutePool) {
     for at in 0..pool.len() {
         let stops = pool.stops(alloc, at).expect(rt, "memory");
@@ -130,7 +130,7 @@ fn assert_is_route(rt: &impl Abort, instance: &Instance, stops: &[u16], told: (u
     assert_same(rt, told, (set, load, cost), "a route");
 }
 
-// Each route of the canonical plan is in the pool, if the plan costs no more than the limit.
+// Each route of the canonical plan is in the pool, if the plan costs at most the limit.
 fn assert_canonical_is_there(
     rt: &impl Abort,
     alloc: Global,

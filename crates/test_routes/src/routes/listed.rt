@@ -1,4 +1,4 @@
-//! Routes listed by given prices.
+//! Routes listed with given prices.
 ghost use Rattle.std.specs.Prelude.{◌≡◌, ◌<◌, ◌≤◌};
 ghost use Rattle.vrp_bound_ng.specs.declared.ng_sets.TheConstants.{MOST_NEAR};
 ghost use Rattle.vrp_model.specs.Problem.{place_count};
@@ -10,9 +10,9 @@ use vrp_bound::NgTables;
 use vrp_bound_ng::{MOST_NEAR, NgSets};
 use vrp_bound_prices::Relaxation;
 use vrp_model::{Instance, NO_COST, NoMemory};
-use vrp_routes::{Limit, Listed, RoutePool, can_list, list_routes};
+use vrp_routes::{Limit, Listed, Listers, RoutePool, can_list, list_routes};
 
-/// How prices are made of an instance, and what walks remember.
+/// How an instance gets its prices, and the ng-sets of walks.
 #[derive(Clone, Copy, Debug)]
 pub(crate) struct Setup<'a> {
     pub(crate) scale: u64,
@@ -22,7 +22,7 @@ pub(crate) struct Setup<'a> {
     pub(crate) workers: u16,
 }
 
-/// What comes of listing, where there are such prices.
+/// The result of listing, if there are such prices.
 pub(crate) fn listed<R: Abort + Threads + Sync>(
     rt: &R,
     alloc: Global,
@@ -53,18 +53,18 @@ pub(crate) fn listed<R: Abort + Threads + Sync>(
     Some(found.expect(rt, "memory"))
 }
 
-/// Where a list ends.
+/// The limits of a list.
 #[derive(Clone, Copy, Debug)]
 pub(crate) struct Limits {
-    /// What the canonical plan costs at most.
+    /// The greatest cost of the canonical plan.
     pub(crate) cost: u64,
-    /// How many labels may be made.
+    /// The greatest number of labels.
     pub(crate) most_labels: u32,
-    /// The list is stopped once so many labels are told of.
+    /// The list is stopped once this many labels are reported.
     pub(crate) enough: u64,
 }
 
-/// What comes of it where walks have these ng-sets, within these limits.
+/// The result for walks with these ng-sets, within these limits.
 pub(crate) fn by_ng_sets<R: Threads + Sync>(
     rt: &R,
     alloc: Global,
@@ -79,19 +79,22 @@ pub(crate) fn by_ng_sets<R: Threads + Sync>(
     requires workers { 0 < workers }
 {
     let tables = NgTables::new(alloc, relaxation.relaxed(), ng_sets)?;
-    list_routes(
+    let listers = Listers {
         rt,
         alloc,
+        workers,
+        should_continue: &|labels| labels < limits.enough,
+    };
+    list_routes(
+        &listers,
         relaxation,
         &tables,
         limits.cost,
-        workers,
         limits.most_labels,
-        &|labels| labels < limits.enough,
     )
 }
 
-/// The pool, where no limit was met.
+/// The pool, if no limit was met.
 pub(crate) fn pool_of(rt: &impl Abort, listed: Listed) -> RoutePool {
     match listed {
         Listed::Pool(pool) => pool,

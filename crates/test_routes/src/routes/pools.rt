@@ -23,8 +23,8 @@ const NO_PRICES: Setup<'_> = Setup {
     workers: 1,
 };
 
-// The plan of one route costs 20. Of the labels 1, 2, 12 and 21 the last can't be closed, since it runs backward. At 19 no label is
-// left; at 20 a tour to customer 2 and another to customer 1 is too costly.
+// The plan of one route costs 20. Of the labels 1, 2, 12 and 21 the last can't be closed, since it runs backward. At 19 no
+// label is left; at 20 a tour to customer 2 and another to customer 1 is too costly.
 const ON_A_LINE: &[(u64, usize, &[Told<'_>])] = &[
     (19, 0, &[]),
     (20, 4, &[(&[1], 0b010, 1, 10), (&[1, 2], 0b110, 2, 20)]),
@@ -48,7 +48,7 @@ fn three_nodes(rt: HostRuntime) {
     }
 }
 
-// Three labels of one customer, six of two; no truck carries all three.
+// Three labels of one customer, six of two; all three don't fit on a truck.
 const IN_A_PLANE: &[Told<'_>] = &[
     (&[1], 0b0010, 1, 10),
     (&[2], 0b0100, 2, 20),
@@ -73,8 +73,8 @@ const LEVEL: &[u64] = &[0, 1, 1, 1, 1, 0, 1, 1, 1, 1, 0, 1, 1, 1, 1, 0];
 
 const ONE_DIRECTION: &[u64] = &[0, 3, 9, 4, 8, 0, 2, 7, 5, 6, 0, 1, 9, 3, 8, 0];
 
-// Three labels of one customer, six of two, and of three customers one for each last: of two the earlier. With arcs that differ the
-// cheapest round is by 3, 1 and then 2, at 14.
+// Three labels of one customer, six of two, and of three customers one for each last customer: of two the earlier. With
+// asymmetric arcs the cheapest round is by 3, 1 and then 2, at 14.
 const ROUNDS: &[(&[u64], &[Told<'_>])] = &[
     (
         LEVEL,
@@ -146,7 +146,7 @@ fn assert_pool(
     }
 }
 
-// Where the first route of this set stands, whose place is left open; the end where there is none.
+// The position of the first route with this set; the end if there is none.
 fn place_of(pool: &RoutePool, set: u128) -> usize {
     for at in 0..pool.len() {
         if pool.set(at) == set {
@@ -156,8 +156,8 @@ fn place_of(pool: &RoutePool, set: u128) -> usize {
     pool.len()
 }
 
-// How many labels may be made, that of no customers among them, how many are enough to stop, and which limit is met. There are five
-// labels, three of them of fewer than two customers.
+// The greatest number of labels, including the empty one, the number of labels that stops the list, and the limit that is
+// met. There are five labels, three of them with fewer than two customers.
 const LIMITS: &[(u32, u64, Option<Limit>)] = &[
     (5, u64::MAX, None),
     (4, u64::MAX, Some(Limit::Labels)),
@@ -203,7 +203,7 @@ fn met<R: Abort + Threads + Sync>(
     }
 }
 
-// Points of eleven customers; arcs of the same length are among them.
+// Points of eleven customers; some arcs have the same length.
 const ELEVEN: &[(i64, i64)] = &[
     (0, 0),
     (3, 4),
@@ -219,7 +219,7 @@ const ELEVEN: &[(i64, i64)] = &[
     (12, 5),
 ];
 
-// Whoever works, the pool is the same: as many labels, and the same routes at the same places.
+// With any number of workers the pool is the same: as many labels, and the same routes at the same positions.
 #[test]
 fn pools_of_several_workers(rt: HostRuntime) {
     let (rt, alloc) = (&rt, rt.alloc());
@@ -251,7 +251,7 @@ fn assert_same_routes(rt: &impl Abort, alloc: Global, pool: &RoutePool, other: &
     }
 }
 
-// With 127 customers sets have as many bits as there are; with 128 there is one too many. A truck carries one customer.
+// With 127 customers a set has enough bits; with 128 there is one too many. The capacity is one customer.
 #[test]
 fn customers_at_the_limit(rt: HostRuntime) {
     let (rt, alloc) = (&rt, rt.alloc());
@@ -278,7 +278,7 @@ fn customers_at_the_limit(rt: HostRuntime) {
     assert!(rt; stops.as_slice() == [127].as_slice());
 }
 
-// So many places on a line, 1 apart, each customer with a demand of 1.
+// This many places on a line, 1 apart, each customer with a demand of 1.
 fn in_a_row(rt: &impl Abort, alloc: Global, places: u16) -> Instance {
     let mut points = Vec::new(alloc);
     let mut demands = Vec::new(alloc);

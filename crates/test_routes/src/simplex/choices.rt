@@ -1,4 +1,4 @@
-//! The cheapest choice by the guide, beside every choice of random pools.
+//! The cheapest choice with the guide, compared with every choice of random pools.
 
 use crate::assertion::assert_same;
 use crate::random::{self, ALL_CUSTOMERS, repeated};
@@ -9,11 +9,11 @@ use std::sync::atomic::{AtomicU64, Ordering};
 use std::thread::Threads;
 use test_fixtures::Random;
 use vrp_partition::{
-    Ask, Chosen, Fleet, Found, MOST_CUSTOMERS, Route, Team, all_fit, cheapest_choice,
+    Ask, Chosen, Fleet, Found, MOST_CUSTOMERS, Route, Task, Team, all_fit, cheapest_choice,
 };
 use vrp_simplex::ProgramGuide;
 
-/// The search goes on until it has asked so often.
+/// The search continues until it has asked this often.
 #[derive(Debug, Drop)]
 pub(crate) struct Until {
     left: AtomicU64,
@@ -46,7 +46,7 @@ struct Asked {
     trucks: u8,
     customers: u128,
     incumbent: u64,
-    // How often the search may ask whether to go on, and its budget.
+    // How often the search may ask whether to continue, and its budget.
     asks: u64,
     budget: u64,
 }
@@ -75,16 +75,12 @@ fn choice<R: Abort + Threads + Sync>(
     let guide = ProgramGuide::new(alloc, fleet, known, &ask);
     let mut budget = asked.budget;
     let routes = Vec::from_slice(alloc, pool).expect(rt, "memory");
-    let (customers, incumbent) = (asked.customers, asked.incumbent);
-    let found = cheapest_choice(
-        &team,
-        guide,
-        &fleet,
-        routes,
-        customers,
-        incumbent,
-        &mut budget,
-    );
+    let task = Task {
+        fleet,
+        customers: asked.customers,
+        incumbent: asked.incumbent,
+    };
+    let found = cheapest_choice(&team, guide, &task, routes, &mut budget);
     match found.expect(rt, "memory") {
         Found::Cheapest(chosen) => Some(chosen),
         Found::Unfinished { .. } => None,
@@ -111,7 +107,8 @@ fn assert_found(rt: &impl Abort, asked: &Asked, found: Option<Chosen>, least: Op
     }
 }
 
-// Many ties where costs are below 4; often no choice at all, or none by so few trucks; queries about some of the customers.
+// Many ties, since costs are below 4; often no choice at all, or none with so few trucks; questions about some of the
+// customers.
 #[test]
 fn choices_beside_every_choice(rt: HostRuntime) {
     let (rt, alloc) = (&rt, rt.alloc());
@@ -144,10 +141,10 @@ fn choices_beside_every_choice(rt: HostRuntime) {
     }
 }
 
-// More than any choice of cheap routes costs.
+// More than the cost of any choice of cheap routes.
 const DEAR: u64 = 600;
 
-// Of each route there are so many costlier ones that a node is priced, paused and branched on before it is searched.
+// Each route has so many costlier copies that a node is priced, paused and branched on before it is searched.
 #[test]
 fn pools_that_are_branched_on(rt: HostRuntime) {
     let (rt, alloc) = (&rt, rt.alloc());

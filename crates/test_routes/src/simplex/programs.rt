@@ -8,7 +8,7 @@ use std::process::Abort;
 use vrp_partition::{Fleet, MOST_CUSTOMERS};
 use vrp_simplex::{DualEnd, Program};
 
-// Of three customers each two go together for 10, and each alone for 9.
+// Any two of three customers cost 10 together, and each alone costs 9.
 const TRIANGLE: &[Pair] = &[
     (0b0110, 10),
     (0b1100, 10),
@@ -33,7 +33,7 @@ const TIES: &[Pair] = &[
     (0b10000, 1),
 ];
 
-// A ring of five customers, and each alone, dearly.
+// A ring of five customers, and each alone at a high cost.
 const RING: &[Pair] = &[
     (0b000110, 6),
     (0b001100, 6),
@@ -52,7 +52,7 @@ const UNIT: i64 = 1 << 20;
 
 const NEAR: i64 = UNIT / 8;
 
-// Routes, customers, trucks, and twice the optimum of the program over them.
+// Routes, customers, trucks, and twice the optimum of the linear program over them.
 const OPTIMA: &[(&[Pair], u128, u8, i64)] = &[
     (TRIANGLE, 0b1110, 3, 30),
     (TRIANGLE, 0b1110, 2, 30),
@@ -98,8 +98,8 @@ fn solved(rt: &impl Abort, alloc: Global, told: &[Pair], customers: u128, trucks
 
 const MUCH: i64 = 1 << 50;
 
-// Routes, customers, trucks, a truck's capacity, each customer demanding 1, how many cuts there are at least, how the dual simplex
-// ends, and the bound by the cuts.
+// Routes, customers, trucks, the capacity, with a demand of 1 for each customer, the least number of cuts, how the dual
+// simplex ends, and the bound with the cuts.
 const CUT: &[(&[Pair], u128, u8, u32, usize, DualEnd, i64)] = &[
     (TRIANGLE, 0b1110, 3, 3, 1, DualEnd::Feasible, 19),
     (TIES, 0b11110, 4, 2, 0, DualEnd::Feasible, 4),

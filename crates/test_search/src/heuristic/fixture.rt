@@ -1,12 +1,12 @@
-//! The instances that tests are made on. What has no memory for them ends the test.
+//! Instances for tests. Lack of memory ends the test.
 ghost use Rattle.std.specs.Prelude.{◌≤◌};
 
 use std::alloc::Global;
 use std::process::Abort;
-use vrp_model::{Instance, Layout, MAX_CAPACITY, MAX_NODES, Metric, Weights};
+use test_fixtures::with_arcs;
+use vrp_model::{Instance, MAX_CAPACITY, MAX_NODES, Metric, Weights};
 
-/// What nodes demand, of which the first is the depot, what a truck carries, and how many trucks there are, 0 standing for as many as
-/// are wanted.
+/// The demands of the nodes, the depot's first, the capacity, and the number of trucks; 0 means no limit.
 #[derive(Clone, Copy, Debug)]
 pub(crate) struct Told<'a> {
     pub demands: &'a [u64],
@@ -15,7 +15,7 @@ pub(crate) struct Told<'a> {
 }
 
 impl<'a> Told<'a> {
-    /// The same with this many trucks.
+    /// These demands and this capacity with another number of trucks.
     pub(crate) fn with_trucks(self, trucks: u16) -> Told<'a> {
         Told {
             demands: self.demands,
@@ -27,12 +27,8 @@ impl<'a> Told<'a> {
 
 /// An instance by the full matrix of its weights.
 pub(crate) fn by_matrix(rt: &impl Abort, alloc: Global, arcs: &[u64], told: Told<'_>) -> Instance {
-    let nodes = told.demands.len();
-    assert!(rt; 1 <= nodes && nodes <= usize::from(MAX_NODES));
-    assert!(rt; arcs.len() == Layout::FullMatrix.entries(nodes as u16));
-    assert!(rt; arcs.iter().all(|&arc| arc <= 10_000));
-    let weights = Weights::matrix(alloc, Layout::FullMatrix, arcs, nodes as u16);
-    instance_of(rt, alloc, weights.expect(rt, "memory"), told)
+    let made = with_arcs(alloc, arcs, told.demands, told.capacity);
+    limited(rt, made.expect(rt, "an instance"), told.trucks)
 }
 
 /// An instance by the points of its nodes.
@@ -49,27 +45,22 @@ pub(crate) fn by_points(
             .iter()
             .all(|&(x, y)| 0 <= x && x <= 1_000 && 0 <= y && y <= 1_000)
     );
-    let weights = Weights::points(alloc, metric, points);
-    instance_of(rt, alloc, weights.expect(rt, "memory"), told)
+    let weights = Weights::points(alloc, metric, points).expect(rt, "memory");
+    assert!(rt; told.demands.len() == usize::from(weights.nodes()));
+    assert!(rt; told.capacity <= MAX_CAPACITY);
+    let made = Instance::new(alloc, weights, told.demands, told.capacity, &[1], None);
+    limited(rt, made.expect(rt, "an instance"), told.trucks)
 }
 
-fn instance_of(rt: &impl Abort, alloc: Global, weights: Weights, told: Told<'_>) -> Instance {
-    let Told {
-        demands,
-        capacity,
-        trucks,
-    } = told;
-    assert!(rt; demands.len() == usize::from(weights.nodes()));
-    assert!(rt; capacity <= MAX_CAPACITY && trucks <= MAX_NODES);
-    let made = Instance::new(alloc, weights, demands, capacity, &[1], None);
-    let instance = made.expect(rt, "an instance");
+fn limited(rt: &impl Abort, instance: Instance, trucks: u16) -> Instance {
+    assert!(rt; trucks <= MAX_NODES);
     if trucks == 0 {
         return instance;
     }
     instance.with_trucks(trucks)
 }
 
-/// Nodes that are scattered, some of which demand nothing, where back costs another amount than there, with a skew.
+/// Scattered nodes, some without demand, where the reverse arc costs more by a skew.
 pub(crate) fn scattered(
     rt: &impl Abort,
     alloc: Global,
@@ -96,7 +87,7 @@ pub(crate) fn scattered(
     by_matrix(rt, alloc, &arcs, told)
 }
 
-// What an arc costs between nodes that are scattered.
+// The cost of an arc between scattered nodes.
 fn arc(from: u64, to: u64, skew: u64) -> u64
     requires from { from ≤ 1_200 }
     requires to { to ≤ 1_200 }

@@ -1,4 +1,4 @@
-//! Plans that are made better while there is time, by one worker and by several.
+//! Plans improved while there is time, by one worker and by several.
 use crate::assertion::assert_same;
 use crate::heuristic::fixture::{Told, by_matrix, scattered};
 use std::alloc::Global;
@@ -9,7 +9,7 @@ use vrp_heuristic::{Crew, Unhurried, Watch, improved_plan};
 use vrp_heuristic_savings::savings_plan;
 use vrp_model::{Instance, Plan};
 
-// Who waits for so many moves, and has time until then.
+// A watch with time for this many moves.
 #[derive(Drop)]
 struct Moves {
     most: u64,
@@ -46,7 +46,7 @@ impl Watch for Moves {
     }
 }
 
-// What a plan is made to cost by so many workers and moves, and what was heard of that.
+// The cost of the plan improved by this many workers and moves, and the least cost that the watch heard of.
 fn improved<R: Threads + Abort + Sync>(
     rt: &R,
     alloc: Global,
@@ -69,8 +69,8 @@ fn improved<R: Threads + Abort + Sync>(
     better.cost()
 }
 
-// The weights, and what a cheapest plan costs, worked out by hand: customers on a line, on either side of the depot, round a ring, and
-// at one point. A truck carries two.
+// The weights, the demands, and the cost of a cheapest plan, worked out by hand: customers on a line, on either side of the
+// depot, on a ring, and at one point. The capacity is two.
 const BY_HAND: &[(&[u64], &[u64], u64)] = &[
     (&[0, 1, 2, 1, 0, 1, 2, 1, 0], &[0, 1, 1], 4),
     (&[0, 1, 1, 1, 0, 9, 1, 9, 0], &[0, 1, 1], 4),
@@ -83,7 +83,7 @@ const BY_HAND: &[(&[u64], &[u64], u64)] = &[
     (&[0, 0, 0, 0, 0, 0, 0, 0, 0], &[0, 1, 1], 0),
 ];
 
-// From one truck for each customer the cheapest plan is found.
+// The cheapest plan is found from one truck for each customer.
 #[test]
 fn cheapest_by_hand(rt: HostRuntime) {
     for &(arcs, demands, cost) in BY_HAND {
@@ -102,7 +102,7 @@ fn cheapest_by_hand(rt: HostRuntime) {
     }
 }
 
-// Of many customers the plan becomes cheaper than that by savings, whose cost `compare/savings.py` computed.
+// With many customers the plan becomes cheaper than that by savings, whose cost `compare/savings.py` computed.
 #[test]
 fn many_customers(rt: HostRuntime) {
     let instance = scattered(&rt, rt.alloc(), 1_200, 1, 0);
@@ -114,7 +114,7 @@ fn many_customers(rt: HostRuntime) {
     }
 }
 
-// Where no time is set the plan stays as it is.
+// Without a time limit the plan stays as it is.
 #[test]
 fn without_a_time(rt: HostRuntime) {
     let instance = scattered(&rt, rt.alloc(), 60, 0, 0);

@@ -1,4 +1,4 @@
-//! Heuristic plans that were worked out by hand, and of many customers.
+//! Heuristic plans worked out by hand, and plans for many customers.
 use crate::assertion::assert_same;
 use crate::heuristic::fixture::{Told, by_matrix, scattered};
 use std::alloc::Global;
@@ -16,11 +16,11 @@ const RING: &[u64] = &[0, 1, 9, 9, 9, 0, 1, 9, 9, 9, 0, 1, 1, 9, 9, 0];
 
 const POINT: &[u64] = &[0, 0, 0, 0, 0, 0, 0, 0, 0];
 
-// The weights, what is demanded, how many trucks there are, and what the plan costs.
+// The weights, the demands, the number of trucks, and the cost of the plan.
 type Small<'a> = (&'a [u64], &'a [u64], u16, Option<u64>);
 
-// A truck carries two. Customers on a line, and on either side of the depot; both with a truck too few and with one each; round a
-// ring where each reverse arc is costly; customers who demand nothing; all at one point; one customer, and none.
+// The capacity is two. Customers on a line, and on either side of the depot, both with a truck too few and with one each; on
+// a ring with costly reverse arcs; customers without demand; all at one point; one customer, and none.
 const BY_HAND: &[Small<'_>] = &[
     (LINE, &[0, 1, 1], 0, Some(4)),
     (SIDES, &[0, 1, 1], 0, Some(4)),
@@ -45,7 +45,7 @@ fn worked_by_hand(rt: HostRuntime) {
     }
 }
 
-// The heuristic plan of so many workers and moves, for which a watch waits.
+// The heuristic plan by this many workers and moves, with this watch.
 fn planned<R: Threads + Abort + Sync, W: Watch + Sync>(
     rt: &R,
     alloc: Global,
@@ -85,7 +85,7 @@ fn many_customers(rt: HostRuntime) {
     assert!(rt; plan.cost() < 124_175);
 }
 
-// Any number of workers answers the same, of few customers and of so many that the runs go in two rounds.
+// Any number of workers gives the same answer, with few customers and with so many that the runs go in two rounds.
 #[test]
 fn the_same_by_any_number(rt: HostRuntime) {
     for nodes in [60, 200] {
@@ -99,7 +99,7 @@ fn the_same_by_any_number(rt: HostRuntime) {
     }
 }
 
-// Told to stop before the first move, the plan is that by savings.
+// When stopped before the first move, the plan is that by savings.
 #[test]
 fn stopped_at_once(rt: HostRuntime) {
     let instance = scattered(&rt, rt.alloc(), 60, 1, 0);
@@ -114,7 +114,7 @@ fn assert_one_plan(rt: &impl Abort, one: Option<Plan>, other: Option<Plan>) {
     assert_same(rt, one.word(), other.word(), "the word");
 }
 
-// Who waits for nothing.
+// A watch that stops at once.
 struct Stopped;
 
 impl Watch for Stopped {

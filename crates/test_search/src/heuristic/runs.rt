@@ -1,4 +1,4 @@
-//! Runs, with each plan looked at that they have.
+//! Runs, with a check of each plan on the way.
 ghost use Rattle.std.specs.Prelude.{◌≡◌};
 ghost use Rattle.vrp_model.specs.Problem.{place_count};
 
@@ -10,7 +10,7 @@ use vrp_heuristic_recreate::{Random, Routes, Setting, States, Taken};
 use vrp_model::{Instance, Plan};
 use vrp_search_tree::lawful_plan;
 
-// The routes are a feasible plan that costs what they say, unless they say that somebody is unserved.
+// The routes are a feasible plan at their stated cost, unless they say that a customer is unserved.
 fn assert_told(rt: &impl Abort, alloc: Global, instance: &Instance, routes: &Routes)
     requires { routes.now ≡ place_count instance.now }
 {
@@ -24,7 +24,7 @@ fn assert_told(rt: &impl Abort, alloc: Global, instance: &Instance, routes: &Rou
     assert_same(rt, plan.as_ref().map(Plan::cost), told, routes.unserved());
 }
 
-// Looks at the routes after each of some thousand moves, from nobody served on.
+// Checks the routes after each of several thousand moves, starting with nobody served.
 fn assert_moves(rt: &impl Abort, alloc: Global, instance: &Instance) {
     let setting = Setting::new(alloc, instance).expect(rt, "memory");
     let mut random = Random::new(1);
@@ -38,10 +38,10 @@ fn assert_moves(rt: &impl Abort, alloc: Global, instance: &Instance) {
     assert_told(rt, alloc, instance, states.best());
 }
 
-// A skew of the weights, and how many trucks there are.
+// A skew of the weights, and the number of trucks.
 const SCATTERED: &[(u64, u16)] = &[(0, 0), (1, 0), (0, 2), (1, 1)];
 
-// Each plan serves each customer once and carries no more than a truck can. The trucks are as many as are wanted, and few.
+// Each plan serves each customer once within the capacity, with no limit on trucks and with few.
 #[test]
 fn plans_of_moves(rt: HostRuntime) {
     for &(skew, trucks) in SCATTERED {

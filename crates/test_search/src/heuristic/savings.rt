@@ -1,4 +1,4 @@
-//! Plans by savings beside costs that `compare/savings.py` computed, or that were worked out by hand.
+//! Plans by savings, compared with costs that `compare/savings.py` computed or that were worked out by hand.
 ghost use Rattle.std.specs.Prelude.{◌≤◌};
 
 use crate::assertion::assert_same;
@@ -78,7 +78,7 @@ const ASYM_9: Told<'_> = Told {
     trucks: 0,
 };
 
-// What the plan of an instance costs with this many trucks, 0 standing for as many as are wanted; `None` where there is no plan.
+// The cost of the plan with this number of trucks, 0 for no limit; `None` if there is no plan.
 type Planned = (u16, Option<u64>);
 
 fn assert_cost(rt: &impl Abort, alloc: Global, instance: &Instance, (trucks, wanted): Planned) {
@@ -86,7 +86,8 @@ fn assert_cost(rt: &impl Abort, alloc: Global, instance: &Instance, (trucks, wan
     assert_same(rt, plan.as_ref().map(Plan::cost), wanted, trucks);
 }
 
-// Published instances, and one of which two customers demand nothing. Joining end to end needs nine trucks where eight would do.
+// Published instances, and one with two customers without demand. Joining end to end needs nine trucks, though eight are
+// enough.
 const FILES: &[(Metric, &[(i64, i64)], Told<'_>, Planned)] = &[
     (Metric::Euc2d, E_N22_K4_POINTS, E_N22_K4, (0, Some(387))),
     (Metric::Euc2d, E_N22_K4_POINTS, E_N22_K4, (4, Some(387))),
@@ -154,8 +155,8 @@ const LINE: &[u64] = &[0, 1, 2, 1, 0, 1, 2, 1, 0];
 
 const SIDES: &[u64] = &[0, 1, 1, 1, 0, 9, 1, 9, 0];
 
-// On a line one truck costs less than two; where the customers lie on either side of the depot it costs more, and is sent only where
-// there is no other; all at one point cost nothing; and no customer needs no truck.
+// On a line one truck costs less than two; with customers on either side of the depot it costs more, and is used only if
+// there is no other; all at one point cost nothing; and without customers no truck is needed.
 const BY_HAND: &[Square<'_>] = &[
     (LINE, TWO, (0, Some(4))),
     (SIDES, TWO, (0, Some(4))),
@@ -175,7 +176,7 @@ fn worked_by_hand(rt: HostRuntime) {
 
 const LONG_LINE: &[u64] = &[0, 10, 20, 30, 10, 0, 10, 40, 20, 10, 0, 50, 30, 40, 50, 0];
 
-// What each customer demands, what a truck carries, and what the plan costs.
+// The demand of each customer, the capacity, and the cost of the plan.
 const LARGE: &[(u64, u64, u64)] = &[
     (4_000, 10_001, 100),
     (400_000, 1_000_000, 100),
@@ -184,8 +185,8 @@ const LARGE: &[(u64, u64, u64)] = &[
     (MAX_CAPACITY, MAX_CAPACITY, 120),
 ];
 
-// Three customers on a line, the first two 10 and 20 to one side of the depot and the third 30 to the other. Where a truck carries
-// two of them, one drives to each side: 40 and 60. Where it carries one alone, each is driven to: 20, 40 and 60.
+// Three customers on a line, the first two 10 and 20 to one side of the depot and the third 30 to the other. If two of them
+// fit on a truck, one drives to each side: 40 and 60. If only one fits, each gets a truck: 20, 40 and 60.
 #[test]
 fn large_capacities(rt: HostRuntime) {
     for &(demand, capacity, cost) in LARGE {
@@ -218,8 +219,8 @@ const DEAR_JOINTS: &[Square<'_>] = &[
     (APART, ALL, (1, Some(122))),
 ];
 
-// Two customers beside each other, 2 apart, and a third that is 100 from both; each is 10 from the depot, and a truck carries all.
-// Joining the two spares 18: 22 and 20. Going on to the third costs 80 more, and is done only where there is one truck alone.
+// Two customers 2 apart, and a third that is 100 from both; each is 10 from the depot, and all fit on a truck. Joining the
+// two saves 18: 22 and 20. Continuing to the third costs 80 more, and is done only if there is one truck.
 #[test]
 fn costly_joints_only_for_want_of_trucks(rt: HostRuntime) {
     for &square in DEAR_JOINTS {
@@ -227,7 +228,7 @@ fn costly_joints_only_for_want_of_trucks(rt: HostRuntime) {
     }
 }
 
-// A word has at most two symbols for each customer, and its list has room for this many.
+// A word has at most two symbols for each customer, and its list has room for that many.
 #[test]
 fn room_for_a_word(rt: HostRuntime) {
     for customers in 1..4 {

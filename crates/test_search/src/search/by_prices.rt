@@ -15,9 +15,9 @@ use vrp_bound::Tables;
 use vrp_bound_ng::NgSets;
 use vrp_bound_prices::Relaxation;
 use vrp_model::{Instance, MAX_NODES, NoMemory, Plan};
-use vrp_search::{Board, Cutting, Ended, Local, Piece, Prices, search_by_prices};
+use vrp_search::{Board, Cutting, Ended, Local, Lookups, Piece, Prices, search_by_prices};
 
-// What a truck carries, the prices, the budget, and how the search ends.
+// The capacity, the prices, the budget, and how the search ends.
 const TWO_CUSTOMERS: &[(u64, [i64; 3], u64, End<'_>)] = &[
     (1, [0, 5, 0], 5, End::Unfinished(5, 20)),
     (1, [0, 5, 0], 6, End::Finished(6, &[1, 0, 2, 0])),
@@ -25,9 +25,9 @@ const TWO_CUSTOMERS: &[(u64, [i64; 3], u64, End<'_>)] = &[
     (2, [0, 0, 0], 8, End::Finished(8, &[1, 2, 0])),
 ];
 
-// With a truck for each customer both are charged, the near one 5 more each way: a tour to each then costs 20, and both together 40, of
-// which 10 are charges. So prices tell that no plan costs less than 30, which the plan of one truck each costs: they prune nothing
-// before the search has offered a plan itself. With both in one truck a plan costs 20.
+// With a truck for each customer both are charged, the near one 5 more each way: a tour to each then costs 20, and both
+// together 40, of which 10 are charges. So the prices show that no plan costs less than 30, the cost of the plan of one truck
+// each: they prune nothing before the search has offered a plan itself. With both in one truck a plan costs 20.
 #[test]
 fn two_customers_on_a_line(rt: HostRuntime) {
     for &(capacity, prices, budget, end) in TWO_CUSTOMERS {
@@ -37,13 +37,34 @@ fn two_customers_on_a_line(rt: HostRuntime) {
     }
 }
 
-// What the truck carries, and how the search ends.
+// The capacity, the prices, and the lower bound by them, in hundredths.
+const BOUNDS: &[(u64, [i64; 3], u64)] = &[
+    (1, [0, 5, 0], 3_000),
+    (1, [0, 0, 0], 2_000),
+    (2, [0, 0, 0], 2_000),
+];
+
+// Without prices two tours to the near customer are the cheapest.
+#[test]
+fn bounds_of_two_customers(rt: HostRuntime) {
+    for &(capacity, prices, hundredths) in BOUNDS {
+        let instance = three_on_a_line(&rt, rt.alloc(), capacity);
+        let relaxation = relaxed(&rt, rt.alloc(), &instance, &prices);
+        let ng_sets = NgSets::nearest(rt.alloc(), &instance, 2).expect(&rt, "memory");
+        let prices = Prices::new(rt.alloc(), &relaxation, ng_sets).expect(&rt, "memory");
+        assert!(&rt; prices.has_tables() && prices.has_completion_table());
+        assert_same(&rt, prices.lower_bound().hundredths, hundredths, capacity);
+    }
+}
+
+// The capacity, and how the search ends.
 const ONE_TRUCK: &[(u64, End<'_>)] = &[
     (2, End::Finished(6, &[1, 2, 0])),
     (1, End::Finished(1, &[])),
 ];
 
-// With one truck for both the first route can't be closed before both are served. With a truck for each demand there is no plan.
+// With one truck for both, the first route can't be closed before both are served. If each demand needs its own truck, there
+// is no plan.
 #[test]
 fn one_truck_for_two(rt: HostRuntime) {
     for &(capacity, end) in ONE_TRUCK {
@@ -59,7 +80,7 @@ const DEAR_PLAN: &[(u64, End<'_>)] = &[
     (7, End::Finished(7, &[1, 0, 2, 0])),
 ];
 
-// A truck for both costs 11, and two trucks cost 4. The costly plan stays until a cheaper one is looked at, the fifth.
+// One truck for both costs 11, and two trucks cost 4. The costly plan stays until a cheaper one is looked at, the fifth.
 #[test]
 fn opened_with_a_costly_plan(rt: HostRuntime) {
     let instance = two_far_apart(&rt, rt.alloc());
@@ -69,7 +90,7 @@ fn opened_with_a_costly_plan(rt: HostRuntime) {
     }
 }
 
-// Of 1,199 customers at the places 1 to 1,199 of a line all but the last two have a truck, there and back.
+// Of 1,199 customers at the places 1 to 1,199 of a line, all but the last two have a truck, there and back.
 #[test]
 fn deep_piece_at_the_limits(rt: HostRuntime) {
     let (rt, alloc) = (&rt, rt.alloc());
@@ -105,7 +126,7 @@ fn relaxed<'a>(
     made.expect(rt, "memory").expect(rt, "prices")
 }
 
-// Searches the whole tree by these prices, with a board that has a plan, at no more partial plans than a budget: so it ends.
+// Searches the whole tree by these prices, with a board that has a plan, within a budget: this is how it ends.
 fn assert_search(
     rt: &impl Abort,
     alloc: Global,
@@ -164,5 +185,9 @@ fn search_piece(
     let tables = Tables::over_all(alloc, instance)?;
     let ng_sets = NgSets::nearest(alloc, instance, 2)?;
     let prices = Prices::new(alloc, relaxation, ng_sets)?;
-    search_by_prices(alloc, instance, &tables, &prices, piece, budget, board)
+    let lookups = Lookups {
+        tables: &tables,
+        prices: &prices,
+    };
+    search_by_prices(alloc, instance, lookups, piece, budget, board)
 }

@@ -1,4 +1,4 @@
-//! Cuttings of a small tree into so many pieces, and pieces refined one by one.
+//! Cuttings of a small tree into a number of pieces, and pieces refined one by one.
 ghost use Rattle.vrp_search_tree.specs.Cutting.{IsCutting};
 
 use crate::assertion::assert_same;
@@ -8,9 +8,9 @@ use std::process::Abort;
 use vrp_model::Instance;
 use vrp_search::{Cutting, MAX_PIECES, Piece};
 
-// What a truck carries, into how many pieces the tree is cut, and their words.
+// The capacity, the number of pieces requested, and their words.
 const CUTTINGS: &[(u64, u32, &[&[u16]])] = &[
-    // The last two have no child and are no plans: a customer is left, and the depot would end a route that runs back.
+    // The last two have no child and are not plans: a customer is left, and the depot would end a route that runs backward.
     (
         2,
         MAX_PIECES,
@@ -31,7 +31,7 @@ fn cut_into_so_many(rt: HostRuntime) {
     }
 }
 
-// A piece that is refined, whether it has children, and the words of the pieces then.
+// A piece that is refined, whether it has children, and the words of the pieces afterwards.
 const REFINEMENTS: &[(u32, bool, &[&[u16]])] = &[
     (0, true, &[&[1], &[2]]),
     (1, true, &[&[1], &[2, 0], &[2, 1]]),
@@ -44,7 +44,7 @@ fn refined_one_by_one(rt: HostRuntime) {
     let mut cutting = cut_into(&rt, rt.alloc(), &instance, 0);
     assert_words(&rt, cutting.pieces(), &[&[]]);
     assert_refinements(&rt, rt.alloc(), &instance, &mut cutting);
-    // more pieces than are asked for stay as they are
+    // more pieces than requested stay as they are
     let cut = cutting.at_least(rt.alloc(), &instance, 1);
     cut.expect(&rt, "memory");
     assert_words(&rt, &cutting.into_pieces(), &[&[1], &[2, 0], &[2, 1]]);

@@ -17,15 +17,15 @@ use vrp_bound::Tables;
 use vrp_model::{Instance, MAX_NODES, NO_COST, NoMemory, Plan};
 use vrp_search::{Board, Cutting, Ended, Local, Piece, search};
 
-// How a search is to end: how many partial plans it looks at, and then the word of the plan that it found, which is empty where it
-// found none; or, where it is left unfinished, the low.
+// The expected end of a search: how many partial plans it looks at, and the word of the plan that it found, empty if none;
+// or, if it is left unfinished, the low.
 #[derive(Clone, Copy, Debug, PartialEq, Eq)]
 pub(crate) enum End<'a> {
     Finished(u64, &'a [u16]),
     Unfinished(u64, u64),
 }
 
-// What a truck carries, the budget, how the search ends, and what the plan costs that the board has then.
+// The capacity, the budget, how the search ends, and the cost of the board's plan afterwards.
 const THREE_NODES: &[(u64, u64, End<'_>, u64)] = &[
     (2, 1, End::Unfinished(1, 20), 30),
     (2, 6, End::Unfinished(6, 20), 30),
@@ -45,13 +45,14 @@ fn three_nodes_on_a_line(rt: HostRuntime) {
     }
 }
 
-// What the truck carries, how the search ends, and what the plan costs that the board has then.
+// The capacity, how the search ends, and the cost of the board's plan afterwards.
 const ONE_TRUCK: &[(u64, End<'_>, u64)] = &[
     (2, End::Finished(6, &[1, 2, 0]), 20),
     (1, End::Finished(1, &[]), NO_COST),
 ];
 
-// Two customers to a truck, and one truck: the plan is the one that serves both. With a truck for each demand there is none.
+// Two customers fit on a truck, and there is one truck: the plan serves both with it. If each demand needs its own truck,
+// there is no plan.
 #[test]
 fn one_truck_for_two(rt: HostRuntime) {
     for &(capacity, end, cost) in ONE_TRUCK {
@@ -62,7 +63,7 @@ fn one_truck_for_two(rt: HostRuntime) {
     }
 }
 
-// The budget, how the search ends, and what the plan costs that the board has then.
+// The budget, how the search ends, and the cost of the board's plan afterwards.
 const DEAR_PLAN: &[(u64, End<'_>, u64)] = &[
     (1, End::Unfinished(1, 4), 11),
     (4, End::Unfinished(4, 4), 11),
@@ -71,8 +72,8 @@ const DEAR_PLAN: &[(u64, End<'_>, u64)] = &[
     (7, End::Finished(7, &[1, 0, 2, 0]), 4),
 ];
 
-// Both customers are a step from the depot and nine steps from one another: a truck for both costs 11, and two trucks cost 4.
-// The costly plan stays until a cheaper one is looked at, the fifth.
+// Both customers are a step from the depot and nine steps from one another: one truck for both costs 11, and two trucks cost
+// 4. The costly plan stays until a cheaper one is looked at, the fifth.
 #[test]
 fn opened_with_a_costly_plan(rt: HostRuntime) {
     let instance = two_far_apart(&rt, rt.alloc());
@@ -83,8 +84,8 @@ fn opened_with_a_costly_plan(rt: HostRuntime) {
     }
 }
 
-// A truck that goes round the circle is the cheapest, and no other plan is of use. The count is that of the plain kernel of bench/,
-// which needs more than 200,000 without the tree bound, or where that is tried below 20 unserved customers alone.
+// One truck around the circle is the cheapest, and no other plan is of use. The count is that of the plain kernel of bench/,
+// which needs more than 200,000 without the tree bound, or if that is tried only below 20 unserved customers.
 #[test]
 fn pruned_by_trees(rt: HostRuntime) {
     let instance = at_points(rt.alloc(), CIRCLE, ONE_EACH, 24).expect(&rt, "an instance");
@@ -94,12 +95,12 @@ fn pruned_by_trees(rt: HostRuntime) {
     assert_search(&rt, rt.alloc(), &instance, Some(plan), 10_000, (end, 309));
 }
 
-// The plan of one truck that goes round the circle.
+// The plan of one truck around the circle.
 const ROUND: &[u16] = &[
     1, 2, 3, 4, 5, 6, 7, 8, 9, 10, 11, 12, 13, 14, 15, 16, 17, 18, 19, 20, 21, 22, 23, 24, 0,
 ];
 
-// The depot and 24 customers on a circle, unevenly apart, all of whom a truck can carry.
+// The depot and 24 customers on a circle, unevenly apart; all of them fit on a truck.
 const CIRCLE: &[(i64, i64)] = &[
     (90, 79),
     (49, 99),
@@ -132,7 +133,7 @@ const ONE_EACH: &[u64] = &[
     0, 1, 1, 1, 1, 1, 1, 1, 1, 1, 1, 1, 1, 1, 1, 1, 1, 1, 1, 1, 1, 1, 1, 1, 1,
 ];
 
-// Of 1,199 customers at the places 1 to 1,199 of a line all but the last two have a truck, there and back. The last two are
+// Of 1,199 customers at the places 1 to 1,199 of a line, all but the last two have a truck, there and back. The last two are
 // still to be carried: in the tables that costs no more than twice to the first customer and back.
 #[test]
 fn deep_piece_at_the_limits(rt: HostRuntime) {
@@ -151,7 +152,7 @@ fn deep_piece_at_the_limits(rt: HostRuntime) {
     assert_same(rt, board.least(), 1_199 * 1_200, "the least cost");
 }
 
-// Behind the first customer's truck the second one is left. With tables over both a tour of what is left may go to the first.
+// Behind the first customer's truck the second one is left. With tables over both, a tour for the rest may go to the first.
 #[test]
 fn tables_over_those_left_are_tighter(rt: HostRuntime) {
     let instance = three_on_a_line(&rt, rt.alloc(), 1);
@@ -181,7 +182,7 @@ pub(crate) fn assert_end(rt: &impl Abort, ended: &Ended, end: End<'_>) {
     assert_same(rt, found, end, "the end");
 }
 
-// Searches the whole tree with a board that has this plan: so it ends, and that is what the plan costs that the board has then.
+// Searches the whole tree with a board that has this plan: this is how it ends, and the cost of the board's plan afterwards.
 fn assert_search(
     rt: &impl Abort,
     alloc: Global,

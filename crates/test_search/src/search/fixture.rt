@@ -1,5 +1,4 @@
-//! What tests are made on: instances, whose first place is the depot, and pieces, cuttings and plans of them. What has no memory for
-//! them ends the test.
+//! Instances for tests, whose first place is the depot, and their pieces, cuttings and plans. Lack of memory ends the test.
 ghost use Rattle.std.specs.Prelude.{length, ◌≡◌, ◌≤◌};
 ghost use Rattle.std.specs.Option.{ForSome};
 ghost use Rattle.vrp_model.specs.Route.{IsPlanOf};
@@ -36,14 +35,14 @@ pub(crate) fn on_a_line(rt: &impl Abort, alloc: Global, nodes: u16) -> Instance 
     with_arcs(alloc, &arcs, &demands, 2).expect(rt, "an instance")
 }
 
-/// The plan of one truck for each customer, if there are as many.
+/// The plan of one truck for each customer, if there are enough trucks.
 pub(crate) fn singles(rt: &impl Abort, alloc: Global, instance: &Instance) -> Option<Plan>
     ensures { ForSome result (IsPlanOf instance.now) }
 {
     Plan::singles(alloc, instance).expect(rt, "memory")
 }
 
-/// The same plan, where there are as many trucks.
+/// The plan of one truck for each customer, given enough trucks.
 pub(crate) fn one_each(rt: &impl Abort, alloc: Global, instance: &Instance) -> Plan
     ensures { IsPlanOf instance.now result }
 {
@@ -94,7 +93,7 @@ pub(crate) fn piece_at(rt: &impl Abort, alloc: Global, instance: &Instance, word
     Piece::new(0, word)
 }
 
-/// The piece by which each of the first customers has a truck of its own.
+/// The piece in which each of the first customers has a truck of its own.
 pub(crate) fn singles_prefix(
     rt: &impl Abort,
     alloc: Global,
@@ -111,7 +110,7 @@ pub(crate) fn singles_prefix(
     piece_at(rt, alloc, instance, &word)
 }
 
-/// The tree, cut into this many pieces at least where it has as many.
+/// The tree, cut into at least this many pieces if it has as many.
 pub(crate) fn cut_into(rt: &impl Abort, alloc: Global, instance: &Instance, pieces: u32) -> Cutting
     ensures cutting { IsCutting instance.now result }
     ensures few { length result ≤ MAX_REFINED }

@@ -1,4 +1,4 @@
-//! Plans that the board of one thread is offered.
+//! Offers to the board of one thread.
 ghost use Rattle.vrp_model.specs.Route.{IsPlanOf};
 ghost use Rattle.vrp_search.specs.Board.{KeepsPlanOf};
 
@@ -33,7 +33,7 @@ fn takes_a_plan_where_it_has_none(rt: HostRuntime) {
     assert_least(&rt, &instance, &mut board, 30);
 }
 
-// Both ways round the two customers cost the same: the earlier word is kept, and the later one is not taken again.
+// Both directions of the route cost the same: the earlier word is kept, and the later one is not accepted again.
 #[test]
 fn keeps_the_earlier_word(rt: HostRuntime) {
     let arcs = [0, 1, 2, 2, 0, 1, 4, 2, 0];
@@ -70,7 +70,7 @@ fn assert_least(rt: &impl Abort, instance: &Instance, board: &mut Local, cost: u
     assert_same(rt, board.least(), cost, "the least cost");
 }
 
-// Offers a plan, which the board has then.
+// Offers a plan, which the board keeps.
 fn assert_kept(rt: &impl Abort, alloc: Global, instance: &Instance, board: &mut Local, plan: &Plan)
     requires plan { IsPlanOf instance.now plan.now }
     requires board { KeepsPlanOf instance.now board.old }

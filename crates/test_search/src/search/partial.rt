@@ -1,4 +1,4 @@
-//! Partial plans beside counts and costs that were worked out by hand.
+//! Partial plans compared with counts and costs worked out by hand.
 
 use crate::assertion::assert_same;
 use crate::search::fixture::{partial_at, three_on_a_line};
@@ -8,7 +8,7 @@ use test_fixtures::{LINE, at_points};
 use vrp_model::Instance;
 use vrp_search::{Partial, Reserved};
 
-// What a walk through the tree of the empty word has seen.
+// The totals of a walk through the tree of the empty word.
 #[derive(Clone, Copy, Debug, PartialEq, Eq)]
 struct Seen {
     prefixes: u64,
@@ -16,7 +16,7 @@ struct Seen {
     least: u64,
 }
 
-// What a truck carries, and what a walk through the tree sees.
+// The capacity, and the totals of a walk through the tree.
 const TREES: &[(u64, Seen)] = &[
     (
         2,
@@ -45,7 +45,7 @@ fn trees_of_three_nodes(rt: HostRuntime) {
     }
 }
 
-// A symbol that is pushed, and then the cost, the load, the rest and how many routes there are.
+// A symbol to push, and then the cost, the load, the rest and the number of routes.
 type Counted = (u16, u64, u64, u64, u16);
 
 const COUNTED: &[Counted] = &[(1, 5, 3, 4, 1), (2, 10, 7, 0, 1), (0, 20, 0, 0, 1)];
@@ -81,7 +81,7 @@ fn assert_word(rt: &impl Abort, alloc: Global, partial: &Partial<'_>, word: &[u1
     assert_same(rt, plan.word(), word, "the word");
 }
 
-// How many customers there are, and for how many symbols and tallies there is room.
+// The number of customers, and the room for symbols and tallies.
 const ROOMS: &[(usize, usize, usize)] = &[
     (1, 64, 2),
     (32, 64, 64),
@@ -89,7 +89,7 @@ const ROOMS: &[(usize, usize, usize)] = &[
     (1_199, 2_398, 2_398),
 ];
 
-// A partial plan has at most two symbols for each customer. The first 64 symbols lie in the partial plan itself.
+// A partial plan has at most two symbols for each customer. The first 64 symbols are stored in the partial plan itself.
 #[test]
 fn room_for_the_longest_prefix(rt: HostRuntime) {
     for &(customers, word, before) in ROOMS {
@@ -100,7 +100,7 @@ fn room_for_the_longest_prefix(rt: HostRuntime) {
     }
 }
 
-// So many customers who demand nothing.
+// This many customers without demand.
 fn in_one_place(rt: &impl Abort, alloc: Global, customers: usize) -> Instance {
     assert!(rt; customers <= 1_199);
     let points = Vec::from_elem(alloc, (0, 0), customers + 1).expect(rt, "memory");
@@ -154,7 +154,7 @@ fn walk(rt: &impl Abort, alloc: Global, instance: &Instance) -> Seen {
 }
 
 impl Seen {
-    // The same, and one more partial plan.
+    // The totals with one more partial plan.
     fn with(self, rt: &impl Abort, alloc: Global, partial: &Partial<'_>) -> Seen {
         let prefixes = self.prefixes.saturating_add(1);
         if !partial.complete() {

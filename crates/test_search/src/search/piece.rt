@@ -1,4 +1,4 @@
-//! What pieces of small instances leave unserved, and the tables over that.
+//! The unserved customers of pieces of small instances, and the tables over them.
 ghost use Rattle.std.specs.Prelude.{◌≡◌, IfOk};
 ghost use Rattle.vrp_model.specs.Word.{IsPrefix, unserved_in};
 
@@ -11,7 +11,7 @@ use vrp_bound::Tables;
 use vrp_model::{Instance, NoMemory};
 use vrp_search::Piece;
 
-// The word of a piece, and whom it leaves unserved.
+// The word of a piece, and its unserved customers.
 const UNSERVED: &[(&[u16], &[u16])] = &[
     (&[], &[1, 2, 3]),
     (&[2], &[1, 3]),
@@ -29,10 +29,10 @@ fn customers_left_unserved(rt: HostRuntime) {
     }
 }
 
-// The word of a piece, and the bound on what is still to pay at the third customer where nothing more is to be carried.
+// The word of a piece, and the bound on what is still to pay at the third customer if there is no rest.
 const AT_THE_THIRD: &[(&[u16], u64)] = &[(&[], 0), (&[3], 15)];
 
-// No tables are made over all customers, of whom one demands nothing. It is served by the piece, and over the others they are.
+// No tables are made over all customers, since one demands nothing. The piece serves it, so tables over the others are made.
 #[test]
 fn tables_where_no_demand_is_served(rt: HostRuntime) {
     let instance = four_nodes(&rt, rt.alloc(), 1);
@@ -44,13 +44,13 @@ fn tables_where_no_demand_is_served(rt: HostRuntime) {
     }
 }
 
-// The depot and three customers on a line, five apart, the last of whom demands nothing.
+// The depot and three customers on a line, five apart; the last one demands nothing.
 fn four_nodes(rt: &impl Abort, alloc: Global, capacity: u64) -> Instance {
     let points = [(0, 0), (3, 4), (6, 8), (9, 12)];
     at_points(alloc, &points, &[0, 1, 1, 0], capacity).expect(rt, "an instance")
 }
 
-/// Tables over the customers that a piece leaves unserved.
+/// Tables over a piece's unserved customers.
 pub(crate) fn own_tables<'a>(
     alloc: Global,
     instance: &'a Instance,

@@ -1,19 +1,19 @@
-//! A plain slow program beside the fast bodies: it judges each short list of symbols as a whole, and so finds all partial plans of
-//! a small instance, their children, and what is counted along them.
+//! A plain slow program to compare with: it judges each short list of symbols as a whole, and so finds all partial plans of a
+//! small instance, their children, and their totals.
 
 use std::alloc::Global;
 use std::process::Abort;
 use vrp_model::{Instance, Layout, Weights};
 
-/// How many nodes each instance has, with those that have no part.
+/// The number of nodes of each instance, including those that have no part.
 pub(crate) const NODES: u16 = 4;
 
-// Weights from each node to each: there and back differ, and there and back are the same.
+// Weights from each node to each: asymmetric, and symmetric.
 const ONE_DIRECTION: &[u64] = &[0, 5, 9, 14, 3, 0, 7, 2, 8, 1, 0, 6, 11, 4, 10, 0];
 
 const BOTH_DIRECTIONS: &[u64] = &[0, 5, 9, 14, 5, 0, 7, 2, 9, 7, 0, 6, 14, 2, 6, 0];
 
-/// How many customers an instance has, the demands of the places, the depot's first, and the capacity.
+/// The number of customers of an instance, the demands of the places, the depot's first, and the capacity.
 pub(crate) type Case = (u16, [u64; 4], u64);
 
 /// A small instance.
@@ -27,7 +27,7 @@ pub(crate) struct Small {
 }
 
 impl Small {
-    /// Adds the instances of a case: of both kinds, and with few trucks.
+    /// Adds the instances of a case: asymmetric and symmetric, and with few trucks.
     pub(crate) fn push_kinds(rt: &impl Abort, smalls: &mut Vec<Small>, case: Case) {
         let symmetric = Small::new(case, true);
         smalls.push(Small::new(case, false)).expect(rt, "memory");
@@ -43,7 +43,7 @@ impl Small {
         }
     }
 
-    /// The instance of a case, with as many trucks as are wanted.
+    /// The instance of a case, without a limit on trucks.
     pub(crate) fn new(case: Case, is_symmetric: bool) -> Small {
         let (customers, demands, capacity) = case;
         Small {
@@ -63,7 +63,7 @@ impl Small {
         }
     }
 
-    /// The instance. The nodes behind its customers are listed as depots too, and have no part.
+    /// The instance. The nodes behind its customers are listed as depots too, so they have no part.
     pub(crate) fn instance(&self, rt: &impl Abort, alloc: Global) -> Instance {
         let depots = self.depots();
         assert!(rt; !depots.is_empty() && depots.iter().all(|&depot| 1 <= depot && depot <= NODES));
@@ -96,7 +96,7 @@ impl Small {
         prefixes
     }
 
-    // Adds those lists that are prefixes: the word, and behind it all that have up to this many symbols more.
+    // Adds those lists that are prefixes: the word, and its extensions by up to this many symbols.
     fn push_prefixes(
         &self,
         rt: &impl Abort,
@@ -122,14 +122,14 @@ impl Small {
         is_plain && self.fits(word) && self.runs_forward(word) && self.has_trucks(word)
     }
 
-    // Whether there are trucks for all routes, an open one counted.
+    // Whether there are trucks for all routes, including an open one.
     fn has_trucks(&self, word: &[u16]) -> bool {
         self.trucks.is_none_or(|trucks| routes(word) <= trucks)
     }
 
-    // Whether no closed route has its first customer above its last, where there and back cost the same.
+    // With symmetric weights, whether no closed route has its first customer above its last.
     fn runs_forward(&self, word: &[u16]) -> bool {
-        // What stands behind the last 0 is open, or nothing.
+        // The part behind the last 0 is an open route, or empty.
         let mut closed: &[u16] = &[];
         for route in word.split(|symbol| *symbol == 0) {
             if self.is_symmetric && !is_forward(closed) {
@@ -140,7 +140,7 @@ impl Small {
         true
     }
 
-    /// Whether there and back cost the same, all who are left are below the last route's first customer, and there is one, or
+    /// With symmetric weights, whether all unserved customers are below the last route's first customer, and there is one, or
     /// the word ends with a customer below it.
     pub(crate) fn has_no_completion(&self, word: &[u16]) -> bool {
         let first = last_first(word);
@@ -179,7 +179,7 @@ impl Small {
         self.demands.get(usize::from(place)).copied().unwrap_or(0)
     }
 
-    /// What is behind the last 0.
+    /// The load behind the last 0.
     pub(crate) fn open_load(&self, word: &[u16]) -> u64 {
         let mut load = 0u64;
         for route in word.split(|symbol| *symbol == 0) {
@@ -188,7 +188,7 @@ impl Small {
         load
     }
 
-    /// What the customers demand that don't stand in the word.
+    /// The total demand of the customers who aren't in the word.
     pub(crate) fn rest(&self, word: &[u16]) -> u64 {
         let mut rest = 0u64;
         for customer in 1..=self.customers {
@@ -199,7 +199,7 @@ impl Small {
         rest
     }
 
-    /// What is paid along a word, from the depot.
+    /// The cost along a word, from the depot.
     pub(crate) fn cost(&self, word: &[u16]) -> u64 {
         let mut cost = 0u64;
         let mut at = 0u16;
@@ -225,7 +225,7 @@ impl Small {
         word.last().copied().unwrap_or(0) == 0
     }
 
-    /// The feasible word of least cost, and of those the one that is listed first; and what it costs.
+    /// The feasible word of least cost, the first of these in listing order, with its cost.
     pub(crate) fn first(&self, rt: &impl Abort, alloc: Global) -> Option<(u64, Vec<u16>)> {
         let mut first: Option<(u64, Vec<u16>)> = None;
         for word in self.prefixes(rt, alloc) {
@@ -238,7 +238,7 @@ impl Small {
         first
     }
 
-    // Adds the partial plans that have one symbol more, and tells whether there are any.
+    // Adds the partial plans with one more symbol, and answers whether there are any.
     fn push_children(
         &self,
         rt: &impl Abort,
@@ -256,7 +256,7 @@ impl Small {
         prefixes.len() > before
     }
 
-    /// The words with one word's children in its stead, and whether it has any.
+    /// The words with one word replaced by its children, and whether it has any.
     pub(crate) fn refined(
         &self,
         rt: &impl Abort,
@@ -289,7 +289,7 @@ impl Small {
     }
 }
 
-// Whether no customer stands twice.
+// Whether no customer occurs twice.
 fn is_once(word: &[u16]) -> bool {
     for (index, symbol) in word.iter().enumerate() {
         if *symbol != 0 && word.iter().take(index).any(|other| *other == *symbol) {
@@ -299,7 +299,7 @@ fn is_once(word: &[u16]) -> bool {
     true
 }
 
-// Whether a customer stands before each 0.
+// Whether each 0 follows a customer.
 fn has_stops(word: &[u16]) -> bool {
     let mut before = 0u16;
     for symbol in word {
@@ -325,7 +325,7 @@ fn is_rising(word: &[u16]) -> bool {
     true
 }
 
-// The first customer of the last route, 0 where there is none.
+// The first customer of the last route; 0 if there is none.
 fn last_first(word: &[u16]) -> u16 {
     let mut first = 0u16;
     for route in word.split(|symbol| *symbol == 0) {
@@ -334,7 +334,7 @@ fn last_first(word: &[u16]) -> u16 {
     first
 }
 
-/// How many routes there are, an open one counted.
+/// The number of routes, including an open one.
 pub(crate) fn routes(word: &[u16]) -> u16 {
     let mut count = 0u16;
     for route in word.split(|symbol| *symbol == 0) {
@@ -357,7 +357,7 @@ pub(crate) fn begins_with(word: &[u16], prefix: &[u16]) -> bool {
     word.len() >= prefix.len() && word.iter().zip(prefix.iter()).all(|(a, b)| *a == *b)
 }
 
-// The word with one symbol more.
+// The word with one more symbol.
 fn with(rt: &impl Abort, alloc: Global, word: &[u16], symbol: u16) -> Vec<u16> {
     let mut longer = Vec::from_slice(alloc, word).expect(rt, "memory");
     longer.push(symbol).expect(rt, "memory");

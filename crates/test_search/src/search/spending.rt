@@ -9,7 +9,7 @@ use test_fixtures::{SCATTERED, at_points};
 use vrp_model::{Instance, NO_COST, NoMemory, Plan};
 use vrp_search::{Board, Ended};
 
-// Keeps the least cost alone.
+// A board that keeps only the least cost.
 #[derive(Drop)]
 struct CostBoard {
     least: u64,
@@ -39,7 +39,7 @@ impl Board for CostBoard {
     }
 }
 
-// What the board says, the budget, and how many partial plans are looked at. The board is asked after 65,536 of them.
+// The board's answer, the budget, and how many partial plans are looked at. The board is asked after 65,536 of them.
 const STOPS: &[(bool, u64, u64)] = &[
     (false, 1, 1),
     (false, 65_535, 65_535),
@@ -65,7 +65,7 @@ fn stops_where_the_board_says_so(rt: HostRuntime) {
     }
 }
 
-// Asserts how many partial plans are looked at before the search is left unfinished.
+// Asserts how many partial plans are looked at before the search ends unfinished.
 fn assert_looked(
     rt: &impl Abort,
     alloc: Global,

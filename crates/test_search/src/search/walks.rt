@@ -1,4 +1,4 @@
-//! The slow program beside the fast bodies: walks by children, values along a word, cuttings.
+//! Comparisons with the slow program: walks by children, values along a word, cuttings.
 ghost use Rattle.std.specs.Option.{ForSome};
 ghost use Rattle.vrp_model.specs.Route.{IsPlanOf};
 
@@ -16,10 +16,10 @@ use vrp_search::{Cutting, Ended, Local, MAX_PIECES, Partial};
 // More steps than a walk through any of the trees takes.
 const MOST_STEPS: u32 = 10_000;
 
-// Into how many pieces a tree is cut before a piece is refined, at most: enough for the trees to be cut down to their leaves.
+// The greatest number of pieces before a piece is refined: enough for the trees to be cut down to their leaves.
 const MOST_REFINED: u32 = 24;
 
-// Instances of 0 to 3 customers: how many there are, the demands of the places, the depot's first, and the capacity.
+// Instances of 0 to 3 customers: the number of customers, the demands of the places, the depot's first, and the capacity.
 const CASES: &[Case] = &[
     (0, [0, 0, 0, 0], 1),
     (1, [0, 1, 0, 0], 1),
@@ -35,7 +35,7 @@ const CASES: &[Case] = &[
     (3, [0, 0, 0, 0], 1),
 ];
 
-// Prices on the places, the depot's first, which is of no account, and a unit for the demands.
+// Prices on the places, the depot's first, which is ignored, and a unit for the demands.
 type Priced = ([i64; 4], u64);
 
 const PRICES: &[Priced] = &[
@@ -47,7 +47,7 @@ const PRICES: &[Priced] = &[
     ([0, -25, 90, 5], 2),
 ];
 
-// How many times as much each arc costs before prices.
+// The factor on the cost of each arc before prices.
 const SCALE: u64 = 10;
 
 // The instances of all cases.
@@ -69,7 +69,7 @@ fn walks_meet_all_prefixes(rt: HostRuntime) {
     }
 }
 
-// What a truck carries, whether there and back cost the same, and how many partial plans there are.
+// The capacity, whether the weights are symmetric, and the number of partial plans.
 const SIZES: &[(u64, bool, usize)] = &[(2, false, 11), (2, true, 10), (1, true, 7)];
 
 #[test]
@@ -122,7 +122,7 @@ fn children_stand_for_a_piece(rt: HostRuntime) {
     }
 }
 
-// The search of the whole tree finds the first word of all, whichever plan the board is opened with.
+// The search of the whole tree finds the first word of all, for any plan that the board is opened with.
 #[test]
 fn the_canonical_word_is_found(rt: HostRuntime) {
     for small in &smalls(&rt, rt.alloc()) {
@@ -133,7 +133,7 @@ fn the_canonical_word_is_found(rt: HostRuntime) {
     }
 }
 
-// So does the search by prices, whichever they are and in whichever unit. Rebates may make an arc cost less than nothing: then
+// The search by prices also finds the first word of all, for any prices and any unit. Rebates may make an arc negative; then
 // there are no prices.
 #[test]
 fn the_canonical_word_is_found_by_prices(rt: HostRuntime) {
@@ -148,7 +148,7 @@ fn the_canonical_word_is_found_by_prices(rt: HostRuntime) {
     assert!(rt; found > 200);
 }
 
-// Tells whether there are prices.
+// Answers whether there are prices.
 fn assert_canonical_by_prices(
     rt: &impl Abort,
     alloc: Global,
@@ -170,7 +170,7 @@ fn assert_canonical_by_prices(
     true
 }
 
-// The board that was opened with this plan, or with none, has the first one in the end.
+// A board that was opened with this plan, or with none, finally has the first one.
 fn assert_canonical(
     rt: &impl Abort,
     alloc: Global,
@@ -194,7 +194,7 @@ fn assert_found(rt: &impl Abort, alloc: Global, small: &Small, ended: &Ended, bo
     assert_same(rt, kept, wanted, *small);
 }
 
-// The partial plans that a walk by children meets, by the order of their symbols. Wherever it comes, the values are compared.
+// The partial plans met on a walk by children, in the order of their symbols. The values are compared on the way.
 fn walked(small: &Small, rt: &impl Abort, alloc: Global, instance: &Instance) -> Vec<Vec<u16>> {
     let mut partial = Partial::root(alloc, instance).expect(rt, "memory");
     let mut prefixes = Vec::new(alloc);
@@ -234,17 +234,17 @@ fn assert_values(small: &Small, rt: &impl Abort, partial: &Partial<'_>) {
     assert_same(rt, places, (routes(word), last), word);
 }
 
-// The cuttings into few pieces, each of whose pieces is refined.
+// The cuttings into few pieces, each of which is refined.
 fn assert_all_refined(small: &Small, rt: &impl Abort, alloc: Global, instance: &Instance) {
     for pieces in 0..MOST_REFINED {
-        // There may be more pieces than were asked for, by the children of one.
+        // There may be more pieces than requested, by the children of one.
         for number in 0..pieces.saturating_add(u32::from(NODES)) {
             assert_refined(small, rt, alloc, instance, (pieces, number));
         }
     }
 }
 
-// A piece's children stand in its stead where it has any, and all other pieces stay.
+// A piece is replaced by its children if it has any, and all other pieces stay.
 fn assert_refined(
     small: &Small,
     rt: &impl Abort,

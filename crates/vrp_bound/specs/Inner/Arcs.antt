@@ -1,4 +1,4 @@
--- Places that wait, each with the weight of an arc.
+-- Places not yet taken, each with the weight of an arc.
 use Rattle.std.specs.Prelude.{ℕ, ◌≤◌, ◌<◌, min, List, map}
 use Rattle.vrp_model.specs.Problem.{Problem, place_count, weight_of}
 use Rattle.vrp_model.specs.declared.limits.TheConstants.{MAX_WEIGHT}
@@ -13,7 +13,7 @@ links_to p at places = map (λ place. record { place = place; weight = link_weig
 abbrev pub arcs_home : Problem → List ℕ → List Arc
 arcs_home p customers = map (λ place. record { place = place; weight = weight_of p place 0 }) customers
 
--- the same with one more place that may be linked to
+-- a place's arc, with one more place that it may be linked to
 abbrev pub linked : Problem → ℕ → Arc → Arc
 linked p taken arc = record { place = arc.place; weight = min arc.weight (link_weight p taken arc.place) }
 

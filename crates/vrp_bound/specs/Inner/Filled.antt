@@ -1,4 +1,4 @@
--- What the tables hold beside their customers.
+-- The contents of the tables, besides their customers.
 use Rattle.std.specs.Prelude.{◌≡◌, ℕ, Option, MatchOption, IfSome, List}
 use Rattle.std.specs.List.{All, Contains}
 use Rattle.std.specs.List.Sorted.{IsStrictlyIncreasing}
@@ -13,21 +13,25 @@ use Rattle.vrp_bound.specs.NgWalks.{IsNgBound}
 use Rattle.vrp_bound.specs.Tables.{AreMade, TablesOf, room_of, tables_over}
 
 pub record AreCells (p : Problem) (near : ℕ → List ℕ) (among : List ℕ) (cells : Cells) : Type 0 where
-  pub made : AreMade p among
   pub scope : IsScope p among
   pub unit : IsUnit p among cells.unit
   pub counted : cells.quotients.unit ≡ cells.unit
-  -- in units
+  -- walks in units
   pub walks : AreWalks (in_units cells.unit p) near among cells.walks.items
   pub tours : AreTours (in_units cells.unit p) near among cells.tours.items
   pub room : cells.room ≡ room_of (in_units cells.unit p) among
   pub completion_table : IfSome cells.completion_table (λ completion_table. IsCompletionTable (in_units cells.unit p) near among completion_table.items)
 
+-- cells of tables that are made
+pub record AreCellsMade (p : Problem) (near : ℕ → List ℕ) (among : List ℕ) (cells : Cells) : Type 0 where
+  pub made : AreMade p among
+  pub are_cells : AreCells p near among cells
+
 -- the cells over the customers of a scope
 abbrev pub AreCellsOver : Scope → (ℕ → List ℕ) → Cells → Type 0
 AreCellsOver scope near cells = AreCells scope.instance.now near scope.customers.now cells
 
--- the least cost of what carries the rest, over the customers of a scope
+-- the least cost of carrying the rest, over the customers of a scope
 abbrev pub IsLeastOver : Scope → (ℕ → List ℕ) → ℕ → ℕ → ℕ → ℕ → Type 0
 IsLeastOver scope near at load rest cell =
     IsLeastCell (HasRelaxed scope.instance.now near scope.customers.now at load rest) cell
@@ -35,18 +39,18 @@ IsLeastOver scope near at load rest cell =
 pub record AreFilled (p : Problem) (near : ℕ → List ℕ) (among : List ℕ) (cells : Option Cells) : Type 0 where
   pub rising : IsStrictlyIncreasing among
   pub known : All (Contains (customers p)) among
-  -- there are cells exactly where tables are made
-  pub filled : MatchOption cells (AreMade p among → ⊥) (AreCells p near among)
+  -- there are cells exactly if tables are made
+  pub filled : MatchOption cells (AreMade p among → ⊥) (AreCellsMade p near among)
 
--- what completions hold, where the walks remember those who are near
+-- the contents of completions, for walks with these near customers
 abbrev pub AreHeld : (ℕ → List ℕ) → Completions → Type 0
 AreHeld near held = AreFilled held.instance.now near held.customers.items held.cells
 
--- what completions answer
+-- the answer of completions
 abbrev pub IsHeldBound : (ℕ → List ℕ) → Completions → ℕ → ℕ → ℕ → Option ℕ → Type 0
 IsHeldBound near held at load rest answer =
     IsNgBound held.instance.now near held.customers.items at load rest answer
 
--- the tables that completions are, where nobody is near any place
+-- the tables of completions when no customer is near any place
 abbrev pub tables_held : Completions → TablesOf
 tables_held held = tables_over held.instance.now held.customers.items

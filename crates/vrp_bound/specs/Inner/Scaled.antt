@@ -1,4 +1,4 @@
--- The problem of some customers, in their unit, whom its walks remember, and what stands in the tables over them.
+-- The problem of some customers, in their unit, with the ng-sets of its walks, and the contents of the tables over them.
 use Rattle.std.specs.Prelude.{◌≡◌, ℕ, ◌-◌, List, Option, None, Some}
 use Rattle.std.specs.Borrow.{Bor}
 use Rattle.std.specs.Option.{ForSome, option_map}
@@ -10,11 +10,11 @@ use Rattle.vrp_bound.specs.Inner.Units.{in_units}
 use Rattle.vrp_bound.specs.NgWalks.{nothing_near}
 use Rattle.vrp_bound.specs.Tables.{room_of}
 
--- with its demands counted in the unit
+-- the problem with its demands counted in the unit
 abbrev pub scaled : UnitScope → Problem
 scaled scope = in_units scope.unit scope.instance.now
 
--- the customers near each place; none are where walks have no ng-sets
+-- the customers near each place; none if walks have no ng-sets
 abbrev pub near_of : Option NearOf → ℕ → List ℕ
 near_of None = nothing_near
 near_of (Some near) = near_in near
@@ -22,14 +22,14 @@ near_of (Some near) = near_in near
 abbrev pub near_with : Option (Bor NearOf) → ℕ → List ℕ
 near_with ng_sets = near_of (option_map (λ m. m.now) ng_sets)
 
--- the ng-sets of walks, where they have one, is of this many places
+-- the ng-sets of walks, if they have any, are for this many places
 abbrev pub IsOfPlaces : Option (Bor NearOf) → ℕ → Type 0
 IsOfPlaces ng_sets places = ForSome ng_sets (λ ng_sets. ng_sets.now.places ≡ places)
 
 abbrev pub near_by : UnitScope → ℕ → List ℕ
 near_by scope = near_with scope.ng_sets
 
--- how much of what they demand one truck can carry
+-- the lesser of their total demand and the capacity
 abbrev pub room_over : UnitScope → ℕ
 room_over scope = room_of (scaled scope) scope.customers.now
 
@@ -37,14 +37,14 @@ room_over scope = room_of (scaled scope) scope.customers.now
 abbrev pub AreWalksOver : UnitScope → List ℕ → Type 0
 AreWalksOver scope cells = AreWalks (scaled scope) (near_by scope) scope.customers.now cells
 
--- the same where a walk remembers its next stop alone
+-- the cells of walks that remember only their next stop
 abbrev pub ArePlainWalks : UnitScope → List ℕ → Type 0
 ArePlainWalks scope cells = AreWalks (scaled scope) nothing_near scope.customers.now cells
 
 abbrev pub ArePlainWalksSoFar : UnitScope → List ℕ → Type 0
 ArePlainWalksSoFar scope cells = AreWalksSoFar (scaled scope) nothing_near scope.customers.now cells
 
--- the least of such a walk from a place that takes up this load
+-- the least such walk from a place with this load
 abbrev pub IsLeastPlainWalk : UnitScope → ℕ → ℕ → ℕ → Type 0
 IsLeastPlainWalk scope at load cell = IsLeastCell (HasWalk (scaled scope) nothing_near scope.customers.now at load) cell
 
@@ -55,7 +55,7 @@ AreToursOver scope cells = AreTours (scaled scope) (near_by scope) scope.custome
 abbrev pub AreToursOverSoFar : UnitScope → List ℕ → Type 0
 AreToursOverSoFar scope cells = AreToursSoFar (scaled scope) (near_by scope) scope.customers.now cells
 
--- the least of tours that carry the rest
+-- the least cost of tours that carry the rest
 abbrev pub IsLeastTours : UnitScope → ℕ → ℕ → Type 0
 IsLeastTours scope rest cell = IsLeastCell (HasTours (scaled scope) (near_by scope) scope.customers.now rest) cell
 
@@ -66,7 +66,7 @@ IsCompletionTableOver scope cells = IsCompletionTable (scaled scope) (near_by sc
 abbrev pub IsCompletionTableOverSoFar : UnitScope → List ℕ → Type 0
 IsCompletionTableOverSoFar scope cells = IsCompletionTableSoFar (scaled scope) (near_by scope) scope.customers.now cells
 
--- the least of what carries the rest from a place, where the open truck can still take up as much as is free
+-- the least cost of carrying the rest from a place, when the open truck has this much room
 abbrev pub IsLeastCompletion : UnitScope → ℕ → ℕ → ℕ → ℕ → Type 0
 IsLeastCompletion scope at free rest cell =
     let p = scaled scope in

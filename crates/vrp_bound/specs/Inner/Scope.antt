@@ -1,4 +1,4 @@
--- Customers that tables are made over.
+-- The customers of tables.
 use Rattle.std.specs.Prelude.{ℕ, ◌≤◌, ◌<◌, List}
 use Rattle.std.specs.List.{All}
 use Rattle.vrp_model.specs.Problem.{IsProblem, Problem, place_count}

@@ -3,18 +3,18 @@ use Rattle.std.specs.Prelude.{◌≡◌, ℕ, ◌*◌, ◌^◌, ◌/◌, ◌%◌
 use Rattle.vrp_bound_ng.specs.NgSets.{ng_set_before}
 use Rattle.vrp_bound_ng.specs.Near.{NearOf, near_in}
 
--- by place, of each place by stop, and of each stop by the ng-set there
+-- by place, then by stop, then by the ng-set at the stop
 abbrev pub AreBeforeBy : (ℕ → List ℕ) → ℕ → ℕ → List ℕ → Type 0
 AreBeforeBy near masks places before = (k : ℕ) → k < length before →
     let at = k / masks / places in
     let stop = k / masks % places in
     slice_index before k ≡ ng_set_before (near at) (near stop) masks at stop (k % masks)
 
--- the same of customers near each place that are listed
+-- such ng-sets, for listed near customers
 abbrev pub AreBefore : NearOf → ℕ → List ℕ → Type 0
 AreBefore near masks before = AreBeforeBy (near_in near) masks near.places before
 
--- what is kept beside the customers near each place
+-- the derived data kept with the customers near each place
 pub record IsKept (near : NearOf) (masks : ℕ) (before : List ℕ) : Type 0 where
   pub few_places : near.places ≤ 1200
   pub few : near.size ≤ 4

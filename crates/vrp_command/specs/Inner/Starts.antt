@@ -1,4 +1,4 @@
--- What is known of the file of a plan to begin with, step by step.
+-- Facts about the start plan's file, step by step.
 use Rattle.std.specs.Option.{option_and_then, option_map}
 use Rattle.std.specs.Prelude.{◌≡◌, ℕ, ◌<◌, Option, List, length, ⊤}
 use Rattle.vrp_command.specs.Program.{BeginsWith, IsFile, start_cost}
@@ -13,33 +13,33 @@ use Rattle.vrp_plan_read.specs.declared.error.SolutionError.{SolutionError}
 use Rattle.vrp_plan_read.specs.declared.error.SolutionError.TheVariants as solution
 use Rattle.vrp_command_streams.specs.Input.{IsInput}
 
--- the whole of a file gives the plan of this solution, and states its cost
+-- the whole file gives the plan of this solution, and states its stated cost
 pub record GivesFilePlan (p : Problem) (unread : Option (List ℕ)) (solution : Solution) : Type 0 where
   pub text : List ℕ
   pub file : IsFile unread text
   pub gives : GivesPlan p text solution.plan
   pub stated : solution.stated_cost ≡ stated_cost text
 
--- the plan to begin with, if one is given, is the one that its file's text gives, and so is the cost that is stated of it
+-- the start plan, if one is given, is the one that its file's text gives, and its stated cost is the one in that text
 pub record BeginsStated {S : Type 0} (p : Problem) (unread : S → Option (List ℕ)) (file : Option (StartFile S)) (start : Option Solution) : Type 0 where
   pub begins : BeginsWith p unread file (option_map (λ solution. solution.plan) start)
   pub stated : option_and_then (λ solution. solution.stated_cost) start ≡ start_cost begins.text
 
--- more was read of a file than it may have
+-- more bytes of a file were read than it may have
 pub record IsTooLong (unread : Option (List ℕ)) : Type 0 where
   pub text : List ℕ
   pub after : Option (List ℕ)
   pub input : IsInput unread after text
   pub long : MAX_BYTES < length text
 
--- a file that was not read to its end is too long, or that says nothing of it
+-- a file that was not read to its end is too long; other errors state nothing about it
 abbrev pub IsTooLongOrUnread : Option (List ℕ) → StartError → Type 0
 IsTooLongOrUnread unread (start_fault.Refused refusal) = ⊥
 IsTooLongOrUnread unread start_fault.TooLong = IsTooLong unread
 IsTooLongOrUnread unread start_fault.Read = ⊤
 IsTooLongOrUnread unread start_fault.OutOfMemory = ⊤
 
--- why there is no plan to begin with where a solution is refused
+-- the reason why there is no start plan, for a refused solution
 abbrev pub refused_for : SolutionError → StartError
 refused_for solution.OutOfMemory = start_fault.OutOfMemory
 refused_for (solution.UnknownLine line) = start_fault.Refused (solution.UnknownLine line)

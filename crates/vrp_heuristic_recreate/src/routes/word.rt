@@ -1,14 +1,21 @@
-//! Routes from a word, and the word of routes.
-ghost use Rattle.std.specs.Prelude.{◌≡◌, ◌<◌};
+//! Conversion of routes from and to a word.
+ghost use Rattle.std.specs.Prelude.{◌≡◌, ◌<◌, IfSome};
 ghost use Rattle.vrp_model.specs.Problem.{place_count};
 
-use crate::routes::{Gap, Routes};
+use crate::routes::{Gap, Routes, Stop};
 use crate::setting::Setting;
 use std::alloc::Global;
 use vrp_model::{Instance, NoMemory};
 
+// A stop on a route, and the place before it, 0 for the depot.
+#[derive(Clone, Copy, Debug)]
+struct Walk {
+    last: u16,
+    at: u16,
+}
+
 impl Routes {
-    /// Puts the customers of a word, whose routes end in 0, onto new routes. There are no routes yet.
+    /// Puts the customers of a word, in which 0 ends each route, onto new routes. There are no routes yet.
     pub(crate) fn load(&mut self, setting: &Setting<'_>, word: &[u16])
         requires { self.old ≡ place_count setting.now }
         ensures { self.new ≡ self.old }
@@ -27,8 +34,8 @@ impl Routes {
         }
     }
 
-    /// The routes as a word: by rising first customer, each followed by 0. In a symmetric instance each runs from the lower of its
-    /// ends. Where memory was refused, `NoMemory`. Which word is answered is left open, and it need not be that of a feasible plan.
+    /// The routes as a word: by rising first customer, each followed by 0. In a symmetric instance each runs from the lower of its ends. The
+    /// error is lack of memory. No clause pins the word, and it need not be that of a feasible plan.
     pub fn word(&self, alloc: Global, instance: &Instance) -> Result<Vec<u16>, NoMemory>
         requires { self.now ≡ place_count instance.now }
     {
@@ -74,48 +81,43 @@ impl Routes {
     fn far_end(&self, end: u16, most: u16) -> u16
         requires { end < self.now }
     {
-        let mut last = 0;
-        let mut at = end;
+        let mut walk = Walk { last: 0, at: end };
         for _ in 0..most {
-            let next = self.next(last, at);
-            if next == 0 {
+            let Some(next) = self.onward(walk) else {
                 break;
-            }
-            last = at;
-            at = next;
+            };
+            walk = next;
         }
-        at
+        walk.at
     }
 
     // Adds the route of at most this many stops that has one end here, from this end on.
     fn push_route(&self, end: u16, most: u16, word: &mut Vec<u16>) -> Result<(), NoMemory>
         requires { end < self.now }
     {
-        let mut last = 0;
-        let mut at = end;
+        let mut walk = Walk { last: 0, at: end };
         for _ in 0..most {
-            word.push(at)?;
-            let next = self.next(last, at);
-            if next == 0 {
+            word.push(walk.at)?;
+            let Some(next) = self.onward(walk) else {
                 break;
-            }
-            last = at;
-            at = next;
+            };
+            walk = next;
         }
         word.push(0)?;
         Ok(())
     }
 
-    // The neighbour of a place that isn't the last one.
-    fn next(&self, last: u16, at: u16) -> u16
-        requires { at < self.now }
-        ensures { result < self.now }
+    // The next stop: the neighbour that isn't the last place. `None` at the end of the route.
+    fn onward(&self, walk: Walk) -> Option<Walk>
+        requires { walk.at < self.now }
+        ensures { IfSome result (λ next. next.at < self.now) }
     {
-        let stop = self.stop(at);
-        if stop.before == last {
-            stop.after
-        } else {
-            stop.before
+        let Walk { last, at } = walk;
+        let Stop { before, after, .. } = self.stop(at);
+        let next = if before == last { after } else { before };
+        if next == 0 {
+            return None;
         }
+        Some(Walk { last: at, at: next })
     }
 }

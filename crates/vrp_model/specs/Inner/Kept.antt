@@ -1,4 +1,4 @@
--- What an instance keeps: a problem, the least arcs into its places, and whether it is symmetric.
+-- The data of an instance: a problem, the least arcs into its places, and whether it is symmetric.
 use Rattle.std.specs.Prelude.{◌↔◌, ℕ, Bool, IsTrue, Option, List}
 use Rattle.vrp_model.specs.Inner.LeastArcs.{AreLeastArcs}
 use Rattle.vrp_model.specs.Problem.{IsProblem, IsSymmetric, Problem}

@@ -1,4 +1,4 @@
--- A mark for each node number tells whether the node is listed.
+-- A mark for each node number says whether the node is listed.
 use Rattle.std.specs.Prelude.{◌≡◌, ℕ, ◌+◌, ◌≤◌, Bool, false, List, length, slice_index_or}
 use Rattle.vrp_model.specs.Request.{is_listed}
 use Rattle.vrp_model.specs.declared.limits.TheConstants.{MAX_NODES}

@@ -1,4 +1,4 @@
--- The places that the nodes of a file become.
+-- The places of a file's nodes.
 use Rattle.std.specs.Prelude.{◌≡◌, ℕ, ◌+◌, ◌≤◌, ◌<◌, false, not, List, ◌∷◌, length, filter, slice_index}
 use Rattle.std.specs.List.{range_with_len}
 use Rattle.vrp_model.specs.Request.{is_listed}
@@ -8,7 +8,7 @@ pub record ArePlaces (depots : List ℕ) (depot nodes : ℕ) (places : List ℕ)
   pub value : places ≡ depot ∷ filter (λ node. not (is_listed depots node)) (range_with_len 1 nodes)
   pub some : 1 ≤ length places
   pub few : length places ≤ nodes + 1
-  -- the depot is no customer, so there is one place less from its node on
+  -- the depot is not a customer, so from its node on there is one place less
   pub fewer : depot ≤ nodes → length places ≤ nodes
   pub depot_first : slice_index places 0 ≡ depot
   pub from_one : (k : ℕ) → k < length places → 1 ≤ slice_index places k

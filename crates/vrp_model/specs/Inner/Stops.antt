@@ -1,4 +1,4 @@
--- Routes that lie one after the other in one list of stops.
+-- Routes stored one after the other in one list of stops.
 use Rattle.std.specs.Prelude.{◌≡◌, ℕ, ◌≤◌, List, map, length, slice_range}
 use Rattle.std.specs.List.{All}
 use Rattle.std.specs.List.Sorted.{IsStrictlyIncreasing}
@@ -21,7 +21,7 @@ pub record ArePlanStops (word : List ℕ) (spans : List Span) : Type 0 where
   pub is_word : word ≡ word_of (routes_in word spans)
   pub rising : IsStrictlyIncreasing (first_stops (routes_in word spans))
 
--- what is left of a feasible word behind some of its routes
+-- the rest of a feasible word behind some of its routes
 pub record IsWordEnd (rest : List ℕ) : Type 0 where
   pub stops : HasStops 0 rest
   pub ends : last_symbol rest ≡ 0

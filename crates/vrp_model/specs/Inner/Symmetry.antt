@@ -1,10 +1,10 @@
--- A square of weights that has the same weight there and back.
+-- A symmetric square of weights.
 use Rattle.std.specs.Prelude.{◌≡◌, ℕ, ◌+◌, ◌*◌, ◌<◌, List, slice_index}
 
--- between a place and each one before it
+-- symmetric between a place and each one before it
 abbrev pub IsSameBack : List ℕ → ℕ → ℕ → Type 0
 IsSameBack weights places from = (to : ℕ) → to < from → slice_index weights (from * places + to) ≡ slice_index weights (to * places + from)
 
--- between any two places
+-- symmetric between any two places
 abbrev pub IsSymmetricSquare : List ℕ → ℕ → Type 0
 IsSymmetricSquare weights places = (from to : ℕ) → from < places → to < places → slice_index weights (from * places + to) ≡ slice_index weights (to * places + from)

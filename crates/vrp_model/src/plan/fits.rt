@@ -1,4 +1,4 @@
-//! Whether a plan is feasible for an instance, and has its true cost there.
+//! Whether a plan is feasible for an instance, with its true cost.
 ghost use Rattle.std.specs.Prelude.{◌≡◌, ◌≢◌, ◌≤◌, ◌<◌, IsTrue, ◌↔◌, [], length};
 ghost use Rattle.std.specs.List.{All};
 ghost use Rattle.vrp_model.specs.Problem.{HasTrucks, IsProblem, place_count};
@@ -8,8 +8,8 @@ use super::{Plan, route_cost};
 use crate::instance::Instance;
 
 impl Plan {
-    /// Whether this is a feasible plan of the instance, and costs there what it says. A plan is made for one instance, but nothing
-    /// in it names that one: beside another it may leave customers out, overload a truck or cost something else.
+    /// Whether this is a feasible plan of the instance with its true cost. A plan is made for one instance, but does not name
+    /// it: for another one it may leave out customers, overload a truck or have a different cost.
     pub fn fits(&self, instance: &Instance) -> bool
         ensures { IsTrue result ↔ IsPlanOf instance.now self.now }
     {
@@ -20,11 +20,11 @@ impl Plan {
             && self.has_its_cost(instance)
     }
 
-    // Whether each customer stands in one route, once, and nothing else stands in any: there are as many stops as customers, and
-    // each customer is one of them.
+    // Whether each customer is in exactly one route, once, and nothing else is in any: there are as many stops as customers,
+    // and each customer is one of them.
     fn serves_each_once(&self, instance: &Instance) -> bool
         ensures served { IsTrue result ↔ ServesEachOnce instance.now self.now.routes }
-        // What is known of every instance.
+        // An invariant of every instance.
         ensures problem { IsProblem instance.now }
     {
         let customers = instance.customers();
@@ -75,7 +75,7 @@ impl Plan {
         }
     }
 
-    // Whether the routes cost together what the plan says. What is left of that is counted down, so no sum grows too large.
+    // Whether the routes together cost what the plan says. The remaining amount is counted down, so no sum gets too large.
     fn has_its_cost(&self, instance: &Instance) -> bool
         requires problem { IsProblem instance.now }
         requires served { ServesEachOnce instance.now self.now.routes }
@@ -93,7 +93,7 @@ impl Plan {
     }
 }
 
-// Whether one truck can carry what these stops demand. A load above the capacity is not added to.
+// Whether these stops' demand fits on one truck. Once the load is above the capacity, nothing is added to it.
 fn is_carried(instance: &Instance, stops: &[u16]) -> bool
     requires { All (λ stop. stop < place_count instance.now) stops.now }
     ensures { IsTrue result ↔ load_of instance.now stops.now ≤ instance.now.capacity }

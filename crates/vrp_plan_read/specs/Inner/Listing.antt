@@ -1,4 +1,4 @@
--- What is kept of the lines of a text while they are read.
+-- The data kept from the lines of a text while they are read.
 use Rattle.std.specs.Prelude.{◌≡◌, ◌≢◌, ◌⊎◌, ℕ, ℤ, pos, Option, Some, None, Ok, IsErr, List, [], ◌∷◌, ◌++◌, filter, map}
 use Rattle.std.specs.List.{All, Contains}
 use Rattle.vrp_model.specs.Problem.{Problem, customers}
@@ -20,18 +20,18 @@ given_route route = record { number = route.number; stops = route.stops.items }
 abbrev pub given_routes : List Route → List GivenRoute
 given_routes routes = map given_route routes
 
--- the line of a cost that is stated, if one is
+-- the line of the stated cost, if there is one
 abbrev pub cost_lines : Option StatedCost → List Line
 cost_lines None = []
 cost_lines (Some cost) = Cost (number_stated cost) ∷ []
 
--- the same, if that is whole
+-- the stated cost, if it is whole
 abbrev pub kept_cost : Option StatedCost → Option ℕ
 kept_cost None = None
 kept_cost (Some (Whole cost)) = Some cost
 kept_cost (Some Fraction) = None
 
--- nothing is wrong with these lines, and this is what they list
+-- no line is at fault, and this is what the lines list
 pub record Keeps (p : Problem) (lines : List Line) (listing : Listing) : Type 0 where
   pub said : All IsSaid lines
   pub costs : filter is_cost lines ≡ cost_lines listing.cost
@@ -40,7 +40,7 @@ pub record Keeps (p : Problem) (lines : List Line) (listing : Listing) : Type 0 
   pub kept : given_routes listing.routes.items ≡ with_stops given
   pub customers : All (λ route. AreCustomers p route.stops) (given_routes listing.routes.items)
 
--- a stop behind customers is no whole number, or no customer
+-- a stop behind customers is not a whole number, or not a customer
 abbrev pub IsStopFault : Problem → ℕ → ℕ → List Number → SolutionError → Type 0
 IsStopFault p line route stops fault =
     ((fault ≡ error.BadNumber line) × ((bad : Number) × IsErr bad × FollowsCustomers p stops bad))
@@ -52,12 +52,12 @@ pub record IsCostAdded (cost : StatedCost) (old new : Listing) : Type 0 where
   pub stated : new.cost ≡ Some cost
   pub routes : new.routes ≡ old.routes
 
--- a route is listed: without stops it counts for nothing
+-- a route is listed; a route without stops is ignored
 pub record IsRouteAdded (number : ℕ) (stops : List ℕ) (old new : Listing) : Type 0 where
   pub cost : new.cost ≡ old.cost
   pub routes : given_routes new.routes.items ≡ given_routes old.routes.items ++ with_stops (record { number = number; stops = stops } ∷ [])
 
--- why a text with such a line is refused
+-- the reason for refusing a text with such a line
 abbrev pub fault_at : ℕ → LineError → SolutionError
 fault_at line bad.Unknown = error.UnknownLine line
 fault_at line bad.BadNumber = error.BadNumber line

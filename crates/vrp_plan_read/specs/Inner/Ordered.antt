@@ -1,14 +1,14 @@
--- The routes of a solution in the order of a word, each turned as it runs forward.
+-- The routes of a solution in the order of a word, each oriented to run forward.
 use Rattle.std.specs.Prelude.{ℕ, ◌==◌, Bool, if◌then◌else◌, min, List, map, reverse, slice_index}
 use Rattle.std.specs.List.Sorted.{IsNonDecreasing, IsPermutation}
 use Rattle.vrp_model.specs.Word.{last_symbol}
 use Rattle.vrp_model.specs.Route.{AreTurned}
 
--- where a route is to start: in a symmetric problem at the lower of its ends
+-- the stop where a route starts: in a symmetric problem the lower of its ends
 abbrev pub start_of : Bool → List ℕ → ℕ
 start_of symmetric stops = if symmetric then min (slice_index stops 0) (last_symbol stops) else slice_index stops 0
 
--- the route, from there on
+-- the route, reversed if it starts at its other end
 abbrev pub turned : Bool → List ℕ → List ℕ
 turned symmetric stops = if start_of symmetric stops == slice_index stops 0 then stops else reverse stops
 
@@ -17,7 +17,7 @@ pub record AreOrdered (symmetric : Bool) (listed ordered : List (List ℕ)) : Ty
   pub same : IsPermutation listed ordered
   pub rising : IsNonDecreasing (map (start_of symmetric) ordered)
 
--- the routes of a plan are these, each as listed or turned round, in some order
+-- the plan's routes are these, each as listed or reversed, in some order
 pub record AreRoutesOf (listed routes : List (List ℕ)) : Type 0 where
   pub ordered : List (List ℕ)
   pub same : IsPermutation listed ordered

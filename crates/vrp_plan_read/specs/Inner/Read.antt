@@ -1,4 +1,4 @@
--- What is answered of a line, and what the line says.
+-- The answer for a line, and the meaning of the line.
 use Rattle.std.specs.Prelude.{◌≡◌, ℕ, pos, neg_ℤ, Result, Ok, Err, IsErr, List, map}
 use Rattle.vrp_text_lexer.specs.Numeral.{number_of}
 use Rattle.vrp_text_lexer.specs.declared.fault.FileLineFault.TheVariants.{BadNumber, NotWhole}
@@ -16,28 +16,28 @@ abbrev pub number_stated : StatedCost → Number
 number_stated (Whole cost) = Ok (pos cost)
 number_stated Fraction = Err NotWhole
 
--- a cost that is no number, or a route whose number is none
+-- a cost that is not a number, or a route whose number is not one
 abbrev pub HasNoNumber : Line → Type 0
 HasNoNumber Blank = ⊥
 HasNoNumber (Route number stops) = IsErr number
 HasNoNumber (Cost cost) = cost ≡ Err BadNumber
 HasNoNumber Unknown = ⊥
 
--- what is wrong with a line
+-- the fault of a line
 abbrev pub IsWrong : Line → LineError → Type 0
 IsWrong line fault.Unknown = line ≡ Unknown
 IsWrong line fault.BadNumber = HasNoNumber line
 
--- what is read of the tokens behind the word of a cost
+-- the result of reading the tokens behind the word of a cost
 abbrev pub IsCostRead : Line → Result StatedCost LineError → Type 0
 IsCostRead line (Ok cost) = line ≡ Cost (number_stated cost)
 IsCostRead line (Err error) = IsWrong line error
 
--- a route's stops that are still tokens
+-- the stops of a route whose stops are still tokens
 abbrev pub stops_written : List (List ℕ) → List Number
 stops_written tokens = map (number_of (neg_ℤ MAX_NUMBER) MAX_NUMBER) tokens
 
--- what is read of a line
+-- the result of reading a line
 abbrev pub IsRead : Line → Result Said LineError → Type 0
 IsRead line (Ok said.Nothing) = line ≡ Blank
 IsRead line (Ok (said.Route number stops)) = line ≡ Route (Ok (pos number)) (stops_written stops)

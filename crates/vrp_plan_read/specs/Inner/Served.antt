@@ -1,4 +1,4 @@
--- Whom the routes serve that were looked at so far, and what is wrong with routes.
+-- The customers served by the routes so far, and the faults of routes.
 use Rattle.std.specs.Prelude.{◌≡◌, ◌≢◌, ℕ, ◌<◌, Bool, false, List, ◌∷◌, ◌++◌, length, slice_index_or}
 use Rattle.std.specs.List.{AllPairs, Contains, concat}
 use Rattle.vrp_model.specs.Problem.{Problem, place_count}
@@ -11,11 +11,11 @@ use Rattle.vrp_plan_read.specs.declared.error.SolutionError.TheVariants as error
 abbrev pub AreDifferent : List ℕ → Type 0
 AreDifferent stops = AllPairs (λ a b. a ≢ b) stops
 
--- a flag for each place tells whether it stands among these stops
+-- a flag for each place says whether it is among these stops
 abbrev pub Marks : List Bool → List ℕ → Type 0
 Marks flags stops = (k : ℕ) → k < length flags → slice_index_or flags k false ≡ stands_in stops k
 
--- the first stop that stands among those that were passed, or earlier among these
+-- the first stop that is among the passed ones, or occurs earlier among these
 pub record StandsTwice (passed stops : List ℕ) (stop : ℕ) : Type 0 where
   pub before : List ℕ
   pub behind : List ℕ
@@ -23,14 +23,14 @@ pub record StandsTwice (passed stops : List ℕ) (stop : ℕ) : Type 0 where
   pub once : AreDifferent (passed ++ before)
   pub again : Contains (passed ++ before) stop
 
--- nothing is wrong with these routes, and the flags tell whom they serve
+-- these routes have no fault, and the flags mark the customers they serve
 pub record AreServed (p : Problem) (flags : List Bool) (routes : List (List ℕ)) : Type 0 where
   pub places : length flags ≡ place_count p
   pub marks : Marks flags (concat routes)
   pub once : AreDifferent (concat routes)
   pub fits : OverloadsNoTruck p routes
 
--- routes are refused for this, and it is so
+-- routes are refused for a reason that holds
 abbrev pub AreFaulty : Problem → List GivenRoute → SolutionError → Type 0
 AreFaulty p routes (error.UnknownLine line) = ⊥
 AreFaulty p routes (error.BadNumber line) = ⊥

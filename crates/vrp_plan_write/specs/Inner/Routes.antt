@@ -9,7 +9,7 @@ use Rattle.vrp_model.specs.Problem.{Problem}
 abbrev pub IsRoute : Problem → List ℕ → Data → Type 0
 IsRoute p stops route = (cost : ℕ) × (load : ℕ) × (route ≡ route_object cost load (customers_of stops) (nodes_of p stops))
 
--- one for each route, in order
+-- an object for each route, in order
 abbrev pub AreRoutes : Problem → List (List ℕ) → List Data → Type 0
 AreRoutes p [] [] = ⊤
 AreRoutes p [] (value ∷ values) = ⊥

@@ -1,4 +1,4 @@
--- What is needed to search all pieces of a cutting, and what is answered then.
+-- The requirements for searching all pieces of a cutting, and the answer.
 use Rattle.std.specs.Prelude.{◌≡◌, ◌*◌, ◌≤◌, ℕ, List, length}
 use Rattle.vrp_model.specs.Cheapest.{NoneCheaper, cost_of}
 use Rattle.vrp_search_tree.specs.Cutting.{IsCutting}
@@ -9,7 +9,7 @@ use Rattle.vrp_pool_answer.specs.Outcomes.{Search}
 use Rattle.vrp_pool_answer.specs.declared.answers.Answer.{Answer}
 use Rattle.vrp_pool_answer.specs.declared.answers.Solved.{Solved}
 
--- the pieces are those of a cutting of the problem, and neither they nor the workers are too many
+-- the pieces are those of a cutting of the problem, and neither pieces nor workers are too many
 pub record CanSolve (s : Search) (cutting : List (List ℕ)) (workers : ℕ) : Type 0 where
   pub is_cutting : IsCutting s.problem cutting
   pub few : length cutting ≤ 2 * MAX_REFINED
@@ -17,12 +17,12 @@ pub record CanSolve (s : Search) (cutting : List (List ℕ)) (workers : ℕ) : T
   pub some_worker : 1 ≤ workers
   pub few_workers : workers ≤ MAX_WORKERS
 
--- an answer of the search, whose plan costs no more than the plan to begin with
+-- an answer of the search, whose plan costs no more than the start plan
 pub record IsAnswered (s : Search) (cutting : List (List ℕ)) (answer : Answer) : Type 0 where
   pub is_answer : IsAnswer s.problem cutting s.budget s.may_stop answer
   pub no_costlier : cost_of (known_plan answer) ≤ cost_of s.start_plan
 
--- such an answer, and what each feasible plan costs at least
+-- an answer of the search, and a lower bound on each feasible plan
 pub record IsSolved (s : Search) (cutting : List (List ℕ)) (solved : Solved) : Type 0 where
   pub answered : IsAnswered s cutting solved.answer
   pub bound : NoneCheaper s.problem solved.lower_bound

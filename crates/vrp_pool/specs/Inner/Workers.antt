@@ -1,4 +1,4 @@
--- What is known of a worker, and of all workers together, while they draw pieces and search them.
+-- Facts about a worker, and about all workers together, while they draw pieces and search them.
 use Rattle.std.specs.Prelude.{◌≡◌, ℕ, ◌+◌, ◌≤◌, ◌<◌, Bool, false, None, List, [], ◌++◌, length, slice_index_or}
 use Rattle.std.specs.List.{All}
 use Rattle.std.specs.Option.{ForSome}
@@ -26,13 +26,14 @@ ArePrefixes s pieces = All (λ piece. IsPrefix s.problem piece.word) pieces
 
 -- ---- the work of one worker
 
--- a worker whose plan is feasible, that draws from a pile of prefixes, and whose board may stop where the search may
+-- a worker whose plan is feasible, that draws from a pile of prefixes, and whose board may stop only if the search may
 pub record CanWork (s : Search) (worker : WorkerState) : Type 0 where
   pub prefixes : ArePrefixes s worker.drawer.put
   pub serves : ForSome worker.board.best (IsPlanOf s.problem)
   pub may_stop : worker.board.may_stop ≡ s.may_stop
 
--- the same worker, later: it draws from the same pile, its plan is feasible, and neither that nor the floor costs more
+-- a later state of the worker: it draws from the same pile, its plan is feasible, and neither the plan nor the floor costs
+-- more
 pub record IsWorked (s : Search) (old new : WorkerState) : Type 0 where
   pub pile : new.drawer.pile ≡ old.drawer.pile
   pub parts : new.drawer.parts ≡ old.drawer.parts
@@ -41,7 +42,7 @@ pub record IsWorked (s : Search) (old new : WorkerState) : Type 0 where
   pub later : IsLater old.board new.board
   pub falls : floor_of new.board ≤ floor_of old.board
 
--- each piece that it drew meanwhile has its outcome
+-- each piece drawn between the two states has its outcome
 pub record HasSearched (s : Search) (old new : WorkerState) : Type 0 where
   pub pieces : List NumberedWord
   pub outcomes : List PieceOutcome
@@ -49,11 +50,11 @@ pub record HasSearched (s : Search) (old new : WorkerState) : Type 0 where
   pub more : new.outcomes ≡ old.outcomes ++ outcomes
   pub kept : AreOutcomes s (floor_of new.board) pieces outcomes
 
--- both of it
+-- both `IsWorked` and `HasSearched`
 abbrev pub HasWorked : Search → WorkerState → WorkerState → Type 0
 HasWorked s old new = IsWorked s old new × HasSearched s old new
 
--- a helper, after its work: unless memory was refused each piece that it drew has its outcome
+-- a helper after its work: unless memory was refused, each piece that it drew has its outcome
 pub record HasHelped (s : Search) (old new : WorkerState) : Type 0 where
   pub worked : IsWorked s old new
   pub searched : new.refused ≡ false → HasSearched s old new
@@ -71,7 +72,7 @@ IsNewCaller register caller = IsCallerOf register caller × (caller.known.mine �
 abbrev pub AreNewCallers : RegisterState → List CallerState → Type 0
 AreNewCallers register callers = All (IsNewCaller register) callers
 
--- the worker who is this caller, and has done nothing yet
+-- the worker of this caller, before it has done anything
 abbrev pub new_worker : Search → RegisterState → CallerState → DrawerState → WorkerState
 new_worker s register caller drawer = record { drawer = drawer; board = record { register = register; caller = caller; best = None; may_stop = s.may_stop }; outcomes = []; refused = false }
 
@@ -81,12 +82,12 @@ pub record IsWorker (s : Search) (register : RegisterState) (pile : PileId) (wor
   pub of_pile : worker.drawer.pile ≡ pile
   pub of_register : worker.board.register ≡ register
 
--- each piece that it drew has its outcome
+-- each piece that the worker drew has its outcome
 abbrev pub HasOutcomes : Search → WorkerState → Type 0
 HasOutcomes s worker = AreOutcomes s (floor_of worker.board) worker.drawer.drawn worker.outcomes
 
--- The lead draws as the owner of the pile and each helper as a thief. The drawers are all of the pile's, and the workers are all
--- callers of the register
+-- The lead draws as the owner of the pile and each helper as a thief. Their drawers are all of the pile's, and their callers
+-- all of the register's.
 pub record IsTeam (s : Search) (register : RegisterState) (lead : WorkerState) (helpers : List WorkerState) : Type 0 where
   pub lead_is : IsWorker s register lead.drawer.pile lead
   pub lead_has : HasOutcomes s lead
@@ -95,12 +96,12 @@ pub record IsTeam (s : Search) (register : RegisterState) (lead : WorkerState) (
   pub parts : lead.drawer.parts + length helpers ≡ MAX_DRAWERS
   pub callers : length helpers + 1 ≡ register.callers
 
--- each cost that a caller offered is no less than this plan's
+-- each cost that the caller offered is at least this plan's
 abbrev pub CostsNoLess : ℕ → CallerState → Type 0
 CostsNoLess cost caller = All (λ offer. cost ≤ offer.cost) caller.known.mine
 
--- The lead took in a helper, to whom memory was not refused, and this is the helper's caller: what the helper drew counts as drawn
--- by the lead, its outcomes are the lead's, and its plan is not before the lead's
+-- The lead took in a helper to whom memory was not refused, and this is the helper's caller: the helper's pieces count as
+-- drawn by the lead, its outcomes are the lead's, and its plan is not before the lead's.
 pub record IsTakenOver (s : Search) (old helper : WorkerState) (caller : CallerState) (new : WorkerState) : Type 0 where
   pub fine : helper.refused ≡ false
   pub drawer : IsTakenIn old.drawer helper.drawer new.drawer
@@ -112,7 +113,7 @@ pub record IsTakenOver (s : Search) (old helper : WorkerState) (caller : CallerS
   pub one_of : IsCallerOf helper.board.register caller
   pub no_less : CostsNoLess (cost_of new.board.best) caller
 
--- The lead has taken over the helpers who are these callers, and the rest is still to come
+-- The lead has taken in the helpers with these callers, and the rest is still to come.
 pub record IsPartly (s : Search) (register : RegisterState) (put : List NumberedWord) (callers : List CallerState) (rest : List WorkerState) (lead : WorkerState) : Type 0 where
   pub lead_is : IsWorker s register lead.drawer.pile lead
   pub put_is : lead.drawer.put ≡ put
@@ -124,8 +125,8 @@ pub record IsPartly (s : Search) (register : RegisterState) (put : List Numbered
   pub parts : lead.drawer.parts + length rest ≡ MAX_DRAWERS
   pub many : length callers + length rest + 1 ≡ register.callers
 
--- All pieces are drawn, and each has its outcome. The callers are all of the register's, and none has offered a cost below that of
--- the best plan
+-- All pieces are drawn, and each has its outcome. These are all of the register's callers, and none has offered a cost below
+-- that of the best plan.
 pub record AreBack (s : Search) (register : RegisterState) (callers : List CallerState) (searched : Searched) : Type 0 where
   pub all_callers : AreCallersOf register callers
   pub best_of : ForSome searched.best (IsPlanOf s.problem)

@@ -1,4 +1,4 @@
--- The rule of a pile: what holds between any two steps, whichever drawer makes them.
+-- The rule of a pile: an invariant between any two steps of any drawers.
 use Rattle.std.specs.Prelude.{◌≡◌, ℕ, ◌+◌, ◌<◌, ◌≤◌, ◌++◌, List, [], length}
 use Rattle.std.specs.List.{All, Contains, sum_by}
 use mathlib.Core.Option.{some}
@@ -11,17 +11,17 @@ use Rattle.vrp_pool_pile.specs.declared.limits.TheConstants.{MAX_DRAWERS}
 abbrev pub draws : ℕ → List NumberedWord → List NumberedWord → Draws
 draws parts put drawn = record { parts = parts; put = put; drawn = drawn }
 
--- a drawer that knows this, as contracts see it
+-- a drawer with this knowledge, as contracts see it
 abbrev pub drawer : PileId → Draws → DrawerState
 drawer pile v = record { pile = pile; parts = v.parts; put = v.put; drawn = v.drawn }
 
--- who has a part knows what was put on the pile, and who has none has drawn nothing
+-- a drawer with a part knows the pieces put on the pile, and one without has drawn nothing
 pub record Knows (pieces : List NumberedWord) (v : Draws) : Type 0 where
   pub put : 0 < v.parts → v.put ≡ pieces
   pub drawn : v.parts ≡ 0 → v.drawn ≡ []
 
--- all parts are given out; those that are left are the last that were put on the pile; and however pieces are weighed, those that were
--- drawn and those that are left weigh what was put on the pile
+-- all parts are given out; the remaining pieces are the last ones put on the pile; and for every weighting, the drawn and the
+-- remaining pieces together weigh as much as those put on the pile
 pub record IsPiled (left : List NumberedWord) (views : List Draws) : Type 0 where
   pub put : List NumberedWord
   pub gone : List NumberedWord
@@ -30,7 +30,7 @@ pub record IsPiled (left : List NumberedWord) (views : List Draws) : Type 0 wher
   pub weights : (weight : NumberedWord → ℕ) → sum_by (λ v. sum_by weight v.drawn) views + sum_by weight left ≡ sum_by weight put
   pub known : (port : ℕ) (v : Draws) → get_elem? views port ≡ some v → Knows put v
 
--- a drawer drew these pieces, each the oldest that was left
+-- a drawer drew these pieces, each the oldest at its time
 pub record Draw (v : Draws) (pieces : List NumberedWord) (w : Draws) : Type 0 where
   pub adds : w ≡ draws v.parts v.put (v.drawn ++ pieces)
   pub among : All (Contains v.put) pieces

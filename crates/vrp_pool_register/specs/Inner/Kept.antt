@@ -1,4 +1,4 @@
--- The rule of the cost word: what holds between any two steps, whichever thread makes them.
+-- The rule of the cost word: an invariant between any two steps of any threads.
 use Rattle.std.specs.Prelude.{◌≡◌, ◌≢◌, ℕ, ◌<◌, List, [], ◌∷◌, true}
 use Rattle.std.specs.List.{All, AllPairs}
 use Rattle.atomic_table.specs.Table.{State}
@@ -8,7 +8,8 @@ use Rattle.vrp_pool_register.specs.Costs.{IsKnown, least_of}
 use Rattle.vrp_pool_register.specs.declared.view.Offer.{Offer}
 use Rattle.vrp_pool_register.specs.declared.view.View.{View}
 
--- the view at an index: what its callers know is so, and each number stands at one index, once; the first seat has made all callers
+-- the view at an index: its callers' knowledge is true, and each number is at one index, once; the first seat has made all
+-- callers
 pub record Fits (opening count : ℕ) (history : List Offer) (views : List View) (place : ℕ → ℕ) (at : ℕ) (v : View) : Type 0 where
   pub known : All (IsKnown opening history) v.callers
   pub placed : All (λ k. place k.number ≡ at) v.callers
@@ -19,7 +20,7 @@ pub record Fits (opening count : ℕ) (history : List Offer) (views : List View)
   pub made : v.makes ≡ true → All (λ o. o.caller < v.next) history
   pub numbers : v.makes ≡ true → (j : ℕ) (w : View) → get_elem? views j ≡ some w → All (λ k. k.number < v.next) w.callers
 
--- there is one history, with offers of this many callers: the word is the least cost in it, and all views are parts of it
+-- there is one history, with offers of this many callers: the word is its least cost, and all views are parts of it
 pub record IsCostState (key : ℕ × ℕ) (s : State ℕ View) : Type 0 where
   pub history : List Offer
   pub place : ℕ → ℕ

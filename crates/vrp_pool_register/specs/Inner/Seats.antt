@@ -1,4 +1,4 @@
--- The seats at the cost word: what contracts see of them, and the views that they hold.
+-- The seats at the cost word, as contracts see them, and their views.
 use Rattle.std.specs.Prelude.{◌≡◌, ℕ, ◌+◌, List, [], ◌∷◌, ◌++◌, true, false}
 use Rattle.atomic_table.specs.Seated.{TableId}
 use Rattle.atomic_table.specs.Table.{Step, Me}
@@ -10,10 +10,10 @@ use Rattle.vrp_pool_register.specs.declared.view.View.{View}
 pub record WordState : Type 0 where
   pub table : TableId
   pub opening : ℕ
-  -- how many callers there may be
+  -- the greatest number of callers
   pub count : ℕ
 
--- the word of a table: the key is the opening cost, and how many callers there may be
+-- the word of a table: its key is the opening cost and the greatest number of callers
 abbrev pub word_of : TableId → ℕ × ℕ → WordState
 word_of table key = record { table = table; opening = key.0; count = key.1 }
 
@@ -21,7 +21,7 @@ word_of table key = record { table = table; opening = key.0; count = key.1 }
 abbrev pub IsOneWord : TableId → Type 0
 IsOneWord table = (table.words ≡ 1) × (table.slots ≡ 0)
 
--- what a register with this word shows
+-- the register with this word, as contracts see it
 abbrev pub register_with : WordState → RegisterState
 register_with word = record { callers = word.count; opening = word.opening; table = word.table }
 
@@ -32,7 +32,7 @@ pub record SeatState : Type 0 where
 pub record MakerState : Type 0 where
   pub table : TableId
   pub opening : ℕ
-  -- how many callers it has made
+  -- the number of callers made so far
   pub next : ℕ
 
 pub record ClosingState : Type 0 where
@@ -43,7 +43,7 @@ pub record ClosingState : Type 0 where
 abbrev pub closing_with : TableId → List Known → ClosingState
 closing_with table callers = record { table = table; callers = callers }
 
--- the first seat, by the view that it holds
+-- the first seat with this view
 abbrev pub maker_at : TableId → View → MakerState
 maker_at table view = record { table = table; opening = view.opening; next = view.next }
 
@@ -51,7 +51,7 @@ maker_at table view = record { table = table; opening = view.opening; next = vie
 abbrev pub new_maker : TableId → ℕ → MakerState
 new_maker table opening = record { table = table; opening = opening; next = 0 }
 
--- the first seat once it has made one caller more
+-- the first seat after it has made one more caller
 abbrev pub maker_after : MakerState → MakerState
 maker_after maker = record { table = maker.table; opening = maker.opening; next = maker.next + 1 }
 
@@ -59,7 +59,7 @@ maker_after maker = record { table = maker.table; opening = maker.opening; next 
 abbrev pub seat_made : TableId → MakerState → SeatState
 seat_made table maker = record { table = table; known = newcomer maker.next maker.opening }
 
--- with one caller more, before the others
+-- the closing seat with one more caller, before the others
 abbrev pub with_caller : Known → ClosingState → ClosingState
 with_caller known closing = closing_with closing.table (known ∷ closing.callers)
 
@@ -85,7 +85,7 @@ first_caller (known ∷ callers) = known
 abbrev pub caller_of : View → Known
 caller_of view = first_caller view.callers
 
--- what a step tells its caller
+-- the effect of a step, as its caller sees it
 abbrev pub Offers : Step ℕ → Me ℕ View → ℕ → Me ℕ View → Type 0
 Offers s v found w = (w ≡ (seat_of (caller_of w.0), [])) × IsOffered (caller_of v.0) s.first found (caller_of w.0)
 

@@ -1,4 +1,4 @@
--- What a search by prices keeps beside a word: what was counted before each symbol.
+-- The priced tallies that a search by prices keeps beside a word, one before each symbol.
 use Rattle.std.specs.Prelude.{◌≡◌, ℕ, ◌<◌, List, length, slice_index_or, take}
 use Rattle.vrp_model.specs.Problem.{IsProblem, Problem}
 use Rattle.vrp_model.specs.Word.{BeginsWith}
@@ -8,12 +8,12 @@ use Rattle.vrp_search_tree.specs.PricedTally.{IsPricedTally}
 use Rattle.vrp_search_tree.specs.Inner.Tallied.{HasRoom}
 use Rattle.vrp_search_tree.specs.declared.priced_tally.PricedTally.{PricedTally}
 
--- what was counted before each symbol
+-- the priced tallies before each symbol
 abbrev pub ArePricedTalliesBefore : Problem → List ℕ → List PricedTally → Type 0
 ArePricedTalliesBefore p word before = (k : ℕ) (other : PricedTally) → k < length word → IsPricedTally p (take k word) (slice_index_or before k other)
 
--- The relaxation is of the partial plan's problem, and what is counted in it keeps in step with the partial plan, whose word is
--- under the root. The list of what was counted before each symbol has room for the longest prefix.
+-- The relaxation belongs to the partial plan's problem, the priced tally is in step with the partial plan, and its word is
+-- under the root. The list of priced tallies has room for the longest prefix.
 pub record IsInStep (r : RelaxationOf) (priced_tally : PricedTally) (before : List PricedTally) (room : ℕ) (root : List ℕ) (at : PartialPlan) : Type 0 where
   pub problem : r.problem ≡ at.problem
   pub relaxed : IsProblem r.relaxed

@@ -5,6 +5,6 @@ use Rattle.vrp_search.specs.Search.{EndsSearch}
 use Rattle.vrp_search_tree.specs.Low.{IsLow}
 use Rattle.vrp_search.specs.declared.depth_first.Ended.{Ended}
 
--- as the search of a piece with this word does, whichever tables give it this low
+-- as a piece's search with this word ends, for any tables that give it this low
 abbrev pub EndsUnder : Problem → List ℕ → ℕ → ℕ → Bool → ℕ → Ended → Type 0
 EndsUnder p root low budget may_stop floor ended = (among : List ℕ) → IsLow p among root (Some low) → EndsSearch p among root budget may_stop floor ended

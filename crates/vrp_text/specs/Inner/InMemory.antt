@@ -1,4 +1,4 @@
--- What a complete file states, without where it lies in memory.
+-- The statements of a complete file, without their place in memory.
 use Rattle.std.specs.Global.{Vec}
 use Rattle.std.specs.Prelude.{ℤ, Option, option_map, Result, Ok}
 use Rattle.vrp_text_lexer.specs.declared.value.WeightFormat.{WeightFormat}
@@ -22,7 +22,7 @@ complete_in complete = record {
   depots = complete.depots.items;
 }
 
--- the matrix of an explicit file, or the first key that is missing
+-- the matrix of an explicit file, or the first missing key
 abbrev pub matrix_in : Option WeightFormat → Option (Vec ℤ) → Result text.Source TextError
 matrix_in format weights = text.matrix_of format (option_map (λ numbers. numbers.items) weights)
 

@@ -5,14 +5,14 @@ use Rattle.vrp_text_lexer.specs.declared.key.Key.{Key}
 use Rattle.vrp_text_lexer.specs.declared.keyword.Keyword.{Keyword}
 use Rattle.vrp_text.specs.Stated.{is_same_key}
 
--- whether a key is marked; a list has a mark for each key, by its rank
+-- whether a key is marked; the list has a mark for each key, by its rank
 abbrev pub is_marked : List Bool → Key → Bool
 is_marked marks key = slice_index_or marks (rank key) false
 
--- one key is marked, and those that were
+-- this key is marked, in addition to the old ones
 abbrev pub AddsKey : List Bool → Key → List Bool → Type 0
 AddsKey old key new = (other : Key) → is_marked new other ≡ (is_marked old other || rank other == rank key)
 
--- the key of a keyword is marked, if it has one, and those that were
+-- the key of a keyword is marked, if it has one, in addition to the old ones
 abbrev pub AddsKeyOf : List Bool → Option Keyword → List Bool → Type 0
 AddsKeyOf old keyword new = (key : Key) → is_marked new key ≡ (is_marked old key || is_same_key key keyword)

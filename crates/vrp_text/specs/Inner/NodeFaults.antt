@@ -1,23 +1,23 @@
--- What is wrong with the nodes of a section, and what is known of those that it gives.
+-- Faults of the nodes in a section, and facts about the nodes it gives.
 use Rattle.std.specs.Prelude.{ℕ, ◌≤◌, ◌<◌, ℤ, Option, List, [], length, slice_index}
 use Rattle.vrp_text_lexer.specs.declared.key.Key.TheVariants as key
 use Rattle.vrp_model.specs.Grid.{IsCoordinate}
 use Rattle.vrp_text.specs.Complete.{bad_node, no_node, node_fault, row_nodes}
 use Rattle.vrp_text.specs.declared.error.TextError.{TextError}
 
--- the first row of coordinates whose node is none, or is given a second time
+-- the first row of coordinates whose number is not a node, or is given a second time
 abbrev pub coordinates_fault : ℕ → List ℤ → Option TextError
 coordinates_fault nodes numbers = node_fault key.NodeCoord (bad_node nodes [] (row_nodes 3 nodes numbers))
 
--- the first row of demands whose node is none, or is given a second time
+-- the first row of demands whose number is not a node, or is given a second time
 abbrev pub demands_fault : ℕ → List ℤ → Option TextError
 demands_fault nodes numbers = node_fault key.Demand (bad_node nodes [] (row_nodes 2 nodes numbers))
 
--- the first depot that is no node
+-- the first depot that is not a node
 abbrev pub depots_fault : ℕ → List ℤ → Option TextError
 depots_fault nodes numbers = node_fault key.Depot (no_node nodes numbers)
 
--- no coordinate of the point is farther from 0 than a file may say
+-- the coordinates of the point are within the limit
 abbrev pub IsPoint : ℤ × ℤ → Type 0
 IsPoint point = IsCoordinate point.0 × IsCoordinate point.1
 

@@ -1,4 +1,4 @@
--- What becomes of a complete file.
+-- The result for a complete file.
 use Rattle.std.specs.Prelude.{◌≡◌, ◌≢◌, ◌⊎◌, ℕ, Option, Some, None}
 use Rattle.vrp_model.specs.Grid.{Grid}
 use Rattle.vrp_model.specs.Problem.{Problem}
@@ -18,7 +18,7 @@ pub record StatesProblem (complete : Complete) (chosen : Option ℕ) (problem : 
   pub acceptable : IsAcceptable (request_from complete chosen grid)
   pub meant : problem ≡ problem_of (request_from complete chosen grid)
 
--- the nodes are right, and no instance can be made, whatever the weights
+-- the nodes are right, but no instance can be made, for any weights
 pub record StatesNoInstance (complete : Complete) (chosen : Option ℕ) (fault : TextError) : Type 0 where
   pub sound : nodes_fault complete ≡ None
   pub of_instance : InstanceError

@@ -1,4 +1,4 @@
--- What the statements of a file become when one more part is read.
+-- How one more part changes the statements of a file.
 use Rattle.std.specs.Prelude.{ℕ, ◌≤◌, ℤ, Bool, Option, Some, None, List, IfSome}
 use Rattle.std.specs.Option.{option_or}
 use Rattle.std.specs.Result.{result_ok}
@@ -27,7 +27,7 @@ nothing_stated = record {
   depots = None;
 }
 
--- with the value of a key; a section has none
+-- the statements with the value of a key added; a section has none
 abbrev pub with_value : Bool → Key → List (List ℕ) → Stated → Stated
 with_value explicit key.Problem tokens stated = record stated { problem = result_ok (problem_type (value_of tokens)) }
 with_value explicit key.Dimension tokens stated = record stated { nodes = result_ok (dimension (value_of tokens)) }
@@ -39,7 +39,7 @@ with_value explicit key.EdgeWeight tokens stated = stated
 with_value explicit key.Demand tokens stated = stated
 with_value explicit key.Depot tokens stated = stated
 
--- with the numbers of a section
+-- the statements with the numbers of a section added
 abbrev pub with_numbers : Key → List ℤ → Stated → Stated
 with_numbers key.Problem numbers stated = stated
 with_numbers key.Dimension numbers stated = stated
@@ -51,7 +51,7 @@ with_numbers key.EdgeWeight numbers stated = record stated { weights = Some numb
 with_numbers key.Demand numbers stated = record stated { demands = Some numbers }
 with_numbers key.Depot numbers stated = record stated { depots = Some numbers }
 
--- the numbers may stand in the section of a key
+-- the numbers are allowed in the section of a key
 abbrev pub FitKey : Key → List ℤ → Type 0
 FitKey key.Problem numbers = Unit {0}
 FitKey key.Dimension numbers = Unit {0}
@@ -63,7 +63,7 @@ FitKey key.EdgeWeight numbers = AreWithin section.Weights 0 numbers
 FitKey key.Demand numbers = AreWithin section.Demands 0 numbers
 FitKey key.Depot numbers = AreWithin section.Depots 0 numbers
 
--- what is known of all that is stated
+-- an invariant of all statements
 pub record AreInRange (stated : Stated) : Type 0 where
   pub some_nodes : IfSome stated.nodes (λ nodes. 1 ≤ nodes)
   pub few_nodes : IfSome stated.nodes (λ nodes. nodes ≤ MAX_NODES)
@@ -73,7 +73,7 @@ pub record AreInRange (stated : Stated) : Type 0 where
   pub demands : IfSome stated.demands (AreWithin section.Demands 0)
   pub depots : IfSome stated.depots (AreWithin section.Depots 0)
 
--- with all that a part states
+-- the statements with all those of a part added
 abbrev pub with_part : Bool → Option Keyword → List (List ℕ) → List ℤ → Stated → Stated
 with_part explicit None tokens numbers stated = stated
 with_part explicit (Some keyword.Remark) tokens numbers stated = stated
@@ -82,12 +82,12 @@ with_part explicit (Some keyword.Unsupported) tokens numbers stated = stated
 with_part explicit (Some keyword.End) tokens numbers stated = stated
 with_part explicit (Some (keyword.Key key)) tokens numbers stated = with_numbers key numbers (with_value explicit key tokens stated)
 
--- the first fault of a part, whose data lines begin on this line
+-- the first fault of a part whose data lines begin on this line
 abbrev pub fault_of_part : Bool → (Key → Bool) → ℕ → Option Keyword → List (List ℕ) → ℕ → List (List (List ℕ)) → Option TextError
 fault_of_part explicit borne line keyword tokens next data_lines =
     option_or (on_line line (keyword_fault explicit borne keyword tokens)) (content_fault (content_of explicit keyword) next data_lines)
 
--- with what stands on the line of a keyword
+-- the statements with those of a keyword's line added
 abbrev pub with_keyword : Bool → Option Keyword → List (List ℕ) → Stated → Stated
 with_keyword explicit None tokens stated = stated
 with_keyword explicit (Some keyword.Remark) tokens stated = stated
@@ -96,12 +96,12 @@ with_keyword explicit (Some keyword.Unsupported) tokens stated = stated
 with_keyword explicit (Some keyword.End) tokens stated = stated
 with_keyword explicit (Some (keyword.Key key)) tokens stated = with_value explicit key tokens stated
 
--- the numbers that give the weights may stand in their section
+-- the numbers that give the weights are allowed in their section
 abbrev pub IsSourceInRange : Source → Type 0
 IsSourceInRange (Points metric numbers) = AreWithin section.Coordinates 0 numbers
 IsSourceInRange (Matrix layout numbers) = AreWithin section.Weights 0 numbers
 
--- what is known of a complete file
+-- an invariant of a complete file
 pub record IsInRange (complete : Complete) : Type 0 where
   pub some_nodes : 1 ≤ complete.nodes
   pub few_nodes : complete.nodes ≤ MAX_NODES

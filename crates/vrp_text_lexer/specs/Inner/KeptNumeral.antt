@@ -1,4 +1,4 @@
--- Numerals as the program keeps them: their digits are one number.
+-- Numerals as the program keeps them: all digits form one number.
 use Rattle.std.specs.Prelude.{◌+◌, ◌*◌, ◌^◌, ◌/◌, ◌%◌, ◌==◌, ◌<◌, ◌≤◌, ℤ, if◌then◌else◌, Option, Some, None}
 use Rattle.std.specs.Str.Parse.{digits_value}
 use Rattle.vrp_text_lexer.specs.Numeral as written
@@ -15,7 +15,7 @@ read_power power = record { up = power.up; down = power.down }
 abbrev pub read_numeral : written.Numeral → Numeral
 read_numeral numeral = record { negative = numeral.negative; digits = digits_value 10 numeral.digits; places = numeral.places; power = read_power numeral.power }
 
--- the exact value, where it is whole
+-- the exact value, if it is whole
 abbrev pub read_value : Numeral → Option ℤ
 read_value numeral =
     let size = numeral.digits * 10 ^ numeral.power.up in

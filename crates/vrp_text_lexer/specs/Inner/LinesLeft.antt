@@ -1,9 +1,9 @@
--- What is left of a CVRP file while it is read.
+-- The rest of a CVRP file while it is read.
 use Rattle.std.specs.Prelude.{ℕ, Bool, List, [], ◌∷◌, if◌then◌else◌}
 use Rattle.vrp_text_lexer.specs.Line.{Line, Heading, Data}
 use Rattle.vrp_text_lexer.specs.Part.{Part, before_end, ends_file, leading_data, parts_from}
 
--- the lines that are left, and the number of the first of them
+-- the remaining lines, and the number of the first of them
 pub record LinesLeft : Type 0 where
   pub number : ℕ
   pub lines : List Line
@@ -18,7 +18,7 @@ parts_left left = parts_from left.number left.lines
 abbrev pub data_left : LinesLeft → List (List (List ℕ))
 data_left left = leading_data left.lines
 
--- the lines before EOF, where this line stands before those that are before EOF
+-- the lines before EOF, when this line precedes those before EOF
 abbrev pub line_before : Line → List Line → List Line
 line_before (Data tokens) lines = Data tokens ∷ lines
 line_before (Heading keyword tokens) lines = if ends_file keyword then [] else Heading keyword tokens ∷ lines

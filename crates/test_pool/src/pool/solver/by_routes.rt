@@ -1,4 +1,4 @@
-//! Answers by useful routes: of many plans that cost as little any number of workers finds the first.
+//! Answers by useful routes: of many plans of equal cost, any number of workers finds the first.
 ghost use Rattle.std.specs.Prelude.{true};
 
 use super::*;
@@ -6,17 +6,17 @@ use crate::pool::fixture::{four_trucks, grid, ten_nodes};
 use std::sync::atomic::{AtomicU64, Ordering};
 use vrp_pool::Event;
 
-// Until when a gate goes on.
+// The stage up to which a gate continues.
 #[derive(Clone, Copy, Debug, PartialEq)]
 enum Until {
     TheEnd,
-    // Until routes are chosen among.
+    // Until the choice among routes begins.
     Choice,
-    // Until the choice among them came by a cheaper plan than any before.
+    // Until the choice finds a plan cheaper than any before.
     CheaperChoice,
 }
 
-// Goes on from where it was asked this often before.
+// Continues once it was asked this often.
 #[derive(Drop)]
 struct ContinuesLater {
     from: u64,
@@ -24,11 +24,11 @@ struct ContinuesLater {
     asked: AtomicU64,
     // The least cost of a plan so far.
     least: AtomicU64,
-    // What the cheaper plan costs by which the choice came, 0 before.
+    // The cost of the cheaper plan that the choice found, 0 before.
     cheaper: AtomicU64,
-    // Of useful routes, among which is chosen.
+    // The number of useful routes in the choice.
     routes: AtomicU64,
-    // Of pieces.
+    // The number of finished pieces.
     done: AtomicU64,
 }
 
@@ -81,9 +81,9 @@ impl Gate for ContinuesLater {
     }
 }
 
-// The columns and rows of a grid, the capacity of a truck, how many pieces, the budget of each, and the cost and the word of the first
-// plan, which a slow program found outside. The trees take more partial plans than the first look, which has 20,000 and no more than the
-// budget.
+// The columns and rows of a grid, the capacity, the number of pieces, the budget of each, and the cost and the word of the
+// first plan, which a slow program outside found. The trees have more partial plans than the first look allows, which is
+// 20,000 and at most the budget.
 const GRIDS: &[((u16, u16), u64, (u32, u64), u64, &[u16])] = &[
     (
         (3, 3),
@@ -115,8 +115,8 @@ const GRIDS: &[((u16, u16), u64, (u32, u64), u64, &[u16])] = &[
     ),
 ];
 
-// The gate stops the four runs of ruin and recreate at once, so the heuristic plan comes by savings alone; where it goes on a
-// question later, there are no rounds for prices either, and many more routes are useful.
+// The gate stops the four runs of ruin and recreate at once, so the heuristic plan comes from savings alone; if it continues
+// only a question later, there are no rounds for prices either, and many more routes are useful.
 #[test]
 fn ties_by_any_number_of_workers(rt: HostRuntime) {
     for &(size, capacity, given, cost, word) in GRIDS {
@@ -126,7 +126,7 @@ fn ties_by_any_number_of_workers(rt: HostRuntime) {
     }
 }
 
-// The plan of the first one by a slow program, and of the second one as a search by pieces proves it.
+// The first plan is from a slow program, and the second one as a search by pieces proves it.
 #[test]
 fn scattered_by_any_number_of_workers(rt: HostRuntime) {
     let alone = ten_nodes(&rt, rt.alloc());
@@ -141,7 +141,7 @@ fn scattered_by_any_number_of_workers(rt: HostRuntime) {
     assert_canonical_by_all(&rt, rt.alloc(), &four, given, 375, &word);
 }
 
-// A choice that is stopped leaves all to the pieces. They find no plan below the least cost, and prove none.
+// A stopped choice leaves everything to the pieces. They find no plan below the least cost, and prove none.
 #[test]
 fn stopped_choice(rt: HostRuntime) {
     let instance = grid(&rt, rt.alloc(), (5, 3), 4);
@@ -157,8 +157,8 @@ fn stopped_choice(rt: HostRuntime) {
     }
 }
 
-// Where the choice came by a cheaper plan than that by savings, and is stopped then, the pieces begin with that plan. They are stopped
-// too, so none of them has a better one; and the cheapest costs 375.
+// If the choice found a cheaper plan than that by savings, and is stopped then, the pieces begin with that plan. They are
+// stopped too, so none of them has a better one; the cheapest costs 375.
 #[test]
 fn cheaper_choice(rt: HostRuntime) {
     let instance = four_trucks(&rt, rt.alloc());
@@ -173,8 +173,8 @@ fn cheaper_choice(rt: HostRuntime) {
     }
 }
 
-/// Asserts that one worker, two and eight find this plan by routes, with so many pieces and this budget, where a gate goes on from this
-/// question on.
+/// Asserts that one worker, two and eight find this plan by routes, with this many pieces and this budget, when a gate
+/// continues from this question on.
 pub(super) fn assert_canonical_by_all<R: Abort + Threads + Wait + Sync>(
     rt: &R,
     alloc: Global,
@@ -192,7 +192,7 @@ pub(super) fn assert_canonical_by_all<R: Abort + Threads + Wait + Sync>(
     }
 }
 
-// Asserts that an answer came by routes: there were some, and no piece was searched.
+// Asserts that an answer came from routes: there were some, and no piece was searched.
 fn assert_chosen(rt: &impl Abort, gate: &ContinuesLater, answer: &Answer, asked: (Asked, u64)) {
     assert!(rt; matches!(answer, Answer::Proven(_)), "{asked:?}");
     let routes = gate.routes.load(Ordering::SeqCst);
@@ -200,7 +200,7 @@ fn assert_chosen(rt: &impl Abort, gate: &ContinuesLater, answer: &Answer, asked:
     assert!(rt; 1 <= routes && done == 0, "{routes} {done}, at {asked:?}");
 }
 
-// Asserts of which cost and word the plan of an answer is.
+// Asserts the cost and the word of an answer's plan.
 fn assert_canonical(rt: &impl Abort, answer: &Answer, cost: u64, word: &[u16]) {
     let found = answer.plan().map(Plan::cost);
     assert!(rt; found == Some(cost), "{found:?} is not {cost}");

@@ -1,23 +1,23 @@
-//! Choices among useful routes where many plans cost as little: any number of workers finds the first of them.
+//! Choices among useful routes with many plans of equal cost: any number of workers finds the first of them.
 
 use super::by_routes::assert_canonical_by_all;
 use super::*;
 use crate::pool::fixture::grid;
-use test_fixtures::{Random, canonical_plan, one_each};
-use vrp_model::{Layout, MAX_CAPACITY, MAX_NODES, Weights};
+use test_fixtures::{Random, canonical_plan, in_layout, one_each};
+use vrp_model::{Layout, MAX_NODES};
 
-// Customers who demand 1 each, and what it costs to drive between them.
+// The customers, who demand 1 each, and the arcs between them.
 #[derive(Clone, Copy, Debug)]
 enum Arcs {
-    // A grid of so many columns and rows.
+    // A grid with this many columns and rows.
     Grid(u16, u16),
-    // So many customers, and by chance 1 to so much from each to each; the two directions differ.
+    // This many customers, with random arcs from 1 to this number; the two directions differ.
     OneDirection(u16, u32, u64),
-    // The same, both directions alike.
+    // This many customers, with random symmetric arcs from 1 to this number.
     BothDirections(u16, u32, u64),
 }
 
-// The arcs, what a truck carries, and how many trucks there are, if these are limited.
+// The arcs, the capacity, and the limit on trucks, if any.
 type Given = (Arcs, u64, Option<u16>);
 
 // Eight customers. With four trucks the canonical plan of the last one costs more than without a limit.
@@ -42,8 +42,8 @@ fn as_by_trying_all_plans(rt: HostRuntime) {
     }
 }
 
-// Eleven to fourteen customers, and the cost and the word of the canonical plan, which a slow program found outside: for each set
-// of customers it looks at every route.
+// Eleven to fourteen customers, and the cost and the word of the canonical plan, which a slow program outside found: it tries
+// every route for each set of customers.
 const LARGER: &[(Given, u64, &[u16])] = &[
     (
         (Arcs::Grid(4, 3), 3, Some(4)),
@@ -127,7 +127,7 @@ fn limited(rt: &impl Abort, instance: Instance, trucks: u16) -> Instance {
     instance.with_trucks(trucks)
 }
 
-// So many customers, whose arcs cost 1 to so much.
+// This many customers, with arcs from 1 to this number.
 fn by_chance(
     rt: &impl Abort,
     alloc: Global,
@@ -135,7 +135,7 @@ fn by_chance(
     (customers, most, seed): (u16, u32, u64),
     capacity: u64,
 ) -> Instance {
-    assert!(rt; customers <= 20 && 1 <= most && most <= 10 && capacity <= MAX_CAPACITY);
+    assert!(rt; customers <= 20 && 1 <= most && most <= 10);
     let nodes = customers + 1;
     let mut random = Random(seed);
     let mut entries = Vec::new(alloc);
@@ -143,20 +143,17 @@ fn by_chance(
         let entry = u64::from(1 + random.next() % most);
         entries.push(entry).expect(rt, "memory");
     }
-    assert!(rt; entries.iter().all(|&entry| entry <= 1_000_000_000));
-    assert!(rt; entries.len() == layout.entries(nodes));
-    let weights = Weights::matrix(alloc, layout, &entries, nodes).expect(rt, "memory");
     let demands = one_each(alloc, usize::from(nodes)).expect(rt, "demands");
-    assert!(rt; demands.len() == usize::from(nodes));
-    Instance::new(alloc, weights, &demands, capacity, &[1], None).expect(rt, "an instance")
+    in_layout(alloc, layout, &entries, &demands, capacity).expect(rt, "an instance")
 }
 
-// The budget of a piece. So many partial plans of the whole tree are looked at first, which is not enough.
+// The budget of a piece. The first look has as many partial plans of the whole tree, which are not enough.
 const BUDGET: u64 = 1_000;
 
-// How many pieces there are at least, the budget of each, and from which question on the gate goes on. Of so few pieces there is no
-// ruin and recreate.
+// The least number of pieces, the budget of each, and the question from which on the gate continues. With so few pieces there
+// is no ruin and recreate.
 const NO_MOVES: ((u32, u64), u64) = ((64, BUDGET), 0);
 
-// Four questions come from the four runs of ruin and recreate. These are stopped, so the heuristic plan comes by savings alone.
+// Four questions come from the four runs of ruin and recreate. These are stopped, so the heuristic plan comes from savings
+// alone.
 const STOPPED_MOVES: ((u32, u64), u64) = ((2_000, BUDGET), 4);

@@ -1,4 +1,4 @@
-//! Answers where a gate holds pieces until others have begun.
+//! Answers when a gate holds pieces until others have begun.
 ghost use Rattle.std.specs.Prelude.{◌*◌, ◌≤◌, length};
 ghost use Rattle.vrp_search_tree.specs.Cutting.{IsCutting};
 ghost use Rattle.vrp_search_tree.specs.declared.cutting.TheConstants.{MAX_REFINED};
@@ -8,7 +8,7 @@ use crate::pool::fixture::seven_nodes;
 use std::sync::atomic::{AtomicU64, Ordering};
 use std::thread::yield_now;
 
-// How often a piece that is held looks whether others have begun.
+// How often a held piece checks whether others have begun.
 const TURNS: u64 = 10_000_000;
 
 // What a gate holds.
@@ -16,18 +16,18 @@ const TURNS: u64 = 10_000_000;
 enum Held {
     // Piece 0.
     First,
-    // Worker 0, whatever it draws.
+    // Worker 0, for any piece.
     Lead,
     All,
 }
 
-// Holds pieces until this many have begun, or one has looked too often.
+// Holds pieces until this many have begun, or one has checked too often.
 #[derive(Drop)]
 struct Holds {
     held: Held,
     wanted: u64,
     begun: AtomicU64,
-    // How many pieces were let go for no other reason than that they had looked too often.
+    // How many pieces were released only because they had checked too often.
     let_go: AtomicU64,
 }
 
@@ -78,7 +78,7 @@ fn refined(rt: &impl Abort, alloc: Global, instance: &Instance, numbers: &[u32])
     cutting
 }
 
-// So many workers, with this budget for each piece, behind a gate.
+// This many workers, with this budget for each piece, behind a gate.
 #[derive(Clone, Copy)]
 struct Team<'a> {
     workers: u32,
@@ -86,7 +86,7 @@ struct Team<'a> {
     gate: &'a Holds,
 }
 
-// Asserts that a team proves a plan of this cost, and that no piece was held for nothing.
+// Asserts that a team proves a plan of this cost, and that no hold ended by the limit of checks.
 fn assert_proven_behind<R: Abort + Threads + Wait + Sync>(
     rt: &R,
     alloc: Global,
@@ -106,8 +106,9 @@ fn assert_proven_behind<R: Abort + Threads + Wait + Sync>(
     assert!(rt; told == Told::Proven(cost), "{told:?}, at {crew:?}");
 }
 
-// Piece 0 is 1 0, and piece 1 is 1 2 0, the plan of least cost: beside it no plan under piece 0 is of use, so a budget of 1 is enough
-// for each. Where one worker draws all pieces, or each draws as many, piece 0 is held for nothing.
+// Piece 0 is 1 0, and piece 1 is 1 2 0, the plan of least cost: given that plan, no plan under piece 0 is of use, so a budget
+// of 1 is enough for each. If one worker draws all pieces, or each draws as many, the hold on piece 0 ends only by the limit
+// of checks.
 #[test]
 fn others_begin_while_one_is_held(rt: HostRuntime) {
     let instance = three_nodes(&rt, rt.alloc(), 2);
@@ -124,7 +125,7 @@ fn others_begin_while_one_is_held(rt: HostRuntime) {
     }
 }
 
-// Asserts of which words the pieces of a cutting are.
+// Asserts the words of a cutting's pieces.
 fn assert_words(rt: &impl Abort, cutting: &Cutting, words: &[&[u16]]) {
     assert!(rt; cutting.pieces().len() == words.len());
     for (piece, word) in cutting.pieces().iter().zip(words) {
@@ -132,8 +133,8 @@ fn assert_words(rt: &impl Abort, cutting: &Cutting, words: &[&[u16]]) {
     }
 }
 
-// The plans under piece 0 are costly, and a search of it by its own plans alone takes 298 partial plans. Where its worker learns of
-// the plan that the other found, 150 are enough.
+// The plans under piece 0 are costly, and a search of it with its own plans alone takes 298 partial plans. If its worker
+// learns of the plan that the other found, 150 are enough.
 #[test]
 fn plan_of_one_worker_serves_another(rt: HostRuntime) {
     let instance = seven_nodes(&rt, rt.alloc());
@@ -161,7 +162,7 @@ fn one_helper_searches_all_others(rt: HostRuntime) {
     assert_proven_behind(&rt, rt.alloc(), &instance, cutting, team, 100);
 }
 
-// As many work at once as are asked for: each holds its first piece until all have begun.
+// As many workers are at work at once as requested: each holds its first piece until all have begun.
 #[test]
 fn all_work_at_once(rt: HostRuntime) {
     let instance = ring(&rt, rt.alloc());

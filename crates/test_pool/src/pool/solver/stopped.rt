@@ -1,4 +1,4 @@
-//! Answers of searches that a gate stops, and what it hears.
+//! Answers of searches that a gate stops, and the events that it hears.
 ghost use Rattle.std.specs.Prelude.{true};
 
 use super::*;
@@ -6,21 +6,21 @@ use crate::pool::fixture::four_trucks;
 use std::sync::atomic::{AtomicU64, Ordering};
 use vrp_pool::Event;
 
-// Goes on where it was asked this often before, from the first number on and below the second.
+// Continues while the number of questions asked before is at least the first number and below the second.
 #[derive(Drop)]
 struct Continues {
     from: u64,
     below: u64,
     asked: AtomicU64,
-    // Of partial plans.
+    // The number of partial plans looked at.
     looked: AtomicU64,
-    // Of pieces.
+    // The number of finished pieces.
     done: AtomicU64,
     // The least cost of a plan.
     least: AtomicU64,
-    // By prices.
+    // The bound by prices.
     bound: AtomicU64,
-    // Of useful routes, among which is chosen.
+    // The number of useful routes in the choice.
     routes: AtomicU64,
 }
 
@@ -56,7 +56,7 @@ impl Gate for Continues {
                 self.least.fetch_min(cost, Ordering::SeqCst);
             }
             Event::Bound(bound) => {
-                self.bound.fetch_max(bound, Ordering::SeqCst);
+                self.bound.fetch_max(bound.rounded_up(), Ordering::SeqCst);
             }
             Event::Choice(routes) => {
                 self.routes.fetch_max(routes, Ordering::SeqCst);
@@ -72,10 +72,10 @@ impl Gate for Continues {
     }
 }
 
-// Between which numbers the gate goes on, and how many partial plans are looked at in all. With a budget of 999 nothing comes before
-// the pieces, and each takes more. With a larger one the gate is asked once in each of four runs of ruin and recreate, which it stops,
-// once before the rounds for prices, and once before useful routes are listed, unless the budget is too small for these two. A list
-// that is begun and stopped leaves all to the pieces.
+// The numbers between which the gate continues, and how many partial plans are looked at in all. With a budget of 999 nothing
+// precedes the pieces, and each takes more. With a larger one the gate is asked once in each of four runs of ruin and
+// recreate, which it stops, once before the rounds for prices, and once before useful routes are listed, unless the budget is
+// too small for these two. A list that is begun and stopped leaves everything to the pieces.
 const STOPPED: &[(Asked, (u64, u64), u64)] = &[
     ((1, 21, 999), (0, 0), 21),
     ((2, 21, 999), (0, 0), 21),
@@ -103,7 +103,7 @@ fn stopped_searches(rt: HostRuntime) {
     }
 }
 
-// Asserts of how many partial plans a gate has heard, and that all pieces are done with.
+// Asserts how many partial plans a gate has heard of, and that all pieces are done.
 fn assert_heard(rt: &impl Abort, gate: &Continues, asked: Asked, looked: u64) {
     let heard = gate.looked.load(Ordering::SeqCst);
     assert!(rt; heard == looked, "{heard} is not {looked}, at {asked:?}");
@@ -111,7 +111,7 @@ fn assert_heard(rt: &impl Abort, gate: &Continues, asked: Asked, looked: u64) {
     assert!(rt; done == u64::from(asked.1), "{done}, at {asked:?}");
 }
 
-// A gate that stops nothing hears of the plan that is proved, of a bound below it, and of the routes that it is chosen among, of which
+// A gate that stops nothing hears of the plan that is proved, of a bound below it, and of the routes of the choice, of which
 // that plan has four.
 #[test]
 fn events_of_a_gate(rt: HostRuntime) {

@@ -28,35 +28,35 @@ left_is prices customers trucks incumbent pool kept left are same valid none som
 
 pub returns-in_default : goal.returns-in_default
 returns-in_default c =
-    let none = none_negative_pool c.args.prices SCALE c.args.pool.now c.args.costs.items c.requires.costs c.requires.none in
-    none_cheaper c.args.prices SCALE c.args.customers c.args.trucks c.args.incumbent c.args.pool.now c.requires.valid none c.requires.some c.in_default.ensures.none c.new-routes.result.items
+    let none = none_negative_pool c.args.priced.now.prices SCALE c.args.pool.now c.args.priced.now.costs.items c.requires.priced.costs c.requires.priced.none in
+    none_cheaper c.args.priced.now.prices SCALE c.args.task.now.customers c.args.task.now.fleet.trucks c.args.task.now.incumbent c.args.pool.now c.requires.priced.valid none c.requires.some c.in_default.ensures.none c.new-routes.result.items
 
 pub returns-then-len-gt-MOST_COLUMNS : goal.returns-then-len-gt-MOST_COLUMNS
 returns-then-len-gt-MOST_COLUMNS c =
-    let none = none_negative_pool c.args.prices SCALE c.args.pool.now c.args.costs.items c.requires.costs c.requires.none in
+    let none = none_negative_pool c.args.priced.now.prices SCALE c.args.pool.now c.args.priced.now.costs.items c.requires.priced.costs c.requires.priced.none in
     let fits : SFits w64 c.in-Some.gap = search rules in
     let is_gap = to_z-of_z w64 c.in-Some.gap fits ∙ c.in-Some.ensures.value in
-    let kept = kept_is c.args.prices c.args.customers c.args.trucks c.args.incumbent (to_z w64 (of_z w64 c.in-Some.gap)) c.args.pool.now c.args.pool.now c.in_ok-routes.routes.items c.in_ok-routes.ensures refl is_gap in
-    left_is c.args.prices c.args.customers c.args.trucks c.args.incumbent c.args.pool.now c.in_ok-routes.routes.items (record { routes = c.in_ok-routes.routes; lower_bound = c.whole_lower_bound-lower_bound.result }) kept refl c.requires.valid none c.requires.some c.whole_lower_bound-lower_bound.ensures
+    let kept = kept_is c.args.priced.now.prices c.args.task.now.customers c.args.task.now.fleet.trucks c.args.task.now.incumbent (to_z w64 (of_z w64 c.in-Some.gap)) c.args.pool.now c.args.pool.now c.in_ok-routes.routes.items c.in_ok-routes.ensures refl is_gap in
+    left_is c.args.priced.now.prices c.args.task.now.customers c.args.task.now.fleet.trucks c.args.task.now.incumbent c.args.pool.now c.in_ok-routes.routes.items (record { routes = c.in_ok-routes.routes; lower_bound = c.whole_lower_bound-lower_bound.result }) kept refl c.requires.priced.valid none c.requires.some c.whole_lower_bound-lower_bound.ensures
 
-pub returns : goal.returns
-returns c =
-    let none = none_negative_pool c.args.prices SCALE c.args.pool.now c.args.costs.items c.requires.costs c.requires.none in
+pub returns-in-None : goal.returns-in-None
+returns-in-None c =
+    let none = none_negative_pool c.args.priced.now.prices SCALE c.args.pool.now c.args.priced.now.costs.items c.requires.priced.costs c.requires.priced.none in
     let fits : SFits w64 c.in-Some.gap = search rules in
     let is_gap = to_z-of_z w64 c.in-Some.gap fits ∙ c.in-Some.ensures.value in
-    let kept = kept_is c.args.prices c.args.customers c.args.trucks c.args.incumbent (to_z w64 (of_z w64 c.in-Some.gap)) c.args.pool.now c.args.pool.now c.in_ok-routes.routes.items c.in_ok-routes.ensures refl is_gap in
-    left_is c.args.prices c.args.customers c.args.trucks c.args.incumbent c.args.pool.now c.in_ok-routes.routes.items (record { routes = c.in_ok-routes.routes; lower_bound = c.whole_lower_bound-lower_bound.result }) kept refl c.requires.valid none c.requires.some c.whole_lower_bound-lower_bound.ensures
+    let kept = kept_is c.args.priced.now.prices c.args.task.now.customers c.args.task.now.fleet.trucks c.args.task.now.incumbent (to_z w64 (of_z w64 c.in-Some.gap)) c.args.pool.now c.args.pool.now c.in_ok-routes.routes.items c.in_ok-routes.ensures refl is_gap in
+    left_is c.args.priced.now.prices c.args.task.now.customers c.args.task.now.fleet.trucks c.args.task.now.incumbent c.args.pool.now c.in_ok-routes.routes.items (record { routes = c.in_ok-routes.routes; lower_bound = c.whole_lower_bound-lower_bound.result }) kept refl c.requires.priced.valid none c.requires.some c.whole_lower_bound-lower_bound.ensures
 
 pub returns-in-Some-2 : goal.returns-in-Some-2
 returns-in-Some-2 c =
-    let none = none_negative_pool c.args.prices SCALE c.args.pool.now c.args.costs.items c.requires.costs c.requires.none in
+    let none = none_negative_pool c.args.priced.now.prices SCALE c.args.pool.now c.args.priced.now.costs.items c.requires.priced.costs c.requires.priced.none in
     let fits : SFits w64 c.in-Some.gap = search rules in
     let is_gap = to_z-of_z w64 c.in-Some.gap fits ∙ c.in-Some.ensures.value in
-    let kept = kept_is c.args.prices c.args.customers c.args.trucks c.args.incumbent (to_z w64 (of_z w64 c.in-Some.gap)) c.args.pool.now c.args.pool.now c.in_ok-routes.routes.items c.in_ok-routes.ensures refl is_gap in
-    let answer : IsLeastOf (map (column_of c.args.prices SCALE) c.as_slice-2.result.now) c.args.customers c.args.trucks c.args.incumbent (unsigned_abs (to_z w64 (of_z w64 c.in-Some.gap))) c.in-Some-2.chosen =
-    subst (λ o. IfSome o (IsLeastOf (map (column_of c.args.prices SCALE) c.as_slice-2.result.now) c.args.customers c.args.trucks c.args.incumbent (unsigned_abs (to_z w64 (of_z w64 c.in-Some.gap))))) c.in-Some-2.is c.in_ok-chosen.ensures in
-    let nonneg : pos 0 ≤ℤ gap_of c.args.prices SCALE c.args.customers c.args.trucks (c.args.incumbent - 1) = subst (λ z. pos 0 ≤ℤ z) c.in-Some.ensures.value c.in-Some.ensures.some in
-    subst (IsCheapest c.args.pool.now c.args.customers c.args.trucks c.args.incumbent c.in-Some-2.chosen.cost) (sym answer.routes)
-    (cheapest_columns c.args.prices SCALE c.args.customers c.args.trucks c.args.incumbent c.in-Some-2.chosen.cost c.args.pool.now answer.parts c.requires.valid none c.requires.some nonneg
-    (subst (λ z. IsLeast (map (column_of c.args.prices SCALE) (filter (is_within_gap c.args.prices SCALE (gap_of c.args.prices SCALE c.args.customers c.args.trucks (c.args.incumbent - 1))) c.args.pool.now)) c.args.customers c.args.trucks c.args.incumbent (unsigned_abs z) c.in-Some-2.chosen.cost answer.parts) is_gap
-    (subst (λ routes. IsLeast (map (column_of c.args.prices SCALE) routes) c.args.customers c.args.trucks c.args.incumbent (unsigned_abs (to_z w64 (of_z w64 c.in-Some.gap))) c.in-Some-2.chosen.cost answer.parts) (c.as_slice-2.ensures.value ∙ kept) answer.least)))
+    let kept = kept_is c.args.priced.now.prices c.args.task.now.customers c.args.task.now.fleet.trucks c.args.task.now.incumbent (to_z w64 (of_z w64 c.in-Some.gap)) c.args.pool.now c.args.pool.now c.in_ok-routes.routes.items c.in_ok-routes.ensures refl is_gap in
+    let answer : IsLeastOf (map (column_of c.args.priced.now.prices SCALE) c.as_slice-2.result.now) c.args.task.now.customers c.args.task.now.fleet.trucks c.args.task.now.incumbent (unsigned_abs (to_z w64 (of_z w64 c.in-Some.gap))) c.in-Some-2.chosen =
+    subst (λ o. IfSome o (IsLeastOf (map (column_of c.args.priced.now.prices SCALE) c.as_slice-2.result.now) c.args.task.now.customers c.args.task.now.fleet.trucks c.args.task.now.incumbent (unsigned_abs (to_z w64 (of_z w64 c.in-Some.gap))))) c.in-Some-2.is c.in_ok-chosen.ensures in
+    let nonneg : pos 0 ≤ℤ gap_of c.args.priced.now.prices SCALE c.args.task.now.customers c.args.task.now.fleet.trucks (c.args.task.now.incumbent - 1) = subst (λ z. pos 0 ≤ℤ z) c.in-Some.ensures.value c.in-Some.ensures.some in
+    subst (IsCheapest c.args.pool.now c.args.task.now.customers c.args.task.now.fleet.trucks c.args.task.now.incumbent c.in-Some-2.chosen.cost) (sym answer.routes)
+    (cheapest_columns c.args.priced.now.prices SCALE c.args.task.now.customers c.args.task.now.fleet.trucks c.args.task.now.incumbent c.in-Some-2.chosen.cost c.args.pool.now answer.parts c.requires.priced.valid none c.requires.some nonneg
+    (subst (λ z. IsLeast (map (column_of c.args.priced.now.prices SCALE) (filter (is_within_gap c.args.priced.now.prices SCALE (gap_of c.args.priced.now.prices SCALE c.args.task.now.customers c.args.task.now.fleet.trucks (c.args.task.now.incumbent - 1))) c.args.pool.now)) c.args.task.now.customers c.args.task.now.fleet.trucks c.args.task.now.incumbent (unsigned_abs z) c.in-Some-2.chosen.cost answer.parts) is_gap
+    (subst (λ routes. IsLeast (map (column_of c.args.priced.now.prices SCALE) routes) c.args.task.now.customers c.args.task.now.fleet.trucks c.args.task.now.incumbent (unsigned_abs (to_z w64 (of_z w64 c.in-Some.gap))) c.in-Some-2.chosen.cost answer.parts) (c.as_slice-2.ensures.value ∙ kept) answer.least)))

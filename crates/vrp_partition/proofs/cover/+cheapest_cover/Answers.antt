@@ -17,59 +17,59 @@ named : (columns parts parts' tried : List Column) (unserved trucks incumbent ga
 named columns parts parts' tried unserved trucks incumbent gap customer found found' e f s =
     subst (λ n. Searched columns unserved trucks incumbent gap customer n parts' tried) (sym e) (subst (λ ps. Searched columns unserved trucks incumbent gap customer found ps tried) (sym f) s)
 
-pub returns-then-trucks-eq0-clause-least : goal.returns-then-trucks-eq0-clause-least
-returns-then-trucks-eq0-clause-least t c = no_truck c.args.columns.now c.new-parts.result.items c.args.unserved c.args.trucks c.args.incumbent c.args.gap c.if-unserved-eq0.false c.if-trucks-eq0.true
+pub returns-then-node-eq0-2-clause-least : goal.returns-then-node-eq0-2-clause-least
+returns-then-node-eq0-2-clause-least t c = no_truck c.args.columns.now c.new-parts.result.items c.args.node.unserved c.args.node.trucks c.args.node.incumbent c.args.node.gap c.if-node-eq0.false c.if-node-eq0-2.true
 
 pub loop-column-preserved : goal.loop-column-preserved
 loop-column-preserved t c =
     let columns = c.args.columns.now in
     let i = c.loop-column.column-index in
     let x = get_or columns i none in
-    let before : Searched columns c.args.unserved c.args.trucks c.args.incumbent c.args.gap c.rarest_customer-customer.result c.loop-column.found c.loop-column.parts.items (take i columns) =
+    let before : Searched columns c.args.node.unserved c.args.node.trucks c.args.node.incumbent c.args.node.gap c.rarest_customer-customer.result c.loop-column.found c.loop-column.parts.items (take i columns) =
     record { most = c.loop-column.invariant.most; least = c.loop-column.invariant.least; attained = c.loop-column.invariant.attained } in
     let cost : c.from-cost.result ≡ x.cost = c.from-cost.ensures in
     elim c.if-column-customer-eq1.branch [
       | then-column-customer-eq1+then-column-unserved+then-column-gap+then-cost-found+in_ok-inside+in_ok-more+in-Some w ↦
-          let rest = bit_xor c.args.unserved x.set in
-          let under = c.args.gap - x.reduced_cost in
-          let answer : IsLeast w.as_slice.result.now rest (c.args.trucks - 1) (c.loop-column.found - c.from-cost.result) under w.in-Some.more.cost w.in-Some.more.parts.items =
-          subst (λ o. IfSome o (λ (best : Cover). IsLeast w.as_slice.result.now rest (c.args.trucks - 1) (c.loop-column.found - c.from-cost.result) under best.cost best.parts.items)) w.in-Some.is w.in_ok-more.ensures.least in
-          let tried : Tried columns c.args.unserved c.args.trucks c.loop-column.found c.args.gap c.from-cost.result w.in-Some.more.cost x w.in-Some.more.parts.items = record {
-            some = omega (arith, c.if-trucks-eq0.false);
+          let rest = bit_xor c.args.node.unserved x.set in
+          let under = c.args.node.gap - x.reduced_cost in
+          let answer : IsLeast w.as_slice.result.now rest (c.args.node.trucks - 1) (c.loop-column.found - c.from-cost.result) under w.in-Some.more.cost w.in-Some.more.parts.items =
+          subst (λ o. IfSome o (λ (best : Cover). IsLeast w.as_slice.result.now rest (c.args.node.trucks - 1) (c.loop-column.found - c.from-cost.result) under best.cost best.parts.items)) w.in-Some.is w.in_ok-more.ensures.least in
+          let tried : Tried columns c.args.node.unserved c.args.node.trucks c.loop-column.found c.args.node.gap c.from-cost.result w.in-Some.more.cost x w.in-Some.more.parts.items = record {
+            some = omega (arith, c.if-node-eq0-2.false);
             within = w.if-column-unserved.true;
             fits = w.if-column-gap.true;
             cheap = w.if-cost-found.true;
             is_cost = cost;
-            answer = subst (λ ys. IsLeast ys rest (c.args.trucks - 1) (c.loop-column.found - c.from-cost.result) under w.in-Some.more.cost w.in-Some.more.parts.items) (w.as_slice.ensures.value ∙ w.in_ok-inside.ensures) answer;
+            answer = subst (λ ys. IsLeast ys rest (c.args.node.trucks - 1) (c.loop-column.found - c.from-cost.result) under w.in-Some.more.cost w.in-Some.more.parts.items) (w.as_slice.ensures.value ∙ w.in_ok-inside.ensures) answer;
           } in
-          let s : Searched columns c.args.unserved c.args.trucks c.args.incumbent c.args.gap c.rarest_customer-customer.result c.if-column-customer-eq1.found c.if-column-customer-eq1.parts.items (take (i + 1) columns) =
+          let s : Searched columns c.args.node.unserved c.args.node.trucks c.args.node.incumbent c.args.node.gap c.rarest_customer-customer.result c.if-column-customer-eq1.found c.if-column-customer-eq1.parts.items (take (i + 1) columns) =
           elim w.if-more-found.branch [
             | then-more-found+in_ok-push w' ↦
-                named columns (w.in-Some.more.parts.items ++ x ∷ []) c.if-column-customer-eq1.parts.items (take (i + 1) columns) c.args.unserved c.args.trucks c.args.incumbent c.args.gap c.rarest_customer-customer.result (c.from-cost.result + w.in-Some.more.cost) c.if-column-customer-eq1.found
+                named columns (w.in-Some.more.parts.items ++ x ∷ []) c.if-column-customer-eq1.parts.items (take (i + 1) columns) c.args.node.unserved c.args.node.trucks c.args.node.incumbent c.args.node.gap c.rarest_customer-customer.result (c.from-cost.result + w.in-Some.more.cost) c.if-column-customer-eq1.found
                 (w.found-is ∙ w'.found-is) (ap (λ (v : Vec Column Global). v.items) (w.parts-is ∙ w'.parts-is) ∙ w'.in_ok-push.ensures.items)
-                (cheaper columns c.loop-column.parts.items w.in-Some.more.parts.items c.args.unserved c.args.trucks c.args.incumbent c.args.gap c.rarest_customer-customer.result c.loop-column.found i c.from-cost.result w.in-Some.more.cost none c.loop-column-test.true before tried w'.if-more-found.true)
+                (cheaper columns c.loop-column.parts.items w.in-Some.more.parts.items c.args.node.unserved c.args.node.trucks c.args.node.incumbent c.args.node.gap c.rarest_customer-customer.result c.loop-column.found i c.from-cost.result w.in-Some.more.cost none c.loop-column-test.true before tried w'.if-more-found.true)
             | else-more-found w' ↦
-                named columns c.loop-column.parts.items c.if-column-customer-eq1.parts.items (take (i + 1) columns) c.args.unserved c.args.trucks c.args.incumbent c.args.gap c.rarest_customer-customer.result c.loop-column.found c.if-column-customer-eq1.found
+                named columns c.loop-column.parts.items c.if-column-customer-eq1.parts.items (take (i + 1) columns) c.args.node.unserved c.args.node.trucks c.args.node.incumbent c.args.node.gap c.rarest_customer-customer.result c.loop-column.found c.if-column-customer-eq1.found
                 (w.found-is ∙ w'.found-is) (ap (λ (v : Vec Column Global). v.items) (w.parts-is ∙ w'.parts-is))
-                (no_cheaper columns c.loop-column.parts.items w.in-Some.more.parts.items c.args.unserved c.args.trucks c.args.incumbent c.args.gap c.rarest_customer-customer.result c.loop-column.found i c.from-cost.result w.in-Some.more.cost none c.loop-column-test.true before tried w'.if-more-found.false)
+                (no_cheaper columns c.loop-column.parts.items w.in-Some.more.parts.items c.args.node.unserved c.args.node.trucks c.args.node.incumbent c.args.node.gap c.rarest_customer-customer.result c.loop-column.found i c.from-cost.result w.in-Some.more.cost none c.loop-column-test.true before tried w'.if-more-found.false)
           ] in
           record { budget = omega (arith, w.budget-is, w.in_ok-more.ensures.budget, c.loop-column.invariant.budget); most = s.most; least = s.least; attained = s.attained }
       | else-column-customer-eq1 w ↦
-          let skip : bit_at x.set c.rarest_customer-customer.result ≡ 1 → bit_and x.set c.args.unserved ≡ x.set → x.reduced_cost ≤ c.args.gap → c.loop-column.found ≤ x.cost =
+          let skip : bit_at x.set c.rarest_customer-customer.result ≡ 1 → bit_and x.set c.args.node.unserved ≡ x.set → x.reduced_cost ≤ c.args.node.gap → c.loop-column.found ≤ x.cost =
           elim w.else-column-customer-eq1.branch [
             | else-column-customer-eq1-via-then-column-customer-eq1+then-column-unserved+then-column-gap+else-cost-found w' ↦ λ bit within fits. omega (arith, w'.if-cost-found.false, cost)
             | else-column-customer-eq1-via-then-column-customer-eq1+then-column-unserved+else-column-gap w' ↦ λ bit within fits. absurd (omega (arith, fits, w'.if-column-gap.false))
             | else-column-customer-eq1-via-then-column-customer-eq1+else-column-unserved w' ↦ λ bit within fits. absurd (w'.if-column-unserved.false within)
             | else-column-customer-eq1-via-else-column-customer-eq1 w' ↦ λ bit within fits. absurd (w'.if-column-customer-eq1.false (shr_and_one x.set c.rarest_customer-customer.result ∙ bit))
           ] in
-          let s : Searched columns c.args.unserved c.args.trucks c.args.incumbent c.args.gap c.rarest_customer-customer.result c.if-column-customer-eq1.found c.if-column-customer-eq1.parts.items (take (i + 1) columns) =
-          named columns c.loop-column.parts.items c.if-column-customer-eq1.parts.items (take (i + 1) columns) c.args.unserved c.args.trucks c.args.incumbent c.args.gap c.rarest_customer-customer.result c.loop-column.found c.if-column-customer-eq1.found
+          let s : Searched columns c.args.node.unserved c.args.node.trucks c.args.node.incumbent c.args.node.gap c.rarest_customer-customer.result c.if-column-customer-eq1.found c.if-column-customer-eq1.parts.items (take (i + 1) columns) =
+          named columns c.loop-column.parts.items c.if-column-customer-eq1.parts.items (take (i + 1) columns) c.args.node.unserved c.args.node.trucks c.args.node.incumbent c.args.node.gap c.rarest_customer-customer.result c.loop-column.found c.if-column-customer-eq1.found
           w.found-is (ap (λ (v : Vec Column Global). v.items) w.parts-is)
-          (passed columns c.loop-column.parts.items c.args.unserved c.args.trucks c.args.incumbent c.args.gap c.rarest_customer-customer.result c.loop-column.found i none c.loop-column-test.true before skip) in
+          (passed columns c.loop-column.parts.items c.args.node.unserved c.args.node.trucks c.args.node.incumbent c.args.node.gap c.rarest_customer-customer.result c.loop-column.found i none c.loop-column-test.true before skip) in
           record { budget = omega (arith, w.budget-is, c.loop-column.invariant.budget); most = s.most; least = s.least; attained = s.attained }
     ]
 
 pub returns-clause-least : goal.returns-clause-least
 returns-clause-least t c =
-    all_tried c.args.columns.now c.loop-column.parts.items c.args.unserved c.args.trucks c.args.incumbent c.args.gap c.rarest_customer-customer.result c.loop-column.found c.loop-column.column-index c.rarest_customer-customer.ensures.one c.loop-column-test.false
+    all_tried c.args.columns.now c.loop-column.parts.items c.args.node.unserved c.args.node.trucks c.args.node.incumbent c.args.node.gap c.rarest_customer-customer.result c.loop-column.found c.loop-column.column-index c.rarest_customer-customer.ensures.one c.loop-column-test.false
     (record { most = c.loop-column.invariant.most; least = c.loop-column.invariant.least; attained = c.loop-column.invariant.attained })

@@ -11,8 +11,8 @@ decreases-cheapest_cover l = l.budget.now
 abbrev pub invariant-loop-column : goal.invariant-loop-column
 invariant-loop-column l = record {
   budget : l.budget < l.fn.budget;
-  most : l.found ≤ l.incumbent;
+  most : l.found ≤ l.node.incumbent;
   least : (column : Column) → Contains (take l.column-index l.columns) column → bit_at column.set l.customer ≡ 1
-      → (others : List Column) → IsChoice column_set l.columns l.unserved l.trucks others → Contains others column → columns_reduced_cost others ≤ l.gap → l.found ≤ columns_cost others;
-  attained : l.found < l.incumbent → IsChoice column_set l.columns l.unserved l.trucks l.parts.items × (columns_cost l.parts.items ≡ l.found);
+      → (others : List Column) → IsChoice column_set l.columns l.unserved l.node.trucks others → Contains others column → columns_reduced_cost others ≤ l.gap → l.found ≤ columns_cost others;
+  attained : l.found < l.node.incumbent → IsChoice column_set l.columns l.unserved l.node.trucks l.parts.items × (columns_cost l.parts.items ≡ l.found);
 }

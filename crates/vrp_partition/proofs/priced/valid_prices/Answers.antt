@@ -7,10 +7,3 @@ returns-then-none_negative c = record {
   costs = c.in_ok-costs.ensures;
   none = search rules;
 }
-
-pub returns-then-none_negative-2 : goal.returns-then-none_negative-2
-returns-then-none_negative-2 c = record {
-  valid = c.in-Some-admit.ensures c.args.pool.now c.requires.fit;
-  costs = c.in_ok-costs-2.ensures;
-  none = search rules;
-}

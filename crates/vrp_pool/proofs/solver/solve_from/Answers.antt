@@ -25,7 +25,9 @@ solve_shared-solved-requires-after_bounds g c κs within = record {
 }
 
 pub returns-clause-answer : goal.returns-clause-answer
-returns-clause-answer g c = subst (λ (s : Search). IsAnswer s.problem c.args.cutting s.budget s.may_stop c.in_ok-solved.field-0.answer) c.new-shared.ensures c.in_ok-solved.ensures.answered.is_answer
+returns-clause-answer g c =
+    let answer = subst (λ (s : Search). IsAnswer s.problem c.args.cutting s.budget s.may_stop c.in_ok-solved.field-0.answer) c.new-shared.ensures c.in_ok-solved.ensures.answered.is_answer in
+    subst (λ gate. IsAnswer c.args.instance.now c.args.cutting c.args.budget (g.G.Gate.may_stop gate) c.in_ok-solved.field-0.answer) c.new-resources.ensures answer
 
 pub returns-clause-no_costlier : goal.returns-clause-no_costlier
 returns-clause-no_costlier g c = subst (λ (s : Search). cost_of (known_plan c.in_ok-solved.field-0.answer) ≤ cost_of s.start_plan) c.new-shared.ensures c.in_ok-solved.ensures.answered.no_costlier

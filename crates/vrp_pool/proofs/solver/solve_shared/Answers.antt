@@ -1,8 +1,11 @@
-use Rattle.std.proofs.Common.{◌≤◌, Option, subst, arith}
+use Rattle.std.proofs.Common.{◌≤◌, Option, subst, sym, arith}
 use Rattle.std.specs.Prelude.{IfSome}
 use Rattle.vrp_model.specs.Cheapest.{cost_of}
 use Rattle.vrp_pool_answer.specs.Answer.{AnswersAll, known_plan}
 use Rattle.vrp_pool_answer.specs.declared.answers.Answer.{Answer}
+use Rattle.vrp_pool.specs.Inner.Solving.{IsSolved}
+use Rattle.vrp_pool.proofs.Solvings.{solved_from}
+use Rattle.vrp_pool.proofs.solver.solve_shared.Goals.{in-Some-2+in_ok-solved-in-Some-2, in-None+in_ok-solve_pieces-in-None}
 use Rattle.vrp_pool.proofs.solver.solve_shared.Goals as goal
 
 pub returns-in-Some : goal.returns-in-Some
@@ -15,3 +18,14 @@ returns-in-Some g c =
       };
       bound = λ routes lawful. omega arith;
     }
+
+pub returns : goal.returns
+returns g c =
+    let s = c.args.shared.now in
+    let t = c.with_plan-begun.result in
+    let cutting = c.args.cutting in
+    let own : IsSolved t cutting c.match-branch-5.solved = elim c.match-branch-5.branch [
+      | in-Some-2+in_ok-solved-in-Some-2 w ↦ subst (IsSolved t cutting) (sym w.solved-is) w.in_ok-solved-in-Some-2.ensures
+      | in-None+in_ok-solve_pieces-in-None w ↦ subst (IsSolved t cutting) (sym w.solved-is) (record { answered = w.in_ok-solve_pieces-in-None.ensures; bound = λ routes lawful. omega arith })
+    ] in
+    solved_from s t cutting c.match-branch-5.solved c.with_plan-begun.ensures.same c.with_plan-begun.ensures.no_costlier own

@@ -41,5 +41,5 @@ returns-clause-parts g c = λ k stops is.
     let s = c.args.setting.now in
     let found = c.loop-from.found.items in
     let known = c.loop-from.invariant in
-    c.in_ok-parts.ensures.parts c.args.shares c.args.first s (k + 1) stops known.shares (λ i d lt.
+    c.in_ok-parts.ensures.parts c.args.range.shares c.args.range.first s (k + 1) stops known.shares (λ i d lt.
     all_grown s k stops c.args.labels.now (get_or found i d) c.loop-from.from is (omega (arith, is.are.long, c.loop-from-test.false)) (known.finding k stops is i d (omega (arith, lt, c.loop-from.found.ok))))

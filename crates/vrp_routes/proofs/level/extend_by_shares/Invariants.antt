@@ -7,8 +7,8 @@ use Rattle.vrp_routes.proofs.level.extend_by_shares.Given as goal
 abbrev pub invariant-loop-from : goal.invariant-loop-from
 invariant-loop-from g l = record {
   within : l.from ≤ length l.labels;
-  count : length l.found.items ≡ l.count;
-  shares : AreShares l.shares l.first l.found.items;
+  count : length l.found.items ≡ l.fn.range.count;
+  shares : AreShares l.fn.range.shares l.fn.range.first l.found.items;
   finding : (k : ℕ) (stops : List (List ℕ)) → IsLevel l.setting k stops l.labels → AreFinding l.setting k stops l.from l.found.items;
 }
 

@@ -17,8 +17,8 @@ loop-index-preserved c =
     record {
       count = ap length items ∙ length_push old found ∙ ap (λ n. n + 1) known.count;
       keyed = at_each_more (λ (i : ℕ) (x : Candidates). IsKeyed x) old new found index items known.count known.keyed c.new.ensures.keyed;
-      shares = at_each_more (λ (i : ℕ) (x : Candidates). x.share.shares ≡ c.args.shares) old new found index items known.count known.shares (ap (λ (share : Share). share.shares) c.new.ensures.share);
-      rests = at_each_more (λ (i : ℕ) (x : Candidates). x.share.rest ≡ c.args.first + i) old new found index items known.count known.rests (ap (λ (share : Share). share.rest) c.new.ensures.share);
+      shares = at_each_more (λ (i : ℕ) (x : Candidates). x.share.shares ≡ c.args.range.shares) old new found index items known.count known.shares (ap (λ (share : Share). share.shares) c.new.ensures.share);
+      rests = at_each_more (λ (i : ℕ) (x : Candidates). x.share.rest ≡ c.args.range.first + i) old new found index items known.count known.rests (ap (λ (share : Share). share.rest) c.new.ensures.share);
       empty = at_each_more (λ (i : ℕ) (x : Candidates). x.labels.items ≡ []) old new found index items known.count known.empty c.new.ensures.empty;
     }
 

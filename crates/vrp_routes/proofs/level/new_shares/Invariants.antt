@@ -8,7 +8,7 @@ abbrev pub invariant-loop-index : goal.invariant-loop-index
 invariant-loop-index l = record {
   count : length l.found.items ≡ l.index;
   keyed : (i : ℕ) (d : Candidates) → i < l.index → IsKeyed (get_or l.found.items i d);
-  shares : (i : ℕ) (d : Candidates) → i < l.index → (get_or l.found.items i d).share.shares ≡ l.shares;
-  rests : (i : ℕ) (d : Candidates) → i < l.index → (get_or l.found.items i d).share.rest ≡ l.first + i;
+  shares : (i : ℕ) (d : Candidates) → i < l.index → (get_or l.found.items i d).share.shares ≡ l.range.shares;
+  rests : (i : ℕ) (d : Candidates) → i < l.index → (get_or l.found.items i d).share.rest ≡ l.range.first + i;
   empty : (i : ℕ) (d : Candidates) → i < l.index → (get_or l.found.items i d).labels.items ≡ [];
 }

@@ -30,7 +30,7 @@ search_under-requires-clause-low g c =
 pub returns-clause-ended : goal.returns-clause-ended
 returns-clause-ended g c =
     let p = c.args.instance.now in
-    let among = c.args.tables.now.among in
+    let among = c.args.lookups.tables.now.among in
     let root = c.args.piece.now.word in
     let one = c.in-Some.field-0 in
     let budget = c.args.budget in

@@ -16,8 +16,8 @@ tours-requires-clause-room c =
     room_units c.args.scope.instance.now c.new-units.result.instance.now c.args.scope.customers.now c.new-units.result.customers.now c.unit_of.result c.new-units.result.unit c.whole_units-demand.result c.min-room.result
     c.new-units.ensures.instance c.new-units.ensures.customers c.new-units.ensures.unit c.unit_of.ensures.is_unit (omega (arith, c.whole_units-demand.ensures, ap (λ n. n / c.new-units.result.unit) c.demand_of_all.ensures.value)) (omega (arith, c.min-room.ensures, c.whole_units.ensures, ap (λ n. n / c.new-units.result.unit) c.capacity.ensures.value))
 
-pub completion_table_for-requires-clause-room : goal.completion_table_for-requires-clause-room
-completion_table_for-requires-clause-room c =
+pub completion_table-requires-clause-room : goal.completion_table-requires-clause-room
+completion_table-requires-clause-room c =
     room_units c.args.scope.instance.now c.new-units.result.instance.now c.args.scope.customers.now c.new-units.result.customers.now c.unit_of.result c.new-units.result.unit c.whole_units-demand.result c.min-room.result
     c.new-units.ensures.instance c.new-units.ensures.customers c.new-units.ensures.unit c.unit_of.ensures.is_unit (omega (arith, c.whole_units-demand.ensures, ap (λ n. n / c.new-units.result.unit) c.demand_of_all.ensures.value)) (omega (arith, c.min-room.ensures, c.whole_units.ensures, ap (λ n. n / c.new-units.result.unit) c.capacity.ensures.value))
 
@@ -41,7 +41,6 @@ returns c =
     let near = near_by c.new-units.result in
     let ng_sets : near ≡ near_with c.args.ng_sets = ap near_with c.new-units.ensures.ng_sets in
     record {
-      made = c.requires.made;
       scope = c.requires.scope;
       unit = subst (IsUnit p among) (sym c.new-units.ensures.unit) c.unit_of.ensures.is_unit;
       counted = c.in_ok-quotients.ensures;
@@ -66,11 +65,11 @@ walks-requires-clause-demands c = c.deref.ensures.value ∙ c.in_ok-demands.ensu
 pub tours-requires-clause-walks : goal.tours-requires-clause-walks
 tours-requires-clause-walks c = subst (λ (cells : List ℕ). AreWalks (in_units c.new-units.result.unit c.new-units.result.instance.now) (near_by c.new-units.result) c.new-units.result.customers.now cells) (sym c.deref-2.ensures.value) c.in_ok-walks.ensures
 
-pub completion_table_for-requires-clause-walks : goal.completion_table_for-requires-clause-walks
-completion_table_for-requires-clause-walks c = subst (λ (cells : List ℕ). AreWalks (in_units c.new-units.result.unit c.new-units.result.instance.now) (near_by c.new-units.result) c.new-units.result.customers.now cells) (sym c.deref-3.ensures.value) c.in_ok-walks.ensures
+pub completion_table-requires-clause-walks : goal.completion_table-requires-clause-walks
+completion_table-requires-clause-walks c = subst (λ (cells : List ℕ). AreWalks (in_units c.new-units.result.unit c.new-units.result.instance.now) (near_by c.new-units.result) c.new-units.result.customers.now cells) (sym c.deref-3.ensures.value) c.in_ok-walks.ensures
 
-pub completion_table_for-requires-clause-tours : goal.completion_table_for-requires-clause-tours
-completion_table_for-requires-clause-tours c = subst (λ (cells : List ℕ). AreTours (in_units c.new-units.result.unit c.new-units.result.instance.now) (near_by c.new-units.result) c.new-units.result.customers.now cells) (sym c.deref-4.ensures.value) c.in_ok-tours.ensures
+pub completion_table-requires-clause-tours : goal.completion_table-requires-clause-tours
+completion_table-requires-clause-tours c = subst (λ (cells : List ℕ). AreTours (in_units c.new-units.result.unit c.new-units.result.instance.now) (near_by c.new-units.result) c.new-units.result.customers.now cells) (sym c.deref-4.ensures.value) c.in_ok-tours.ensures
 
 pub up_to-requires-clause-unit : goal.up_to-requires-clause-unit
 up_to-requires-clause-unit c = c.new-units.result.some

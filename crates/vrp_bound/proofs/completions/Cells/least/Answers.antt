@@ -85,7 +85,7 @@ lookup-requires-clause-completion_table c =
     let p = c.args.scope.instance.now in
     let among = c.args.scope.customers.now in
     let completion_table = subst (λ (o : Option (Vec ℕ Global)). IfSome o (λ completion_table. IsCompletionTable (in_units c.args.self.now.unit p) (near_with c.args.ng_sets) among completion_table.items)) c.in-Some.is c.requires.cells.completion_table in
-    same_cells IsCompletionTable p c.new-units.result.instance.now c.args.self.now.unit c.new-units.result.unit (near_with c.args.ng_sets) (near_by c.new-units.result) among c.new-units.result.customers.now c.in-Some.completion_table.items c.deref.result.now
+    same_cells IsCompletionTable p c.new-units.result.instance.now c.args.self.now.unit c.new-units.result.unit (near_with c.args.ng_sets) (near_by c.new-units.result) among c.new-units.result.customers.now c.in-Some.cells.items c.deref.result.now
     c.new-units.ensures.instance c.new-units.ensures.unit (ap near_with c.new-units.ensures.ng_sets) c.new-units.ensures.customers c.deref.ensures.value completion_table
 
 pub lookup-requires-clause-tours : goal.lookup-requires-clause-tours

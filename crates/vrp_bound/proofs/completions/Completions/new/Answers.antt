@@ -3,7 +3,7 @@ use Rattle.std.specs.List.{All, Contains}
 use Rattle.std.specs.List.Sorted.{IsStrictlyIncreasing}
 use Rattle.vrp_model.specs.Problem.{Problem, customers}
 use Rattle.vrp_bound.specs.declared.completions.Cells.{Cells}
-use Rattle.vrp_bound.specs.Inner.Filled.{AreCells}
+use Rattle.vrp_bound.specs.Inner.Filled.{AreCellsMade}
 use Rattle.vrp_bound.specs.Inner.Scaled.{near_with}
 use Rattle.vrp_bound.specs.Tables.{AreMade}
 use Rattle.vrp_bound.proofs.CellAnswers.{filled_same}
@@ -11,13 +11,10 @@ use Rattle.vrp_bound.proofs.TableSizes.{light_where_made}
 use Rattle.vrp_bound.proofs.completions.Completions.new.Goals.{then-are_made+in_ok-fill, else-are_made}
 use Rattle.vrp_bound.proofs.completions.Completions.new.Goals as goal
 
-pub fill-requires-clause-made : goal.fill-requires-clause-made
-fill-requires-clause-made c = c.are_made.ensures.0 c.if-are_made.true
-
 pub fill-requires-clause-scope : goal.fill-requires-clause-scope
 fill-requires-clause-scope c =
     let scope = c.new-scope.result in
-    light_where_made scope.instance.now scope.customers.now scope.problem scope.known (c.are_made.ensures.0 c.if-are_made.true)
+    light_where_made 200000000 scope.instance.now scope.customers.now scope.problem scope.known (c.are_made.ensures.0 c.if-are_made.true)
 
 pub returns-clause-held : goal.returns-clause-held
 returns-clause-held c =
@@ -33,8 +30,8 @@ returns-clause-held c =
     filled_same p q near c.in_ok-from_slice.field-0.items others c.if-are_made.cells same (listed ∙ sym c.in_ok-from_slice.ensures.items) rising known
     (elim c.if-are_made.branch [
       | then-are_made+in_ok-fill w ↦
-          subst (λ (o : Option Cells). MatchOption o (AreMade q others → ⊥) (AreCells q near others)) (sym w.cells-is) w.in_ok-fill.ensures
+          subst (λ (o : Option Cells). MatchOption o (AreMade q others → ⊥) (AreCellsMade q near others)) (sym w.cells-is) (record { made = c.are_made.ensures.0 w.if-are_made.true; are_cells = w.in_ok-fill.ensures })
       | else-are_made w ↦
-          subst (λ (o : Option Cells). MatchOption o (AreMade q others → ⊥) (AreCells q near others)) (sym w.cells-is)
+          subst (λ (o : Option Cells). MatchOption o (AreMade q others → ⊥) (AreCellsMade q near others)) (sym w.cells-is)
           (λ made. absurd (let yes = c.are_made.ensures.1 made in cc (yes, w.if-are_made.false)))
     ])

@@ -19,7 +19,7 @@ invariant_of-result c =
     let made = priced_when_made p c.args.unit c.args.scale c.args.prices.now c.args.cuts.now weights c.in_ok-demands.demands.items c.capacity_in_units-capacity.result c.requires.some_unit c.requires.some_scale square arcs c.requires.cuts c.in_ok-demands.ensures.empty_depot c.in_ok-demands.ensures.units c.capacity_in_units-capacity.ensures in
     let priced = subst (λ (q : Problem). IsPriced p q c.args.unit c.args.scale (price_in c.args.prices.now) (rebate_in c.args.prices.now) c.args.cuts.now) (sym c.in_ok-relaxed.ensures) made in
     let rewarded : c.rebate_rewards.result + c.cut_rewards.result ≡ rewards_of p (rebate_in c.args.prices.now) c.args.cuts.now = omega (arith, c.rebate_rewards.ensures.value, c.cut_rewards.ensures.value) in
-    kept_when_made p c.in_ok-relaxed.relaxed c.args.unit c.args.scale c.charges.result (c.rebate_rewards.result + c.cut_rewards.result) c.args.prices.now c.args.cuts.now c.are_moderate.ensures.problem priced c.charges.ensures.value rewarded c.requires.small_scale c.charges.ensures.small (omega (arith, c.rebate_rewards.ensures.small, c.cut_rewards.ensures.small))
+    kept_when_made p c.in_ok-relaxed.relaxed c.args.unit c.args.scale c.charges.result (c.rebate_rewards.result + c.cut_rewards.result) c.args.prices.now c.args.cuts.now c.are_moderate.ensures.problem priced c.charges.ensures.value rewarded c.requires.some_scale c.requires.small_scale c.charges.ensures.small (omega (arith, c.rebate_rewards.ensures.small, c.cut_rewards.ensures.small))
 
 pub returns-clause-priced : goal.returns-clause-priced
 returns-clause-priced c =

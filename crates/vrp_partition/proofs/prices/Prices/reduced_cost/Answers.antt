@@ -17,7 +17,7 @@ returns c =
     computed c.from.result c.charged-charged.result c.self.inside.truck_price c.rewarded-rewarded.result c.dual_sum_of-dual_sum.result (omega arith) c.charged-charged.ensures.small c.self.invariant.truck c.rewarded-rewarded.ensures.small c.dual_sum_of-dual_sum.ensures.small
     ∙ by_parts c.args.self.now c.args.set c.args.cost c.from.result c.charged-charged.result c.self.inside.truck_price c.rewarded-rewarded.result c.dual_sum_of-dual_sum.result
     c.from.ensures
-    (c.charged-charged.ensures.value ∙ ap (λ cuts. charges cuts c.args.set) (c.as_slice.ensures.value ∙ ap (λ (v : Prices). v.subset_rows) c.self.view_is))
+    c.charged-charged.ensures.value
     (ap (λ (v : Prices). v.truck_price) c.self.view_is)
-    (c.rewarded-rewarded.ensures.value ∙ ap (λ cuts. rewards cuts c.args.set) (c.as_slice-2.ensures.value ∙ ap (λ (v : Prices). v.capacity_cuts) c.self.view_is))
-    (c.dual_sum_of-dual_sum.ensures.value ∙ ap (λ ys. dual_sum ys c.args.set) (c.as_slice-3.ensures.value ∙ ap (λ (v : Prices). v.duals) c.self.view_is))
+    c.rewarded-rewarded.ensures.value
+    (c.dual_sum_of-dual_sum.ensures.value ∙ ap (λ ys. dual_sum ys c.args.set) (c.as_slice.ensures.value ∙ ap (λ (v : Prices). v.duals) c.self.view_is))

@@ -1,9 +1,0 @@
-use Rattle.std.proofs.Common.{rules}
-use Rattle.vrp_partition.proofs.priced.priced_by_nothing.Goals as goal
-
-pub returns-then-none_negative : goal.returns-then-none_negative
-returns-then-none_negative c = record {
-  valid = c.in-Some.ensures c.args.pool.now c.requires.fit;
-  costs = c.in_ok-costs.ensures;
-  none = search rules;
-}

@@ -1,0 +1,21 @@
+//! What a search looks for among the routes of a pool.
+use crate::fleet::Fleet;
+
+/// A search for the cheapest choice that serves these customers with the fleet's trucks and costs less than the incumbent.
+#[derive(Clone, Copy, Debug)]
+pub struct Task<'a> {
+    pub fleet: Fleet<'a>,
+    /// A bit for each customer.
+    pub customers: u128,
+    pub incumbent: u64,
+}
+
+/// A query for the routes that may be in a choice that serves these customers with the fleet's trucks and costs no more than the
+/// limit.
+#[derive(Clone, Copy, Debug)]
+pub struct Query<'a> {
+    pub fleet: Fleet<'a>,
+    /// A bit for each customer.
+    pub customers: u128,
+    pub limit: u32,
+}
