@@ -80,12 +80,12 @@ pub record IsHundredthsUp (scaled scale up : ℕ) : Type 0 where
 
 hundredths_of_parts : (scaled scale whole rest part : ℕ) → whole * scale + rest ≡ scaled → 100 * rest ≤ part * scale → part * scale < 100 * rest + scale → IsHundredthsUp scaled scale (100 * whole + part)
 hundredths_of_parts scaled scale whole rest part parts covered tight = record {
-    least = λ other covers. elim (cases_lt other (100 * whole + part)) [
-      | inl less ↦ absurd (omega (arith, parts, tight, covers, mul-le (other + 1) scale (100 * whole + part) scale (omega (arith, less)) (omega arith)))
-      | inr within ↦ within
-    ];
-    enough = omega (arith, parts, covered);
-  }
+  least = λ other covers. elim (cases_lt other (100 * whole + part)) [
+    | inl less ↦ absurd (omega (arith, parts, tight, covers, mul-le (other + 1) scale (100 * whole + part) scale (omega (arith, less)) (omega arith)))
+    | inr within ↦ within
+  ];
+  enough = omega (arith, parts, covered);
+}
 
 pub hundredths_up : (scaled scale : ℕ) → 1 ≤ scale → IsHundredthsUp scaled scale (100 * (scaled / scale) + div_ceil (100 * (scaled % scale)) scale)
 hundredths_up scaled scale some =
