@@ -21,13 +21,19 @@ const MAX_LOOKUP_TABLE: u64 = 200_000_000;
 /// steps are a small part of all steps.
 pub const MAX_BOUND_TABLE: u64 = 4_000_000_000;
 
-// The most steps that tables of walks with ng-sets may take: beyond that, more rounds gain more.
+// The most steps that tables of walks with ng-sets may take if all rounds are over all arcs: beyond that, more rounds gain more.
 const MAX_NG_TABLE: u64 = 400_000_000;
 
 // With fewer rounds a search would prune less than without prices.
 const LEAST_ROUNDS: u64 = 100;
 
-const LEAST_BOUNDING_ROUNDS: u64 = 20;
+const LEAST_ROUNDS_BY_TOURS: u64 = 20;
+
+// If rounds are over a sparse graph, only one is over all arcs. It, and the bounding table, may take one part in this many of all steps.
+const PARTS_FOR_ALL_ARCS: u64 = 8;
+
+// A sparse graph has about this many arcs: with more there are fewer rounds, and with fewer the last round loses more.
+const SPARSE_ARCS: usize = 45_000;
 
 // Finer units pay if they leave this many rounds.
 const LEAST_FINE_ROUNDS: u64 = 300;
@@ -39,8 +45,11 @@ pub(crate) enum Purpose {
     Search,
     /// To list routes: their beginnings are looked up in the bounding tables, which are smaller.
     Routes,
-    /// To bound every plan: one look at the tours.
+    /// To bound every plan: one look at the tours. Costs are symmetric, so steps go by the least route through each customer, and
+    /// rounds are over a sparse graph if there are many customers.
     Bound,
+    /// The same if costs are not symmetric: steps go by the least tours.
+    BoundByTours,
 }
 
 impl Purpose {
@@ -48,16 +57,21 @@ impl Purpose {
     pub(crate) fn of(instance: &Instance) -> Purpose {
         if instance.customers() <= MOST_SEARCHED {
             Purpose::Search
-        } else {
+        } else if instance.symmetric() {
             Purpose::Bound
+        } else {
+            Purpose::BoundByTours
         }
     }
 
-    /// The fewest rounds that are worth it.
-    pub(crate) fn least_rounds(self) -> u64 {
+    /// The fewest rounds over all arcs for which the steps must suffice.
+    pub(crate) fn least_rounds(self) -> u64
+        ensures { 1 ≤ result }
+    {
         match self {
             Purpose::Search | Purpose::Routes => LEAST_ROUNDS,
-            Purpose::Bound => LEAST_BOUNDING_ROUNDS,
+            Purpose::Bound => PARTS_FOR_ALL_ARCS,
+            Purpose::BoundByTours => LEAST_ROUNDS_BY_TOURS,
         }
     }
 
@@ -65,7 +79,7 @@ impl Purpose {
     pub(crate) fn most_rounds(self) -> u64 {
         match self {
             Purpose::Search | Purpose::Routes => 600,
-            Purpose::Bound => 20_000,
+            Purpose::Bound | Purpose::BoundByTours => 20_000,
         }
     }
 
@@ -79,8 +93,8 @@ impl Purpose {
                         && bound_table(size) <= MAX_LOOKUP_TABLE
                         && can_tour(size))
             }
-            Purpose::Bound => {
-                let most = steps / LEAST_BOUNDING_ROUNDS;
+            Purpose::Bound | Purpose::BoundByTours => {
+                let most = steps / self.least_rounds();
                 size.steps() <= most
                     && bound_table(size) <= MAX_BOUND_TABLE.min(most)
                     && can_tour(size)
@@ -99,12 +113,27 @@ fn can_tour(size: Size) -> bool {
     size.whole.saturating_mul(size.room) <= MAX_LOOKUP_TABLE
 }
 
+/// The number of nearest places to which each place keeps an arc in a sparse graph. `None` if these would be most of all places: then
+/// rounds over all arcs are as short.
+pub(crate) fn sparse_neighbors(places: usize) -> Option<usize> {
+    let neighbors = SPARSE_ARCS / places.max(1);
+    if neighbors < places / 3 {
+        Some(neighbors)
+    } else {
+        None
+    }
+}
+
 /// The number of near customers of each place if prices only bound, at most this many: as many as keep the bounding table within the
-/// steps of a round.
-pub(crate) fn remembered_for_bound(size: Size, most: usize, steps: u64) -> usize
+/// steps of a round over all arcs.
+pub(crate) fn remembered_for_bound(purpose: Purpose, size: Size, most: usize, steps: u64) -> usize
     ensures { result ≤ most }
 {
-    let allowed = MAX_NG_TABLE.min(steps / LEAST_BOUNDING_ROUNDS);
+    let most_steps = match purpose {
+        Purpose::BoundByTours => MAX_NG_TABLE,
+        _ => MAX_BOUND_TABLE,
+    };
+    let allowed = most_steps.min(steps / purpose.least_rounds());
     let mut table = bound_table(size);
     for near in 0..most {
         table = table.saturating_mul(2);

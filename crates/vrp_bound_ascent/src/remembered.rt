@@ -61,8 +61,8 @@ impl Remembered {
             Purpose::Search | Purpose::Routes => Remembered::largest(
                 alloc, instance, size, most, steps,
             ),
-            Purpose::Bound => {
-                let near = remembered_for_bound(size, most, steps);
+            Purpose::Bound | Purpose::BoundByTours => {
+                let near = remembered_for_bound(purpose, size, most, steps);
                 Remembered::new(alloc, instance, size, near)
             }
         }

@@ -5,7 +5,7 @@ ghost use Rattle.vrp_model.specs.Problem.{place_count};
 ghost use Rattle.vrp_bound_prices.specs.Cut.{IsCut};
 ghost use Rattle.vrp_bound_prices.specs.declared.limits.TheConstants.{MAX_CUTS, MAX_SCALE};
 
-use crate::purpose::Purpose;
+use crate::purpose::{Purpose, sparse_neighbors};
 use crate::remembered::Remembered;
 use crate::shares::Shares;
 use crate::step::Ascent;
@@ -35,9 +35,10 @@ pub struct FoundPrices<'a> {
 /// rounds would be long or few. `should_continue` is asked before each round.
 ///
 /// With up to 127 customers the prices serve a search, so demands are counted in a unit that is coarse enough for a completion table.
-/// With more they only bound, in finer units. `None` if the steps don't suffice for a hundred rounds without ng-sets (twenty if prices
-/// only bound), if no unit makes the tables small enough, or if the prices are out of range. The contract leaves open which prices and
-/// ng-sets are found: any prices bound.
+/// With more they only bound, in finer units; if costs are symmetric, rounds are then over the arcs between near places, and the last
+/// one over all arcs. `None` if the steps don't suffice for a hundred rounds without ng-sets (if prices only bound, for eight over all
+/// arcs, or for twenty if costs are not symmetric), if no unit makes the tables small enough, or if the prices are out of range. The
+/// contract leaves open which prices and ng-sets are found: any prices bound.
 pub fn find_prices<'a, F: Fn() -> bool>(
     alloc: Global,
     instance: &'a Instance,
@@ -165,22 +166,30 @@ impl Rounds<'_> {
         ensures few { IfOk result (λ best. vec_len best.cuts ≤ MAX_CUTS) }
     {
         let mut ascent = self.new_ascent(alloc, aim.cost)?;
-        self.ascend(alloc, &mut ascent, aim.steps, should_continue)?;
-        let (prices, cuts) = ascent.into_best();
+        // The last round is over all arcs.
+        let steps = aim.steps.saturating_sub(self.size.steps());
+        self.ascend(alloc, &mut ascent, steps, should_continue)?;
+        let (prices, cuts) = ascent.into_best(&mut self.walks)?;
         let prices = self.lifted(alloc, &prices, &cuts)?;
         let cuts = cuts.into_cuts(alloc, self.instance)?;
         Ok(BestPrices { prices, cuts })
     }
 
-    // Starts without prices. If prices only bound, and costs are symmetric, steps go by the least route through each customer.
-    fn new_ascent(&self, alloc: Global, cost: u64) -> Result<Ascent, NoMemory> {
+    // Starts without prices. If prices only bound, and costs are symmetric, steps go by the least route through each customer, and
+    // rounds are over a sparse graph.
+    fn new_ascent(&mut self, alloc: Global, cost: u64) -> Result<Ascent, NoMemory>
+        ensures { IfOk result (λ _. self.new.instance ≡ self.old.instance) }
+    {
         let places = usize::from(self.instance.customers()) + 1;
         let scale = i64::try_from(self.scale).unwrap_or(1);
         let aim = i64::try_from(cost).unwrap_or(i64::MAX);
         let shares = match Purpose::of(self.instance) {
-            Purpose::Bound if self.instance.symmetric() => Some(Shares::new(alloc, &self.walks)?),
+            Purpose::Bound => Some(Shares::new(alloc, &self.walks)?),
             _ => None,
         };
+        if let (Some(_), Some(count)) = (&shares, sparse_neighbors(places)) {
+            self.walks.keep_nearest(alloc, count)?;
+        }
         Ascent::new(alloc, places, scale, aim, shares)
     }
 
@@ -196,11 +205,9 @@ impl Rounds<'_> {
         ensures { self.new.instance ≡ self.old.instance }
     {
         let mut left = steps;
+        let filling = self.size.steps_over(self.walks.arcs_looked_at());
         for _ in 0..Purpose::of(self.instance).most_rounds() {
-            let round = self
-                .size
-                .steps()
-                .saturating_add(self.size.cut_prices(ascent.priced_cuts()));
+            let round = filling.saturating_add(self.size.cut_prices(ascent.priced_cuts()));
             if left < round || !should_continue() {
                 break;
             }

@@ -100,10 +100,20 @@ impl Ascent {
         self.cuts.priced_cuts()
     }
 
-    /// The best prices, and the cuts with their prices.
-    pub(crate) fn into_best(mut self) -> (Vec<i64>, SteppedCuts) {
+    /// The best prices, and the cuts with their prices. If steps go by the least routes through customers, one more round is made over
+    /// all arcs: a route over an arc that was not in the sparse graph may cost less than nothing.
+    pub(crate) fn into_best(
+        mut self,
+        walks: &mut Walks,
+    ) -> Result<(Vec<i64>, SteppedCuts), NoMemory> {
         self.cuts.go_back();
-        (self.best, self.cuts)
+        if let Some(shares) = &mut self.shares {
+            walks.keep_all();
+            self.cuts.enter(walks, &self.best);
+            walks.fill_walks();
+            shares.settle(walks, self.best.as_mut_slice())?;
+        }
+        Ok((self.best, self.cuts))
     }
 
     /// Steps on from the tables filled last, for which `fill` gave this answer; false if no more steps are worth it.

@@ -23,7 +23,9 @@ pub(crate) fn unit_for(instance: &Instance, purpose: Purpose, steps: u64) -> Opt
     }
     match purpose {
         Purpose::Search | Purpose::Routes => least_by_halving(instance, purpose, divisor, steps),
-        Purpose::Bound => first_of_rising(instance, divisor, steps),
+        Purpose::Bound | Purpose::BoundByTours => {
+            first_of_rising(instance, purpose, divisor, steps)
+        }
     }
 }
 
@@ -49,13 +51,13 @@ fn least_by_halving(instance: &Instance, purpose: Purpose, divisor: u64, steps: 
 
 // The first suitable unit above this one, in rises by a sixteenth, or by one. A large unit weakens the bound: each customer who demands
 // less than a unit adds one to the capacity.
-fn first_of_rising(instance: &Instance, divisor: u64, steps: u64) -> Option<u64>
+fn first_of_rising(instance: &Instance, purpose: Purpose, divisor: u64, steps: u64) -> Option<u64>
     ensures { IfSome result (λ unit. 1 ≤ unit) }
 {
     let mut unit = divisor.max(1);
     for _ in 0..RISES {
         unit = unit.saturating_add(unit / 16).saturating_add(1);
-        if Purpose::Bound.allows(Size::in_units(instance, unit), steps) {
+        if purpose.allows(Size::in_units(instance, unit), steps) {
             return Some(unit);
         }
     }

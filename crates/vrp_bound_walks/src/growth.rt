@@ -4,6 +4,7 @@ ghost use Rattle.vrp_model.specs.Problem.{place_count};
 
 use crate::cells::{FAR, lower, lower_near};
 use crate::near_looks::{NearLook, NearLooks};
+use crate::sparse_graph::{Nearness, SparseGraph};
 use std::alloc::Global;
 use vrp_model::{Instance, NoMemory};
 
@@ -18,6 +19,8 @@ pub(crate) struct Growth {
     // The arcs with prices and cut prices, and a mark where ng-sets matter.
     far_arcs: Vec<i64>,
     looks: NearLooks,
+    // Present if walks grow over a sparse graph.
+    sparse: Option<SparseGraph>,
 }
 
 impl Growth {
@@ -36,6 +39,7 @@ impl Growth {
             arcs: vec![in alloc; FAR; square]?,
             far_arcs: vec![in alloc; FAR; square]?,
             looks,
+            sparse: None,
         })
     }
 
@@ -48,11 +52,41 @@ impl Growth {
         Some((arcs, weights))
     }
 
+    /// From now on walks grow only between each place and this many nearest ones, from and to the depot, and where ng-sets
+    /// matter.
+    pub(crate) fn keep_nearest(&mut self, alloc: Global, count: usize) -> Result<(), NoMemory> {
+        let nearness = Nearness::new(alloc, &self.weights, &self.looks, self.places, count)?;
+        self.sparse = Some(SparseGraph::new(alloc, &nearness)?);
+        Ok(())
+    }
+
+    /// From now on walks grow over all arcs.
+    pub(crate) fn keep_all(&mut self) {
+        self.sparse = None;
+    }
+
+    /// The neighbors of a place, if walks grow over a sparse graph.
+    pub(crate) fn neighbors(&self, place: usize) -> Option<&[u16]> {
+        let sparse = self.sparse.as_ref()?;
+        Some(sparse.neighbors(place))
+    }
+
+    /// How many looks along rows of arcs the walks of one load take.
+    pub(crate) fn arcs_looked_at(&self) -> u64 {
+        match &self.sparse {
+            Some(sparse) => sparse.looks(),
+            None => self.arcs.len() as u64,
+        }
+    }
+
     /// Copies the entered arcs, without those where ng-sets matter.
     pub(crate) fn mark_near(&mut self) {
         let arcs = self.arcs.iter().zip(self.looks.far());
         for (far_arc, (&arc, &is_far)) in self.far_arcs.iter_mut().zip(arcs) {
             *far_arc = if is_far { arc } else { FAR };
+        }
+        if let Some(sparse) = &mut self.sparse {
+            enter_all(sparse, &self.far_arcs, self.places);
         }
     }
 
@@ -87,8 +121,21 @@ impl Growth {
             self.far_arcs.as_slice().get(start..end),
             self.arcs.as_slice().get(start..end),
         ) {
-            lower(rows, far_arcs, cost);
+            match &self.sparse {
+                Some(sparse) => sparse.lower(rows, stop, cost),
+                None => lower(rows, far_arcs, cost),
+            }
             lower_near(rows, self.looks.of(stop), arcs, walks, stop);
+        }
+    }
+}
+
+// Enters the arcs of a sparse graph.
+fn enter_all(sparse: &mut SparseGraph, arcs: &[i64], places: usize) {
+    for to in 0..places {
+        let start = to.saturating_mul(places);
+        if let Some(arcs) = arcs.get(start..start.saturating_add(places)) {
+            sparse.enter(to, arcs);
         }
     }
 }

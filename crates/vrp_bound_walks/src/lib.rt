@@ -9,6 +9,7 @@ mod least_routes;
 mod lift;
 mod near_looks;
 mod size;
+mod sparse_graph;
 mod tours_used;
 mod walks;
 

@@ -42,15 +42,17 @@ impl Size {
         Size { looks, ..self }
     }
 
-    /// The number of steps to fill the tables once, where a step is a look from one cell at another; `u64::MAX` if there are
-    /// more. The contract leaves the number open.
+    /// The number of steps to fill the tables once over all arcs, where a step is a look from one cell at another; `u64::MAX`
+    /// if there are more. The contract leaves the number open.
     pub fn steps(self) -> u64 {
+        self.steps_over(self.places.saturating_mul(self.places))
+    }
+
+    /// The number of steps to fill the tables once if the walks of one load take this many looks along rows of arcs;
+    /// `u64::MAX` if there are more. The contract leaves the number open.
+    pub fn steps_over(self, arcs: u64) -> u64 {
         let loads = self.room.saturating_add(1);
-        let of_one = self
-            .places
-            .saturating_mul(self.places)
-            .saturating_add(self.looks)
-            .saturating_add(self.whole);
+        let of_one = arcs.saturating_add(self.looks).saturating_add(self.whole);
         loads.saturating_mul(of_one)
     }
 

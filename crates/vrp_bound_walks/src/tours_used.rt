@@ -95,11 +95,19 @@ impl Walks {
             return None;
         }
         let cost = self.cost(here);
-        (1..self.places()).find_map(|stop| self.going_on(here, cost, stop))
+        match self.neighbors(here.place) {
+            Some(neighbors) => neighbors
+                .iter()
+                .find_map(|&stop| self.going_on(here, cost, usize::from(stop))),
+            None => (1..self.places()).find_map(|stop| self.going_on(here, cost, stop)),
+        }
     }
 
-    // The position after continuing to this stop, if that explains the cost.
+    // The position after continuing to this stop, if that explains the cost. The depot is no stop.
     fn going_on(&self, here: Standing, cost: i64, stop: usize) -> Option<Standing> {
+        if stop == 0 {
+            return None;
+        }
         let left = here.left.checked_sub(self.demand(stop))?;
         let rest = cost.wrapping_sub(self.arc(here.place, stop));
         let next = Standing {

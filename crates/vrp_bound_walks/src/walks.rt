@@ -51,6 +51,24 @@ impl Walks {
         })
     }
 
+    /// From now on the tables are filled only over the arcs of a sparse graph: those between each place and this many nearest
+    /// ones, those of the depot, and those where ng-sets matter. Weights are symmetric. If memory is refused, nothing changes.
+    /// The contract leaves the arcs open.
+    pub fn keep_nearest(&mut self, alloc: Global, count: usize) -> Result<(), NoMemory> {
+        self.growth.keep_nearest(alloc, count)
+    }
+
+    /// From now on the tables are filled over all arcs.
+    pub fn keep_all(&mut self) {
+        self.growth.keep_all();
+    }
+
+    /// How many looks along rows of arcs fill the walks of one load; one at an arc of a sparse graph counts for several. The
+    /// contract leaves the number open.
+    pub fn arcs_looked_at(&self) -> u64 {
+        self.growth.arcs_looked_at()
+    }
+
     /// Fills the tables from the arcs that were entered last. Answers the least cost of tours that carry the whole demand;
     /// `None` if no tours do. The contract leaves the cost open.
     pub fn fill(&mut self) -> Option<i64> {
@@ -158,6 +176,11 @@ impl Walks {
     // The looks before a stop that take ng-sets into account.
     pub(crate) fn near_looks(&self, stop: usize) -> &[NearLook] {
         self.growth.near_looks(stop)
+    }
+
+    // The neighbors of a place, if the tables are filled over a sparse graph.
+    pub(crate) fn neighbors(&self, place: usize) -> Option<&[u16]> {
+        self.growth.neighbors(place)
     }
 
     // Whether ng-sets don't matter between a place and the stop after it.
