@@ -3,3 +3,4 @@
 mod least_routes;
 mod ng_walks;
 mod slow;
+mod sparse;

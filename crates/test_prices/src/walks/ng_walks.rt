@@ -130,8 +130,7 @@ fn instance_of(rt: &impl Abort, alloc: Global, case: Case) -> Instance {
     with_arcs(alloc, case.weights, case.demands, case.capacity).expect(rt, "an instance")
 }
 
-// Fills the tables with this many near customers for each place, and compares them with all walks; answers the number of
-// walks.
+// Compares the tables with this many near customers for each place with all walks; answers the number of walks.
 fn compare(
     rt: &impl Abort,
     alloc: Global,
@@ -141,14 +140,24 @@ fn compare(
 ) -> u32 {
     let mut walks = empty_walks(rt, alloc, instance, size);
     walks.enter(prices);
-    let whole = walks.fill();
     let mut slow = Slow::new(rt, alloc, instance, prices, size, walks.loads());
+    compare_filled(rt, alloc, &mut walks, &mut slow)
+}
+
+/// Fills the tables, and compares them with all walks that the slow program follows; answers the number of walks.
+pub(crate) fn compare_filled(
+    rt: &impl Abort,
+    alloc: Global,
+    walks: &mut Walks,
+    slow: &mut Slow,
+) -> u32 {
+    let whole = walks.fill();
     let count = slow.tell_all(rt, alloc);
-    slow.compare_cells(rt, &walks);
+    slow.compare_cells(rt, walks);
     let least = slow.least_tours(rt, alloc, walks.whole());
-    assert_same(rt, whole, least, size);
+    assert_same(rt, whole, least, count);
     if let Some(cost) = whole {
-        compare_used(rt, alloc, &slow, &walks, cost);
+        compare_used(rt, alloc, slow, walks, cost);
     }
     count
 }
@@ -160,8 +169,13 @@ fn compare_used(rt: &impl Abort, alloc: Global, slow: &Slow, walks: &Walks, cost
     slow.compare_used(rt, &used, cost, walks.whole());
 }
 
-// The tables with this many near customers for each place.
-fn empty_walks(rt: &impl Abort, alloc: Global, instance: &Instance, size: usize) -> Walks {
+/// The tables with this many near customers for each place.
+pub(crate) fn empty_walks(
+    rt: &impl Abort,
+    alloc: Global,
+    instance: &Instance,
+    size: usize,
+) -> Walks {
     assert!(rt; size <= 4);
     let ng_sets = NgSets::nearest(alloc, instance, size).expect(rt, "memory");
     let looks = NearLooks::new(alloc, instance, &ng_sets).expect(rt, "memory");

@@ -123,6 +123,14 @@ impl Slow {
         }
     }
 
+    /// Takes an arc out: a walk over it costs as much as no walk.
+    pub(crate) fn remove_arc(&mut self, from: usize, to: usize) {
+        let arc = from.saturating_mul(self.places).saturating_add(to);
+        if let Some(arc) = self.arcs.get_mut(arc) {
+            *arc = 2 * NO_WALK;
+        }
+    }
+
     /// Follows every walk, and answers their number.
     pub(crate) fn tell_all(&mut self, rt: &impl Abort, alloc: Global) -> u32 {
         let mut stack = self.straight_home(rt, alloc);
