@@ -1,4 +1,4 @@
-use Rattle.std.proofs.Common.{◌≡◌, ◌≤◌, Option, subst, sym, ap}
+use Rattle.std.proofs.Common.{◌≤◌, Option, subst, sym, ap}
 use Rattle.std.specs.Option.{option_map}
 use Rattle.vrp_model.specs.Cheapest.{cost_of}
 use Rattle.vrp_model.specs.Route.{PricedPlan}
