@@ -12,7 +12,7 @@ use std::time::Duration;
 use vrp_heuristic::{Crew, ENOUGH_MOVES, Unhurried, heuristic_plan};
 use vrp_model::{Instance, Plan};
 
-/// The instance in a file.
+/// The instance in a file. No clause says that it is the one written there: `vrp_text` has that clause for its bytes.
 pub fn read<R: Files + AllocGlobal>(rt: &R, name: &str) -> Result<Instance> {
     let bytes = fs::read(rt, name)?;
     Ok(vrp_text::read(rt.alloc(), &bytes, None)?)
@@ -32,14 +32,14 @@ pub fn plan_by_one<R: AllocGlobal + Threads + Sync>(rt: &R, instance: &Instance)
     heuristic_plan(&crew, ENOUGH_MOVES)?.context("no heuristic plan")
 }
 
-/// Prints how long something took.
+/// Prints how long something took. No clause says what is printed.
 pub fn print_time(rt: &impl Eprint, what: &str, time: Duration) -> Result<()> {
     let milliseconds = time.as_millis();
     eprintln!(rt; "{what}: {milliseconds} milliseconds")?;
     Ok(())
 }
 
-/// Prints the time, and the rate in millions a second, with one decimal.
+/// Prints the time, and the rate in millions a second, with one decimal. No clause says what is printed.
 pub fn print_rate(rt: &impl Eprint, looked: u64, time: Duration) -> Result<()> {
     let microseconds = u64::try_from(time.as_micros()).unwrap_or(u64::MAX).max(1);
     let tenths = looked.saturating_mul(10) / microseconds;

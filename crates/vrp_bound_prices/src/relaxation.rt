@@ -151,7 +151,8 @@ impl<'a> Relaxation<'a> {
     }
 
     /// What every plan costs at least, by the least ng-tours in the relaxed instance that carry all demands. `None`: there are no such
-    /// tours, a customer has no demand in units, or it would take more than so many steps to fill their tables.
+    /// tours, a customer has no demand in units, or it would take more than so many steps to fill their tables. No clause pins the
+    /// decimals.
     pub fn lower_bound(
         &self,
         alloc: Global,

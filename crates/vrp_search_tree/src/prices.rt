@@ -52,7 +52,8 @@ impl<'a> Prices<'a> {
         Ok(Prices { relaxation, tables })
     }
 
-    /// A lower bound on every plan of the instance, by the prices. It is `NO_COST` if they show that there is no plan.
+    /// A lower bound on every plan of the instance, by the prices. It is `NO_COST` if they show that there is no plan. No clause
+    /// pins its decimals.
     pub fn lower_bound(&self) -> LowerBound
         ensures none { NoneCheaperUnder self.now.problem [] (rounded_up result) }
         ensures reached { rounded_up result < NO_COST → IsReached self.now (rounded_up result) }
