@@ -29,8 +29,9 @@ const LEAST_ROUNDS: u64 = 100;
 
 const LEAST_ROUNDS_BY_TOURS: u64 = 20;
 
-// If rounds are over a sparse graph, only one is over all arcs. It, and the bounding table, may take one part in this many of all steps.
-const PARTS_FOR_ALL_ARCS: u64 = 8;
+// If rounds are over a sparse graph, only one is over all arcs. It, and the bounding table, may take one part in this many of all steps:
+// nothing can stop them, and steps of the table take several times as long as others.
+const PARTS_FOR_ALL_ARCS: u64 = 12;
 
 // A sparse graph has about this many arcs: with more there are fewer rounds, and with fewer the last round loses more.
 const SPARSE_ARCS: usize = 45_000;
