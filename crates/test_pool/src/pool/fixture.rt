@@ -66,24 +66,6 @@ pub(crate) fn line(rt: &impl Abort, alloc: Global) -> Instance {
     alike(rt, alloc, &points, 20)
 }
 
-/// Sixty scattered customers, who demand from 101 to 160 each, about twelve to a truck.
-pub(crate) fn varied(rt: &impl Abort, alloc: Global) -> Instance {
-    let mut points = Vec::new(alloc);
-    points.push((50, 50)).expect(rt, "memory");
-    let mut demands = Vec::new(alloc);
-    demands.push(0).expect(rt, "memory");
-    for number in 1..61u16 {
-        let place = i64::from(number);
-        points
-            .push((place * 37 % 101, place * 59 % 103))
-            .expect(rt, "memory");
-        demands
-            .push(101 + u64::from(number) * 23 % 60)
-            .expect(rt, "memory");
-    }
-    at_points(alloc, &points, &demands, 1_500).expect(rt, "an instance")
-}
-
 /// Seven scattered nodes: six customers, three to a truck.
 pub(crate) fn seven_nodes(rt: &impl Abort, alloc: Global) -> Instance {
     let points = [
