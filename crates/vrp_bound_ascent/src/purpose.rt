@@ -17,7 +17,7 @@ const MAX_COMPLETION_TABLE: u64 = 40_000_000;
 // The largest tables for look-ups, by the steps that fill them: vrp_bound makes no larger ones.
 const MAX_LOOKUP_TABLE: u64 = 200_000_000;
 
-/// The largest tables for a single look, by the steps that fill them. That takes up to a few seconds, and nothing can stop it; so these
+/// The largest tables for a single look, by the steps that fill them. That takes up to ten seconds, and nothing can stop it; so these
 /// steps are a small part of all steps.
 pub const MAX_BOUND_TABLE: u64 = 4_000_000_000;
 

@@ -35,10 +35,10 @@ pub struct FoundPrices<'a> {
 /// rounds would be long or few. `should_continue` is asked before each round.
 ///
 /// With up to 127 customers the prices serve a search, so demands are counted in a unit that is coarse enough for a completion table.
-/// With more they only bound, in finer units; if costs are symmetric, rounds are then over the arcs between near places, and the last
-/// one over all arcs. `None` if the steps don't suffice for a hundred rounds without ng-sets (if prices only bound, for twelve over all
-/// arcs, or for twenty if costs are not symmetric), if no unit makes the tables small enough, or if the prices are out of range. The
-/// contract leaves open which prices and ng-sets are found: any prices bound.
+/// With more they only bound, in finer units; if costs are symmetric, rounds are then over the arcs between near places, and one over
+/// all arcs follows in any case. `None` if the steps don't suffice for a hundred rounds without ng-sets (if prices only bound, for
+/// twelve over all arcs, or for twenty if costs are not symmetric), if no unit makes the tables small enough, or if the prices are out
+/// of range. The contract leaves open which prices and ng-sets are found: any prices bound.
 pub fn find_prices<'a, F: Fn() -> bool>(
     alloc: Global,
     instance: &'a Instance,

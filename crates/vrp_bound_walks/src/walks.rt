@@ -58,7 +58,7 @@ impl Walks {
         self.growth.keep_nearest(alloc, count)
     }
 
-    /// From now on the tables are filled over all arcs.
+    /// From now on the tables are filled over all arcs. The contract leaves the arcs open.
     pub fn keep_all(&mut self) {
         self.growth.keep_all();
     }
