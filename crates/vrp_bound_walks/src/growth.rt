@@ -5,6 +5,7 @@ ghost use Rattle.vrp_model.specs.Problem.{place_count};
 use crate::cells::{FAR, lower, lower_near};
 use crate::near_looks::{NearLook, NearLooks};
 use crate::sparse_graph::{Nearness, SparseGraph};
+use crate::walks::row_of;
 use std::alloc::Global;
 use vrp_model::{Instance, NoMemory};
 
@@ -92,7 +93,7 @@ impl Growth {
 
     /// The arcs home.
     pub(crate) fn arcs_home(&self) -> &[i64] {
-        self.arcs.as_slice().get(0..self.places).unwrap_or(&[])
+        row_of(&self.arcs, self.places, 0)
     }
 
     /// The cost of an arc.
@@ -133,10 +134,7 @@ impl Growth {
 // Enters the arcs of a sparse graph.
 fn enter_all(sparse: &mut SparseGraph, arcs: &[i64], places: usize) {
     for to in 0..places {
-        let start = to.saturating_mul(places);
-        if let Some(arcs) = arcs.get(start..start.saturating_add(places)) {
-            sparse.enter(to, arcs);
-        }
+        sparse.enter(to, row_of(arcs, places, to));
     }
 }
 

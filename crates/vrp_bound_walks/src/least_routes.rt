@@ -3,7 +3,7 @@ ghost use Rattle.std.specs.Prelude.{pos, ◌<ℤ◌};
 
 use crate::cells::NO_WALK;
 use crate::tours_used::{Standing, UsedArc, WHOLE_TOUR};
-use crate::walks::{Walks, at};
+use crate::walks::{Walks, at, row_of};
 use std::alloc::Global;
 use std::mem;
 use vrp_model::NoMemory;
@@ -213,13 +213,6 @@ impl LeastRoutes {
     fn row(&self, ng_set: usize) -> &[i64] {
         row_of(&self.costs, self.loads, ng_set)
     }
-}
-
-// The costs of walks with this ng-set, by load.
-fn row_of(costs: &[i64], loads: usize, ng_set: usize) -> &[i64] {
-    let start = ng_set.saturating_mul(loads);
-    let end = start.saturating_add(loads);
-    costs.get(start..end).unwrap_or(&[])
 }
 
 // The best half for each greatest load, from walks with these costs by load.

@@ -1,7 +1,7 @@
 //! A sparse graph: each place and its nearest neighbors. Tables are filled over its arcs in a fraction of the time (granular
 //! neighborhoods, Toth and Vigo 2003).
 use crate::near_looks::NearLooks;
-use crate::walks::at;
+use crate::walks::{at, row_of};
 use std::alloc::Global;
 use vrp_model::NoMemory;
 
@@ -111,9 +111,7 @@ impl<'a> Nearness<'a> {
         let mut sorted = Vec::with_capacity(alloc, places)?;
         for place in 0..places {
             sorted.clear();
-            let start = place.saturating_mul(places);
-            let row = weights.get(start..start.saturating_add(places));
-            sorted.extend_from_slice(row.unwrap_or(&[]))?;
+            sorted.extend_from_slice(row_of(weights, places, place))?;
             sorted.sort_unstable();
             reach.push(at(&sorted, count.saturating_sub(1)))?;
         }

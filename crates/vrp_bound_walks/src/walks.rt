@@ -199,6 +199,13 @@ pub(crate) fn at(values: &[i64], place: usize) -> i64 {
     values.get(place).copied().unwrap_or(0)
 }
 
+/// A row of a table that lies row after row, each of this length; empty past its end.
+pub(crate) fn row_of(table: &[i64], length: usize, row: usize) -> &[i64] {
+    let start = row.saturating_mul(length);
+    let end = start.saturating_add(length);
+    table.get(start..end).unwrap_or(&[])
+}
+
 // The demand of each place in units.
 fn demands(alloc: Global, instance: &Instance, unit: u64) -> Result<Vec<usize>, NoMemory>
     requires some { 1 ≤ unit }
