@@ -1,10 +1,10 @@
 //! A finding as JSON (RFC 8259).
 ghost use Rattle.std.specs.Option.{ForSome, option_map};
-ghost use Rattle.std.specs.Prelude.{◌≡◌, ◌≤◌, ℕ, IfOk, map, string_bytes};
+ghost use Rattle.std.specs.Prelude.{◌≡◌, ◌≤◌, ℕ, IfOk, OnOk, map, string_bytes};
 ghost use Rattle.serde_json.specs.Data.{array, depth};
-ghost use Rattle.serde_json.specs.View.{items_view, view};
+ghost use Rattle.serde_json.specs.View.{items_view, members_view, view};
 ghost use Rattle.vrp_pool_answer.specs.Finding.{told_by};
-ghost use Rattle.vrp_plan_write.specs.Inner.Document.{document_of, route_object};
+ghost use Rattle.vrp_plan_write.specs.Inner.Document.{document_of, route_object, with_answer, with_problem, with_run, with_settings};
 ghost use Rattle.vrp_plan_write.specs.Inner.Routes.{AreRoutes};
 ghost use Rattle.vrp_plan_write.specs.Json.{IsJsonOf, IsLineOf, context_by, customers_of, nodes_of, number_or_null, options_told, routes_told, text_or_null};
 ghost use Rattle.vrp_plan_write.specs.Stops.{ArePlaces, HaveStopsIn};
@@ -12,7 +12,7 @@ ghost use Rattle.vrp_model.specs.Route.{IsPlanOf};
 
 use crate::gap::gap_of;
 use crate::route::{cost, load};
-use serde_json::{Value, json};
+use serde_json::{Map, Value, json, put};
 use std::alloc::{AllocError, Global};
 use vrp_model::{Instance, NoMemory, Plan};
 use vrp_pool_answer::Finding;
@@ -64,15 +64,13 @@ pub fn json_text(
     ensures { IfOk result (λ text. IsJsonOf instance.now (told_by finding.now) (context_by context.entry) (string_bytes text)) }
 {
     let routes = routes_of(alloc, instance, finding.plan)?;
-    let options = options_of(alloc, context.asked)?;
-    let name = text_or_null(alloc, context.name)?;
     let gap = gap_of(instance, finding);
     let told = Told {
         instance,
         finding,
         context,
     };
-    let document = document(alloc, &told, name, gap, routes, options)?;
+    let document = document(alloc, &told, gap, routes)?;
     Ok(line_of(alloc, document)?)
 }
 
@@ -95,48 +93,76 @@ struct Told<'a> {
     context: Context<'a>,
 }
 
-// The object, with this name, this gap, these routes and options.
+// The object, with this gap and these routes.
 fn document(
     alloc: Global,
     told: &Told<'_>,
-    name: Value,
     gap: Option<u64>,
     routes: Vec<Value>,
-    options: Value,
 ) -> Result<Value, AllocError>
-    requires name { view name ≡ text_or_null (context_by told.now.context).name }
-    requires options { view options ≡ options_told told.now.context.asked }
     ensures { IfOk result (λ value. view value ≡ document_of told.now.instance.now (told_by told.now.finding.now)
         (context_by told.now.context) gap (map view routes.items)) }
 {
-    let Told {
-        instance,
-        finding,
-        context,
-    } = *told;
-    let verdict = finding.status.as_str();
-    let cost = or_null(cost_of(finding.plan));
+    // Member by member into a lent map: so no way out has many values to drop.
+    let mut members = Map::new(alloc);
+    put_run(alloc, &mut members, told)?;
+    put_answer(alloc, &mut members, told, gap)?;
+    put_problem(alloc, &mut members, told.instance)?;
+    put(&mut members, alloc, "routes", Value::Array(routes))?;
+    Ok(Value::Object(members))
+}
+
+// Adds what is known of the run: the file's name, the program's version and the options.
+fn put_run(
+    alloc: Global,
+    members: &mut Map<String, Value>,
+    told: &Told<'_>,
+) -> Result<(), AllocError>
+    ensures { OnOk result (members_view members.new.entries ≡ with_run (context_by told.now.context) (members_view members.old.entries)) }
+{
+    let context = told.context;
+    put(members, alloc, "name", text_or_null(alloc, context.name)?)?;
+    let version = Value::try_from_str(alloc, context.version)?;
+    put(members, alloc, "version", version)?;
+    put(members, alloc, "options", options_of(alloc, context.asked)?)
+}
+
+// Adds the verdict and the numbers beside it.
+fn put_answer(
+    alloc: Global,
+    members: &mut Map<String, Value>,
+    told: &Told<'_>,
+    gap: Option<u64>,
+) -> Result<(), AllocError>
+    ensures { OnOk result (members_view members.new.entries ≡ with_answer (told_by told.now.finding.now) (context_by told.now.context) gap
+        (members_view members.old.entries)) }
+{
+    let finding = told.finding;
+    let verdict = Value::try_from_str(alloc, finding.status.as_str())?;
+    put(members, alloc, "verdict", verdict)?;
+    put(members, alloc, "cost", or_null(cost_of(finding.plan)))?;
+    let stated_cost = or_null(told.context.stated_cost);
+    put(members, alloc, "stated_cost", stated_cost)?;
     let lower_bound = or_null(finding.lower_bound);
+    put(members, alloc, "lower_bound", lower_bound)?;
     let best_lower_bound = or_null(finding.best_lower_bound);
-    let gap = or_null(gap);
-    let customers = instance.customers();
-    let depot = instance.node(0);
-    let stated_cost = or_null(context.stated_cost);
-    json!(in alloc; {
-        "name": name,
-        "version": context.version,
-        "verdict": verdict,
-        "cost": cost,
-        "stated_cost": stated_cost,
-        "lower_bound": lower_bound,
-        "best_lower_bound": best_lower_bound,
-        "gap": gap,
-        "customers": customers,
-        "capacity": instance.capacity(),
-        "depot": depot,
-        "routes": routes,
-        "options": options,
-    })
+    put(members, alloc, "best_lower_bound", best_lower_bound)?;
+    put(members, alloc, "gap", or_null(gap))
+}
+
+// Adds what is known of the problem.
+fn put_problem(
+    alloc: Global,
+    members: &mut Map<String, Value>,
+    instance: &Instance,
+) -> Result<(), AllocError>
+    ensures { OnOk result (members_view members.new.entries ≡ with_problem instance.now (members_view members.old.entries)) }
+{
+    let customers = Value::from(instance.customers());
+    put(members, alloc, "customers", customers)?;
+    let capacity = Value::from(instance.capacity());
+    put(members, alloc, "capacity", capacity)?;
+    put(members, alloc, "depot", Value::from(instance.node(0)))
 }
 
 // The cost of a plan, if there is one.
@@ -173,18 +199,29 @@ fn text_or_null(alloc: Global, text: Option<&str>) -> Result<Value, AllocError>
 fn options_of(alloc: Global, settings: Settings) -> Result<Value, AllocError>
     ensures { IfOk result (λ value. view value ≡ options_told settings) }
 {
+    let mut members = Map::new(alloc);
+    put_settings(alloc, &mut members, settings)?;
+    Ok(Value::Object(members))
+}
+
+// Adds the options of the run.
+fn put_settings(
+    alloc: Global,
+    members: &mut Map<String, Value>,
+    settings: Settings,
+) -> Result<(), AllocError>
+    ensures { OnOk result (members_view members.new.entries ≡ with_settings settings (members_view members.old.entries)) }
+{
+    put(members, alloc, "workers", Value::from(settings.workers))?;
+    put(members, alloc, "pieces", Value::from(settings.pieces))?;
     let budget = Value::from(settings.budget);
+    put(members, alloc, "budget", budget)?;
     let seconds = Value::from(settings.seconds);
+    put(members, alloc, "seconds", seconds)?;
     let depot = Value::from(settings.depot);
+    put(members, alloc, "depot", depot)?;
     let trucks = Value::from(settings.trucks);
-    json!(in alloc; {
-        "workers": settings.workers,
-        "pieces": settings.pieces,
-        "budget": budget,
-        "seconds": seconds,
-        "depot": depot,
-        "trucks": trucks,
-    })
+    put(members, alloc, "trucks", trucks)
 }
 
 // The routes of a plan, if there is one.

@@ -3,10 +3,10 @@ use Rattle.serde_json.specs.View.{view}
 use Rattle.serde_json.specs.declared.value.Value.{the_lemmas}
 use Rattle.vrp_plan_write.specs.Json.{number_or_null}
 use Rattle.vrp_plan_write.proofs.Documents.{null_or_number}
-use Rattle.vrp_plan_write.proofs.json.options_of.Goals as goal
+use Rattle.vrp_plan_write.proofs.json.put_settings.Goals as goal
 
-pub returns-in-Ok-json-12 : goal.returns-in-Ok-json-12
-returns-in-Ok-json-12 c =
+pub returns : goal.returns
+returns c =
     let asked = c.args.settings in
     let budget : view c.from-budget.result ≡ number_or_null asked.budget = null_or_number asked.budget (view c.from-budget.result) c.from-budget.ensures in
     let seconds : view c.from-seconds.result ≡ number_or_null asked.seconds = null_or_number asked.seconds (view c.from-seconds.result) c.from-seconds.ensures in
