@@ -1,5 +1,8 @@
 -- From the cheapest choice of the pool to the canonical plan.
-use Rattle.std.proofs.Common.{◌≡◌, ℕ, ◌+◌, ◌≤◌, Option, Some, None, IfSome, List, map, sym, ap, subst, ◌∙◌, arith}
+use Rattle.std.proofs.Common.{◌≡◌, ℕ, ◌+◌, ◌≤◌, Option, Some, None, IfSome, Result, Ok, Err, IfOk, List, map, sym, ap, subst, ◌∙◌, arith}
+use Rattle.vrp_canonical.specs.Ending.{IfBound}
+use Rattle.vrp_canonical.specs.declared.canonical.PlanSearch.{PlanSearch}
+use Rattle.vrp_canonical.specs.declared.canonical.PlanSearch.TheVariants.{Canonical, Unfinished}
 use Rattle.vrp_canonical.specs.Ordering.{AreOrdered, route_of, stops_of}
 use Rattle.vrp_canonical.specs.Reaching.{IsFleet, IsTask, plan_at}
 use Rattle.vrp_canonical.specs.declared.ordered.ListedRoute.{ListedRoute}
@@ -60,3 +63,13 @@ canonical_by_word p plan other canonical lawful word =
     let cost : plan.cost ≡ other.cost = canonical.plan_of.priced ∙ ap (plan_cost p) routes ∙ sym lawful.priced in
     let same : plan ≡ other = λ i. record { routes = routes i; cost = cost i } in
     subst (IsCanonical p) same canonical
+
+-- what is known of an unfinished search's bound, from what is known more closely
+bound_told : (found : PlanSearch) (P Q : ℕ → Type 0) → ((bound : ℕ) → P bound → Q bound) → IfBound P found → IfBound Q found
+bound_told (Canonical plan) P Q give is = tt
+bound_told (Unfinished word lower_bound) P Q give is = give lower_bound is
+
+-- so it is where the search was not refused memory
+pub bound_follows : {E : Type 0} (found : Result PlanSearch E) (P Q : ℕ → Type 0) → ((bound : ℕ) → P bound → Q bound) → IfOk found (IfBound P) → IfOk found (IfBound Q)
+bound_follows (Ok found) P Q give is = bound_told found P Q give is
+bound_follows (Err refusal) P Q give is = tt

@@ -3,3 +3,4 @@ pub mod Ending
 pub mod Ordering
 pub mod Passing
 pub mod Reaching
+pub mod Whole

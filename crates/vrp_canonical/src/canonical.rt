@@ -1,11 +1,14 @@
 //! The canonical plan from a complete pool of routes.
-ghost use Rattle.std.specs.Prelude.{◌≡◌, ◌≤◌, ℕ, IfOk, IfSome, map};
+ghost use Rattle.std.specs.Prelude.{◌≡◌, ◌+◌, ◌≤◌, ℕ, IfOk, IfSome, length, map, min};
 ghost use Rattle.vrp_canonical.specs.Ending.{IfBound, IfCanonical};
 ghost use Rattle.vrp_canonical.specs.Ordering.{AreOrdered, chosen_of, route_of, stops_of};
 ghost use Rattle.vrp_canonical.specs.Reaching.{IsFleet, IsTask};
+ghost use Rattle.vrp_canonical.specs.Whole.{IsWhole};
 ghost use Rattle.vrp_model.specs.Cheapest.{NoneCheaper};
 ghost use Rattle.vrp_model.specs.Order.{IsCanonical};
 ghost use Rattle.vrp_model.specs.Problem.{IsProblem, Problem, customers, place_count};
+ghost use Rattle.vrp_partition.specs.Branching.{IsFound};
+ghost use Rattle.vrp_partition.specs.Choice.{IsCheapest};
 ghost use Rattle.vrp_routes.specs.Label.{set_of};
 ghost use Rattle.vrp_routes.specs.Pool.{IsPool};
 
@@ -20,7 +23,7 @@ use crate::trucks::fleet;
 use std::alloc::Global;
 use std::thread::Threads;
 use vrp_model::{Instance, NoMemory, Plan};
-use vrp_partition::{Ask, Found, Guide, Route, Team};
+use vrp_partition::{Ask, Chosen, Found, Guide, Route, Team};
 use vrp_routes::RoutePool;
 
 /// The outcome of a search for the canonical plan.
@@ -65,52 +68,157 @@ pub fn canonical_plan<R: Threads + Sync, P: Guide + Send, A: Ask + Sync>(
     let Some(routes) = chosen_routes(alloc, pool)? else {
         return unfinished(alloc);
     };
-    let all = routes.as_slice();
-    let within = whole_problem(instance, known.cost());
+    let search = PoolSearch {
+        team,
+        instance,
+        pool,
+        routes: routes.as_slice(),
+        loads: &loads,
+        whole: whole_problem(instance, known.cost()),
+    };
     // The guide keeps what it learns from the narrowed pool for the searches.
     let mut guide = guide.fork()?;
-    let narrowing = Narrowing {
-        alloc,
-        ask: team.ask,
-        loads: &loads,
-    };
-    let Some(ordered) = narrowing.narrowed_routes(&mut guide, pool, all, within, budget)? else {
+    let found = plan_of_pool(&search, &mut guide, budget);
+    drop(guide);
+    drop(routes);
+    drop(loads);
+    found
+}
+
+// A search among the routes of a pool: what each of its steps needs.
+#[derive(Drop)]
+struct PoolSearch<'a, 'b, R, A> {
+    team: &'a Team<'b, R, A>,
+    instance: &'a Instance,
+    pool: &'a RoutePool,
+    // The pool's routes as a choice sees them.
+    routes: &'a [Route],
+    loads: &'a Loads,
+    // All customers, the whole fleet, and the cost of the known plan.
+    whole: Residual,
+}
+
+// The canonical plan by the cheapest choice among the routes that may be in one within the limit.
+fn plan_of_pool<R: Threads + Sync, P: Guide + Send, A: Ask + Sync>(
+    search: &PoolSearch<'_, '_, R, A>,
+    guide: &mut P,
+    budget: &mut u64,
+) -> Result<PlanSearch, NoMemory>
+    requires workers { 1 ≤ search.now.team.now.workers }
+    requires whole { IsWhole search.now.instance.now search.now.pool.now search.now.routes.now search.now.whole }
+    ensures canonical { IfOk result (IfCanonical (IsCanonical search.now.instance.now)) }
+    ensures bound { IfOk result (IfBound (NoneCheaper search.now.instance.now)) }
+    ensures budget { budget.new ≤ budget.old }
+{
+    let alloc = search.team.alloc;
+    let whole = search.whole;
+    let narrowing = narrowing_of(search);
+    let narrowed = narrowing.narrowed_routes(guide, search.pool, search.routes, whole, budget)?;
+    let Some(ordered) = narrowed else {
         return unfinished(alloc);
     };
-    let narrowed = routes_of(alloc, ordered.as_slice())?;
-    let found = search_within(team, &guide, &loads, narrowed.as_slice(), within, budget)?;
-    let chosen = match found {
-        Some(Found::Cheapest(chosen)) => chosen,
-        Some(Found::Unfinished { best, lower_bound }) => {
-            let word = word_of_choice(alloc, pool, all, best.routes.as_slice())?;
-            let lower_bound = lower_bound.min(within.most);
-            return Ok(PlanSearch::Unfinished { word, lower_bound });
+    match choice_among(search, guide, ordered.as_slice(), budget)? {
+        Some(Found::Cheapest(chosen)) if chosen.cost <= whole.most => {
+            plan_of_choice(search, guide, ordered, chosen, budget)
         }
-        None => return unfinished(alloc),
-    };
-    if chosen.cost > within.most {
-        return unfinished(alloc);
+        Some(Found::Unfinished { best, lower_bound }) => {
+            drop(ordered);
+            best_so_far(search, best, lower_bound)
+        }
+        _ => unfinished(alloc),
     }
+}
+
+// What narrows the routes of a search.
+fn narrowing_of<'a, R, A: Ask>(search: &PoolSearch<'a, '_, R, A>) -> Narrowing<'a, A> {
+    Narrowing {
+        alloc: search.team.alloc,
+        ask: search.team.ask,
+        loads: search.loads,
+    }
+}
+
+// The cheapest choice among these routes within the limit, as far as the search for it comes.
+fn choice_among<R: Threads + Sync, P: Guide + Send, A: Ask>(
+    search: &PoolSearch<'_, '_, R, A>,
+    guide: &P,
+    ordered: &[ListedRoute],
+    budget: &mut u64,
+) -> Result<Option<Found>, NoMemory>
+    requires workers { 1 ≤ search.now.team.now.workers }
+    ensures found { IfOk result (λ answer. IfSome answer (IsFound (map route_of ordered.now) search.now.whole.unserved search.now.whole.trucks
+        (search.now.whole.most + 1))) }
+    ensures budget { budget.new ≤ budget.old }
+{
+    let routes = routes_of(search.team.alloc, ordered)?;
+    let found = search_within(
+        search.team,
+        guide,
+        search.loads,
+        routes.as_slice(),
+        search.whole,
+        budget,
+    );
+    drop(routes);
+    Ok(found?)
+}
+
+// The end of a search for the cheapest choice that was not finished.
+fn best_so_far<R, A>(
+    search: &PoolSearch<'_, '_, R, A>,
+    best: Chosen,
+    lower_bound: u64,
+) -> Result<PlanSearch, NoMemory>
+    requires { length search.now.routes.now ≡ length search.now.pool.now }
+    ensures canonical { IfOk result (IfCanonical (λ _. ⊥)) }
+    ensures bound { IfOk result (IfBound (λ bound. bound ≡ min lower_bound search.now.whole.most)) }
+{
+    let word = word_of_choice(
+        search.team.alloc,
+        search.pool,
+        search.routes,
+        best.routes.as_slice(),
+    );
+    drop(best);
+    let lower_bound = lower_bound.min(search.whole.most);
+    Ok(PlanSearch::Unfinished {
+        word: word?,
+        lower_bound,
+    })
+}
+
+// The canonical plan, which costs as much as the cheapest choice among these routes.
+fn plan_of_choice<R: Threads + Sync, P: Guide + Send, A: Ask + Sync>(
+    search: &PoolSearch<'_, '_, R, A>,
+    guide: &mut P,
+    ordered: Vec<ListedRoute>,
+    chosen: Chosen,
+    budget: &mut u64,
+) -> Result<PlanSearch, NoMemory>
+    requires workers { 1 ≤ search.now.team.now.workers }
+    requires whole { IsWhole search.now.instance.now search.now.pool.now search.now.routes.now search.now.whole }
+    requires ordered { AreOrdered search.now.instance.now search.now.whole.most ordered.items }
+    requires cheapest { IsCheapest (map route_of ordered.items) search.now.whole.unserved search.now.whole.trucks (search.now.whole.most + 1)
+        chosen.cost chosen.routes.items }
+    requires within { chosen.cost ≤ search.now.whole.most }
+    ensures canonical { IfOk result (IfCanonical (IsCanonical search.now.instance.now)) }
+    ensures bound { IfOk result (IfBound (NoneCheaper search.now.instance.now)) }
+    ensures budget { budget.new ≤ budget.old }
+{
     let most = chosen.cost;
-    let word = word_of_choice(alloc, pool, all, chosen.routes.as_slice())?;
-    let whole = Residual { most, ..within };
-    let left = narrowing.narrowed_again(&mut guide, ordered, within, whole, budget)?;
-    let Some(ordered) = left else {
-        let lower_bound = most;
-        return Ok(PlanSearch::Unfinished { word, lower_bound });
+    let whole = Residual {
+        most,
+        ..search.whole
     };
-    let ordered = ordered.as_slice();
-    let begun = Begun {
-        guide: &guide,
-        loads: &loads,
-        known: chosen.routes,
+    let narrowing = narrowing_of(search);
+    let left = narrowing.narrowed_again(guide, ordered, search.whole, whole, budget)?;
+    let plan = match left {
+        Some(left) => plan_by_pass(search, guide, left, &chosen, whole, budget)?,
+        None => None,
     };
-    match plan_by_pass(team, instance, begun, ordered, whole, budget)? {
+    match plan {
         Some(plan) => Ok(PlanSearch::Canonical(plan)),
-        None => Ok(PlanSearch::Unfinished {
-            word,
-            lower_bound: most,
-        }),
+        None => best_so_far(search, chosen, most),
     }
 }
 
@@ -141,43 +249,37 @@ fn whole_problem(instance: &Instance, most: u64) -> Residual
     }
 }
 
-// The start of a pass over routes: a guide for its searches, the demands, and a known choice, which answers some questions by itself.
-#[derive(Drop)]
-struct Begun<'a, P: Guide> {
-    guide: &'a P,
-    loads: &'a Loads,
-    known: Vec<Route>,
-}
-
-// The canonical plan, whose routes are among these, by one pass over them.
+// The canonical plan, whose routes are among these, by one pass over them. The cheapest choice answers some questions by itself.
 fn plan_by_pass<R: Threads + Sync, P: Guide + Send, A: Ask + Sync>(
-    team: &Team<'_, R, A>,
-    instance: &Instance,
-    begun: Begun<'_, P>,
-    ordered: &[ListedRoute],
+    search: &PoolSearch<'_, '_, R, A>,
+    guide: &P,
+    ordered: Vec<ListedRoute>,
+    chosen: &Chosen,
     whole: Residual,
     budget: &mut u64,
 ) -> Result<Option<Plan>, NoMemory>
-    requires workers { 1 ≤ team.now.workers }
-    requires task { IsTask instance.now whole.most (map stops_of ordered.now) (map route_of ordered.now) whole }
-    ensures canonical { IfOk result (λ found. IfSome found (IsCanonical instance.now)) }
+    requires workers { 1 ≤ search.now.team.now.workers }
+    requires task { IsTask search.now.instance.now whole.most (map stops_of ordered.items) (map route_of ordered.items) whole }
+    ensures canonical { IfOk result (λ found. IfSome found (IsCanonical search.now.instance.now)) }
     ensures budget { budget.new ≤ budget.old }
 {
-    let alloc = team.alloc;
+    let team = search.team;
     let quiet = Quiet { ask: team.ask };
     let team = Team {
         rt: team.rt,
-        alloc,
+        alloc: team.alloc,
         workers: team.workers,
         ask: &quiet,
     };
-    let Begun {
-        guide,
-        loads,
-        known,
-    } = begun;
-    let mut searches = Searches::new(&team, guide, loads, *budget, known);
-    let found = plan_among(alloc, instance, &mut searches, ordered, whole);
+    let known = Vec::from_slice(team.alloc, chosen.routes.as_slice())?;
+    let mut searches = Searches::new(&team, guide, search.loads, *budget, known);
+    let found = plan_among(
+        team.alloc,
+        search.instance,
+        &mut searches,
+        ordered.as_slice(),
+        whole,
+    );
     // No search gives any budget back; this states it, since the pass is proved for any source of answers.
     *budget = searches.budget.min(*budget);
     found
