@@ -55,13 +55,46 @@ const FORMATS: [&str; 4] = ["report", "sol", "json", "svg"];
 const VERDICTS_AND_STATUSES: &str =
     "The last line of the report is the verdict:\n  Proven  no plan costs less than the printed one\n  Open L  a piece was left open: no plan costs less than L, but one may\n          cost less than the printed one\n  NoPlan  so few trucks can't serve all customers\n  Lawful  with --check: the plan is lawful, and a cheaper one may exist\n\nExit statuses:\n  0  Proven, NoPlan, Lawful, or this help\n  1  Open\n  2  the command line is refused\n  3  the file is refused, or the plan of --start\n  4  no memory\n  5  a read or a write failed\n  6  with --strict: another cost is stated than that of the plan\n\nWith --explain standard error says more of a refusal, and what to do.\n\nHow long a run takes: it looks for a plan to begin with and for prices, lists\nthe routes that may stand in a best plan and chooses among them; where that\ngives no proof it cuts the search into pieces and looks at no more than\n--budget partial plans in each. Without --workers one thread does all of it. A\nlarger budget lets each of these steps do more; one below 1000 leaves out all\nbut the pieces, and proves some 15 customers. With --seconds the run ends in\ntime, whatever the file's size: its steps share the time, and what is left goes\ninto better plans.\n\nWhat can't be solved: other types of problem (time windows, pickups, fleets of\ndifferent trucks), distances with decimals, and more than 1200 nodes.\n\nExample, with four threads, for ten minutes at most:\n  cvrp --workers 4 --seconds 600 < examples/E-n51-k5.vrp";
 
+// An option.
+#[derive(Clone, Copy)]
+enum CommandOption {
+    Workers,
+    Pieces,
+    Budget,
+    Seconds,
+    Progress,
+    Depot,
+    Trucks,
+    Start,
+    Check,
+    Strict,
+    Format,
+    Explain,
+}
+
+// The options, as the help lists them.
+const OPTIONS: [CommandOption; 12] = [
+    CommandOption::Workers,
+    CommandOption::Pieces,
+    CommandOption::Budget,
+    CommandOption::Seconds,
+    CommandOption::Progress,
+    CommandOption::Depot,
+    CommandOption::Trucks,
+    CommandOption::Start,
+    CommandOption::Check,
+    CommandOption::Strict,
+    CommandOption::Format,
+    CommandOption::Explain,
+];
+
 /// The program's command line.
 pub(crate) fn grammar<'a>(alloc: Global) -> Result<Command<'a>, Error> {
-    let command = with_effort(described(alloc), alloc)?;
-    let command = with_time(command, alloc)?;
-    let command = with_problem(command, alloc)?;
-    let command = with_plan(command, alloc)?;
-    Ok(with_telling(command, alloc)?)
+    let mut command = described(alloc);
+    for option in OPTIONS {
+        command = command.arg(arg_of(alloc, option)?)?;
+    }
+    Ok(command)
 }
 
 // The command line's description, without options.
@@ -75,35 +108,22 @@ fn described<'a>(alloc: Global) -> Command<'a> {
         .no_binary_name(true)
 }
 
-// Adds the options for how much is searched, and by how many workers.
-fn with_effort<'a>(command: Command<'a>, alloc: Global) -> Result<Command<'a>, AllocError> {
-    command
-        .arg(workers(alloc)?)?
-        .arg(pieces(alloc))?
-        .arg(budget(alloc))
-}
-
-// Adds the options about the clock.
-fn with_time<'a>(command: Command<'a>, alloc: Global) -> Result<Command<'a>, AllocError> {
-    command.arg(seconds(alloc)?)?.arg(progress(alloc))
-}
-
-// Adds the options that change the problem of the file.
-fn with_problem<'a>(command: Command<'a>, alloc: Global) -> Result<Command<'a>, AllocError> {
-    command.arg(depot(alloc))?.arg(trucks(alloc)?)
-}
-
-// Adds the options about the start plan.
-fn with_plan<'a>(command: Command<'a>, alloc: Global) -> Result<Command<'a>, AllocError> {
-    command
-        .arg(start(alloc))?
-        .arg(check(alloc)?)?
-        .arg(strict(alloc)?)
-}
-
-// Adds the options about the output.
-fn with_telling<'a>(command: Command<'a>, alloc: Global) -> Result<Command<'a>, AllocError> {
-    command.arg(format(alloc))?.arg(explain(alloc))
+// An option's name, values and help.
+fn arg_of<'a>(alloc: Global, option: CommandOption) -> Result<Arg<'a>, AllocError> {
+    match option {
+        CommandOption::Workers => workers(alloc),
+        CommandOption::Pieces => Ok(pieces(alloc)),
+        CommandOption::Budget => Ok(budget(alloc)),
+        CommandOption::Seconds => seconds(alloc),
+        CommandOption::Progress => Ok(progress(alloc)),
+        CommandOption::Depot => Ok(depot(alloc)),
+        CommandOption::Trucks => trucks(alloc),
+        CommandOption::Start => Ok(start(alloc)),
+        CommandOption::Check => check(alloc),
+        CommandOption::Strict => strict(alloc),
+        CommandOption::Format => Ok(format(alloc)),
+        CommandOption::Explain => Ok(explain(alloc)),
+    }
 }
 
 fn workers<'a>(alloc: Global) -> Result<Arg<'a>, AllocError> {
