@@ -1,6 +1,7 @@
 //! The canonical plan as a choice among useful routes, for instances with few customers: the routes that may be in it are listed, and
 //! the first of the cheapest choices among them is that plan.
 ghost use Rattle.std.specs.Prelude.{◌≡◌, ◌≤◌, IfOk, IfSome};
+ghost use Rattle.vrp_canonical.specs.Ending.{IfBound, IfCanonical};
 ghost use Rattle.vrp_model.specs.Cheapest.{NoneCheaper, cost_of};
 ghost use Rattle.vrp_model.specs.Order.{IsCanonical};
 ghost use Rattle.vrp_model.specs.Problem.{place_count};
@@ -196,26 +197,7 @@ fn chosen_plan<R: Threads + Sync, G: Gate + Sync>(
     ensures bound { IfOk result (λ found. NoneCheaper shared.now.problem found.lower_bound) }
 {
     shared.gate.on_event(Event::Choice(pool.len() as u64));
-    let demands = demands_of(shared.alloc, shared.instance)?;
-    let fleet = Fleet {
-        demands: demands.as_slice(),
-        capacity: shared.instance.capacity() as u32,
-        trucks: fleet(shared.instance),
-    };
-    let ask = AskedGate {
-        gate: shared.gate,
-        known: known.cost(),
-    };
-    let team = Team {
-        rt: shared.rt,
-        alloc: shared.alloc,
-        workers: workers as usize,
-        ask: &ask,
-    };
-    let sets = route_sets(shared.alloc, known)?;
-    let guide = ProgramGuide::new(shared.alloc, fleet, sets, &ask);
-    let mut budget = budget;
-    match canonical_plan(&team, shared.instance, pool, known, &guide, &mut budget)? {
+    match first_choice(shared, pool, known, workers, budget)? {
         PlanSearch::Canonical(plan) => Ok(RoutesPlan {
             canonical: Some(plan),
             better: None,
@@ -227,6 +209,44 @@ fn chosen_plan<R: Threads + Sync, G: Gate + Sync>(
             lower_bound,
         }),
     }
+}
+
+// The search for that choice by all workers, with the prices of linear programs as its guide.
+fn first_choice<R: Threads + Sync, G: Gate + Sync>(
+    shared: &Shared<'_, R, G>,
+    pool: &RoutePool,
+    known: &Plan,
+    workers: u32,
+    mut budget: u64,
+) -> Result<PlanSearch, NoMemory>
+    requires few { place_count shared.now.problem ≤ 128 }
+    requires some_worker { 1 ≤ workers }
+    requires pool { IsPool shared.now.problem known.now.cost pool.now }
+    ensures canonical { IfOk result (IfCanonical (IsCanonical shared.now.problem)) }
+    ensures bound { IfOk result (IfBound (NoneCheaper shared.now.problem)) }
+{
+    let ask = AskedGate {
+        gate: shared.gate,
+        known: known.cost(),
+    };
+    let team = Team {
+        rt: shared.rt,
+        alloc: shared.alloc,
+        workers: workers as usize,
+        ask: &ask,
+    };
+    let demands = demands_of(shared.alloc, shared.instance)?;
+    let fleet = Fleet {
+        demands: demands.as_slice(),
+        capacity: shared.instance.capacity() as u32,
+        trucks: fleet(shared.instance),
+    };
+    let sets = route_sets(shared.alloc, known)?;
+    let guide = ProgramGuide::new(shared.alloc, fleet, sets, &ask);
+    let found = canonical_plan(&team, shared.instance, pool, known, &guide, &mut budget);
+    drop(guide);
+    drop(demands);
+    found
 }
 
 // The watch of a search among routes: it continues while the gate does, and passes its progress on.
