@@ -6,7 +6,7 @@ ghost use Rattle.vrp_search_tree.specs.declared.cutting.TheConstants.{MAX_REFINE
 use std::alloc::Global;
 use std::process::Abort;
 use test_fixtures::{
-    E_N22_K4_DEMANDS, E_N22_K4_POINTS, LINE, SCATTERED, at_points, one_each, with_arcs,
+    E_N22_K4_DEMANDS, E_N22_K4_POINTS, LINE, Random, SCATTERED, at_points, one_each, with_arcs,
 };
 use vrp_model::Instance;
 use vrp_search::{Cutting, MAX_PIECES};
@@ -118,6 +118,22 @@ fn place(number: u16, columns: u16) -> (i64, i64)
 /// E-n22-k4 of Christofides and Eilon (1969), in hundreds: 21 customers, whose cheapest plan costs 375.
 pub(crate) fn four_trucks(rt: &impl Abort, alloc: Global) -> Instance {
     at_points(alloc, E_N22_K4_POINTS, E_N22_K4_DEMANDS, 60).expect(rt, "an instance")
+}
+
+/// Sixty customers at random points, whose demands are all of different sizes from 101 to 160: some eleven fit on one truck.
+pub(crate) fn varied(rt: &impl Abort, alloc: Global) -> Instance {
+    let mut random = Random(1);
+    let (mut points, mut demands) = (Vec::new(alloc), Vec::new(alloc));
+    for place in 0..61u64 {
+        let point = (
+            i64::from(random.next() % 100),
+            i64::from(random.next() % 100),
+        );
+        points.push(point).expect(rt, "memory");
+        let demand = if place == 0 { 0 } else { 101 + 23 * place % 60 };
+        demands.push(demand).expect(rt, "memory");
+    }
+    at_points(alloc, &points, &demands, 1_500).expect(rt, "an instance")
 }
 
 /// The tree, cut into at least this many pieces if it has as many.

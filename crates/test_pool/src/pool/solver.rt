@@ -17,6 +17,7 @@ mod by_routes;
 mod choices_with_ties;
 mod gated;
 mod stopped;
+mod timed;
 
 const AMPLE: u64 = 1_000_000;
 
