@@ -230,12 +230,12 @@ class Options(unittest.TestCase):
 
     def test_all_were_read(self):
         listed = re.search(r"OPTIONS: .*?= \[(.*?)\];", self.source, re.DOTALL)[1]
-        self.assertEqual([name.lower() for name in re.findall(r"::([A-Z][a-z]+)", listed)], self.listed())
+        self.assertEqual([name.lower() for name in re.findall(r"::([A-Z][a-z]+)", listed)], self.made())
         self.assertEqual(len(set(self.names)), len(self.names))
         self.assertIn("workers", self.names)
         self.assertIn("json", self.forms)
 
-    def listed(self):
+    def made(self):
         """The options in the order of the help, by the functions that make them."""
         arms = dict(re.findall(r"CommandOption::([A-Z][a-z]+) => (?:Ok\()?([a-z]+)\(alloc\)", self.source))
         self.assertEqual(sorted(arms.values()), sorted(self.names))

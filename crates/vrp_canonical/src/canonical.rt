@@ -163,7 +163,7 @@ fn choice_among<R: Threads + Sync, P: Guide + Send, A: Ask>(
     Ok(found?)
 }
 
-// The end of a search for the cheapest choice that was not finished.
+// An unfinished outcome: the word of the best choice so far, and the lower bound, which holds up to the limit alone.
 fn best_so_far<R, A>(
     search: &PoolSearch<'_, '_, R, A>,
     best: Chosen,

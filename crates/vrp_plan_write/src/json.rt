@@ -103,7 +103,7 @@ fn document(
     ensures { IfOk result (λ value. view value ≡ document_of told.now.instance.now (told_by told.now.finding.now)
         (context_by told.now.context) gap (map view routes.items)) }
 {
-    // Member by member into a lent map: so no way out has many values to drop.
+    // The members go into a lent map one by one: a failure then drops one value, which is cheaper to prove.
     let mut members = Map::new(alloc);
     put_run(alloc, &mut members, told)?;
     put_answer(alloc, &mut members, told, gap)?;
