@@ -212,7 +212,7 @@ class Options(unittest.TestCase):
 
     @classmethod
     def setUpClass(cls):
-        cls.source = (TOP / "crates/vrp_command_request/src/grammar.rt").read_text()
+        cls.source = (TOP / "crates/vrp_command_grammar/src/grammar.rt").read_text()
         cls.names = re.findall(r'(?:Arg::new|\bnode)\(alloc, "([a-z-]+)"\)', cls.source)
         cls.all = {*cls.names, "help", "version"}
         cls.forms = re.findall(r'"([a-z]+)"', re.search(r"FORMATS: .*= \[(.*)\]", cls.source)[1])

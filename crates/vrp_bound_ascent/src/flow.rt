@@ -10,7 +10,7 @@ pub(crate) const USE: i64 = 1_024;
 const NEWEST: i64 = 20;
 
 /// Uses of the arcs between any two places, there and back together.
-#[derive(Debug, Drop)]
+#[derive(Drop)]
 pub(crate) struct Flow {
     places: usize,
     // By place, and of each by place.

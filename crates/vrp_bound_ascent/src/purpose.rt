@@ -40,7 +40,7 @@ const SPARSE_ARCS: usize = 45_000;
 const LEAST_FINE_ROUNDS: u64 = 300;
 
 /// The purpose of prices.
-#[derive(Clone, Copy, Debug)]
+#[derive(Clone, Copy)]
 pub(crate) enum Purpose {
     /// To prune partial plans: each is looked up in a completion table.
     Search,

@@ -13,7 +13,7 @@ const MOST_GROWN: u16 = 127;
 const LEAST_WANTING: i64 = USE / 5;
 
 /// A set of customers, the trucks that must serve it, and the crossings of its border that the flow lacks.
-#[derive(Debug, Drop)]
+#[derive(Drop)]
 pub(crate) struct ViolatedCut {
     pub(crate) inside: Vec<bool>,
     pub(crate) trucks: i64,

@@ -5,7 +5,7 @@ use vrp_bound_walks::{LeastRoute, LeastRoutes, UsedArc, Walks};
 use vrp_model::NoMemory;
 
 /// The least route through each customer.
-#[derive(Debug, Drop)]
+#[derive(Drop)]
 pub(crate) struct Shares {
     finder: LeastRoutes,
     routes: Vec<LeastRoute>,

@@ -30,7 +30,7 @@ const PATIENCE_BY_SHARES: u32 = 3;
 const MOST_PATIENCE: u32 = 24;
 
 /// The current prices and cut prices, and the best so far.
-#[derive(Debug, Drop)]
+#[derive(Drop)]
 pub(crate) struct Ascent {
     // The scaled cost of the plan at which the bound aims.
     aim: i64,

@@ -20,7 +20,7 @@ const ROUNDS_BETWEEN: u32 = 15;
 const MOST_AT_ONCE: usize = 8;
 
 // A cut with its current price.
-#[derive(Debug, Drop)]
+#[derive(Drop)]
 struct SteppedCut {
     inside: Vec<bool>,
     trucks: i64,
@@ -54,7 +54,7 @@ impl SteppedCut {
 }
 
 /// The cuts found so far, and the flow in which more are sought.
-#[derive(Debug, Drop)]
+#[derive(Drop)]
 pub(crate) struct SteppedCuts {
     cuts: Vec<SteppedCut>,
     flow: Flow,

@@ -6,7 +6,7 @@ use std::alloc::Global;
 use vrp_model::{Instance, NoMemory};
 
 // The arc to a customer; arcs are compared by weight and then by place.
-#[derive(Clone, Copy, Debug, PartialEq, Eq, PartialOrd, Ord)]
+#[derive(Clone, Copy, PartialEq, Eq, PartialOrd, Ord)]
 struct Arc {
     weight: u64,
     to: u16,

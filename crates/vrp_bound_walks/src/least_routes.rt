@@ -62,7 +62,7 @@ const NO_HALF: PricedHalf = PricedHalf {
 };
 
 // Two halves, and their cost minus the price of their load.
-#[derive(Clone, Copy, Debug)]
+#[derive(Clone, Copy)]
 struct Pair {
     there: Half,
     back: Half,
@@ -76,7 +76,7 @@ const NO_PAIR: Pair = Pair {
 };
 
 // The parameters of a search for a route through a customer.
-#[derive(Clone, Copy, Debug)]
+#[derive(Clone, Copy)]
 struct Search {
     customer: usize,
     demand: usize,

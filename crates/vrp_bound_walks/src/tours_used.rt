@@ -18,7 +18,7 @@ pub struct UsedArc {
 }
 
 /// A position on a walk home.
-#[derive(Clone, Copy, Debug)]
+#[derive(Clone, Copy)]
 pub(crate) struct Standing {
     pub(crate) place: usize,
     /// The greatest ng-set there for the rest of the walk.

@@ -20,7 +20,7 @@ const MOST_AHEAD: usize = 8;
 
 // A step of the pass through the pool, if the known choice is the canonical plan: the question, the residual problem after it, and the
 // place to go on from.
-#[derive(Clone, Copy, Debug)]
+#[derive(Clone, Copy)]
 struct Step {
     question: Question,
     rest: Residual,

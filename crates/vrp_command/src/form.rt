@@ -15,7 +15,8 @@ use std::io::Write;
 use vrp_command_request::{Format, Request, VERSION};
 use vrp_command_streams::{RunError, Status, report_text, solution_text, write_report};
 use vrp_model::{Instance, NoMemory};
-use vrp_plan_write::{Context, Points, Settings, json_text, picture_text};
+use vrp_plan_draw::{Points, picture_text};
+use vrp_plan_write::{Context, Settings, json_text};
 use vrp_pool_answer::Finding;
 
 /// A form, and the data that it needs.

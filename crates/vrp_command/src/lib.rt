@@ -11,10 +11,8 @@ mod found;
 mod hints;
 mod kept;
 mod law;
-mod line;
 mod problem;
 mod program;
-mod progress;
 mod start;
 mod strict;
 mod task;
@@ -23,9 +21,9 @@ pub use command::{run, run_request};
 pub use deadline::Deadline;
 pub use fault::{RequestError, end};
 pub use law::{one_answer, one_report};
-pub use line::{Line, LongRun, Stage};
 pub use program::{end_without_run, run_words};
 pub use start::{StartError, StartFile, open_start};
+pub use vrp_command_progress::{Line, LongRun, Stage};
 pub use vrp_command_request::{
     Format, LineFault, MAX_BUDGET, MAX_SECONDS, Options, Request, VERSION, argument_fault,
     line_status, parse_request, parse_words, words_fault,

@@ -8,7 +8,7 @@ use Rattle.vrp_command_request.specs.declared.options.Format.{Format}
 use Rattle.vrp_command_request.specs.declared.options.Format.TheVariants as format
 use Rattle.vrp_command_request.specs.declared.options.Options.{Options}
 use Rattle.vrp_command_request.specs.declared.options.Request.{Request}
-use Rattle.vrp_command_request.specs.declared.options.TheConstants.{MAX_BUDGET}
+use Rattle.vrp_command_grammar.specs.declared.limits.TheConstants.{MAX_BUDGET}
 
 abbrev pub IsDefault : Options → Type 0
 IsDefault options = options ≡ record { workers = 1; pieces = 64; budget = 10000000; depot = None; trucks = None }

@@ -1,12 +1,6 @@
 //! The options of a run.
 ghost use Rattle.vrp_command_request.specs.Options.{IsDefault, IsReport};
 
-/// The greatest budget of partial plans for each part.
-pub const MAX_BUDGET: u64 = 1_000_000_000_000;
-
-/// The greatest limit of seconds.
-pub const MAX_SECONDS: u32 = 1_000_000;
-
 /// The options of a run.
 #[derive(Clone, Copy, Debug, PartialEq, Eq)]
 pub struct Options {

@@ -6,14 +6,14 @@ ghost use Rattle.clap.specs.Words.{kind_of};
 ghost use Rattle.vrp_model.specs.declared.limits.TheConstants.{MAX_NODES};
 ghost use Rattle.vrp_command_request.specs.Options.{AreInRange, HasDepotFromOne, HasDepotWithin, IsOtherFormat};
 ghost use Rattle.vrp_command_request.specs.Words.{HasWord, HasWordFrom, line_code};
-ghost use Rattle.vrp_command_request.specs.declared.options.TheConstants.{MAX_SECONDS};
+ghost use Rattle.vrp_command_grammar.specs.declared.limits.TheConstants.{MAX_SECONDS};
 
-use crate::grammar::grammar;
-use crate::options::{Format, MAX_BUDGET, MAX_SECONDS, Options, Request};
+use crate::options::{Format, Options, Request};
 use clap::error::ErrorKind;
 use clap::{ArgMatches, Error};
 use std::alloc::{AllocError, Global};
 use std::io;
+use vrp_command_grammar::{MAX_BUDGET, MAX_SECONDS, command_line};
 use vrp_model::MAX_NODES;
 use vrp_pool::MAX_WORKERS;
 use vrp_search_tree::MAX_PIECES;
@@ -109,7 +109,7 @@ fn asked_for<'a>(alloc: Global, words: &'a [&'a str]) -> Result<Request<'a>, Err
     ensures budget { IfOk result (λ request. IsTrue request.states_budget → HasWordFrom words.now (codes "--budget")) }
     ensures format { IfOk result (λ request. IsOtherFormat request.format → HasWordFrom words.now (codes "--format")) }
 {
-    let matches = grammar(alloc)?.try_get_matches_from(words)?;
+    let matches = command_line(alloc)?.try_get_matches_from(words)?;
     let flags = Flags {
         check: has_word(words, "--check"),
         strict: has_word(words, "--strict"),

@@ -13,7 +13,7 @@ const LEAVES: u64 = 6;
 const OF_SIXTEENTHS: u64 = 15;
 
 /// The number of positions that a run of the last round looked at, and the milliseconds that took. No clause pins what follows from it.
-#[derive(Clone, Copy, Debug)]
+#[derive(Clone, Copy)]
 pub(crate) struct Pace {
     positions: u64,
     milliseconds: u64,

@@ -20,7 +20,7 @@ const BUDGET: u64 = 6_000_000;
 
 // A route of a word: its customers, a bit for each, its cost, its first stop, and the position of its stops. Routes are compared by
 // customers and then by cost.
-#[derive(Clone, Copy, Debug, PartialEq, Eq, PartialOrd, Ord)]
+#[derive(Clone, Copy, PartialEq, Eq, PartialOrd, Ord)]
 struct Listed {
     set: u128,
     cost: u32,

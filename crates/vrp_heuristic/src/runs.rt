@@ -18,7 +18,7 @@ pub struct Crew<'a, R, W> {
 }
 
 /// Runs of the same length; consecutive numbers from the first one on seed their chances.
-#[derive(Clone, Copy, Debug)]
+#[derive(Clone, Copy)]
 pub(crate) struct Round {
     pub(crate) first: u64,
     pub(crate) runs: u16,

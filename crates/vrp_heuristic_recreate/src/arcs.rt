@@ -7,7 +7,7 @@ use std::marker::Model;
 use vrp_model::{Instance, NoMemory};
 
 /// The weights of the arcs between the places of an instance. An arc from a place to itself has weight 0.
-#[derive(Debug, Drop)]
+#[derive(Drop)]
 pub(crate) struct Arcs {
     places: u16,
     // Row by row: from each place, to each place.

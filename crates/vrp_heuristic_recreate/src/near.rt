@@ -10,14 +10,14 @@ use std::marker::Model;
 use vrp_model::NoMemory;
 
 /// An arc to a place; arcs are compared by weight and then by place.
-#[derive(Clone, Copy, Debug, PartialEq, Eq, PartialOrd, Ord)]
+#[derive(Clone, Copy, PartialEq, Eq, PartialOrd, Ord)]
 struct Arc {
     weight: u32,
     to: u16,
 }
 
 /// For each place all places by distance, itself first.
-#[derive(Debug, Drop)]
+#[derive(Drop)]
 pub(crate) struct Near {
     places: u16,
     // Row by row: for each place, all places.

@@ -9,7 +9,7 @@ use crate::setting::Setting;
 use crate::taken::Taken;
 
 /// A position for a customer. Offers are compared by cost.
-#[derive(Clone, Copy, Debug)]
+#[derive(Clone, Copy)]
 struct Offer {
     // The weight of the added arcs minus the saved one, plus `RAISE`.
     paid: u64,

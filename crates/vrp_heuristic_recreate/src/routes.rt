@@ -35,7 +35,7 @@ pub(crate) struct Route {
 }
 
 /// A gap for a customer: its route, and the stop before it.
-#[derive(Clone, Copy, Debug)]
+#[derive(Clone, Copy)]
 pub(crate) struct Gap {
     pub route: u16,
     pub before: u16,

@@ -15,7 +15,7 @@ const LONGEST_STRING: u16 = 10;
 const MOST_TAKEN: u16 = 40;
 
 /// The customers removed from a route: a string of stops, except some in its middle that are kept.
-#[derive(Clone, Copy, Debug)]
+#[derive(Clone, Copy)]
 struct Cut {
     // The position of the string's first stop on the route.
     first: u16,

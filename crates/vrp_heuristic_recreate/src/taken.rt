@@ -18,7 +18,7 @@ pub(crate) struct Turn {
 }
 
 /// The order in which customers are put back.
-#[derive(Clone, Copy, Debug)]
+#[derive(Clone, Copy)]
 enum Order {
     Chance,
     GreatestDemand,

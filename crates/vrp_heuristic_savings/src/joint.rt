@@ -9,7 +9,7 @@ use std::alloc::Global;
 use vrp_model::{Instance, MAX_WEIGHT, NoMemory};
 
 /// The end of one route and the start of another. Joints are compared by loss, and then by the two places.
-#[derive(Clone, Copy, Debug, PartialEq, Eq, PartialOrd, Ord)]
+#[derive(Clone, Copy, PartialEq, Eq, PartialOrd, Ord)]
 pub(crate) struct Joint {
     // Ten times the difference between the greatest possible saving and this one; the least loss is joined first.
     loss: u64,

@@ -10,14 +10,14 @@ use vrp_model::{Instance, NoMemory};
 const MOST_NEAR: usize = 40;
 
 /// An arc to a place; arcs are compared by weight and then by place.
-#[derive(Clone, Copy, Debug, PartialEq, Eq, PartialOrd, Ord)]
+#[derive(Clone, Copy, PartialEq, Eq, PartialOrd, Ord)]
 struct Arc {
     weight: u64,
     to: u16,
 }
 
 /// For each place the arc to the farthest of its near neighbours.
-#[derive(Debug, Drop)]
+#[derive(Drop)]
 pub(crate) struct Reach {
     farthest: Vec<Arc>,
 }

@@ -13,14 +13,14 @@ use std::alloc::{AllocError, Global};
 use std::marker::Model;
 
 /// The outcome of a node: it is solved, or it is branched on.
-#[derive(Debug, Drop)]
+#[derive(Drop)]
 pub(crate) enum NodeEnd {
     Solved(Chosen),
     Branched(Branches),
 }
 
 /// The routes of both branches, and a lower bound on each choice of the node.
-#[derive(Debug, Drop)]
+#[derive(Drop)]
 pub(crate) struct Branches {
     // One route serves a group of customers together.
     pub joint: Vec<Route>,
@@ -30,7 +30,7 @@ pub(crate) struct Branches {
 }
 
 /// A node of the search.
-#[derive(Debug, Drop)]
+#[derive(Drop)]
 pub(crate) struct Node<P: Guide> {
     pub pool: Vec<Route>,
     // A lower bound on each choice of the pool.

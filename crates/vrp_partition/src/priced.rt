@@ -16,7 +16,7 @@ use std::alloc::{AllocError, Global};
 const MOST_OFFERS: u32 = 3;
 
 /// Prices that bound each choice of a pool, and the reduced costs of its routes, none of which is negative.
-#[derive(Debug, Drop)]
+#[derive(Drop)]
 pub(crate) struct PricedPool {
     pub prices: Prices,
     pub costs: Vec<i64>,
@@ -24,7 +24,7 @@ pub(crate) struct PricedPool {
 
 /// The marks of a pool by prices: a route that can't be in a choice of this many trucks within the limit is `false`. With them a lower
 /// bound on each choice, and the work of the guide.
-#[derive(Debug, Drop)]
+#[derive(Drop)]
 pub(crate) struct PricedMarks {
     pub marks: Vec<bool>,
     pub lower_bound: u64,

@@ -73,7 +73,7 @@ pub fn cheapest_choice<R: Threads + Sync, P: Guide + Send, A: Ask>(
 }
 
 // A search: its open nodes, the cheapest choice so far, and the number of nodes that are done.
-#[derive(Debug, Drop)]
+#[derive(Drop)]
 pub(crate) struct Search<P: Guide> {
     open_nodes: Vec<Node<P>>,
     best: Chosen,

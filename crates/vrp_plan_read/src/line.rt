@@ -23,7 +23,7 @@ pub(crate) enum Said<'a> {
 }
 
 /// The cost stated by a solution.
-#[derive(Clone, Copy, Debug, PartialEq, Eq)]
+#[derive(Clone, Copy, PartialEq, Eq)]
 pub(crate) enum StatedCost {
     Whole(u64),
     /// A cost that isn't whole; no plan has one.
@@ -31,7 +31,7 @@ pub(crate) enum StatedCost {
 }
 
 /// The fault of a line.
-#[derive(Clone, Copy, Debug, PartialEq, Eq)]
+#[derive(Clone, Copy, PartialEq, Eq)]
 pub(crate) enum LineError {
     Unknown,
     BadNumber,

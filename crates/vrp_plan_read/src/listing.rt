@@ -13,7 +13,7 @@ use vrp_model::Instance;
 use vrp_text_lexer::Tokens;
 
 /// The routes that a text lists, not yet known to be a feasible plan, and the cost that it states.
-#[derive(Debug, Drop)]
+#[derive(Drop)]
 pub(crate) struct Listing {
     /// In the order of the text; those without stops are left out.
     pub(crate) routes: Vec<Route>,

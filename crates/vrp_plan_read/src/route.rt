@@ -9,7 +9,7 @@ use std::alloc::AllocError;
 use vrp_model::Instance;
 
 /// A route with at least one stop.
-#[derive(Debug, Drop)]
+#[derive(Drop)]
 pub(crate) struct Route {
     /// The route's number in the solution.
     pub(crate) number: u64,

@@ -11,7 +11,7 @@ ghost use Rattle.vrp_plan_write.specs.Stops.{ArePlaces, HaveStopsIn};
 ghost use Rattle.vrp_model.specs.Route.{IsPlanOf};
 
 use crate::gap::gap_of;
-use crate::route::{cost, load};
+use crate::route::{route_cost, route_load};
 use serde_json::{Map, Value, json, put};
 use std::alloc::{AllocError, Global};
 use vrp_model::{Instance, NoMemory, Plan};
@@ -258,8 +258,8 @@ fn route_of(alloc: Global, instance: &Instance, stops: &[u16]) -> Result<Value, 
     ensures { IfOk result (λ route. (cost load : ℕ)
         × (view route ≡ route_object cost load (customers_of stops.now) (nodes_of instance.now stops.now))) }
 {
-    let cost = cost(instance, stops);
-    let load = load(instance, stops);
+    let cost = route_cost(instance, stops);
+    let load = route_load(instance, stops);
     let customers = customer_numbers(alloc, stops)?;
     let nodes = node_numbers(alloc, instance, stops)?;
     json!(in alloc; {"nodes": nodes, "customers": customers, "load": load, "cost": cost})

@@ -3,8 +3,8 @@ ghost use Rattle.vrp_plan_write.specs.Stops.{ArePlaces};
 
 use vrp_model::Instance;
 
-/// The total demand of a route's stops.
-pub(crate) fn load(instance: &Instance, stops: &[u16]) -> u64
+/// The total demand of a route's stops; no clause pins it.
+pub fn route_load(instance: &Instance, stops: &[u16]) -> u64
     requires { ArePlaces instance.now stops.now }
 {
     let mut load = 0u64;
@@ -14,8 +14,8 @@ pub(crate) fn load(instance: &Instance, stops: &[u16]) -> u64
     load
 }
 
-/// The cost of a route, from the depot through its stops and back.
-pub(crate) fn cost(instance: &Instance, stops: &[u16]) -> u64
+/// The cost of a route, from the depot through its stops and back; no clause pins it.
+pub fn route_cost(instance: &Instance, stops: &[u16]) -> u64
     requires { ArePlaces instance.now stops.now }
 {
     // Without customers there is no arc.

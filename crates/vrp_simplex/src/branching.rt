@@ -10,7 +10,7 @@ use vrp_partition::Route;
 const MIDDLE: i64 = ONE / 100 * 55;
 
 // Two customers, a bit for each, and the distance of their share of common routes from the middle.
-#[derive(Clone, Copy, Debug, PartialEq, Eq, PartialOrd, Ord)]
+#[derive(Clone, Copy, PartialEq, Eq, PartialOrd, Ord)]
 struct RankedPair {
     far: i64,
     set: u128,

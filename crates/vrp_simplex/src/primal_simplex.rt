@@ -6,7 +6,7 @@ use std::alloc::AllocError;
 use vrp_partition::Ask;
 
 // A column that may come into the basis.
-#[derive(Clone, Copy, Debug, PartialEq, Eq, PartialOrd, Ord)]
+#[derive(Clone, Copy, PartialEq, Eq, PartialOrd, Ord)]
 enum Entering {
     Route(usize),
     Slack(usize),
@@ -22,7 +22,7 @@ impl Entering {
 }
 
 // One of some hundred columns, and its reduced cost when it was found.
-#[derive(Clone, Copy, Debug, PartialEq, Eq, PartialOrd, Ord)]
+#[derive(Clone, Copy, PartialEq, Eq, PartialOrd, Ord)]
 struct Candidate {
     reduced: i64,
     entering: Entering,

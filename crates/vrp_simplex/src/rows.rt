@@ -32,7 +32,7 @@ pub(crate) fn of(table: &Table, row: u16) -> i64 {
 }
 
 /// A price, and the entry of the leaving row of the inverse.
-#[derive(Clone, Copy, Debug)]
+#[derive(Clone, Copy)]
 pub(crate) struct Pair {
     pub(crate) price: i64,
     pub(crate) line: i64,

@@ -6,14 +6,14 @@ use std::alloc::AllocError;
 use vrp_partition::Fleet;
 
 /// A route that the solution uses, and its value.
-#[derive(Clone, Copy, Debug)]
+#[derive(Clone, Copy)]
 pub(crate) struct Used {
     pub(crate) set: u128,
     pub(crate) value: i64,
 }
 
 /// A cut, and its violation.
-#[derive(Clone, Copy, Debug)]
+#[derive(Clone, Copy)]
 pub(crate) struct Broken {
     pub(crate) excess: i64,
     pub(crate) cut: Cut,

@@ -12,7 +12,7 @@ use vrp_text_lexer::Key;
 const LAST_DEPOT: i64 = -1;
 
 /// The source of the weights.
-#[derive(Debug, Drop)]
+#[derive(Drop)]
 pub(crate) enum Source {
     /// The distances of points: a node and its two coordinates, for each node.
     Points(Metric, Vec<i64>),
@@ -21,7 +21,7 @@ pub(crate) enum Source {
 }
 
 /// What a file states.
-#[derive(Debug, Drop)]
+#[derive(Drop)]
 pub(crate) struct Complete {
     pub nodes: u16,
     pub capacity: u64,

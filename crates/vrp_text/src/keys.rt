@@ -9,7 +9,7 @@ use vrp_text_lexer::Key;
 const KEYS: usize = 9;
 
 /// A set of keys.
-#[derive(Debug, Drop)]
+#[derive(Drop)]
 pub(crate) struct Keys {
     // A mark for each key, by its rank.
     marks: [bool; KEYS],

@@ -15,7 +15,7 @@ use vrp_model::MAX_NODES;
 use vrp_text_lexer::Key;
 
 // The nodes given so far.
-#[derive(Debug, Drop)]
+#[derive(Drop)]
 struct GivenNodes {
     // A mark for each node.
     marks: Vec<bool>,

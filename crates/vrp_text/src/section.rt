@@ -25,7 +25,7 @@ pub enum Section {
 }
 
 /// What the data lines behind a keyword may contain.
-#[derive(Clone, Copy, Debug, PartialEq, Eq)]
+#[derive(Clone, Copy, PartialEq, Eq)]
 pub(crate) enum Content {
     /// No token.
     Nothing,

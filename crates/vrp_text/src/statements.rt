@@ -17,7 +17,7 @@ use vrp_text_lexer::{
 };
 
 /// The statements, each if it is present.
-#[derive(Debug, Drop)]
+#[derive(Drop)]
 pub(crate) struct Statements {
     // The file is of the type CVRP.
     problem: Option<()>,

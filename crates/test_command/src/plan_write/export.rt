@@ -6,7 +6,8 @@ use crate::plan_write::fixture::{
 use std::test::*;
 use vrp_command_streams::solution_text;
 use vrp_model::{MAX_NODES, Plan};
-use vrp_plan_write::{json_text, picture_text};
+use vrp_plan_draw::picture_text;
+use vrp_plan_write::json_text;
 use vrp_pool_answer::{Finding, Status};
 
 // Read as a solution, the text gives the same plan back.

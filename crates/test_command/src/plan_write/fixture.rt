@@ -7,8 +7,9 @@ use std::alloc::Global;
 use std::process::Abort;
 use std::test::*;
 use vrp_model::{Instance, Plan};
+use vrp_plan_draw::{Points, picture_text};
 use vrp_plan_read::Solution;
-use vrp_plan_write::{Context, Points, Settings, picture_text};
+use vrp_plan_write::{Context, Settings};
 use vrp_pool_answer::{Finding, Status};
 
 /// Three customers around a depot that is node 2. The capacity is ten.

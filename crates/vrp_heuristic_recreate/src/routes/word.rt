@@ -8,7 +8,7 @@ use std::alloc::Global;
 use vrp_model::{Instance, NoMemory};
 
 // A stop on a route, and the place before it, 0 for the depot.
-#[derive(Clone, Copy, Debug)]
+#[derive(Clone, Copy)]
 struct Walk {
     last: u16,
     at: u16,

@@ -1,7 +1,7 @@
 //! Hints on a refused command line.
 ghost use Rattle.std.specs.Prelude.{None};
 
-use crate::options::{MAX_BUDGET, MAX_SECONDS};
+use crate::limits::{MAX_BUDGET, MAX_SECONDS};
 use std::fmt;
 use vrp_model::MAX_NODES;
 use vrp_pool::MAX_WORKERS;

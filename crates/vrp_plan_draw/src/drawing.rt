@@ -3,9 +3,9 @@ ghost use Rattle.vrp_plan_write.specs.Stops.{ArePlaces, HaveStopsIn};
 
 use crate::frame::Frame;
 use crate::points::{Point, Points};
-use crate::route::{cost, load};
 use std::alloc::{AllocError, Global};
 use vrp_model::{Instance, Plan};
+use vrp_plan_write::{route_cost, route_load};
 use vrp_pool_answer::Finding;
 
 /// A route on the page.
@@ -69,9 +69,9 @@ pub(crate) fn tracks(
 fn told(alloc: Global, instance: &Instance, stops: &[u16]) -> Result<String, AllocError>
     requires { ArePlaces instance.now stops.now }
 {
-    let load = load(instance, stops);
+    let load = route_load(instance, stops);
     let capacity = instance.capacity();
-    let cost = cost(instance, stops);
+    let cost = route_cost(instance, stops);
     format!(in alloc; "load {load} of {capacity}, cost {cost}")
 }
 

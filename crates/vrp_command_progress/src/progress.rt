@@ -1,14 +1,13 @@
 //! A gate that reports the progress of a run on standard error.
 ghost use Rattle.std.specs.Prelude.{◌≡◌};
 
-use crate::fault::RequestError;
 use crate::line::{Line, LongRun, Stage};
 use std::io::{Eprint, Write};
 use std::sync::atomic::{AtomicU64, Ordering};
 use std::time::{Clock, Instant};
 use vrp_bound::LowerBound;
 use vrp_command_streams::Status;
-use vrp_pool::{Event, Gate};
+use vrp_pool_answer::{Event, Gate};
 
 // The mark for no cost.
 const NO_PLAN: u64 = u64::MAX;
@@ -35,7 +34,7 @@ const SEARCH: u64 = 6;
 /// line when something is new, and about every second; otherwise, if no time is set, one line after ten seconds. If a line can't be
 /// written, the run goes on. No clause says what the lines say.
 #[derive(Drop)]
-pub(crate) struct Progress<'a, T, G: Gate> {
+pub struct Progress<'a, T, G: Gate> {
     rt: &'a T,
     tells: bool,
     // `None` if the clock failed.
@@ -63,7 +62,7 @@ pub(crate) struct Progress<'a, T, G: Gate> {
 
 impl<'a, T: Clock + Eprint, G: Gate> Progress<'a, T, G> {
     /// Nothing is known yet.
-    pub(crate) fn new(rt: &'a T, tells: bool, gate: &'a G) -> Progress<'a, T, G>
+    pub fn new(rt: &'a T, tells: bool, gate: &'a G) -> Progress<'a, T, G>
         ensures gate { result.gate.now ≡ gate.entry.now }
     {
         Progress {
@@ -88,12 +87,9 @@ impl<'a, T: Clock + Eprint, G: Gate> Progress<'a, T, G> {
         }
     }
 
-    /// Prints the last line to `errors`, if the search has a verdict. A proven plan is its own lower bound.
-    pub(crate) fn tell_end<E: Write>(
-        &self,
-        outcome: &Result<Status, RequestError>,
-        errors: &mut E,
-    ) {
+    /// Prints the last line to `errors`, if the search has a verdict and lines are printed. A proven plan is its own lower bound. No clause
+    /// says what the line says.
+    pub fn tell_end<F, E: Write>(&self, outcome: &Result<Status, F>, errors: &mut E) {
         let Ok(status) = outcome else {
             return;
         };

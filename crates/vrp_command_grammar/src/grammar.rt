@@ -1,5 +1,5 @@
 //! The command line's options, their ranges and their help, for `clap`.
-use crate::options::{MAX_BUDGET, MAX_SECONDS};
+use crate::limits::{MAX_BUDGET, MAX_SECONDS};
 use clap::{Arg, ArgAction, Command, Error, value_parser};
 use std::alloc::{AllocError, Global};
 use vrp_model::MAX_NODES;
@@ -88,8 +88,8 @@ const OPTIONS: [CommandOption; 12] = [
     CommandOption::Explain,
 ];
 
-/// The program's command line.
-pub(crate) fn grammar<'a>(alloc: Global) -> Result<Command<'a>, Error> {
+/// The program's command line. The contract leaves its options and texts open.
+pub fn command_line<'a>(alloc: Global) -> Result<Command<'a>, Error> {
     let mut command = described(alloc);
     for option in OPTIONS {
         command = command.arg(arg_of(alloc, option)?)?;

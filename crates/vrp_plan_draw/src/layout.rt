@@ -20,7 +20,7 @@ pub(crate) const SPACE: i64 = 100;
 const STEP: i64 = 320;
 
 /// The layout of a page.
-#[derive(Clone, Copy, Debug, PartialEq, Eq)]
+#[derive(Clone, Copy, PartialEq, Eq)]
 pub(crate) struct Layout {
     /// The width of the page.
     pub(crate) width: i64,

@@ -10,7 +10,7 @@ pub(crate) const SIDE: i64 = 9_200;
 pub(crate) const MARGIN: i64 = 400;
 
 /// A part of the plane.
-#[derive(Clone, Copy, Debug, PartialEq, Eq)]
+#[derive(Clone, Copy, PartialEq, Eq)]
 pub(crate) struct Frame {
     left: i64,
     right: i64,

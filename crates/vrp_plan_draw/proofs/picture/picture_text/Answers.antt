@@ -1,7 +1,7 @@
 use Rattle.std.proofs.Common.{ap}
 use Rattle.std.specs.Option.{option_map}
 use Rattle.vrp_plan_write.proofs.Places.{stops_within}
-use Rattle.vrp_plan_write.proofs.picture.picture_text.Goals as goal
+use Rattle.vrp_plan_draw.proofs.picture.picture_text.Goals as goal
 
 pub tracks-requires : goal.tracks-requires
 tracks-requires c =
