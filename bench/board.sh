@@ -1,6 +1,6 @@
 #!/usr/bin/env bash
 # Times one worker of the program, whose board offers plans to a register, beside the search with a board of its own
-# (crates/bench_search), over the same tree as one piece, from the same first plan. The two run in turn, ROUNDS times (5, if nothing is
+# (`bench search`), over the same tree as one piece, from the same first plan. The two run in turn, ROUNDS times (5, if nothing is
 # said), so that what else the machine does falls on both. Prints seconds, the least of all rounds, and the ratio. Needs the Rattle
 # kit's command rt, which builds both.
 set -eu
@@ -30,7 +30,7 @@ for name in P-n16-k8 P-n19-k2 21-ceil14-big; do
     own=1000000
     shared=1000000
     for _ in $(seq "$rounds"); do
-        own=$(least "$own" "$alone" "$cases/$name.vrp" "$budget" savings)
+        own=$(least "$own" "$alone" search "$cases/$name.vrp" "$budget" savings)
         shared=$(least "$shared" run_program "$cases/$name.vrp")
     done
     ratio=$(awk -v a="$own" -v b="$shared" 'BEGIN { printf "%.2f", a / b }')

@@ -1,5 +1,5 @@
 //! A plain kernel in Rust of prices and of the search by them, by one thread, written for speed and not proved: beside it
-//! `bench_prices` is timed (prices.sh).
+//! `bench prices` is timed (prices.sh).
 //!
 //!     rustc -O --edition 2021 prices.rs -o prices
 //!     ./prices COST [NEAR [CUTS]] < file.vrp

@@ -1,5 +1,5 @@
 #!/usr/bin/env bash
-# Finds prices and searches by them with the proved code (crates/bench_prices), and beside it with a plain kernel in Rust
+# Finds prices and searches by them with the proved code (`bench prices`), and beside it with a plain kernel in Rust
 # (bench/prices.rs), over the whole tree, with the best known cost to aim at, and with 0 to 4 customers near each place. Prints what
 # each says: the bound at the root, how long the rounds took, how many partial plans were looked at, and how many million in a second;
 # each is the run of three with the best rate.
@@ -7,7 +7,7 @@
 # Needs the Rattle kit's command rt and rustc.
 set -eu
 top=$(cd "$(dirname "$0")/.." && pwd)
-program=$top/crates/bench_prices/out/bench_prices
+program=$("$top/bench/build.sh")
 room=$(mktemp -d)
 trap 'rm -rf "$room"' EXIT
 budget=${1:-1000000000}
@@ -15,9 +15,6 @@ budget=${1:-1000000000}
 [ $# -gt 0 ] || set -- 0 1 2 3 4
 
 rustc -O --edition 2021 -o "$room/kernel" "$top/bench/prices.rs"
-rm -f "$program"
-(cd "$top/crates/bench_prices" && rt run) < /dev/null >&2 || true
-[ -x "$program" ]
 
 # The run of three with the best rate, which stands last in what it says.
 best() {
@@ -28,7 +25,7 @@ best() {
 
 # What the program found, and then how long it took.
 proved() {
-    "$program" "$1" "$budget" 10000000000 "$2" 2> "$room/times"
+    "$program" prices "$1" "$budget" 10000000000 "$2" 2> "$room/times"
     cat "$room/times"
 }
 

@@ -1,5 +1,5 @@
 #!/usr/bin/env bash
-# Times reading, by the program crates/bench_search with a budget of one partial plan: it reads the file, makes the instance,
+# Times reading, by `bench search` with a budget of one partial plan: it reads the file, makes the instance,
 # and looks at the empty plan alone. Files of 1,200 nodes beside a plain reference in Rust (bench/reference.rs), and 16 MiB of
 # anything. Prints seconds, the ratio and the memory; needs the Rattle kit's command rt, rustc, python3 and GNU time.
 set -eu
@@ -57,7 +57,7 @@ for name, data in (files | odd).items():
     path = f"{room}/input"
     with open(path, "wb") as file:
         file.write(data)
-    ours, done, memory = measured([program, path, "1"])
+    ours, done, memory = measured([program, "search", path, "1"])
     answer = "an instance" if done.returncode == 0 else done.stderr.decode().strip()
     print(f"{name} ({len(data) / 2**20:.1f} MiB): {ours:.3f} s, {memory} MiB, {answer}")
     if name in files:

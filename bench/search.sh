@@ -1,5 +1,5 @@
 #!/usr/bin/env bash
-# Times the proved search (crates/bench_search) beside a plain kernel in Rust (bench/kernel.rs), with the same budget.
+# Times the proved search (`bench search`) beside a plain kernel in Rust (bench/kernel.rs), with the same budget.
 # Prints for each file how many million partial plans each looks at in a second, and the ratio. Both prune by the same three bounds,
 # keep ties and, in symmetric instances, close routes in one direction alone and stop at partial plans without completion, so the two look at the
 # same ones.
@@ -22,7 +22,7 @@ best() {
 }
 
 proved_rate() {
-    "$program" "$1" "$budget" 2>&1 > /dev/null | sed -n 's/.*, \([0-9.]*\) million each second/\1/p'
+    "$program" search "$1" "$budget" 2>&1 > /dev/null | sed -n 's/.*, \([0-9.]*\) million each second/\1/p'
 }
 
 kernel_rate() {

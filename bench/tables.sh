@@ -1,6 +1,6 @@
 #!/usr/bin/env bash
 # Prints for each file of examples/ how many partial plans one worker's search looks at and the seconds, with tables over all customers
-# for every piece, and with a piece's own after a first look, over 64 pieces and over 65,536 (crates/bench_search). A run is ended after
+# for every piece, and with a piece's own after a first look, over 64 pieces and over 65,536 (`bench search`). A run is ended after
 # LIMIT seconds (60, if nothing is said). Needs the Rattle kit's command rt, which builds the program.
 set -eu
 top=$(cd "$(dirname "$0")/.." && pwd)
@@ -9,7 +9,7 @@ program=$("$top/bench/build.sh")
 
 # Partial plans and seconds of a run.
 measured() {
-    timeout "$limit" "$program" "$@" 2>&1 | sed -n 's/.*: \([0-9]*\) partial plans.*/\1/p; s/^\([0-9.]* seconds\),.*/\1/p' | paste -sd ' '
+    timeout "$limit" "$program" search "$@" 2>&1 | sed -n 's/.*: \([0-9]*\) partial plans.*/\1/p; s/^\([0-9.]* seconds\),.*/\1/p' | paste -sd ' '
 }
 
 for file in "$top"/examples/*.vrp; do

@@ -1,0 +1,33 @@
+//! The instance in a file, and its heuristic plan.
+ghost use Rattle.std.specs.Prelude.{IfOk};
+ghost use Rattle.vrp_model.specs.Route.{IsPlanOf};
+
+use anyhow::{Context, Result};
+use std::fs;
+use std::rt::Files;
+use std::thread::Threads;
+use vrp_heuristic::{Crew, ENOUGH_MOVES, Unhurried, heuristic_plan};
+use vrp_model::{Instance, Plan};
+
+/// The instance in a file. No clause says that it is the one written there: `vrp_text` has that clause for its bytes.
+pub(crate) fn read<R: Files + AllocGlobal>(rt: &R, name: &str) -> Result<Instance> {
+    let bytes = fs::read(rt, name)?;
+    Ok(vrp_text::read(rt.alloc(), &bytes, None)?)
+}
+
+/// The heuristic plan of an instance, by one worker.
+pub(crate) fn plan_by_one<R: AllocGlobal + Threads + Sync>(
+    rt: &R,
+    instance: &Instance,
+) -> Result<Plan>
+    ensures { IfOk result (IsPlanOf instance.now) }
+{
+    let crew = Crew {
+        rt,
+        alloc: rt.alloc(),
+        instance,
+        workers: 1,
+        watch: &Unhurried,
+    };
+    heuristic_plan(&crew, ENOUGH_MOVES)?.context("no heuristic plan")
+}

@@ -1,5 +1,0 @@
-use Rattle.std.proofs.Common.{sym, ◌∙◌}
-use Rattle.bench_search.proofs.measure_search.Goals as goal
-
-pub search_all-requires-clause-board : goal.search_all-requires-clause-board
-search_all-requires-clause-board g c plan is = c.in_ok-heuristic_plan.ensures plan (sym c.open-board.ensures ∙ is)
