@@ -6,7 +6,7 @@ use test_fixtures::Random;
 use vrp_partition::{Ask, Cut, Guide, MOST_CUSTOMERS, PriceOffer, Route, Task};
 
 /// Answers whether a search continues.
-#[derive(Clone, Copy, Debug)]
+#[derive(Clone, Copy)]
 pub(crate) struct Asks {
     pub(crate) should_continue: bool,
 }
@@ -48,7 +48,7 @@ pub(crate) const HABITS: &[Habit] = &[
 ];
 
 /// The customers in a guide's cuts and groups.
-#[derive(Clone, Copy, Debug)]
+#[derive(Clone, Copy)]
 pub(crate) enum Among {
     /// Some of random pools' customers; a group has two of them.
     Pools,

@@ -18,14 +18,14 @@ use vrp_plan_write::name_of;
 use vrp_text::MAX_BYTES;
 
 /// A problem that was read.
-#[derive(Debug, Drop)]
+#[derive(Drop)]
 pub(crate) struct Problem {
     pub(crate) instance: Instance,
     pub(crate) beside: Beside,
 }
 
 /// The data that a form needs from a file beside the instance.
-#[derive(Debug, Drop)]
+#[derive(Drop)]
 pub(crate) struct Beside {
     /// The coordinates of the places, if a picture is requested and the file has them.
     pub(crate) points: Option<Points>,

@@ -13,7 +13,7 @@ use vrp_model::Instance;
 // Customers around the depot, four to a truck. `radial` is half the cost of driving to each of them and back: each plan costs
 // at least as much, since a route that serves a customer costs no less than there and back. `savings` is the cost of a plan
 // by savings. Both are from a program outside.
-#[derive(Clone, Copy, Debug)]
+#[derive(Clone, Copy)]
 struct Many {
     customers: usize,
     steps: u64,

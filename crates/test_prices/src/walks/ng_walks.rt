@@ -9,7 +9,7 @@ use vrp_bound_walks::{NearLooks, Size, Walks};
 use vrp_model::Instance;
 
 // An instance, and a price for each of its places.
-#[derive(Clone, Copy, Debug)]
+#[derive(Clone, Copy)]
 struct Case {
     weights: &'static [u64],
     demands: &'static [u64],

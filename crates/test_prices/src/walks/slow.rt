@@ -12,7 +12,7 @@ use vrp_model::Instance;
 const MOST_WALKS: u32 = 1_000_000;
 
 // A walk home, followed from its end.
-#[derive(Clone, Copy, Debug)]
+#[derive(Clone, Copy)]
 struct Walk {
     at: usize,
     // The load behind the place.
@@ -23,7 +23,7 @@ struct Walk {
 }
 
 // A position in tours that are followed from their end.
-#[derive(Clone, Copy, Debug)]
+#[derive(Clone, Copy)]
 struct Back {
     place: usize,
     // The customers that the tour remembers behind the place, as bits.
@@ -35,7 +35,7 @@ struct Back {
 }
 
 /// An instance with prices, and the least of its walks.
-#[derive(Debug, Drop)]
+#[derive(Drop)]
 pub(crate) struct Slow {
     places: usize,
     loads: usize,

@@ -17,7 +17,7 @@ const DEMANDS: &[u64] = &[0, 1, 2, 1, 1, 2];
 const PRICES: &[i64] = &[0, -7, 4, -3, -9, 2];
 
 // A sparse graph.
-#[derive(Clone, Copy, Debug)]
+#[derive(Clone, Copy)]
 struct Sparse {
     // The number of near customers of each place: ng-sets matter between those who share one.
     near: usize,

@@ -13,7 +13,7 @@ use vrp_partition::{Guide, Team};
 use vrp_routes::{Listed, Listers, can_list, list_routes};
 
 /// The effort that a search may spend.
-#[derive(Clone, Copy, Debug)]
+#[derive(Clone, Copy)]
 pub(crate) struct Effort {
     pub(crate) ask: Asks,
     pub(crate) budget: u64,

@@ -330,7 +330,7 @@ fn memory_refused_to_a_guide(rt: HostRuntime) {
 
 // The parameters of marking: the routes that are in a choice within the limit. Each customer demands 1, and the capacity is
 // 3.
-#[derive(Clone, Copy, Debug)]
+#[derive(Clone, Copy)]
 struct Within {
     habit: Habit,
     trucks: u8,

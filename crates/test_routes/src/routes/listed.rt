@@ -13,7 +13,7 @@ use vrp_model::{Instance, NO_COST, NoMemory};
 use vrp_routes::{Limit, Listed, Listers, RoutePool, can_list, list_routes};
 
 /// How an instance gets its prices, and the ng-sets of walks.
-#[derive(Clone, Copy, Debug)]
+#[derive(Clone, Copy)]
 pub(crate) struct Setup<'a> {
     pub(crate) scale: u64,
     pub(crate) unit: u64,
@@ -54,7 +54,7 @@ pub(crate) fn listed<R: Abort + Threads + Sync>(
 }
 
 /// The limits of a list.
-#[derive(Clone, Copy, Debug)]
+#[derive(Clone, Copy)]
 pub(crate) struct Limits {
     /// The greatest cost of the canonical plan.
     pub(crate) cost: u64,

@@ -14,7 +14,7 @@ use vrp_partition::{
 use vrp_simplex::ProgramGuide;
 
 /// The search continues until it has asked this often.
-#[derive(Debug, Drop)]
+#[derive(Drop)]
 pub(crate) struct Until {
     left: AtomicU64,
 }

@@ -7,7 +7,7 @@ use test_fixtures::with_arcs;
 use vrp_model::{Instance, MAX_CAPACITY, MAX_NODES, Metric, Weights};
 
 /// The demands of the nodes, the depot's first, the capacity, and the number of trucks; 0 means no limit.
-#[derive(Clone, Copy, Debug)]
+#[derive(Clone, Copy)]
 pub(crate) struct Told<'a> {
     pub demands: &'a [u64],
     pub capacity: u64,

@@ -7,7 +7,7 @@ use std::sync::atomic::{AtomicU64, Ordering};
 use vrp_pool::Event;
 
 // The stage up to which a gate continues.
-#[derive(Clone, Copy, Debug, PartialEq)]
+#[derive(Clone, Copy, PartialEq)]
 enum Until {
     TheEnd,
     // Until the choice among routes begins.

@@ -7,7 +7,7 @@ use test_fixtures::{Random, canonical_plan, in_layout, one_each};
 use vrp_model::{Layout, MAX_NODES};
 
 // The customers, who demand 1 each, and the arcs between them.
-#[derive(Clone, Copy, Debug)]
+#[derive(Clone, Copy)]
 enum Arcs {
     // A grid with this many columns and rows.
     Grid(u16, u16),
