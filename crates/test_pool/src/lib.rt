@@ -1,5 +1,5 @@
-//! Tests of `vrp_pool_register`, `vrp_pool_pile`, `vrp_pool_answer` and `vrp_pool` with values from outside. They are a
-//! separate crate, since a crate with tests is proved twice.
+//! Tests of `vrp_pool_register`, `vrp_pool_pile`, `vrp_pool_answer` and, through `vrp_pool`, of it and the two crates below it, with
+//! values from outside. They are a separate crate, since a crate with tests is proved twice.
 #![tactic(auto)]
 
 #[cfg(test)]

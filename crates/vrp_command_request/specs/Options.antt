@@ -3,7 +3,7 @@ use Rattle.std.specs.Prelude.{◌≡◌, ◌≢◌, ◌≤◌, None, false}
 use Rattle.std.specs.Option.{ForSome}
 use Rattle.vrp_model.specs.declared.limits.TheConstants.{MAX_NODES}
 use Rattle.vrp_search_tree.specs.declared.cutting.TheConstants.{MAX_PIECES}
-use Rattle.vrp_pool.specs.declared.solver.TheConstants.{MAX_WORKERS}
+use Rattle.vrp_pool.specs.Limits.{MAX_WORKERS}
 use Rattle.vrp_command_request.specs.declared.options.Format.{Format}
 use Rattle.vrp_command_request.specs.declared.options.Format.TheVariants as format
 use Rattle.vrp_command_request.specs.declared.options.Options.{Options}

@@ -2,7 +2,8 @@
 use Rattle.std.proofs.Common.{◌≡◌, ◌≤◌, Ok, Err, IfOk, Result, List, ℕ, subst, arith}
 use Rattle.vrp_model.specs.Cheapest.{NoneCheaper, cost_of}
 use Rattle.vrp_model.specs.declared.memory.NoMemory.{NoMemory}
-use Rattle.vrp_pool.specs.Inner.Solving.{IsAnswered, IsSolved}
+use Rattle.vrp_pool.specs.Inner.Solving.{IsSolved}
+use Rattle.vrp_pool_pieces.specs.Inner.Solving.{IsAnswered}
 use Rattle.vrp_pool_answer.specs.Answer.{IsAnswer, known_plan}
 use Rattle.vrp_pool_answer.specs.Outcomes.{Search}
 use Rattle.vrp_pool_answer.specs.declared.answers.Answer.{Answer}
@@ -23,7 +24,3 @@ solved_from s t cutting solved same cheaper is = record {
 pub all_answered_from : (s t : Search) (cutting : List (List ℕ)) (result : Result Answer NoMemory) → t ≡ record s { start_plan = t.start_plan } → cost_of t.start_plan ≤ cost_of s.start_plan → IfOk result (IsAnswered t cutting) → IfOk result (IsAnswered s cutting)
 all_answered_from s t cutting (Ok answer) same cheaper is = answered_from s t cutting answer same cheaper is
 all_answered_from s t cutting (Err error) same cheaper is = is
-
-pub all_answered : (s : Search) (cutting : List (List ℕ)) (result : Result Answer NoMemory) → IfOk result (IsAnswer s.problem cutting s.budget s.may_stop) → IfOk result (λ answer. cost_of (known_plan answer) ≤ cost_of s.start_plan) → IfOk result (IsAnswered s cutting)
-all_answered s cutting (Ok answer) is cheap = record { is_answer = is; no_costlier = cheap }
-all_answered s cutting (Err error) is cheap = is

@@ -2,12 +2,12 @@
 ghost use Rattle.std.specs.Prelude.{◌≤◌, IfOk, IfSome};
 ghost use Rattle.vrp_model.specs.Route.{IsPlanOf};
 
-use crate::preparation::LEAST_PREPARED_BUDGET;
-use crate::timed_gate::{TimedGate, crew};
 use std::thread::Threads;
 use vrp_heuristic::improved_plan;
 use vrp_model::{NoMemory, Plan};
 use vrp_pool_answer::{Event, Gate, Shared};
+use vrp_pool_choice::{TimedGate, crew};
+use vrp_pool_pieces::LEAST_PREPARED_BUDGET;
 
 // One part in this many of the remaining time is kept for the pieces.
 const PART_FOR_PIECES: u64 = 4;

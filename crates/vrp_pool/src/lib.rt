@@ -1,21 +1,14 @@
-//! Several workers search the pieces of an instance's cutting; their results give a plan and its verdict.
+//! Answers an instance cut into pieces: by useful routes if there are few, else by several workers who search the pieces.
 #![tactic(auto)]
 
 mod better_plan;
-mod choice;
-mod draws;
 mod preparation;
 mod price_bound;
-mod seat_board;
 mod solver;
-mod team;
-mod timed_gate;
-mod worker;
 
-pub use preparation::LEAST_PREPARED_BUDGET;
-pub use seat_board::SeatBoard;
-pub use solver::{MAX_WORKERS, solve, solve_from};
+pub use solver::{solve, solve_from};
 pub use vrp_pool_answer::{
     Answer, Event, Finished, Gate, GatherError, Gatherer, NoGate, Resources, SolveError, Solved,
 };
+pub use vrp_pool_pieces::{LEAST_PREPARED_BUDGET, MAX_WORKERS, SeatBoard};
 pub use vrp_pool_pile::{Drawn, Owner, Pile, Thief, settle};

@@ -3,17 +3,15 @@ ghost use Rattle.std.specs.Prelude.{◌≡◌, ◌<◌, ◌≤◌, None, IfOk, I
 ghost use Rattle.vrp_bound_ng.specs.declared.ng_sets.TheConstants.{MOST_NEAR};
 ghost use Rattle.vrp_model.specs.Problem.{place_count};
 ghost use Rattle.vrp_model.specs.Route.{IsPlanOf};
-ghost use Rattle.vrp_pool.specs.declared.preparation.TheConstants.{LEAST_PREPARED_BUDGET};
+ghost use Rattle.vrp_pool_pieces.specs.declared.look.TheConstants.{LEAST_PREPARED_BUDGET};
 
-use crate::timed_gate::{TimedGate, crew};
 use std::thread::Threads;
 use vrp_bound_ascent::{FoundPrices, MOST_SEARCHED, find_prices, find_prices_for_routes};
 use vrp_heuristic::{ENOUGH_MOVES, Watch};
 use vrp_model::{NoMemory, Plan};
 use vrp_pool_answer::{Event, Gate, Shared};
-
-/// The least budget of a piece with which anything is prepared. With less, a run is a mere look at the tree.
-pub const LEAST_PREPARED_BUDGET: u64 = 1_000;
+use vrp_pool_choice::{TimedGate, crew};
+use vrp_pool_pieces::LEAST_PREPARED_BUDGET;
 
 // With fewer partial plans in all, ruin and recreate would take longer than the search; then the heuristic plan comes from savings
 // alone.

@@ -1,44 +1,31 @@
 //! The search of an instance by several workers.
-ghost use Rattle.std.specs.Prelude.{◌≡◌, ◌+◌, ◌*◌, ◌≤◌, IfOk, IfSome, length, vec_len};
+ghost use Rattle.std.specs.Prelude.{◌≡◌, ◌*◌, ◌≤◌, IfOk, IfSome, length};
 ghost use Rattle.std.specs.Option.{ForSome, option_map};
 ghost use Rattle.vrp_model.specs.Cheapest.{NoneCheaper, cost_of};
 ghost use Rattle.vrp_model.specs.Problem.{place_count};
 ghost use Rattle.vrp_model.specs.Route.{IsPlanOf};
-ghost use Rattle.vrp_pool_pile.specs.Pile.{IsNewPile};
 ghost use Rattle.vrp_search_tree.specs.Cutting.{IsCutting};
 ghost use Rattle.vrp_search_tree.specs.declared.cutting.TheConstants.{MAX_REFINED};
-ghost use Rattle.vrp_pool.specs.Inner.Solving.{CanSolve, IsAnswered, IsSolved};
-ghost use Rattle.vrp_pool.specs.declared.solver.TheConstants.{MAX_WORKERS};
-ghost use Rattle.vrp_pool_answer.specs.Answer.{AnswersAll, IsAnswer, known_plan};
-ghost use Rattle.vrp_pool_answer.specs.Outcomes.{words_of};
+ghost use Rattle.vrp_pool.specs.Inner.Solving.{IsSolved};
+ghost use Rattle.vrp_pool_answer.specs.Answer.{IsAnswer, known_plan};
+ghost use Rattle.vrp_pool_pieces.specs.Inner.Solving.{CanSolve, IsAnswered};
+ghost use Rattle.vrp_pool_pieces.specs.declared.pieces.TheConstants.{MAX_WORKERS};
 
 use crate::better_plan::better_plan;
-use crate::choice::{RoutesAnswer, answer_by_routes, copied_ng_sets};
-use crate::preparation::{LEAST_PREPARED_BUDGET, heuristic_plan, prices_for_pieces, prices_found};
+use crate::preparation::{heuristic_plan, prices_for_pieces, prices_found};
 use crate::price_bound::bound_by_prices;
-use crate::team::searched_by_all;
 use std::alloc::Global;
-use std::marker::Brand;
 use std::sync::Wait;
-use std::sync::ledger::{Blank, Ledger};
 use std::thread::Threads;
 use vrp_bound::Tables;
 use vrp_bound_ascent::FoundPrices;
 use vrp_bound_ng::NgSets;
 use vrp_bound_prices::Relaxation;
 use vrp_model::{Instance, NoMemory, Plan, plans_have_words};
-use vrp_pool_answer::{
-    Answer, Event, Gate, NoGate, Resources, Shared, SolveError, Solved, conclude,
-};
-use vrp_pool_pile::{Owner, Pile, Thief};
-use vrp_pool_register::{Closed, Register};
+use vrp_pool_answer::{Answer, Event, Gate, Resources, Shared, SolveError, Solved};
+use vrp_pool_choice::{RoutesAnswer, answer_by_routes, copied_ng_sets};
+use vrp_pool_pieces::{answer_by_pieces, looked_at, report_plan};
 use vrp_search_tree::{Cutting, Prices};
-
-/// The most workers that may be requested.
-pub const MAX_WORKERS: u32 = 64;
-
-// The number of partial plans that are looked at before anything else: small trees end there.
-const FIRST_LOOK: u64 = 20_000;
 
 /// Searches all pieces of a cutting, each with this budget, by this many workers: `solve_from` without a start plan.
 pub fn solve<'a, R: Threads + Wait + Sync, G: Gate + Sync>(
@@ -150,32 +137,6 @@ fn solve_shared<R: Threads + Wait + Sync, G: Gate + Sync>(
     Ok(solved)
 }
 
-// The answer of one worker's look at the whole tree. `None` if the budget is too small for a look, or the look doesn't suffice.
-fn looked_at<R: Threads + Wait + Sync, G: Gate>(
-    shared: &Shared<'_, R, G>,
-) -> Result<Option<Answer>, NoMemory>
-    ensures answer { IfOk result (λ found. IfSome found (AnswersAll shared.now.problem)) }
-    ensures no_costlier { IfOk result (λ found. IfSome found (λ answer. cost_of (known_plan answer) ≤ cost_of shared.now.start_plan)) }
-{
-    if shared.budget < LEAST_PREPARED_BUDGET {
-        return Ok(None);
-    }
-    let whole = Cutting::whole(shared.alloc, shared.instance)?;
-    let look = Shared::new(
-        &Resources::new(shared.rt, shared.alloc, &NoGate),
-        shared.instance,
-        shared.tables,
-        shared.start_plan,
-        whole.pieces().len() as u32,
-        shared.budget.min(FIRST_LOOK),
-    );
-    match solve_pieces(&look, whole, 1)? {
-        Answer::Proven(plan) => Ok(Some(Answer::Proven(plan))),
-        Answer::NoPlan => Ok(Some(Answer::NoPlan)),
-        Answer::Open { .. } => Ok(None),
-    }
-}
-
 // Answers by the useful routes if there are few of them, else by the pieces, which are searched by prices if there is a completion
 // table.
 fn solve_by_prices<R: Threads + Wait + Sync, G: Gate + Sync>(
@@ -257,8 +218,7 @@ fn solve_by_coarse_prices<R: Threads + Wait + Sync, G: Gate + Sync>(
     answer
 }
 
-// Searches all pieces of a cutting by this many workers, who draw them from one pile. If a time is set, they look for better plans
-// first.
+// Searches all pieces of a cutting by this many workers. If a time is set, they look for better plans first.
 fn solve_pieces<R: Threads + Wait + Sync, G: Gate + Sync>(
     shared: &Shared<'_, R, G>,
     cutting: Cutting,
@@ -269,56 +229,7 @@ fn solve_pieces<R: Threads + Wait + Sync, G: Gate + Sync>(
 {
     let better = better_plan(shared, workers)?;
     let begun = shared.with_plan(better.as_ref());
-    shared.gate.on_event(Event::Pieces(shared.pieces));
-    let (owner, thieves) = Pile::new(shared.alloc, cutting, workers - 1)?;
-    let blank = Blank::new(u64::from(workers));
-    let answer = solve_pile::<Brand, R, G>(&begun, owner, thieves, blank);
+    let answer = answer_by_pieces(&begun, cutting, workers);
     drop(better);
     answer
-}
-
-// Searches all pieces on a pile by workers who draw as its owner and its thieves. The blank becomes the ledger of their accepted
-// offers.
-fn solve_pile<L: Ledger + Send + Sync, R: Threads + Wait + Sync, G: Gate + Sync>(
-    shared: &Shared<'_, R, G>,
-    owner: Owner,
-    thieves: Vec<Thief>,
-    blank: Blank,
-) -> Result<Answer, NoMemory>
-    requires pile { IsNewPile (words_of owner.put) (vec_len thieves) owner thieves.items }
-    requires cutting { IsCutting shared.now.problem (words_of owner.put) }
-    requires pieces { shared.now.pieces ≡ length owner.put }
-    requires name { blank.name ≡ L.name }
-    requires parts { blank.parts ≡ L.parts }
-    requires as_many { blank.parts ≡ vec_len thieves + 1 }
-    ensures answer { IfOk result (IsAnswer shared.now.problem (words_of owner.put) shared.now.budget shared.now.may_stop) }
-    ensures no_costlier { IfOk result (λ answer. cost_of (known_plan answer) ≤ cost_of shared.now.start_plan) }
-{
-    let singles = Plan::singles(shared.alloc, shared.instance)?;
-    let opening = copied(shared.alloc, singles.as_ref())?;
-    report_plan(shared.gate, opening.as_ref());
-    let workers = thieves.len() as u32 + 1;
-    let (register, callers) = Register::<L>::new(shared.alloc, opening, blank, workers)?;
-    let (callers, searched) = searched_by_all(shared, &register, owner, thieves, callers)?;
-    let Closed { book, .. } = register.close(callers);
-    let answer = conclude(shared, singles, book.plan(), searched);
-    drop(book);
-    answer
-}
-
-// Tells the gate the cost of a plan, if there is one.
-fn report_plan<G: Gate>(gate: &G, plan: Option<&Plan>) {
-    if let Some(plan) = plan {
-        gate.on_event(Event::Plan(plan.cost()));
-    }
-}
-
-// A copy of a plan, if there is one.
-fn copied(alloc: Global, plan: Option<&Plan>) -> Result<Option<Plan>, NoMemory>
-    ensures { IfOk result (λ copy. copy ≡ option_map (λ plan. plan.now) plan.entry) }
-{
-    match plan {
-        Some(plan) => Ok(Some(plan.copy(alloc)?)),
-        None => Ok(None),
-    }
 }

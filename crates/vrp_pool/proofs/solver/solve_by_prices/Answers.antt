@@ -4,7 +4,7 @@ use Rattle.vrp_model.specs.Cheapest.{NoneCheaper, cost_of}
 use Rattle.vrp_model.specs.Problem.{Problem}
 use Rattle.vrp_model.specs.Word.{NoneCheaperUnder}
 use Rattle.vrp_bound.specs.LowerBound.{rounded_up}
-use Rattle.vrp_pool.specs.Inner.Solving.{IsAnswered}
+use Rattle.vrp_pool_pieces.specs.Inner.Solving.{IsAnswered}
 use Rattle.vrp_pool_answer.specs.Answer.{AnswersAll, known_plan}
 use Rattle.vrp_pool_answer.specs.Outcomes.{Search}
 use Rattle.vrp_pool_answer.specs.declared.answers.Answer.{Answer}

@@ -1,0 +1,7 @@
+mod Answered
+mod Closings
+mod Floors
+mod KeptOutcomes
+mod NewCallers
+mod Teams
+mod Works

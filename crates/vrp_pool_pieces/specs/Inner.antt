@@ -1,0 +1,3 @@
+-- Cited only by inner contracts; no reader has to believe it.
+pub mod Solving
+pub mod Workers
