@@ -1,156 +1,90 @@
-//! Runs of the program with known answers. Each line of standard input is a file and the words of a command line. The output
-//! has the exit status, the report, and standard error, or `the same` if the report is that of the line before and standard
-//! error is empty. So instances with known optima are solved over several cuttings of the tree by several workers and by one,
-//! with free trucks and with few; start plans are feasible and refused; and plans are printed in all forms.
+//! Checks of the command on files. Each word of the command line is one check:
 //!
-//! Each word of the command line is a larger file and its optimum, such as `P-n16-k8.vrp:450`. The search gets a small
-//! budget, and each line says whether the optimum lies between the printed bound and cost. One more line has the cost that is
-//! printed when the budget is just enough for ruin and recreate.
+//! - `P-n16-k8.vrp:450`, a larger file and its optimum: whether that lies between the bound and the cost that the command prints
+//!   when it searches little (`ranges`).
+//! - `slow:three-nodes.vrp`, or `slow:three-nodes.vrp/1`, a file, or a file and a number of trucks: whether the command prints
+//!   what a plain slow evaluator computes (`slow`).
+//! - `cut:three-nodes.vrp`: the same for a file that is cut off after each of its bytes in turn.
+//! - `metrics`: whether the command's metrics are those of the slow evaluator.
+//!
+//! Then each line of standard input is a run of the command, whose answer is known and is printed (`runs`).
 #![tactic(auto)]
 
-use anyhow::{Context, Result, ensure};
-use std::io::Eprint;
+mod ranges;
+mod runs;
+mod slow;
+
+use anyhow::{Context, Result};
+use std::env;
 use std::rt::Files;
 use std::sync::Wait;
 use std::thread::Threads;
-use std::time::Clock;
-use std::{env, fs, str};
-use vrp_command::{MAX_PIECES, NoGate, Options, Resources, run, run_words};
 
-// The numbers of pieces: the whole tree, the smallest cut, and a plain run's.
-const CUTTINGS: [u32; 3] = [1, 2, 64];
+// The check that a word of the command line asks for.
+#[derive(Clone, Copy, Debug)]
+enum Check<'a> {
+    Range { name: &'a str, optimum: u64 },
+    // Without a number of trucks there is no limit on them.
+    Slow { name: &'a str, trucks: Option<u16> },
+    Cut { name: &'a str },
+    Metrics,
+}
 
-// A budget for each piece so small that the larger instances end soon.
-const LITTLE: u64 = 100;
+impl<'a> Check<'a> {
+    // The check of a word.
+    fn parse(word: &'a str) -> Result<Check<'a>> {
+        if word == "metrics" {
+            return Ok(Check::Metrics);
+        }
+        if let Some(name) = word.strip_prefix("cut:") {
+            return Ok(Check::Cut { name });
+        }
+        if let Some(name) = word.strip_prefix("slow:") {
+            return Ok(Check::slow(name));
+        }
+        let (name, optimum) = word.split_once(':').context("no optimum")?;
+        let optimum = optimum.parse::<u64>()?;
+        Ok(Check::Range { name, optimum })
+    }
 
-// The least total budget with which the heuristic plan comes from ruin and recreate.
-const ENOUGH_FOR_MOVES: u64 = 100_000;
-
-// What a report says about the cost of a cheapest plan.
-#[derive(Clone, Copy)]
-struct Range {
-    lower: u64,
-    cost: u64,
+    // The slow check of a file. A number behind the last slash is that of trucks; where there is none, the slash is a folder's.
+    fn slow(word: &'a str) -> Check<'a> {
+        if let Some((name, behind)) = word.rsplit_once('/') {
+            if let Ok(trucks) = behind.parse::<u16>() {
+                let trucks = Some(trucks);
+                return Check::Slow { name, trucks };
+            }
+        }
+        Check::Slow {
+            name: word,
+            trucks: None,
+        }
+    }
 }
 
 fn main(rt: HostRuntime) -> Result<()> {
     for word in env::args(&rt)?.skip(1) {
-        print_ranges(&rt, word.as_str())?;
+        print_check(&rt, word.as_str())?;
     }
-    let mut report = Vec::new(rt.alloc());
-    for line in rt.lines(rt.alloc()) {
-        report = print_run(&rt, line?.as_str(), report)?;
-    }
-    Ok(())
+    runs::print_runs(&rt)
 }
 
-// Prints the outcome of a run, and answers its report.
-fn print_run<R: Files + Print + Eprint + AllocGlobal + Clock + Threads + Wait + Sync>(
-    rt: &R,
-    line: &str,
-    before: Vec<u8>,
-) -> Result<Vec<u8>> {
-    let words: Vec<&str> = line.split_whitespace().collect(rt.alloc())?;
-    let (name, words) = words.split_first().context("no file")?;
-    let file = fs::read(rt, *name)?;
-    let mut output = Vec::new(rt.alloc());
-    let mut errors = Vec::new(rt.alloc());
-    let resources = Resources::new(rt, rt.alloc(), &NoGate);
-    let status = run_words(
-        &resources,
-        words,
-        &mut file.as_slice(),
-        &mut output,
-        &mut errors,
-    );
-    let report = if errors.is_empty() && output == before {
-        None
-    } else {
-        Some(output.as_slice())
-    };
-    print_outcome(rt, line, status, report, &errors)?;
-    Ok(output)
-}
-
-// Prints the exit status of a run, its report, if it differs from the last one, and standard error.
-fn print_outcome<R: Print>(
-    rt: &R,
-    line: &str,
-    status: u8,
-    report: Option<&[u8]>,
-    errors: &[u8],
-) -> Result<()> {
-    let Some(report) = report else {
-        println!(rt; "{line}: {status}, the same")?;
-        return Ok(());
-    };
-    println!(rt; "{line}: {status}")?;
-    print!(rt; "{}{}", str::from_utf8(report)?, str::from_utf8(errors)?)?;
-    Ok(())
-}
-
-// Prints for each number of pieces where the optimum of a file lies, and the cost of the plan when little is searched and the
-// heuristic plan is made with all effort.
-fn print_ranges<R: Files + Print + AllocGlobal + Threads + Wait + Sync>(
+// Prints what the check of a word finds.
+fn print_check<R: Files + Print + AllocGlobal + Threads + Wait + Sync>(
     rt: &R,
     word: &str,
 ) -> Result<()> {
-    let (name, least) = word.split_once(':').context("no cost")?;
-    let least = least.parse::<u64>()?;
-    let file = fs::read(rt, name)?;
-    for pieces in CUTTINGS {
-        let range = range_of(rt, &file, pieces, LITTLE)?;
-        let lies = if range.lower <= least && least <= range.cost {
-            "lies"
-        } else {
-            "doesn't lie"
-        };
-        println!(rt; "{name}, {pieces} pieces: {least} {lies} between the bound and the cost")?;
+    match Check::parse(word)? {
+        Check::Range { name, optimum } => ranges::print_ranges(rt, name, optimum)?,
+        Check::Slow { name, trucks } => {
+            let finding = slow::compare(rt, name, trucks)?;
+            println!(rt; "{word}: {finding}")?;
+        }
+        Check::Cut { name } => {
+            let finding = slow::compare_cuts(rt, name)?;
+            println!(rt; "{word}: {finding}")?;
+        }
+        Check::Metrics => println!(rt; "{word}: {}", slow::compare_metrics())?,
     }
-    let range = range_of(rt, &file, 1, ENOUGH_FOR_MOVES)?;
-    println!(rt;
-        "{name}, a budget of {ENOUGH_FOR_MOVES}: Cost {}",
-        range.cost
-    )?;
     Ok(())
-}
-
-// The range in the report on a file by one worker, with this many pieces and this budget for each.
-fn range_of<R: AllocGlobal + Threads + Wait + Sync>(
-    rt: &R,
-    mut file: &[u8],
-    pieces: u32,
-    budget: u64,
-) -> Result<Range> {
-    ensure!(1 <= pieces && pieces <= MAX_PIECES, "{pieces} pieces");
-    ensure!(
-        1 <= budget && budget <= ENOUGH_FOR_MOVES,
-        "a budget of {budget}"
-    );
-    let options = Options {
-        workers: 1,
-        pieces,
-        budget,
-        depot: None,
-        trucks: None,
-    };
-    let mut report = Vec::new(rt.alloc());
-    run(rt, rt.alloc(), options, &mut file, &mut report)?;
-    read_range(str::from_utf8(&report)?)
-}
-
-// The range in a report: the cost of its plan, and its bound. For a proven plan both are its cost.
-fn read_range(report: &str) -> Result<Range> {
-    let (_, behind) = report.split_once("Cost ").context("no cost")?;
-    let (cost, verdict) = behind.split_once('\n').context("no verdict")?;
-    let cost = cost.parse::<u64>()?;
-    let verdict = verdict.trim_end();
-    if verdict == "Proven" {
-        return Ok(Range { lower: cost, cost });
-    }
-    let lower = verdict.strip_prefix("Open ").context("no bound")?;
-    Ok(Range {
-        lower: lower.parse::<u64>()?,
-        cost,
-    })
 }

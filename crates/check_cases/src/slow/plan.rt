@@ -1,6 +1,6 @@
 //! Plans as lists of routes, each a list of node numbers, and when they are feasible.
 
-use crate::problem::Problem;
+use crate::slow::problem::Problem;
 use std::alloc::{AllocError, Global};
 
 /// A route for each customer, by rising number.

@@ -1,9 +1,6 @@
 //! A plain slow evaluator: computes the meaning of a file from its text, the long way round, and compares it with what the
-//! command prints: at a glance and, if there are few customers, also given time. It prints one line on the metrics, and one
-//! for each word of its command line: a file, a file with a number of trucks, such as `three-nodes.vrp/1`, or a file that is
-//! cut off after each of its bytes in turn, such as `cut:three-nodes.vrp`. It has no clauses: it serves to check the
-//! definitions, so it does not use them.
-#![tactic(auto)]
+//! command prints: at a glance and, if there are few customers, also given time. It has no clauses: it serves to check the
+//! definitions, so it does not use them. The modules below it use nothing of the product but the metrics that they check.
 
 mod distance;
 mod fault;
@@ -19,15 +16,15 @@ mod report;
 mod section;
 mod weights;
 
+use self::fault::Fault;
+use self::least::Cheapest;
+use self::problem::Problem;
 use anyhow::{Result, ensure};
-use fault::Fault;
-use least::Cheapest;
-use problem::Problem;
 use std::alloc::Global;
 use std::rt::Files;
 use std::sync::Wait;
 use std::thread::Threads;
-use std::{env, fs, str};
+use std::{fs, str};
 use vrp_command::{Options, RunError, Status, exit_status, fault_line, run};
 
 // The exit status of a refused file.
@@ -60,30 +57,14 @@ struct Start {
     report: String,
 }
 
-fn main(rt: HostRuntime) -> Result<()> {
-    let metrics = agreement(distance::agree_on_a_square());
-    println!(&rt; "metrics: {metrics}")?;
-    for word in env::args(&rt)?.skip(1) {
-        let finding = finding(&rt, word.as_str())?;
-        println!(&rt; "{word}: {finding}")?;
-    }
-    Ok(())
+/// Whether the command's metrics agree with the evaluator's, in words.
+pub(crate) fn compare_metrics() -> &'static str {
+    agreement(distance::agree_on_a_square())
 }
 
-// The line printed for a word of the command line.
-fn finding<R: Files + AllocGlobal + Threads + Wait + Sync>(rt: &R, word: &str) -> Result<String> {
-    if let Some(name) = word.strip_prefix("cut:") {
-        return compare_cuts(rt, name);
-    }
-    match word.split_once('/') {
-        None => compare(rt, word, None),
-        Some((name, trucks)) => compare(rt, name, Some(trucks.parse::<u16>()?)),
-    }
-}
-
-// The number of cuts of a file, one after each of its bytes, how many of them the evaluator refuses, and whether the
-// command's answer to each agrees with the evaluator.
-fn compare_cuts<R: Files + AllocGlobal + Threads + Wait + Sync>(
+/// The number of cuts of a file, one after each of its bytes, how many of them the evaluator refuses, and whether the
+/// command's answer to each agrees with the evaluator.
+pub(crate) fn compare_cuts<R: Files + AllocGlobal + Threads + Wait + Sync>(
     rt: &R,
     name: &str,
 ) -> Result<String> {
@@ -111,8 +92,8 @@ fn compare_cut<R: Threads + Wait + Sync>(rt: &R, alloc: Global, cut: &str) -> Re
     Ok((is_refused, finding.as_str().ends_with(agreement(true))))
 }
 
-// The evaluator's finding for a file, with this many trucks or no limit, and whether the command's answer agrees.
-fn compare<R: Files + AllocGlobal + Threads + Wait + Sync>(
+/// The evaluator's finding for a file, with this many trucks or no limit, and whether the command's answer agrees.
+pub(crate) fn compare<R: Files + AllocGlobal + Threads + Wait + Sync>(
     rt: &R,
     name: &str,
     trucks: Option<u16>,

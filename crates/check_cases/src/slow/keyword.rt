@@ -1,10 +1,10 @@
 //! The keywords, and what may follow each.
 
-use crate::distance::Metric;
-use crate::fault::Wrong;
-use crate::layout::Layout;
-use crate::lines::{Line, first_with};
-use crate::number::whole;
+use crate::slow::distance::Metric;
+use crate::slow::fault::Wrong;
+use crate::slow::layout::Layout;
+use crate::slow::lines::{Line, first_with};
+use crate::slow::number::whole;
 
 /// The keywords that occur at most once, in the order in which a missing one is reported.
 pub(crate) const KEYS: [&str; 9] = [

@@ -1,7 +1,7 @@
 //! The problem that a file states.
 
-use crate::fault::Fault;
-use crate::weights::{Weights, find};
+use crate::slow::fault::Fault;
+use crate::slow::weights::{Weights, find};
 
 /// The statements of a file. The first of the depots is the one used.
 #[derive(Debug, Drop)]

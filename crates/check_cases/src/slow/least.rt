@@ -1,7 +1,7 @@
 //! The canonical plan, the first by cost and then by word, found by trying every plan.
 
-use crate::problem::Problem;
-use crate::weights::find;
+use crate::slow::problem::Problem;
+use crate::slow::weights::find;
 use std::alloc::{AllocError, Global};
 
 // With more customers there are too many plans to try.

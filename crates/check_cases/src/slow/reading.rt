@@ -1,14 +1,14 @@
 //! Reads the problem that a file's text states, or the first of its faults.
 
-use crate::distance::Metric;
-use crate::fault::{Fault, Wrong};
-use crate::keyword::{self, KEYS, is_needed};
-use crate::layout::Layout;
-use crate::lines::{Line, before_the_end, first_with};
-use crate::number::whole;
-use crate::problem::Problem;
-use crate::section::{self, numbers};
-use crate::weights::Weights;
+use crate::slow::distance::Metric;
+use crate::slow::fault::{Fault, Wrong};
+use crate::slow::keyword::{self, KEYS, is_needed};
+use crate::slow::layout::Layout;
+use crate::slow::lines::{Line, before_the_end, first_with};
+use crate::slow::number::whole;
+use crate::slow::problem::Problem;
+use crate::slow::section::{self, numbers};
+use crate::slow::weights::Weights;
 use std::alloc::{AllocError, Global};
 
 const MOST_BYTES: usize = 16_777_216;

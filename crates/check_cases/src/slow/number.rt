@@ -1,6 +1,6 @@
 //! Numerals, read digit by digit.
 
-use crate::fault::Wrong;
+use crate::slow::fault::Wrong;
 
 const MOST_DIGITS: usize = 18;
 

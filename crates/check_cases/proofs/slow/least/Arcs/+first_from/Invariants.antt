@@ -1,4 +1,4 @@
-use Rattle.check_slow.proofs.least.Arcs.+first_from.Given as goal
+use Rattle.check_cases.proofs.slow.least.Arcs.+first_from.Given as goal
 
 abbrev pub decreases-first_from : goal.decreases-first_from
 decreases-first_from l = l.most

@@ -1,9 +1,9 @@
 //! Sections: the data lines under a keyword, and the numbers in them.
 
-use crate::fault::{Fault, Wrong};
-use crate::keyword::is_section;
-use crate::lines::{Line, tokens};
-use crate::number::whole;
+use crate::slow::fault::{Fault, Wrong};
+use crate::slow::keyword::is_section;
+use crate::slow::lines::{Line, tokens};
+use crate::slow::number::whole;
 use std::alloc::{AllocError, Global};
 
 const MOST_COORDINATE: i64 = 100_000_000;

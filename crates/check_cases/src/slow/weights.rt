@@ -1,6 +1,6 @@
 //! The weights between the nodes of a file, looked up one by one.
 
-use crate::distance::Metric;
+use crate::slow::distance::Metric;
 
 /// The weights as the file gives them.
 #[derive(Debug, Drop)]
