@@ -275,7 +275,7 @@ class Launcher(unittest.TestCase):
     def test_order_of_the_real_list(self):
         """The launcher's list, read out of what it tells, over the repository's own crates.txt."""
         text = (TOP / "crates.txt").read_text()
-        uses = {head.split()[0]: used.split() for head, used in (line.split(":") for line in text.splitlines() if line.strip())}
+        uses = {head.split()[0]: used.split() for head, used in (line.split(":") for line in text.splitlines() if line.strip() and not line.startswith("#"))}
         (self.top / "crates.txt").write_text(text)
         for crate in uses:
             (self.top / "crates" / crate / "src").mkdir(parents=True, exist_ok=True)
