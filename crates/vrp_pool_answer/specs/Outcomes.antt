@@ -1,4 +1,4 @@
--- The workers' results for the pieces, public for vrp_pool alone.
+-- The workers' results for the pieces, public for the crates of vrp_pool alone.
 use Rattle.std.specs.Prelude.{◌≡◌, ◌⊎◌, ℕ, ◌+◌, ◌≤◌, ◌<◌, Bool, IsTrue, Option, Some, List, [], length, map, slice_index_or}
 use Rattle.std.specs.Option.{ForSome}
 use Rattle.vrp_model.specs.Cheapest.{cost_of}

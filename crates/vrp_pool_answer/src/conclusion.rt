@@ -22,7 +22,7 @@ use vrp_search_tree::one_piece;
 
 /// The plan and its verdict. The last book opens with the plan of one truck for each customer, if there is one. It is offered
 /// the start plan, the plan kept by the register, the best of the workers' own plans, and the last offer of each finished
-/// piece. The only error is lack of memory. Public for vrp_pool alone.
+/// piece. The only error is lack of memory. Public for the crates of vrp_pool alone.
 pub fn conclude<R, G: Gate>(
     shared: &Shared<'_, R, G>,
     singles: Option<Plan>,

@@ -15,7 +15,7 @@ pub struct Finished {
     pub last_offer: Option<Plan>,
 }
 
-/// A piece whose tree has more partial plans than were looked at. Public for vrp_pool alone.
+/// A piece whose tree has more partial plans than were looked at. Public for the crates of vrp_pool alone.
 #[derive(Debug, Drop)]
 pub struct OpenPiece {
     pub piece: Piece,
@@ -23,7 +23,7 @@ pub struct OpenPiece {
     pub low: u64,
 }
 
-/// How the search of a piece ended. Public for vrp_pool alone.
+/// How the search of a piece ended. Public for the crates of vrp_pool alone.
 #[derive(Debug, Drop)]
 pub enum PieceOutcome {
     /// The piece is finished.
@@ -32,7 +32,7 @@ pub enum PieceOutcome {
     Unfinished(OpenPiece),
 }
 
-/// All pieces were searched. Public for vrp_pool alone.
+/// All pieces were searched. Public for the crates of vrp_pool alone.
 #[derive(Drop)]
 pub struct Searched {
     /// The empty pile.

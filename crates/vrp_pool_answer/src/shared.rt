@@ -13,7 +13,7 @@ use vrp_model::{Instance, Plan, plans_cost_less};
 use vrp_search_tree::Prices;
 
 /// The search and what was prepared for it, the budget of each piece, the number of pieces, and the gate that hears of each.
-/// Public for vrp_pool alone.
+/// Public for the crates of vrp_pool alone.
 #[derive(Drop)]
 pub struct Shared<'a, R, G: Gate> {
     /// Starts threads, and waits for them.

@@ -41,7 +41,7 @@ pub fn answer_by_pieces<R: Threads + Wait + Sync, G: Gate + Sync>(
     solve_pile::<Brand, R, G>(shared, owner, thieves, blank)
 }
 
-/// Tells the gate the cost of a plan, if there is one. Public for vrp_pool alone.
+/// Tells the gate the cost of a plan, if there is one; no clause says so. Public for vrp_pool alone.
 pub fn report_plan<G: Gate>(gate: &G, plan: Option<&Plan>) {
     if let Some(plan) = plan {
         gate.on_event(Event::Plan(plan.cost()));
