@@ -9,7 +9,7 @@ use std::thread::Threads;
 use vrp_heuristic_recreate::{Setting, Threshold, Watch};
 use vrp_heuristic_savings::savings_plan;
 use vrp_model::{Instance, NoMemory, Plan};
-use vrp_search_tree::lawful_plan;
+use vrp_search_tree::{cheaper_plan, lawful_plan};
 
 /// With this many moves a run finds the cheapest plan of most instances of some 60 customers.
 pub const ENOUGH_MOVES: u32 = 20_000;
@@ -133,24 +133,7 @@ fn better(
 {
     match best {
         None => Ok(lawful_plan(alloc, instance, word)?),
-        Some(best) => Ok(Some(cheaper(alloc, instance, word, best)?)),
-    }
-}
-
-/// The plan of a word if it is before this one, otherwise this one.
-pub(crate) fn cheaper(
-    alloc: Global,
-    instance: &Instance,
-    word: &[u16],
-    best: Plan,
-) -> Result<Plan, NoMemory>
-    requires { IsPlanOf instance.now best }
-    ensures lawful { IfOk result (IsPlanOf instance.now) }
-    ensures no_costlier { IfOk result (λ plan. plan.cost ≤ best.cost) }
-{
-    match lawful_plan(alloc, instance, word)? {
-        Some(plan) if plan.is_before(&best) => Ok(plan),
-        _ => Ok(best),
+        Some(best) => Ok(Some(cheaper_plan(alloc, instance, word, best)?)),
     }
 }
 

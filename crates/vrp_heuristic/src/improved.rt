@@ -2,12 +2,13 @@
 ghost use Rattle.std.specs.Prelude.{◌≡◌, ◌≤◌, IfOk};
 ghost use Rattle.vrp_model.specs.Route.{IsPlanOf};
 
-use crate::heuristic::{cheaper, first_threshold};
+use crate::heuristic::first_threshold;
 use crate::pace::Pace;
 use crate::runs::{Crew, Round, run_all};
 use std::thread::Threads;
 use vrp_heuristic_recreate::{Setting, Threshold, Watch};
 use vrp_model::{NoMemory, Plan};
+use vrp_search_tree::cheaper_plan;
 
 // The number of the first run; the runs of a heuristic plan have lower ones.
 const FIRST_RUN: u64 = 100;
@@ -81,7 +82,7 @@ fn best_of_round<R: Threads + Sync, W: Watch + Sync>(
     let runs = run_all(crew, setting, round, plan.word())?;
     let mut best = plan;
     for run in runs {
-        best = cheaper(crew.alloc, crew.instance, &run.word?, best)?;
+        best = cheaper_plan(crew.alloc, crew.instance, &run.word?, best)?;
     }
     Ok(best)
 }

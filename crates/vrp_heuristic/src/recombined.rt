@@ -3,7 +3,6 @@ ghost use Rattle.std.specs.Prelude.{◌≡◌, ◌<◌, ◌≤◌, IfOk, length}
 ghost use Rattle.vrp_model.specs.Problem.{place_count};
 ghost use Rattle.vrp_model.specs.Route.{IsPlanOf};
 
-use crate::heuristic::cheaper;
 use crate::runs::Crew;
 use crate::sets::route_sets;
 use std::alloc::Global;
@@ -13,6 +12,7 @@ use vrp_model::{Instance, NoMemory, Plan};
 use vrp_partition::{
     Ask, Fleet, Found, MOST_CUSTOMERS, Route, Task, Team, all_fit, cheapest_choice,
 };
+use vrp_search_tree::cheaper_plan;
 use vrp_simplex::ProgramGuide;
 
 // The most reduced costs that the search for the cheapest choice looks at: mostly a second at most.
@@ -58,7 +58,7 @@ pub(crate) fn recombined<R: Threads + Sync, W: Watch + Sync>(
     let listed = distinct_routes(crew.alloc, crew.instance, gathered)?;
     let chosen = chosen_routes(crew, listed.as_slice(), &plan)?;
     let word = word_of(crew.alloc, gathered, listed.as_slice(), chosen.as_slice())?;
-    cheaper(crew.alloc, crew.instance, &word, plan)
+    cheaper_plan(crew.alloc, crew.instance, &word, plan)
 }
 
 // The routes of a word by their customers; among those with the same customers the cheapest.

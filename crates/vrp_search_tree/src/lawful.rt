@@ -1,5 +1,5 @@
 //! From an untrusted word to a feasible plan.
-ghost use Rattle.std.specs.Prelude.{◌≡◌, [], IfNone, IfOk, IfSome};
+ghost use Rattle.std.specs.Prelude.{◌≡◌, ◌≤◌, [], IfNone, IfOk, IfSome};
 ghost use Rattle.vrp_model.specs.Route.{IsPlanOf};
 ghost use Rattle.vrp_model.specs.Word.{IsLawfulWord, word_of};
 
@@ -20,6 +20,23 @@ pub fn lawful_plan(
 {
     let mut partial = Partial::root(alloc, instance)?;
     pushed_plan(alloc, &mut partial, word)
+}
+
+/// The plan of a word if it is feasible and before this one, by cost and then by word; otherwise this one. The word need not be trusted.
+pub fn cheaper_plan(
+    alloc: Global,
+    instance: &Instance,
+    word: &[u16],
+    best: Plan,
+) -> Result<Plan, NoMemory>
+    requires { IsPlanOf instance.now best }
+    ensures lawful { IfOk result (IsPlanOf instance.now) }
+    ensures no_costlier { IfOk result (λ plan. plan.cost ≤ best.cost) }
+{
+    match lawful_plan(alloc, instance, word)? {
+        Some(plan) if plan.is_before(&best) => Ok(plan),
+        _ => Ok(best),
+    }
 }
 
 // Pushes the symbols of a word as far as possible, and answers its plan if all of it is a feasible word.

@@ -13,7 +13,7 @@ mod tally;
 
 pub use cutting::{Cutting, MAX_PIECES, MAX_REFINED};
 pub use law::{one_low, one_piece, own_low_no_lower};
-pub use lawful::lawful_plan;
+pub use lawful::{cheaper_plan, lawful_plan};
 pub use partial::{Partial, Reserved};
 pub use piece::Piece;
 pub use priced_tally::PricedTally;
