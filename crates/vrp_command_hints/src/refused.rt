@@ -1,7 +1,6 @@
 //! Finds the hint on a refused file.
-ghost use Rattle.std.specs.Prelude.{◌≡◌, ◌≤◌, ℤ, Err, IfSome, length};
+ghost use Rattle.std.specs.Prelude.{◌≤◌, IfSome, length};
 ghost use Rattle.vrp_command_hints.specs.Hints.{IsSound};
-ghost use Rattle.vrp_text_lexer.specs.Numeral.{number_of};
 ghost use Rattle.vrp_text_lexer.specs.declared.limits.TheConstants.{MAX_BYTES};
 
 use crate::file::FileHint;
@@ -11,7 +10,8 @@ use crate::quoted::Quoted;
 use vrp_model::MAX_NODES;
 use vrp_text::TextError;
 use vrp_text_lexer::{
-    FileLineFault, Key, Keyword, MAX_BYTES, Tokens, WeightFormat, dimension, number, weight_format,
+    FileLineFault, Key, Keyword, MAX_BYTES, WeightFormat, dimension, faulty_token, number,
+    weight_format,
 };
 
 /// The hint on a file with this refusal, if there is one. The contract leaves open which one it is.
@@ -99,19 +99,6 @@ fn not_whole<'a>(bytes: &'a [u8], line: u32) -> Option<FileHint<'a>>
         token: Quoted(token),
         section: section_of(bytes, line)?,
     })
-}
-
-// The first token of a line with this fault, for any range of its number.
-fn faulty_token(text: &[u8], fault: FileLineFault) -> Option<&[u8]>
-    ensures { IfSome result (λ token. (low high : ℤ) × (number_of low high token.now ≡ Err fault)) }
-{
-    let mut tokens = Tokens::of(text);
-    while let Some(token) = tokens.next() {
-        if number(token, i64::MIN, i64::MAX) == Err(fault) {
-            return Some(token);
-        }
-    }
-    None
 }
 
 // The hint on a section with too many or too few numbers.

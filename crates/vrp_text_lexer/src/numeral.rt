@@ -1,5 +1,5 @@
 //! Numerals: whole numbers and decimal fractions with a power of ten, and their exact values.
-ghost use Rattle.std.specs.Prelude.{◌≡◌, ◌+◌, ◌*◌, ◌/◌, ◌%◌, ◌^◌, ◌≤◌, ◌<◌, ◌≤ℤ◌, ◌==◌, if◌then◌else◌, Some, None, IfOk, IfSome, option_map, length};
+ghost use Rattle.std.specs.Prelude.{◌≡◌, ◌+◌, ◌*◌, ◌/◌, ◌%◌, ◌^◌, ◌≤◌, ◌<◌, ◌≤ℤ◌, ◌==◌, ℤ, if◌then◌else◌, Some, None, Err, IfOk, IfSome, option_map, length};
 ghost use Rattle.std.specs.Char.{is_ascii_digit};
 ghost use Rattle.std.specs.List.{prefix_len, take_while};
 ghost use Rattle.std.specs.Str.Parse.{digits_value_after};
@@ -9,6 +9,7 @@ ghost use Rattle.vrp_text_lexer.specs.Inner.KeptNumeral.{IsSmallPower, IsSmallNu
 
 use crate::fault::FileLineFault;
 use crate::limits::{MAX_DIGITS, MAX_POWER, MAX_POWER_DIGITS};
+use crate::tokens::Tokens;
 
 // The greatest length of a numeral in bytes: a sign, digits, a point, a letter, a sign and the digits of a power.
 const MAX_LENGTH: usize = 1 + MAX_DIGITS + 1 + 1 + 1 + MAX_POWER_DIGITS;
@@ -207,4 +208,17 @@ pub fn number(token: &[u8], low: i64, high: i64) -> Result<i64, FileLineFault>
         return Err(FileLineFault::NotWhole);
     };
     in_range(low, high, value)
+}
+
+/// The first token of a line with this fault, for any range of its number. No clause says when there is none.
+pub fn faulty_token(line: &[u8], fault: FileLineFault) -> Option<&[u8]>
+    ensures { IfSome result (λ token. (low high : ℤ) × (number_of low high token.now ≡ Err fault)) }
+{
+    let mut tokens = Tokens::of(line);
+    while let Some(token) = tokens.next() {
+        if number(token, i64::MIN, i64::MAX) == Err(fault) {
+            return Some(token);
+        }
+    }
+    None
 }
