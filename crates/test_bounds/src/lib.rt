@@ -1,10 +1,16 @@
-//! Tests of `vrp_bound_ng` and `vrp_bound` by hand, with values from outside, and compared with plain slow programs. They are
-//! a separate crate, since a crate with tests is proved twice.
+//! Tests of `vrp_bound_ng`, `vrp_bound`, `vrp_bound_prices`, `vrp_bound_walks` and `vrp_bound_ascent` by hand, with values from
+//! outside, and compared with plain slow programs. They are a separate crate, since a crate with tests is proved twice.
 #![tactic(auto)]
 
+#[cfg(test)]
+mod ascent;
 #[cfg(test)]
 mod assertion;
 #[cfg(test)]
 mod bound;
 #[cfg(test)]
 mod ng_sets;
+#[cfg(test)]
+mod prices;
+#[cfg(test)]
+mod walks;

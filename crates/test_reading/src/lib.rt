@@ -1,11 +1,13 @@
-//! Tests of the reading crates with values from outside: `vrp_text_lexer`, `vrp_text` and `vrp_plan_read`. They are a
-//! separate crate, since a crate with tests is proved twice.
+//! Tests of `vrp_model` and of the reading crates with values from outside: `vrp_text_lexer`, `vrp_text` and `vrp_plan_read`.
+//! They are a separate crate, since a crate with tests is proved twice.
 #![tactic(auto)]
 
 #[cfg(test)]
 mod assertion;
 #[cfg(test)]
 mod lexer;
+#[cfg(test)]
+mod model;
 #[cfg(test)]
 mod solution;
 #[cfg(test)]

@@ -1,0 +1,98 @@
+//! How well the prices found bound the plans of four points, and when none are found.
+ghost use Rattle.std.specs.Prelude.{◌≡◌};
+ghost use Rattle.vrp_model.specs.Problem.{place_count};
+
+use crate::assertion::assert_same;
+use std::alloc::Global;
+use std::process::Abort;
+use test_fixtures::{FOUR, at_points};
+use vrp_bound::Tables;
+use vrp_bound_ascent::{FoundPrices, find_prices};
+use vrp_bound_prices::Relaxation;
+use vrp_bound_walks::{NearLooks, Size, Walks};
+use vrp_model::Instance;
+
+#[test]
+fn found_prices_bound(rt: HostRuntime) {
+    let instance = at_points(rt.alloc(), FOUR, &[0, 1, 2, 1], 3).expect(&rt, "an instance");
+    let relaxation = found_prices(&rt, rt.alloc(), &instance, true).relaxation;
+    assert_same(&rt, relaxation.scale(), 1_000, "the scale");
+    let least = least_of_tours(&rt, rt.alloc(), relaxation.relaxed());
+    assert_bounds(&rt, &relaxation, least);
+}
+
+// The prices and the ng-sets found for a plan of cost 46, in a million steps, or in none if it is stopped.
+fn found_prices<'a>(
+    rt: &impl Abort,
+    alloc: Global,
+    instance: &'a Instance,
+    should_continue: bool,
+) -> FoundPrices<'a>
+    ensures { result.ng_sets.places ≡ place_count instance.now }
+{
+    let found = find_prices(alloc, instance, 46, 3, 1_000_000, &|| should_continue);
+    found.expect(rt, "memory").expect(rt, "prices")
+}
+
+// The least cost of tours that carry everything.
+fn least_of_tours(rt: &impl Abort, alloc: Global, instance: &Instance) -> u64 {
+    let tables = Tables::over_all(alloc, instance).expect(rt, "memory");
+    let least = tables.q_bound(0, 0, instance.whole_demand());
+    least.expect(rt, "tours")
+}
+
+// Tours of this total cost in a relaxation of the four points show that no plan costs 44, and allow a cost of 46.
+fn assert_bounds(rt: &impl Abort, relaxation: &Relaxation<'_>, least: u64) {
+    assert!(rt; relaxation.limit(44).is_some_and(|limit| limit < least));
+    assert!(rt; relaxation.limit(46).is_some_and(|limit| least <= limit));
+}
+
+// The prices found bound the ng-walks too, which bound as well as plain walks.
+#[test]
+fn found_prices_bound_walks(rt: HostRuntime) {
+    let instance = at_points(rt.alloc(), FOUR, &[0, 1, 2, 1], 3).expect(&rt, "an instance");
+    let found = found_prices(&rt, rt.alloc(), &instance, true);
+    assert_same(&rt, found.ng_sets.masks(), 4, "masks");
+    let looks = NearLooks::new(rt.alloc(), &instance, &found.ng_sets);
+    let looks = looks.expect(&rt, "memory");
+    let least = least_of_walks(&rt, rt.alloc(), found.relaxation.relaxed(), looks);
+    assert_bounds(&rt, &found.relaxation, least);
+}
+
+// The least cost of tours by the arcs of an instance.
+fn least_of_walks(rt: &impl Abort, alloc: Global, instance: &Instance, looks: NearLooks) -> u64 {
+    let size = Size::in_units(instance, 1);
+    let mut walks = Walks::new(alloc, instance, 1, 1, size, looks).expect(rt, "memory");
+    walks.enter(&[0, 0, 0, 0]);
+    let least = walks.fill().expect(rt, "tours");
+    u64::try_from(least).unwrap_or(0)
+}
+
+// When stopped before the first round, it has found no prices: arcs cost what they do in the instance.
+#[test]
+fn stopped_before_the_first_round(rt: HostRuntime) {
+    let instance = at_points(rt.alloc(), FOUR, &[0, 1, 2, 1], 3).expect(&rt, "an instance");
+    let relaxation = found_prices(&rt, rt.alloc(), &instance, false).relaxation;
+    assert!(rt; relaxation.relaxed().customers() == 3 && instance.customers() == 3);
+    for customer in 1..4 {
+        assert_scaled(&rt, &instance, &relaxation, customer);
+    }
+}
+
+// The arc to a customer costs `scale` times its cost in the instance.
+fn assert_scaled(rt: &impl Abort, instance: &Instance, relaxation: &Relaxation<'_>, customer: u16) {
+    let (scale, priced) = (relaxation.scale(), relaxation.relaxed());
+    assert!(rt; customer <= instance.customers() && customer <= priced.customers());
+    let weight = instance.weight(0, customer);
+    assert_same(rt, priced.weight(0, customer), scale * weight, customer);
+}
+
+// 1,200 nodes in one place, whose customers demand nothing.
+#[test]
+fn none_at_the_most_nodes(rt: HostRuntime) {
+    let points = vec![in rt.alloc(); (0, 0); 1_200].expect(&rt, "memory");
+    let demands = vec![in rt.alloc(); 0; 1_200].expect(&rt, "memory");
+    let instance = at_points(rt.alloc(), &points, &demands, 7).expect(&rt, "an instance");
+    let found = find_prices(rt.alloc(), &instance, 0, 3, 1_000_000, &|| true);
+    assert!(rt; found.expect(&rt, "memory").is_none());
+}

@@ -1,0 +1,3 @@
+//! Tests of `vrp_bound_prices` by values from outside.
+
+mod relaxation;

@@ -1,0 +1,6 @@
+//! Tests of `vrp_bound_walks` against a program that follows each walk.
+
+mod least_routes;
+mod ng_walks;
+mod slow;
+mod sparse;
