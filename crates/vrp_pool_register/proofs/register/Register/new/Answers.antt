@@ -1,4 +1,4 @@
-use Rattle.std.proofs.Common.{arith, ◌∙◌, ◌+◌, sym, ap}
+use Rattle.std.proofs.Common.{arith, rules, ◌∙◌, ◌+◌, sym, ap}
 use Rattle.vrp_model.specs.Cheapest.{cost_of}
 use Rattle.vrp_pool_register.specs.Inner.Seats.{WordState, SeatState, MakerState}
 use Rattle.vrp_pool_register.specs.Costs.{newcomer}
@@ -21,3 +21,9 @@ loop-number-preserved g c =
       maker = c.make.ensures.maker ∙ ap (λ (x : MakerState). record { table = x.table; opening = x.opening; next = x.next + 1 }) maker;
       made = rw (newcomers_more table opening n, ← c.loop-number.invariant.made, ← known, ← at, ← c.new-in-loop-number.ensures) c.in_ok-push.ensures.items;
     }
+
+pub loop-number-init : goal.loop-number-init
+loop-number-init g c = search rules
+
+pub returns-clause-opening : goal.returns-clause-opening
+returns-clause-opening g c = search rules

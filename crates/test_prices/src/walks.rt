@@ -1,6 +1,0 @@
-//! Tests of `vrp_bound_walks` against a program that follows each walk.
-
-mod least_routes;
-mod ng_walks;
-mod slow;
-mod sparse;
