@@ -1,4 +1,6 @@
 use Rattle.std.proofs.Common.{◌+◌, ◌<◌, get_or, length, map, Vec, Global, refl, sym, ap, subst, ◌∙◌, arith}
+use Rattle.std.proofs.lemmas.Grind.{common_steps}
+use Rattle.std.proofs.lemmas.Int.{ints}
 use Rattle.vrp_canonical.specs.Ordering.{AreMarked, stops_in}
 use Rattle.vrp_canonical.specs.declared.ordered.ListedRoute.{ListedRoute}
 use Rattle.vrp_partition.specs.declared.route.Route.{Route}
@@ -23,3 +25,12 @@ loop-at-preserved c =
           subst (AreMarked stops routes marks (at + 1)) (sym (ap (λ (v : Vec ListedRoute Global). v.items) w.listed-is))
           (without_unmarked stops routes marks at c.loop-at.listed.items c.loop-at.invariant w.if-marks-at.false)
     ]
+
+pub offset_bounds-routes-at : goal.offset_bounds-routes-at
+offset_bounds-routes-at c = grind (ints, arith, common_steps)
+
+pub bounds-routes-at : goal.bounds-routes-at
+bounds-routes-at c = grind (ints, arith, common_steps)
+
+pub bounds-routes-at-then-marks-at : goal.bounds-routes-at-then-marks-at
+bounds-routes-at-then-marks-at c = grind (ints, arith, common_steps)

@@ -1,4 +1,6 @@
-use Rattle.std.proofs.Common.{◌≡◌, ◌+◌, ◌<◌, ◌≤◌, ◌⊎◌, inl, inr, Vec, Global, sym, ap, subst, ◌∙◌}
+use Rattle.std.proofs.Common.{◌≡◌, ◌+◌, ◌<◌, ◌≤◌, ◌⊎◌, inl, inr, Vec, Global, sym, ap, subst, ◌∙◌, arith}
+use Rattle.std.proofs.lemmas.Grind.{common_steps}
+use Rattle.std.proofs.lemmas.Int.{ints}
 use Rattle.std.specs.Int.{bit_at}
 use Rattle.vrp_canonical.specs.Passing.{IsPart, route_in}
 use Rattle.vrp_canonical.proofs.Narrowing.{part_with, part_without}
@@ -22,3 +24,6 @@ loop-index-preserved c =
           (part_without pool c.args.question.rest.unserved c.args.question.customer c.args.question.low c.args.question.high i part c.loop-index.invariant
           (λ from inside which. let yes = c.keeps.ensures.no from inside which in let no = w.if-keeps.false in cc (yes, no)))
     ]
+
+pub returns : goal.returns
+returns c = grind (ints, arith, common_steps)

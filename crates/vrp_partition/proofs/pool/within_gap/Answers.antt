@@ -1,4 +1,6 @@
-use Rattle.std.proofs.Common.{◌≡◌, ℕ, ◌+◌, ◌<◌, Bool, true, false, cond, List, [], ◌∷◌, ◌++◌, append-nil, length, get_or, map, take, filter, sym, ap, ◌∙◌, ℤ, pos, int_le, to_z, of_z, w64, SFits, Vec, Global, rules}
+use Rattle.std.proofs.Common.{◌≡◌, ℕ, ◌+◌, ◌<◌, Bool, true, false, cond, List, [], ◌∷◌, ◌++◌, append-nil, length, get_or, map, take, filter, sym, ap, ◌∙◌, ℤ, pos, int_le, to_z, of_z, w64, SFits, Vec, Global, rules, arith}
+use Rattle.std.proofs.lemmas.Grind.{common_steps}
+use Rattle.std.proofs.lemmas.Int.{ints}
 use Rattle.std.proofs.lemmas.Int.{to_z-of_z}
 use Rattle.std.proofs.lemmas.List.{get_or-map}
 use Rattle.std.proofs.lemmas.List.Elements.{filter_more}
@@ -31,3 +33,9 @@ loop-index-preserved c =
           ap (λ (v : Vec Route Global). v.items) w.kept-is ∙ more_no p c.args.pool.now c.loop-index.index none c.loop-index.kept.items c.loop-index-test.true c.loop-index.invariant
           (ap (λ z. int_le z (to_z w64 (of_z w64 c.args.gap))) (sym at) ∙ w.if-costs-index.false)
     ]
+
+pub bounds-costs-index : goal.bounds-costs-index
+bounds-costs-index c = grind (ints, arith, common_steps)
+
+pub returns : goal.returns
+returns c = grind (ints, arith, common_steps)

@@ -1,4 +1,6 @@
 use Rattle.std.proofs.Common.{◌≡◌, sym, subst, arith}
+use Rattle.std.proofs.lemmas.Grind.{common_steps}
+use Rattle.std.proofs.lemmas.Int.{ints}
 use Rattle.std.specs.List.{All}
 use Rattle.std.proofs.lemmas.List.Elements.{All-tail}
 use Rattle.std.proofs.lemmas.List.Sorted.{All-permutation}
@@ -39,3 +41,6 @@ loop-one-preserved g c =
       all = λ cutting best known. one_settled c.one_low.ensures c.own_low_no_lower.ensures s cutting best c.loop-one.open_pieces c.settle.new.self one rest problem c.in_ok-is_open.ensures
           (subst (AreOpenPieces s cutting best c.loop-one.open_pieces) c.in-Some.ensures.steps.0 (c.loop-one.invariant.all cutting best known));
     }
+
+pub returns : goal.returns
+returns g c = grind (ints, arith, common_steps)

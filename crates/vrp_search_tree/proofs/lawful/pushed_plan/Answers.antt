@@ -1,4 +1,6 @@
-use Rattle.std.proofs.Common.{◌≡◌, ◌∙◌, ◌↔◌, ℕ, suc, ◌<◌, Bool, false, IsTrue, List, [], ◌∷◌, ◌++◌, length, take, drop, get_or, ap, sym, subst, append_assoc, drop-cons}
+use Rattle.std.proofs.Common.{◌≡◌, ◌∙◌, ◌↔◌, ℕ, suc, ◌<◌, Bool, false, IsTrue, List, [], ◌∷◌, ◌++◌, length, take, drop, get_or, ap, sym, subst, append_assoc, drop-cons, arith}
+use Rattle.std.proofs.lemmas.Grind.{common_steps}
+use Rattle.std.proofs.lemmas.Int.{ints}
 use Rattle.std.proofs.lemmas.List.{take-append-drop}
 use Rattle.vrp_model.specs.Problem.{Problem}
 use Rattle.vrp_model.specs.Word.{IsPrefix, IsLawfulWord}
@@ -25,3 +27,9 @@ pub returns-then-not-child-clause-none : goal.returns-then-not-child-clause-none
 returns-then-not-child-clause-none c =
     pushed_so_far c.args.partial.now.problem c.loop-symbol.partial.problem c.loop-symbol.partial.word c.args.word.now c.loop-symbol.symbol-index c.child.result c.loop-symbol.invariant.problem c.loop-symbol.invariant.word c.loop-symbol-test.true c.child.ensures
     c.if-not-child.true
+
+pub loop-symbol-preserved : goal.loop-symbol-preserved
+loop-symbol-preserved c = grind (ints, arith, common_steps)
+
+pub returns-clause-word : goal.returns-clause-word
+returns-clause-word c = grind (ints, arith, common_steps)

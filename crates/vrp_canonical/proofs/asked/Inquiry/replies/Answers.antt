@@ -1,4 +1,6 @@
-use Rattle.std.proofs.Common.{IfOk, subst, sym}
+use Rattle.std.proofs.Common.{IfOk, subst, sym, arith}
+use Rattle.std.proofs.lemmas.Grind.{common_steps}
+use Rattle.std.proofs.lemmas.Int.{ints}
 use Rattle.std.specs.List.{All}
 use Rattle.std.proofs.lemmas.List.Elements.{All-append}
 use Rattle.std.proofs.lemmas.List.Sorted.{All-permutation}
@@ -18,3 +20,6 @@ loop-worker-preserved g c =
 
 pub returns : goal.returns
 returns g c = All-permutation (IsReply c.args.self.now.pool.now) c.loop-worker.replies.items c.sort_by_key.new.self.items c.sort_by_key.ensures.permutation c.loop-worker.invariant.replies
+
+pub loop-worker-init : goal.loop-worker-init
+loop-worker-init g c = grind (ints, arith, common_steps)

@@ -1,4 +1,6 @@
 use Rattle.std.proofs.Common.{◌≡◌, ◌∙◌, ℕ, ◌+◌, ◌-◌, ◌*◌, ◌^◌, ◌%◌, ◌<◌, None, Some, ap, sym, subst, arith}
+use Rattle.std.proofs.lemmas.Grind.{common_steps}
+use Rattle.std.proofs.lemmas.Int.{ints}
 use Rattle.std.specs.Int.RustNames.{bit_or}
 use Rattle.std.proofs.lemmas.Nat.{shl_whole}
 use Rattle.vrp_model.specs.Problem.{Problem, demand_of, place_count, weight_of}
@@ -126,3 +128,6 @@ returns-clause-label c = λ stops is.
       first_is = c.first_with.ensures;
       set_is = ap (λ n. bit_or label.set n) (bit ∙ (omega arith));
     })
+
+pub returns-then-load-capacity-clause-none : goal.returns-then-load-capacity-clause-none
+returns-then-load-capacity-clause-none c = grind (ints, arith, common_steps)

@@ -1,4 +1,6 @@
 use Rattle.std.proofs.Common.{◌≡◌, ◌∙◌, ℕ, ◌+◌, ◌-◌, ◌*◌, ◌<◌, ◌≤◌, true, List, length, length-append, length-drop, ap, sym, arith}
+use Rattle.std.proofs.lemmas.Grind.{common_steps}
+use Rattle.std.proofs.lemmas.Int.{ints}
 use Rattle.std.specs.Prelude.{map, drop, take}
 use Rattle.std.proofs.lemmas.List.{length-map, length-take-le}
 use Rattle.vrp_model.specs.Problem.{Problem}
@@ -108,3 +110,9 @@ returns-then-not-branch-clause-err c = tt
 
 pub returns-clause-err : goal.returns-clause-err
 returns-clause-err c = tt
+
+pub returns-then-not-branch-clause-refined : goal.returns-then-not-branch-clause-refined
+returns-then-not-branch-clause-refined c = grind (ints, arith, common_steps)
+
+pub slice_bounds-push_copies-count : goal.slice_bounds-push_copies-count
+slice_bounds-push_copies-count c = grind (ints, arith, common_steps)

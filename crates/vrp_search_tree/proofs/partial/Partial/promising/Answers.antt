@@ -1,4 +1,6 @@
 use Rattle.std.proofs.Common.{◌∙◌, [], ◌∷◌, ◌++◌, inl, inr, true≢false, sym, subst, arith}
+use Rattle.std.proofs.lemmas.Grind.{common_steps}
+use Rattle.std.proofs.lemmas.Int.{ints}
 use Rattle.vrp_search_tree.specs.Low.{IsLow}
 use Rattle.vrp_search_tree.proofs.LowBounds.{NoneUnder, covered_more, none_if_no_completion, none_if_costlier, none_left, none_under}
 use Rattle.vrp_search_tree.proofs.Promising.{no_completion_of_no_use, costly_of_no_use, may_be_of_use, none_of_no_use}
@@ -72,3 +74,6 @@ child_low-requires-clause-child c = c.requires.child
 
 pub child_low-requires-clause-tally : goal.child_low-requires-clause-tally
 child_low-requires-clause-tally c = c.tally_after-tally.ensures.tally
+
+pub returns-then-low-own_best-clause-of_use : goal.returns-then-low-own_best-clause-of_use
+returns-then-low-own_best-clause-of_use c = grind (ints, arith, common_steps)

@@ -1,4 +1,6 @@
 use Rattle.std.proofs.Common.{ℕ, ◌+◌, ◌*◌, Bool, true, false, Some, refl, nat_lt, ◌≡◌, ◌∙◌, ◌≤◌, ◌<◌, ap, sym, subst, arith}
+use Rattle.std.proofs.lemmas.Grind.{common_steps}
+use Rattle.std.proofs.lemmas.Int.{ints}
 use Rattle.vrp_model.specs.Problem.{Problem, customers, demand_of, place_count}
 use Rattle.vrp_model.specs.Route.{load_of}
 use Rattle.vrp_model.proofs.PrefixPlaces.{last_is_place}
@@ -53,3 +55,6 @@ returns-in-Some-bound-clause-within c =
     let tabled : c.self.inside.tables.problem ≡ c.args.self.now.relaxed = c.self.invariant ∙ ap (λ (r : RelaxationOf). r.relaxed) c.self.view_is in
     within_limit c.args.self.now c.self.inside.tables c.args.at c.args.priced_tally c.args.cost c.in-Some.limit c.in-Some-bound.more tabled c.in-Some-bound.ensures.bound
     (subst (λ (r : RelaxationOf). c.in-Some.limit + r.rewards ≡ r.scale * c.args.cost + r.charges) c.self.view_is c.in-Some.ensures.limit)
+
+pub bound-requires-clause-load : goal.bound-requires-clause-load
+bound-requires-clause-load c = grind (ints, arith, common_steps)
