@@ -22,7 +22,8 @@ pub fn lawful_plan(
     pushed_plan(alloc, &mut partial, word)
 }
 
-/// The plan of a word if it is feasible and before this one, by cost and then by word; otherwise this one. The word need not be trusted.
+/// The plan of a word if it is feasible and before this one, by cost and then by word; otherwise this one. The word need not be
+/// trusted. The contract leaves open when its plan is taken.
 pub fn cheaper_plan(
     alloc: Global,
     instance: &Instance,
