@@ -1,4 +1,6 @@
 use Rattle.std.proofs.Common.{arith}
+use Rattle.std.proofs.lemmas.Grind.{common_steps}
+use Rattle.std.proofs.lemmas.Int.{ints}
 use Rattle.vrp_bound_ng.specs.Near.{near_in}
 use Rattle.vrp_bound_ng.proofs.PlacePairs.{before_more, pair_of}
 use Rattle.vrp_bound_ng.proofs.ng_sets.ng_sets_before.Goals as goal
@@ -24,3 +26,6 @@ loop-index-preserved c =
           (rw (← c.near_of-near_at.ensures.value, ← c.near_of-near_stop.ensures.value) c.ng_set_from-ng_set.ensures)
           c.loop-index.invariant.known;
     }
+
+pub overflow_cast-at : goal.overflow_cast-at
+overflow_cast-at c = grind (ints, arith, common_steps)

@@ -1,5 +1,7 @@
 use Rattle.std.proofs.Common.{◌<◌, ◌≡◌, ◌∙◌, ℕ, Bool, false, true, List, ◌++◌, length, get_or, take, drop, subst, sym, arith}
 use Rattle.std.specs.List.{All}
+use Rattle.std.proofs.lemmas.Grind.{common_steps}
+use Rattle.std.proofs.lemmas.Int.{ints}
 use Rattle.std.proofs.Math.Seq.{take-append_seam}
 use Rattle.vrp_model.specs.Problem.{customers}
 use Rattle.vrp_plan_read.specs.Inner.Listing.{given_routes}
@@ -29,3 +31,6 @@ returns c =
           subst (AreFaulty p (given_routes routes)) (sym w.result-is)
           (too_many p routes new served c.requires.customers c.requires.stops (subst (λ (l : List Bool). All (λ k. get_or l k false ≡ true) (customers p)) flags w.in-None.ensures) c.requires.refused)
     ]
+
+pub faulty_route-requires-clause-none : goal.faulty_route-requires-clause-none
+faulty_route-requires-clause-none c = grind (ints, arith, common_steps)

@@ -1,4 +1,6 @@
-use Rattle.std.proofs.Common.{◌∙◌, map, ap}
+use Rattle.std.proofs.Common.{◌∙◌, map, ap, arith}
+use Rattle.std.proofs.lemmas.Grind.{common_steps}
+use Rattle.std.proofs.lemmas.Int.{ints}
 use Rattle.std.proofs.lemmas.List.{take_all}
 use Rattle.vrp_model.specs.Word.{word_of}
 use Rattle.vrp_plan_read.specs.Inner.Ordered.{turned}
@@ -11,3 +13,6 @@ returns c = (
   c.loop-route.invariant
       ∙ ap (λ l. word_of (map (turned c.args.symmetric) (map (λ route. route.now.stops.items) l))) (take_all c.loop-route.route-index c.deref-route-items.result.now c.loop-route-test.false ∙ c.deref-route-items.ensures.value),
 )
+
+pub loop-route-preserved : goal.loop-route-preserved
+loop-route-preserved c = grind (ints, arith, common_steps)

@@ -1,4 +1,4 @@
-use Rattle.std.proofs.Common.{◌≡◌, ◌∙◌, List, sym, ap, subst}
+use Rattle.std.proofs.Common.{◌≡◌, ◌∙◌, List, sym, ap, subst, rules}
 use Rattle.std.specs.List.{AllPairs}
 use Rattle.vrp_routes.specs.Level.{ComesFirst}
 use Rattle.vrp_routes.specs.Merge.{IsCut, IsMerged, labels_at}
@@ -24,3 +24,9 @@ loop-index-preserved c =
     merges_part parts n c.args.from c.args.to old cut c.in_ok-labels.labels.items c.requires.can c.loop-index.invariant
     (subst (λ (ls : List Label). IsCut c.args.from c.args.to ls cut) (sym there) c.labels_between-more.ensures)
     (subst (λ (ls : List Label). IsMerged ls cut c.in_ok-labels.labels.items) c.deref.ensures.value c.in_ok-labels.ensures)
+
+pub loop-index-init : goal.loop-index-init
+loop-index-init c = search rules
+
+pub returns : goal.returns
+returns c = search rules

@@ -1,4 +1,6 @@
-use Rattle.std.proofs.Common.{◌≡◌, map, length, sym, ap, ◌∙◌}
+use Rattle.std.proofs.Common.{◌≡◌, map, length, sym, ap, ◌∙◌, arith}
+use Rattle.std.proofs.lemmas.Grind.{common_steps}
+use Rattle.std.proofs.lemmas.Int.{ints}
 use Rattle.std.specs.Prelude.{unsigned_abs}
 use Rattle.std.proofs.lemmas.Result.{err_from_is_err_and}
 use Rattle.vrp_text.specs.Complete.{demands_of, listed_depots}
@@ -59,3 +61,6 @@ new-requires-clause-depots_from_one c = rw c.deref-4.ensures.value c.in_ok-depot
 pub new-requires-clause-depots_within : goal.new-requires-clause-depots_within
 new-requires-clause-depots_within c =
     rw (c.deref-4.ensures.value, c.in_ok-weights.ensures.nodes) c.in_ok-depots.ensures.within
+
+pub new-requires-clause-some_depot : goal.new-requires-clause-some_depot
+new-requires-clause-some_depot c = grind (ints, arith, common_steps)

@@ -1,4 +1,6 @@
 use Rattle.std.proofs.Common.{◌≡◌, ◌≤◌, ℕ, ℤ, List, length, map, sym, ap, ◌∙◌, subst, arith}
+use Rattle.std.proofs.lemmas.Grind.{pieces, common_steps}
+use Rattle.std.proofs.lemmas.Int.{ints}
 use Rattle.std.specs.Prelude.{slice_index, unsigned_abs}
 use Rattle.vrp_model.specs.Grid.{HasDistances}
 use Rattle.vrp_text.specs.Complete.{points_of}
@@ -31,3 +33,9 @@ returns-in_ok-points-in-Points-2-clause-weights c =
     let same : c.deref-in-Points.result.now ≡ points_of c.args.nodes c.in-Points.numbers.items = c.deref-in-Points.ensures.value ∙ c.in_ok-points-in-Points.ensures.value ∙ ap (points_of c.args.nodes) c.deref.ensures.value in
     let has = subst (λ (points : List (ℤ × ℤ)). HasDistances c.in-Points.metric points c.in_ok-points-in-Points-2.field-0) same c.in_ok-points-in-Points-2.ensures in
     subst (λ (s : Source). HasWeights c.args.nodes (source_in s) c.in_ok-points-in-Points-2.field-0) (sym c.in-Points.is) has
+
+pub points-requires-clause-some : goal.points-requires-clause-some
+points-requires-clause-some c = search (pieces, arith) depth 5 fits 300
+
+pub matrix-requires-clause-count : goal.matrix-requires-clause-count
+matrix-requires-clause-count c = grind (ints, arith, common_steps)

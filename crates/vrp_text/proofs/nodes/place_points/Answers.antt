@@ -1,4 +1,5 @@
 use Rattle.std.proofs.Common.{◌≡◌, ◌+◌, ◌*◌, ℕ, ℤ, pos, List, length, get_or, sym, ap, ◌∙◌, SFits, to_z, of_z, w64, arith, rules}
+use Rattle.std.proofs.lemmas.Grind.{common_steps}
 use Rattle.std.proofs.lemmas.Int.{ints}
 use Rattle.std.proofs.lemmas.List.FromFn.{length-map-range_with_len, get_or-map-range_with_len}
 use Rattle.std.proofs.lemmas.List.Elements.{All-set}
@@ -59,3 +60,6 @@ pub returns-clause-value : goal.returns-clause-value
 returns-clause-value c =
     (all_placed (pos 0, pos 0) c.args.nodes (row_nodes 3 c.args.nodes c.args.numbers.now) (row_points c.args.nodes c.args.numbers.now) c.loop-row.row c.loop-row.given c.loop-row.points c.loop-row.invariant.0
     (omega (arith, rows c.args.nodes c.args.numbers.now)) (omega (arith, points c.args.nodes c.args.numbers.now))).1
+
+pub loop-row-init : goal.loop-row-init
+loop-row-init c = grind (ints, arith, common_steps)

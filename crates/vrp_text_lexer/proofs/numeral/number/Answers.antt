@@ -1,5 +1,6 @@
-use Rattle.std.proofs.Common.{◌∙◌, rules, FitsSigned}
-use Rattle.std.proofs.lemmas.Int.{to_z-of_z}
+use Rattle.std.proofs.Common.{◌∙◌, rules, FitsSigned, arith}
+use Rattle.std.proofs.lemmas.Grind.{common_steps}
+use Rattle.std.proofs.lemmas.Int.{to_z-of_z, ints}
 use Rattle.std.specs.Int.{w128}
 use Rattle.vrp_text_lexer.specs.Numeral.{numeral_of}
 use Rattle.vrp_text_lexer.proofs.NumeralLemmas.{number_read}
@@ -13,3 +14,6 @@ returns-clause-value c =
     let value_fits : FitsSigned w128 value = search rules in
     let answer = simp to_z-of_z at c.in_range.ensures.value in
     answer ∙ number_read c.args.low c.args.high (numeral_of c.args.token.now) c.in-Some.numeral value c.in-Some.ensures.value c.in-Some-whole_value.ensures
+
+pub returns-in_default-clause-value : goal.returns-in_default-clause-value
+returns-in_default-clause-value c = grind (ints, arith, common_steps)
