@@ -5,8 +5,6 @@
 #[cfg(test)]
 mod assertion;
 #[cfg(test)]
-mod lexer;
-#[cfg(test)]
 mod model;
 #[cfg(test)]
 mod solution;
