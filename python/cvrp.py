@@ -51,7 +51,9 @@ class Solution:
     CVRPLIB has them; `nodes` has the same routes by the node numbers of the problem's file. Both are empty, and `cost` is None, where
     no plan is known. No feasible plan costs less than `best_lower_bound`, and `gap` is how far the plan may be above that, in hundredths of
     a percent, rounded up: 0 where it is proven, None where cost or bound is not known. `lower_bound` is the number that a report has
-    behind `Open`: never above the other, and the same where `seconds` are given. `proven` says that the plan is a cheapest one.
+    behind `Open`: never above the other, and the same where `seconds` are given. `proven` says that the plan is a cheapest one, and the
+    one that each proven run prints. `cost_is_least` says that no plan costs less, though the run may not know which plan of this cost each
+    run would print; None where cost or bound is not known.
 
     `verdict` is `Proven`; `Open`, where the search ended before it knew; or `NoPlan`, where so few trucks can't serve all customers.
 
@@ -64,6 +66,7 @@ class Solution:
     cost: Optional[int]
     lower_bound: Optional[int]
     best_lower_bound: Optional[int]
+    cost_is_least: Optional[bool]
     gap: Optional[int]
     proven: bool
     verdict: str
@@ -133,6 +136,7 @@ def _solution(answer: Dict[str, Any]) -> Solution:
         cost=answer["cost"],
         lower_bound=answer["lower_bound"],
         best_lower_bound=answer["best_lower_bound"],
+        cost_is_least=answer["cost_is_least"],
         gap=answer["gap"],
         proven=answer["verdict"] == "Proven",
         verdict=answer["verdict"],

@@ -27,14 +27,14 @@ SMALL = TOP / "examples/E-n7-k2.vrp"
 # What the program printed of E-n7-k2: without options, with a budget of 1 for one piece, and with one truck.
 PROVEN = (
     '{"best_lower_bound":114,'
-    '"capacity":3,"cost":114,"customers":6,"depot":1,"gap":0,"lower_bound":114,"name":"E-n7-k2","options":{"budget":null,"depot":null,'
+    '"capacity":3,"cost":114,"cost_is_least":true,"customers":6,"depot":1,"gap":0,"lower_bound":114,"name":"E-n7-k2","options":{"budget":null,"depot":null,'
     '"pieces":64,"seconds":null,"trucks":null,"workers":1},"routes":[{"cost":57,"customers":[1,2,3],"load":3,"nodes":[2,3,4]},{"cost":57,'
     '"customers":[4,5,6],"load":3,"nodes":[5,6,7]}],"stated_cost":null,'
     '"verdict":"Proven","version":"1.0.0"}\n'
 )
 OPEN = (
     '{"best_lower_bound":88,'
-    '"capacity":3,"cost":220,"customers":6,"depot":1,"gap":15000,"lower_bound":88,"name":"E-n7-k2","options":{"budget":1,"depot":null,'
+    '"capacity":3,"cost":220,"cost_is_least":false,"customers":6,"depot":1,"gap":15000,"lower_bound":88,"name":"E-n7-k2","options":{"budget":1,"depot":null,'
     '"pieces":1,"seconds":null,"trucks":null,"workers":1},"routes":[{"cost":20,"customers":[1],"load":1,"nodes":[2]},{"cost":40,'
     '"customers":[2],"load":1,"nodes":[3]},{"cost":50,"customers":[3],"load":1,"nodes":[4]},{"cost":50,"customers":[4],"load":1,'
     '"nodes":[5]},{"cost":40,"customers":[5],"load":1,"nodes":[6]},{"cost":20,"customers":[6],"load":1,"nodes":[7]}],"stated_cost":null,'
@@ -42,13 +42,13 @@ OPEN = (
 )
 NO_PLAN = (
     '{"best_lower_bound":null,'
-    '"capacity":3,"cost":null,"customers":6,"depot":1,"gap":null,"lower_bound":null,"name":"E-n7-k2","options":{"budget":null,'
+    '"capacity":3,"cost":null,"cost_is_least":null,"customers":6,"depot":1,"gap":null,"lower_bound":null,"name":"E-n7-k2","options":{"budget":null,'
     '"depot":null,"pieces":64,"seconds":null,"trucks":1,"workers":1},"routes":[],"stated_cost":null,"verdict":"NoPlan","version":"1.0.0"}\n'
 )
 # The same form by hand, as of a file without a name whose nodes 1 and 4 are depots, and a plan to begin with that states a cost.
 TWO_DEPOTS = (
     '{"best_lower_bound":50,'
-    '"capacity":3,"cost":50,"customers":3,"depot":4,"gap":0,"lower_bound":50,"name":null,"options":{"budget":null,"depot":4,"pieces":64,'
+    '"capacity":3,"cost":50,"cost_is_least":true,"customers":3,"depot":4,"gap":0,"lower_bound":50,"name":null,"options":{"budget":null,"depot":4,"pieces":64,'
     '"seconds":null,"trucks":null,"workers":1},"routes":[{"cost":30,"customers":[2,1],"load":2,"nodes":[3,2]},{"cost":20,'
     '"customers":[3],"load":1,"nodes":[5]}],"stated_cost":51,'
     '"verdict":"Proven","version":"1.0.0"}\n'
@@ -87,7 +87,7 @@ class WithFakeProgram(unittest.TestCase):
     def test_proven(self):
         self.will_answer(PROVEN)
         found = cvrp.solve(SMALL, program=self.program)
-        wanted = cvrp.Solution([[1, 2, 3], [4, 5, 6]], [[2, 3, 4], [5, 6, 7]], 114, 114, 114, 0, True, "Proven", "E-n7-k2", None, "1.0.0")
+        wanted = cvrp.Solution([[1, 2, 3], [4, 5, 6]], [[2, 3, 4], [5, 6, 7]], 114, 114, 114, True, 0, True, "Proven", "E-n7-k2", None, "1.0.0")
         self.assertEqual(found, wanted)
         self.assertEqual(self.seen(), {"words": ["--format", "json"], "input": SMALL.read_text(), "start": None})
 
@@ -100,12 +100,19 @@ class WithFakeProgram(unittest.TestCase):
     def test_better_bound(self):
         self.will_answer(OPEN.replace('"best_lower_bound":88', '"best_lower_bound":110').replace('"gap":15000', '"gap":10000'), status=1)
         found = cvrp.solve(SMALL, program=self.program)
-        self.assertEqual((found.lower_bound, found.best_lower_bound, found.gap), (88, 110, 10000))
+        self.assertEqual((found.lower_bound, found.best_lower_bound, found.cost_is_least, found.gap), (88, 110, False, 10000))
+
+    def test_cost_is_least(self):
+        """A run may know that no plan costs less, and still end open."""
+        told = OPEN.replace('"best_lower_bound":88', '"best_lower_bound":220').replace('"cost_is_least":false', '"cost_is_least":true').replace('"gap":15000', '"gap":0')
+        self.will_answer(told, status=1)
+        found = cvrp.solve(SMALL, program=self.program)
+        self.assertEqual((found.cost, found.cost_is_least, found.proven), (220, True, False))
 
     def test_no_plan(self):
         self.will_answer(NO_PLAN)
         found = cvrp.solve(SMALL, trucks=1, program=self.program)
-        self.assertEqual(found, cvrp.Solution([], [], None, None, None, None, False, "NoPlan", "E-n7-k2", None, "1.0.0"))
+        self.assertEqual(found, cvrp.Solution([], [], None, None, None, None, None, False, "NoPlan", "E-n7-k2", None, "1.0.0"))
 
     def test_two_depots(self):
         self.will_answer(TWO_DEPOTS)
@@ -183,11 +190,11 @@ class WithTheProgram(unittest.TestCase):
     def test_proven(self):
         found = cvrp.solve(SMALL, seconds=60, workers=2, start=[[1], [2], [3], [4], [5], [6]], program=PROGRAM)
         routes, nodes = [[1, 2, 3], [4, 5, 6]], [[2, 3, 4], [5, 6, 7]]
-        self.assertEqual(found, cvrp.Solution(routes, nodes, 114, 114, 114, 0, True, "Proven", "E-n7-k2", None, "1.0.0"))
+        self.assertEqual(found, cvrp.Solution(routes, nodes, 114, 114, 114, True, 0, True, "Proven", "E-n7-k2", None, "1.0.0"))
 
     def test_no_plan(self):
         found = cvrp.solve(SMALL, trucks=1, program=PROGRAM)
-        self.assertEqual(found, cvrp.Solution([], [], None, None, None, None, False, "NoPlan", "E-n7-k2", None, "1.0.0"))
+        self.assertEqual(found, cvrp.Solution([], [], None, None, None, None, None, False, "NoPlan", "E-n7-k2", None, "1.0.0"))
 
     def test_stated_cost(self):
         self.assertEqual(cvrp.solve(SMALL, start=TOP / "examples/plans/E-n7-k2.sol", program=PROGRAM).stated_cost, 114)
@@ -212,7 +219,7 @@ class Options(unittest.TestCase):
 
     @classmethod
     def setUpClass(cls):
-        cls.source = (TOP / "crates/vrp_command_grammar/src/grammar.rt").read_text()
+        cls.source = (TOP / "crates/vrp_command_request/src/grammar.rt").read_text()
         cls.names = re.findall(r'(?:Arg::new|\bnode)\(alloc, "([a-z-]+)"\)', cls.source)
         cls.all = {*cls.names, "help", "version"}
         cls.forms = re.findall(r'"([a-z]+)"', re.search(r"FORMATS: .*= \[(.*)\]", cls.source)[1])

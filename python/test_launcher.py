@@ -5,6 +5,7 @@
 """
 
 import os
+import re
 import shutil
 import signal
 import subprocess
@@ -113,8 +114,12 @@ class Launcher(unittest.TestCase):
             self.assertLess(asked.index(f"end lib {used}"), asked.index(f"begin lib {crate}"))
         self.assertLess(asked.index("end lib upper"), asked.index("begin run cvrp"))
         self.assertLess(asked.index("begin lib right"), asked.index("end lib left"), "not side by side")
-        self.assertIn("cvrp: proving base, crate 1 of 5\n", errors)
-        self.assertTrue(errors.endswith("cvrp: proving cvrp, crate 5 of 5\n"), errors)
+        told = re.findall(r"^cvrp: proving (\w+), (\d+)% done$", errors, re.M)
+        self.assertEqual((told[0], told[-1][0]), (("base", "0"), "cvrp"))
+        shares = [int(share) for _, share in told]
+        self.assertEqual((shares, len(shares)), (sorted(shares), 5))
+        self.assertLess(70, shares[-1])
+        self.assertRegex(errors, r"^cvrp: proving and building the program; .*, 2 side by side, and takes about \d+ minutes")
         self.assertEqual(self.launch(), (3, "program one: \n", ""))
         self.assertEqual(self.asked(), [])
         self.assert_clean()
@@ -126,6 +131,12 @@ class Launcher(unittest.TestCase):
         self.assertEqual(len(asked), 10)
         for begin, end in zip(asked[::2], asked[1::2]):
             self.assertEqual((begin.split()[0], end.split()[0], begin.split()[1:]), ("begin", "end", end.split()[1:]))
+
+    def test_what_most_work_waits_for_comes_first(self):
+        self.environment["CVRP_JOBS"] = "1"
+        (self.top / "crates/right/src/lib.rt").write_text("code " * 10000)
+        self.launch()
+        self.assertEqual(self.begun(), ["lib base", "lib right", "lib left", "lib upper", "run cvrp"])
 
     def test_what_is_watched(self):
         self.launch()

@@ -10,9 +10,8 @@ use std::alloc::Global;
 use std::rt::{Clock, Files};
 use std::thread::Threads;
 use std::time::Instant;
-use vrp_heuristic::{Crew, Unhurried, heuristic_plan};
-use vrp_heuristic_savings::savings_plan;
-use vrp_model::{Instance, MAX_NODES, Plan};
+use vrp_heuristic::{heuristic_plan, savings_plan};
+use vrp_model::{Crew, Instance, MAX_NODES, Plan, Unhurried};
 
 /// Makes the heuristic plans of the cases that the words name, and prints their costs.
 pub(crate) fn run<R: Files + Clock + Print + Eprint + AllocGlobal + Threads + Sync>(
@@ -44,11 +43,10 @@ fn run_case<R: Files + Clock + Print + Eprint + AllocGlobal + Threads + Sync>(
     let crew = Crew {
         rt,
         alloc: rt.alloc(),
-        instance: &instance,
         workers,
         watch: &Unhurried,
     };
-    print_costs(&crew, case, moves)
+    print_costs(&crew, &instance, case, moves)
 }
 
 // The instance of a case, with the number of trucks that the case names.
@@ -69,15 +67,16 @@ fn limited<R: Files + AllocGlobal>(rt: &R, name: &str, trucks: u16) -> Result<In
 // Prints the costs of the heuristic plans of an instance, and the times they took.
 fn print_costs<R: Clock + Print + Eprint + AllocGlobal + Threads + Sync>(
     crew: &Crew<'_, R, Unhurried>,
+    instance: &Instance,
     case: &str,
     moves: u32,
 ) -> Result<()> {
     let (rt, alloc) = (crew.rt, crew.alloc);
     let start = Instant::now(rt)?;
-    let savings = cost(alloc, savings_plan(alloc, crew.instance)?)?;
+    let savings = cost(alloc, savings_plan(alloc, instance)?)?;
     let by_savings = start.elapsed(rt)?;
     let start = Instant::now(rt)?;
-    let first = cost(alloc, heuristic_plan(crew, moves)?)?;
+    let first = cost(alloc, heuristic_plan(crew, instance, moves)?)?;
     let by_moves = start.elapsed(rt)?;
     println!(rt; "{case}: {first}")?;
     let (by_savings, by_moves) = (by_savings.as_millis(), by_moves.as_millis());

@@ -6,8 +6,8 @@ use anyhow::{Context, Result};
 use std::fs;
 use std::rt::Files;
 use std::thread::Threads;
-use vrp_heuristic::{Crew, ENOUGH_MOVES, Unhurried, heuristic_plan};
-use vrp_model::{Instance, Plan};
+use vrp_heuristic::{ENOUGH_MOVES, heuristic_plan};
+use vrp_model::{Crew, Instance, Plan, Unhurried};
 
 /// The instance in a file. No clause says that it is the one written there: `vrp_text` has that clause for its bytes.
 pub(crate) fn read<R: Files + AllocGlobal>(rt: &R, name: &str) -> Result<Instance> {
@@ -25,9 +25,8 @@ pub(crate) fn plan_by_one<R: AllocGlobal + Threads + Sync>(
     let crew = Crew {
         rt,
         alloc: rt.alloc(),
-        instance,
         workers: 1,
         watch: &Unhurried,
     };
-    heuristic_plan(&crew, ENOUGH_MOVES)?.context("no heuristic plan")
+    heuristic_plan(&crew, instance, ENOUGH_MOVES)?.context("no heuristic plan")
 }

@@ -23,7 +23,7 @@ fn main(rt: HostRuntime) -> Result<()> {
     if words.is_empty() {
         run_lines(&rt)
     } else {
-        run_words(&rt, &words)
+        run_arguments(&rt, &words)
     }
 }
 
@@ -43,11 +43,11 @@ fn run_line<R: Files + Clock + Print + Eprint + AllocGlobal + Threads + Sync>(
     line: &str,
 ) -> Result<()> {
     let words: Vec<&str> = line.split_whitespace().collect(rt.alloc())?;
-    run_words(rt, &words)
+    run_arguments(rt, &words)
 }
 
 // Runs the bench that the first word names, with the other words.
-fn run_words<R: Files + Clock + Print + Eprint + AllocGlobal + Threads + Sync>(
+fn run_arguments<R: Files + Clock + Print + Eprint + AllocGlobal + Threads + Sync>(
     rt: &R,
     words: &[&str],
 ) -> Result<()> {

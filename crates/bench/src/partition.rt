@@ -1,8 +1,6 @@
 //! How fast the cheapest choice among the routes of a pool is found. The words are FILE COST BUDGET [WORKERS]: a file with the
 //! pool; the known cost, of which a cheaper choice is sought, 0 standing for the file's; the budget of the search; and the
 //! number of workers (1).
-ghost use Rattle.std.specs.Prelude.{◌≤◌};
-
 mod counted;
 mod pool;
 
@@ -14,18 +12,10 @@ use std::fs;
 use std::rt::{Clock, Files};
 use std::thread::Threads;
 use std::time::Instant;
-use vrp_partition::{Ask, Fleet, Found, Task, Team, all_fit, cheapest_choice};
+use vrp_customers::FleetView;
+use vrp_model::{Crew, Unhurried};
+use vrp_partition::{Found, Task, all_fit, cheapest_choice};
 use vrp_simplex::ProgramGuide;
-
-/// The search is always to go on.
-#[derive(Debug, Clone, Copy)]
-pub(crate) struct Always;
-
-impl Ask for Always {
-    fn should_continue(&self) -> bool {
-        true
-    }
-}
 
 /// Seeks the cheapest choice in the pool that the words name, and prints what was found.
 pub(crate) fn run<R: Files + Clock + Print + Eprint + AllocGlobal + Threads + Sync>(
@@ -38,7 +28,7 @@ pub(crate) fn run<R: Files + Clock + Print + Eprint + AllocGlobal + Threads + Sy
     let cost = cost.parse::<u64>()?;
     let budget = budget.parse::<u64>()?;
     let workers = match options.first() {
-        Some(word) => word.parse::<usize>()?,
+        Some(word) => word.parse::<u16>()?,
         None => 1,
     };
     let mut pool = read(rt, name)?;
@@ -60,19 +50,19 @@ fn choose<R: Clock + Print + Eprint + AllocGlobal + Threads + Sync>(
     name: &str,
     pool: Pool,
     budget: u64,
-    workers: usize,
+    workers: u16,
 ) -> Result<()> {
     let count = pool.routes.len();
     let counts = Counts::new();
     ensure!(workers > 0, "no worker");
-    let team = Team {
+    let crew = Crew {
         rt,
         alloc: rt.alloc(),
         workers,
-        ask: &Always,
+        watch: &Unhurried,
     };
     let start = Instant::now(rt)?;
-    let found = search(&team, pool, budget, &counts)?;
+    let found = search(&crew, pool, budget, &counts)?;
     let time = start.elapsed(rt)?;
     print_found(rt, name, count, found)?;
     print_counts(rt, &counts)?;
@@ -95,13 +85,11 @@ fn print_found(rt: &impl Print, name: &str, count: usize, found: Found) -> Resul
 
 // The cheapest choice of a pool, by a guide whose nodes are counted.
 fn search<R: Threads + Sync>(
-    team: &Team<'_, R, Always>,
+    crew: &Crew<'_, R, Unhurried>,
     pool: Pool,
     budget: u64,
     counts: &Counts,
-) -> Result<Found>
-    requires { 1 ≤ team.now.workers }
-{
+) -> Result<Found> {
     let Pool {
         demands,
         customers,
@@ -114,13 +102,13 @@ fn search<R: Threads + Sync>(
         all_fit(routes.as_slice(), &demands, capacity),
         "a route is too heavy"
     );
-    let fleet = Fleet {
+    let fleet = FleetView {
         demands: &demands,
         capacity,
         trucks: u8::MAX,
     };
-    let known_routes = Vec::new(team.alloc);
-    let guide = ProgramGuide::new(team.alloc, fleet, known_routes, &Always);
+    let known_routes = Vec::new(crew.alloc);
+    let guide = ProgramGuide::new(crew.alloc, fleet, known_routes, &Unhurried);
     let guide = Counted { guide, counts };
     let task = Task {
         fleet,
@@ -128,6 +116,6 @@ fn search<R: Threads + Sync>(
         incumbent: known_cost,
     };
     let mut budget = budget;
-    let found = cheapest_choice(team, guide, &task, routes, &mut budget)?;
+    let found = cheapest_choice(crew, guide, &task, routes, &mut budget)?;
     Ok(found)
 }

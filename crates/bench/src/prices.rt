@@ -3,7 +3,7 @@
 //! plans, the steps for finding prices, and the number of customers near each place.
 ghost use Rattle.std.specs.Prelude.{◌≡◌, ◌≤◌, IfOk};
 ghost use Rattle.std.specs.Option.{ForSome};
-ghost use Rattle.vrp_bound_ng.specs.declared.ng_sets.TheConstants.{MOST_NEAR};
+ghost use Rattle.vrp_model.specs.declared.ng_sets.TheConstants.{MOST_NEAR};
 ghost use Rattle.vrp_model.specs.Problem.{customers, place_count};
 ghost use Rattle.vrp_bound.specs.Tables.{tables_over};
 ghost use Rattle.vrp_model.specs.Route.{IsPlanOf};
@@ -16,9 +16,8 @@ use std::thread::Threads;
 use std::time::Instant;
 use vrp_bound::Tables;
 use vrp_bound_ascent::{FoundPrices, MAX_BOUND_TABLE, find_prices};
-use vrp_bound_ng::MOST_NEAR;
-use vrp_model::{Instance, Plan};
-use vrp_search::{Cutting, Ended, Local, Lookups, Prices, search_by_prices};
+use vrp_model::{Instance, MOST_NEAR, Plan, Unhurried};
+use vrp_search::{Cutting, Ended, Local, Lookups, PriceTables, search_by_prices};
 
 // How prices are found, and the budget of the search by them.
 #[derive(Clone, Copy)]
@@ -121,7 +120,7 @@ fn timed_prices<'a, R: Clock + Eprint + AllocGlobal>(
 {
     let Setup { near, steps, .. } = setup;
     let start = Instant::now(rt)?;
-    let found = find_prices(rt.alloc(), instance, cost, near, steps, &|| true)?;
+    let found = find_prices(rt.alloc(), instance, cost, near, steps, &Unhurried)?;
     print_time(rt, "prices", start.elapsed(rt)?)?;
     found.context("no prices")
 }
@@ -156,7 +155,7 @@ fn timed_search<R: Clock + Eprint + AllocGlobal>(
         relaxation,
         ng_sets,
     } = found;
-    let prices = Prices::new(rt.alloc(), &relaxation, ng_sets)?;
+    let prices = PriceTables::new(rt.alloc(), &relaxation, ng_sets)?;
     search_with(rt, instance, &prices, start, budget, board)
 }
 
@@ -164,7 +163,7 @@ fn timed_search<R: Clock + Eprint + AllocGlobal>(
 fn search_with<R: Clock + Eprint + AllocGlobal>(
     rt: &R,
     instance: &Instance,
-    prices: &Prices<'_>,
+    prices: &PriceTables<'_>,
     start: Instant,
     budget: u64,
     board: &mut Local,
@@ -183,7 +182,7 @@ fn timed_looks<R: Clock + Eprint + AllocGlobal>(
     rt: &R,
     instance: &Instance,
     tables: &Tables<'_>,
-    prices: &Prices<'_>,
+    prices: &PriceTables<'_>,
     budget: u64,
     board: &mut Local,
 ) -> Result<End>

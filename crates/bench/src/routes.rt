@@ -2,6 +2,7 @@
 //! finding prices, a limit on the canonical plan's cost, where 0 stands for the cost of the program's heuristic plan, and the
 //! number of workers.
 ghost use Rattle.std.specs.Prelude.{◌≡◌, ◌+◌, ◌<◌, ◌≤◌, IfOk};
+ghost use Rattle.vrp_customers.specs.declared.customer_set.TheConstants.{PLACES};
 ghost use Rattle.vrp_model.specs.Problem.{place_count};
 
 use crate::instance::{plan_by_one, read};
@@ -12,8 +13,9 @@ use std::thread::Threads;
 use std::time::Instant;
 use vrp_bound::NgTables;
 use vrp_bound_ascent::{FoundPrices, find_prices_for_routes};
-use vrp_model::{Instance, NO_COST};
-use vrp_routes::{Listed, Listers, MOST_CUSTOMERS, can_list, list_routes};
+use vrp_customers::MOST_CUSTOMERS;
+use vrp_model::{Crew, Instance, NO_COST, Unhurried};
+use vrp_routes::{Listed, can_list, list_routes};
 
 // The number of customers near each place.
 const NEAR: usize = 4;
@@ -73,7 +75,7 @@ fn timed_prices<'a, R: Clock + Eprint + AllocGlobal>(
     ensures ng_sets { IfOk result (λ found. found.ng_sets.places ≡ place_count instance.now) }
 {
     let start = Instant::now(rt)?;
-    let found = find_prices_for_routes(rt.alloc(), instance, cost, NEAR, steps, &|| true)?;
+    let found = find_prices_for_routes(rt.alloc(), instance, cost, NEAR, steps, &Unhurried)?;
     print_time(rt, "prices", start.elapsed(rt)?)?;
     found.context("no prices")
 }
@@ -87,7 +89,7 @@ fn print_routes<R: Clock + Print + Eprint + AllocGlobal + Threads + Sync>(
     workers: u16,
 ) -> Result<()>
     requires workers { 0 < workers }
-    requires few { place_count found.relaxation.problem ≤ MOST_CUSTOMERS + 1 }
+    requires few { place_count found.relaxation.problem ≤ PLACES }
     requires ng_sets { found.ng_sets.places ≡ place_count found.relaxation.problem }
     requires limit { limit ≤ NO_COST }
 {
@@ -97,13 +99,13 @@ fn print_routes<R: Clock + Print + Eprint + AllocGlobal + Threads + Sync>(
     } = found;
     let tables = NgTables::new(rt.alloc(), relaxation.relaxed(), ng_sets)?;
     let start = Instant::now(rt)?;
-    let listers = Listers {
+    let crew = Crew {
         rt,
         alloc: rt.alloc(),
         workers,
-        should_continue: &|_labels| true,
+        watch: &Unhurried,
     };
-    let listed = list_routes(&listers, &relaxation, &tables, limit, u32::MAX)?;
+    let listed = list_routes(&crew, &relaxation, &tables, limit, u32::MAX)?;
     print_time(rt, "routes", start.elapsed(rt)?)?;
     match listed {
         Listed::Pool(pool) => {

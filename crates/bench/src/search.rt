@@ -18,7 +18,7 @@ use std::alloc::Global;
 use std::rt::{Clock, Files};
 use std::time::Instant;
 use vrp_bound::Tables;
-use vrp_heuristic_savings::savings_plan;
+use vrp_heuristic::savings_plan;
 use vrp_model::{Instance, NoMemory, Plan};
 use vrp_search::{Cutting, Local, MAX_PIECES};
 

@@ -10,7 +10,7 @@ use std::sync::Wait;
 use std::thread::Threads;
 use std::time::Clock;
 use std::{fs, str};
-use vrp_command::{NoGate, Resources, run_words};
+use vrp_command::{NoGate, Resources, run_arguments};
 
 /// Prints the outcome of the run of each line of standard input.
 pub(crate) fn print_runs<
@@ -35,7 +35,7 @@ fn print_run<R: Files + Print + Eprint + AllocGlobal + Clock + Threads + Wait + 
     let mut output = Vec::new(rt.alloc());
     let mut errors = Vec::new(rt.alloc());
     let resources = Resources::new(rt, rt.alloc(), &NoGate);
-    let status = run_words(
+    let status = run_arguments(
         &resources,
         words,
         &mut file.as_slice(),

@@ -11,7 +11,9 @@ use std::rt::Files;
 use std::sync::Wait;
 use std::thread::Threads;
 use std::time::Clock;
-use vrp_command::{LineFault, NoGate, Resources, end_without_run, run_words, words_fault};
+use vrp_command::{
+    LineFault, NoGate, Resources, end_without_run, run_arguments, unread_line_fault,
+};
 
 fn main(rt: HostRuntime) -> ExitCode {
     let status = match run_args(&rt, rt.stdin().is_terminal(), &mut rt.stderr()) {
@@ -21,7 +23,7 @@ fn main(rt: HostRuntime) -> ExitCode {
     ExitCode::from(status)
 }
 
-// The exit status for the words behind the program's name, if they can be had. At a terminal the user is told that the file
+// The exit status for the arguments behind the program's name, if they can be had. At a terminal the user is told that the file
 // is awaited there.
 fn run_args<
     R: Env + AllocGlobal + Files + Input + Print + Eprint + Clock + Threads + Wait + Sync,
@@ -29,14 +31,14 @@ fn run_args<
 >(rt: &R, at_terminal: bool, errors: &mut E) -> Result<u8, LineFault> {
     let args = match env::args(rt) {
         Ok(args) => args,
-        Err(error) => return Err(words_fault(rt.alloc(), &error)),
+        Err(error) => return Err(unread_line_fault(rt.alloc(), &error)),
     };
     let args: Vec<String> = args.skip(1).collect(rt.alloc())?;
-    let words: Vec<&str> = args.iter().map(String::as_str).collect(rt.alloc())?;
+    let arguments: Vec<&str> = args.iter().map(String::as_str).collect(rt.alloc())?;
     let resources = Resources::new(rt, rt.alloc(), &NoGate);
-    Ok(run_words(
+    Ok(run_arguments(
         &resources,
-        &words,
+        &arguments,
         &mut Awaited::new(rt.reader(), at_terminal, rt),
         &mut io::writer(rt),
         errors,

@@ -4,10 +4,10 @@
 
 use anyhow::Result;
 use std::io::Read;
+use vrp_answer::Finding;
 use vrp_model::Plan;
-use vrp_pool::{NoGate, solve};
-use vrp_pool_answer::Finding;
 use vrp_search_tree::Cutting;
+use vrp_solver::{NoGate, solve};
 
 const WORKERS: u32 = 2;
 

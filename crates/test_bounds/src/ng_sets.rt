@@ -5,8 +5,7 @@ use crate::assertion::assert_same;
 use std::alloc::Global;
 use std::process::Abort;
 use test_fixtures::with_arcs;
-use vrp_bound_ng::NgSets;
-use vrp_model::{Instance, MAX_NODES};
+use vrp_model::{Instance, MAX_NODES, NgSets};
 
 // The near customers of each place; an ng-set uses the first few. Some lists have the depot, one has a customer twice, and
 // one place is near itself.

@@ -1,4 +1,4 @@
-//! Tests of `vrp_command_hints` by values from outside.
+//! Tests of `vrp_command_streams` by values from outside.
 
 mod answers;
 mod files;

@@ -1,4 +1,4 @@
-//! Tests of `vrp_command`, `vrp_plan_write`, `vrp_plan_draw` and `vrp_command_hints` with values from outside. They are a separate crate,
+//! Tests of `vrp_command`, `vrp_plan_write` and the hints of `vrp_command_streams` with values from outside. They are a separate crate,
 //! since a crate with tests is proved twice.
 #![tactic(auto)]
 

@@ -1,4 +1,4 @@
-//! Tests of `vrp_plan_write` and `vrp_plan_draw` by values from outside.
+//! Tests of `vrp_plan_write` and `vrp_plan_write` by values from outside.
 
 mod export;
 mod fixture;

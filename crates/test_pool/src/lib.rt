@@ -1,5 +1,4 @@
-//! Tests of `vrp_pool_register`, `vrp_pool_pile`, `vrp_pool_answer` and, through `vrp_pool`, of it and the two crates below it, with
-//! values from outside. They are a separate crate, since a crate with tests is proved twice.
+//! Tests of `vrp_sharing`, and of `vrp_solver` with `vrp_answer` below it, with values from outside. They are a separate crate, since a crate with tests is proved twice.
 #![tactic(auto)]
 
 #[cfg(test)]

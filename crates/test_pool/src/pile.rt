@@ -1,6 +1,6 @@
 //! Piles with one thread and with two.
 ghost use Rattle.std.specs.Prelude.{◌≡◌, ◌≤◌};
-ghost use Rattle.vrp_pool_pile.specs.declared.limits.TheConstants.{MAX_THIEVES};
+ghost use Rattle.vrp_sharing.specs.declared.limits.TheConstants.{MAX_THIEVES};
 ghost use Rattle.vrp_search_tree.specs.declared.cutting.TheConstants.{MAX_PIECES};
 
 use crate::assertion::assert_same;
@@ -9,8 +9,8 @@ use std::process::Abort;
 use std::thread::{Threads, join_mut};
 use test_fixtures::{LINE, at_points};
 use vrp_model::Instance;
-use vrp_pool_pile::{Drawn, MAX_THIEVES, Owner, Pile, Thief, settle};
 use vrp_search_tree::Cutting;
+use vrp_sharing::{Drawn, MAX_THIEVES, Owner, Pile, Thief, settle};
 
 // Ten customers on a line.
 const LONG_LINE: [(i64, i64); 11] = [

@@ -1,4 +1,4 @@
-//! Tests of `vrp_pool` by values from outside.
+//! Tests of `vrp_solver` by values from outside.
 
 pub(crate) mod fixture;
 mod gatherer;

@@ -1,4 +1,4 @@
-//! Tests of `vrp_pool_register` by values from outside.
+//! Tests of `vrp_sharing` by values from outside.
 
 mod book;
 mod fixture;

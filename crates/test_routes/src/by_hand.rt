@@ -1,37 +1,39 @@
 //! Small pools of routes.
 
+use crate::sets::set_of;
 use std::alloc::Global;
 use std::process::Abort;
 use vrp_partition::Route;
 
 /// A route: its customers and its cost.
-pub(crate) type Pair = (u128, u32);
+pub(crate) type Pair = (&'static [u16], u32);
 
 /// Three customers, each alone, each two of them, and all.
 pub(crate) const THREE: &[Pair] = &[
-    (0b0010, 10),
-    (0b0100, 10),
-    (0b1000, 10),
-    (0b0110, 12),
-    (0b1100, 13),
-    (0b1010, 14),
-    (0b1110, 25),
+    (&[1], 10),
+    (&[2], 10),
+    (&[3], 10),
+    (&[1, 2], 12),
+    (&[2, 3], 13),
+    (&[1, 3], 14),
+    (&[1, 2, 3], 25),
 ];
 
 /// Each two of four customers.
 pub(crate) const FOUR: &[Pair] = &[
-    (0b00110, 5),
-    (0b11000, 5),
-    (0b01010, 4),
-    (0b10100, 7),
-    (0b10010, 3),
-    (0b01100, 6),
+    (&[1, 2], 5),
+    (&[3, 4], 5),
+    (&[1, 3], 4),
+    (&[2, 4], 7),
+    (&[1, 4], 3),
+    (&[2, 3], 6),
 ];
 
 /// The routes as a pool.
 pub(crate) fn pool_of(rt: &impl Abort, alloc: Global, told: &[Pair]) -> Vec<Route> {
     let mut pool = Vec::new(alloc);
-    for &(set, cost) in told {
+    for &(customers, cost) in told {
+        let set = set_of(customers);
         pool.push(Route { set, cost }).expect(rt, "memory");
     }
     pool

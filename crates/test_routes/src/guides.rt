@@ -3,15 +3,17 @@
 use crate::random::{pair, some_customers};
 use std::alloc::{AllocError, Global};
 use test_fixtures::Random;
-use vrp_partition::{Ask, Cut, Guide, MOST_CUSTOMERS, PriceOffer, Route, Task};
+use vrp_customers::{CustomerSet, PLACES};
+use vrp_model::Watch;
+use vrp_partition::{Cut, Guide, PriceOffer, Route, Task};
 
 /// Answers whether a search continues.
 #[derive(Clone, Copy)]
-pub(crate) struct Asks {
+pub(crate) struct Answering {
     pub(crate) should_continue: bool,
 }
 
-impl Ask for Asks {
+impl Watch for Answering {
     fn should_continue(&self) -> bool {
         self.should_continue
     }
@@ -84,10 +86,10 @@ impl Habitual {
         }
     }
 
-    fn some_customers(&mut self) -> u128 {
+    fn some_customers(&mut self) -> CustomerSet {
         match self.among {
             Among::Pools => some_customers(&mut self.random, u32::MAX),
-            Among::FirstEight => u128::from(self.random.next() % 256),
+            Among::FirstEight => first_eight(self.random.next()),
         }
     }
 
@@ -105,6 +107,17 @@ impl Habitual {
     }
 }
 
+// Those of the first eight customers whose bits are set.
+fn first_eight(bits: u32) -> CustomerSet {
+    let mut set = CustomerSet::empty();
+    for customer in 0..8u16 {
+        if bits >> customer & 1 == 1 {
+            set = set.with(customer);
+        }
+    }
+    set
+}
+
 impl Guide for Habitual {
     fn should_continue(&self) -> bool {
         self.habit != Habit::Stopping
@@ -115,7 +128,7 @@ impl Guide for Habitual {
             return Err(AllocError);
         }
         let mut duals = Vec::new(self.alloc);
-        for _ in 0..MOST_CUSTOMERS {
+        for _ in 0..PLACES {
             duals.push(self.dual())?;
         }
         Ok(PriceOffer {
@@ -127,9 +140,9 @@ impl Guide for Habitual {
         })
     }
 
-    fn group(&mut self, _pool: &[Route]) -> Result<u128, AllocError> {
+    fn group(&mut self, _pool: &[Route]) -> Result<CustomerSet, AllocError> {
         if self.habit == Habit::Idle {
-            return Ok(0);
+            return Ok(CustomerSet::empty());
         }
         match self.among {
             Among::Pools => Ok(pair(&mut self.random)),

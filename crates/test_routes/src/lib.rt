@@ -1,4 +1,4 @@
-//! Tests of `vrp_routes`, `vrp_canonical`, `vrp_partition` and `vrp_simplex` with values from outside. They are a separate
+//! Tests of `vrp_customers`, `vrp_routes`, `vrp_canonical`, `vrp_partition` and `vrp_simplex` with values from outside. They are a separate
 //! crate, since a crate with tests is proved twice.
 #![tactic(auto)]
 
@@ -9,6 +9,8 @@ mod by_hand;
 #[cfg(test)]
 mod canonical;
 #[cfg(test)]
+mod customers;
+#[cfg(test)]
 mod five_places;
 #[cfg(test)]
 mod guides;
@@ -18,6 +20,8 @@ mod partition;
 mod random;
 #[cfg(test)]
 mod routes;
+#[cfg(test)]
+mod sets;
 #[cfg(test)]
 mod simplex;
 #[cfg(test)]

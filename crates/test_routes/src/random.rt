@@ -1,32 +1,34 @@
 //! Random pools, the same in every run.
 
+use crate::sets::set_of;
 use std::alloc::Global;
 use std::process::Abort;
 use test_fixtures::Random;
+use vrp_customers::CustomerSet;
 use vrp_partition::Route;
 
-// The customers of random pools; they include the first and the last of a set.
-const CUSTOMERS: &[u128] = &[1, 1 << 2, 1 << 63, 1 << 64, 1 << 100, 1 << 127];
-
-/// All customers of random pools.
-pub(crate) const ALL_CUSTOMERS: u128 = 1 | 1 << 2 | 1 << 63 | 1 << 64 | 1 << 100 | 1 << 127;
+/// All customers of random pools; they include the first and the last of a set.
+pub(crate) const CUSTOMERS: &[u16] = &[0, 2, 63, 127, 128, 255];
 
 /// At most this many of the customers of random pools.
-pub(crate) fn some_customers(random: &mut Random, most: u32) -> u128 {
-    let mut set = 0u128;
-    for customer in CUSTOMERS {
-        if set.count_ones() < most && random.next() % 5 < 2 {
-            set |= *customer;
+pub(crate) fn some_customers(random: &mut Random, most: u32) -> CustomerSet {
+    let mut set = CustomerSet::empty();
+    for customer in set_of(CUSTOMERS).iter() {
+        if u32::from(set.len()) < most && random.next() % 5 < 2 {
+            set = set.with(customer);
         }
     }
     set
 }
 
 /// Two of the customers of random pools.
-pub(crate) fn pair(random: &mut Random) -> u128 {
+pub(crate) fn pair(random: &mut Random) -> CustomerSet {
     let first = random.next() as usize % CUSTOMERS.len();
     let step = 1 + random.next() as usize % (CUSTOMERS.len() - 1);
-    CUSTOMERS[first] | CUSTOMERS[(first + step) % CUSTOMERS.len()]
+    set_of(&[
+        CUSTOMERS[first],
+        CUSTOMERS[(first + step) % CUSTOMERS.len()],
+    ])
 }
 
 /// This many routes of at most this many customers each, with costs below a number.

@@ -1,6 +1,7 @@
 //! A plain slow program: it tries every part of a pool, and keeps the least cost of those that are choices.
 
 use std::process::Abort;
+use vrp_customers::CustomerSet;
 use vrp_partition::Route;
 
 // The greatest number of routes of a pool here.
@@ -10,7 +11,7 @@ const MOST_ROUTES: usize = 12;
 pub(crate) fn least_cost(
     rt: &impl Abort,
     pool: &[Route],
-    customers: u128,
+    customers: CustomerSet,
     trucks: u8,
 ) -> Option<u64> {
     assert!(rt; pool.len() <= MOST_ROUTES, "too many routes");
@@ -25,25 +26,25 @@ pub(crate) fn least_cost(
 }
 
 // The cost of a part that has each customer once, and nobody else. The part has a bit for each of its routes.
-fn cost_of_part(pool: &[Route], customers: u128, taken: u32) -> Option<u64> {
+fn cost_of_part(pool: &[Route], customers: CustomerSet, taken: u32) -> Option<u64> {
     let mut bits = taken;
     let mut unserved = customers;
     let mut cost: u64 = 0;
     for route in pool {
         if bits & 1 == 1 {
-            if route.set & unserved != route.set {
+            if !route.set.is_subset(unserved) {
                 return None;
             }
-            unserved ^= route.set;
+            unserved = unserved.difference(route.set);
             cost = cost.saturating_add(u64::from(route.cost));
         }
         bits >>= 1;
     }
-    (unserved == 0).then_some(cost)
+    unserved.is_empty().then_some(cost)
 }
 
 /// The total cost of these routes, if they have each of the customers once, and nobody else, and there are enough trucks.
-pub(crate) fn cost_of_choice(routes: &[Route], customers: u128, trucks: u8) -> Option<u64> {
+pub(crate) fn cost_of_choice(routes: &[Route], customers: CustomerSet, trucks: u8) -> Option<u64> {
     let cost = cost_of_part(routes, customers, u32::MAX);
     cost.filter(|_| routes.len() <= usize::from(trucks))
 }

@@ -1,5 +1,4 @@
-//! Tests of `vrp_heuristic_savings`, `vrp_heuristic_recreate` and `vrp_heuristic`: plans by savings, runs of ruin and
-//! recreate, heuristic plans, and improved plans.
+//! Tests of `vrp_heuristic`: plans by savings, runs of ruin and recreate, heuristic plans, and improved plans.
 
 mod fixture;
 mod improved;

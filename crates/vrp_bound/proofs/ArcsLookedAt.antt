@@ -3,7 +3,7 @@ use Rattle.std.proofs.Common.{◌≡◌, ◌≢◌, ℕ, ◌+◌, ◌-◌, ◌*�
 use Rattle.std.proofs.lemmas.Nat.{mul-le}
 use Rattle.vrp_model.specs.Problem.{Problem, demand_of, place_count, weight_of}
 use Rattle.vrp_model.specs.Route.{load_of}
-use Rattle.vrp_bound.specs.Inner.Cells.{AreTours, AreToursSoFar, AreWalks, AreWalksSoFar, HasRelaxed, HasTours, HasWalk, IsLeastCell}
+use Rattle.vrp_bound.specs.Inner.CompletionCells.{AreTours, AreToursSoFar, AreWalks, AreWalksSoFar, HasRelaxed, HasTours, HasWalk, IsLeastCell}
 use Rattle.vrp_bound.specs.Inner.Scope.{IsScope}
 use Rattle.vrp_bound.specs.NgWalks.{nothing_near}
 use Rattle.vrp_bound.specs.Tables.{room_of}

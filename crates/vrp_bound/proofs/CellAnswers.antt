@@ -5,9 +5,9 @@ use Rattle.std.specs.List.{All, Contains}
 use Rattle.std.specs.List.Sorted.{IsStrictlyIncreasing}
 use Rattle.vrp_model.specs.Problem.{Problem, customers}
 use Rattle.vrp_model.specs.Route.{load_of}
-use Rattle.vrp_bound.specs.declared.completions.Cells.{Cells}
+use Rattle.vrp_bound.specs.declared.completions.CompletionCells.{CompletionCells}
 use Rattle.vrp_bound.specs.declared.completions.Shape.{Shape}
-use Rattle.vrp_bound.specs.Inner.Cells.{HasRelaxed, HasTours, IsLeastCell, mark}
+use Rattle.vrp_bound.specs.Inner.CompletionCells.{HasRelaxed, HasTours, IsLeastCell, mark}
 use Rattle.vrp_bound.specs.Inner.Filled.{AreCells, AreCellsMade, AreFilled}
 use Rattle.vrp_bound.specs.Tables.{AreMade}
 use Rattle.vrp_bound.specs.NgWalks.{IsNgBound}
@@ -16,13 +16,13 @@ use Rattle.vrp_bound.proofs.FirstTour.{bound_of_cell, least_at_depot, none_of_ce
 use Rattle.vrp_bound.proofs.InUnits.{IsLoadIn, least_in_units, load_floored, none_in_units}
 use Rattle.vrp_bound.proofs.WholeUnits.{same_units, units_rise, whole_load}
 
-pub filled_same : (p q : Problem) (near : ℕ → List ℕ) (among others : List ℕ) (cells : Option Cells) → q ≡ p → others ≡ among → IsStrictlyIncreasing others → All (Contains (customers q)) others → MatchOption cells (AreMade q others → ⊥) (AreCellsMade q near others) → AreFilled p near among cells
+pub filled_same : (p q : Problem) (near : ℕ → List ℕ) (among others : List ℕ) (cells : Option CompletionCells) → q ≡ p → others ≡ among → IsStrictlyIncreasing others → All (Contains (customers q)) others → MatchOption cells (AreMade q others → ⊥) (AreCellsMade q near others) → AreFilled p near among cells
 filled_same p q near among others cells same_problem same_list rising known filled =
     let there : AreFilled q near others cells = record { rising = rising; known = known; filled = filled } in
     subst (λ a. AreFilled p near a cells) same_list (subst (λ b. AreFilled b near others cells) same_problem there)
 
 -- there is a shape exactly where tables are made
-pub shape_made : (p : Problem) (near : ℕ → List ℕ) (among : List ℕ) (cells : Option Cells) (shape : Option Shape) → is_some shape ≡ is_some cells → AreFilled p near among cells → MatchOption shape (AreMade p among → ⊥) (λ _. AreMade p among)
+pub shape_made : (p : Problem) (near : ℕ → List ℕ) (among : List ℕ) (cells : Option CompletionCells) (shape : Option Shape) → is_some shape ≡ is_some cells → AreFilled p near among cells → MatchOption shape (AreMade p among → ⊥) (λ _. AreMade p among)
 shape_made p near among None None same held = held.filled
 shape_made p near among None (Some shape) same held = absurd (cc)
 shape_made p near among (Some cells) None same held = absurd (cc)
@@ -43,7 +43,7 @@ carried_within_same p q among others unit other rest carried same_problem same_l
     same_units (λ b a u. carried ≤ load_of (in_units u b) a) q p others among other unit (sym same_problem) (sym same_list) (sym same_unit)
     (carried_within unit p among rest carried is within (carried_is ∙ ap (λ n. rest / n) same_unit))
 
-pub none_carried : (p : Problem) (near : ℕ → List ℕ) (among : List ℕ) (cells : Cells) (at load rest other carried whole : ℕ) → AreCells p near among cells → load ≤ p.capacity → other ≡ cells.unit → carried ≡ rest / other → whole ≡ carried * cells.unit → whole ≢ rest → IsLeastCell (HasRelaxed p near among at load rest) mark
+pub none_carried : (p : Problem) (near : ℕ → List ℕ) (among : List ℕ) (cells : CompletionCells) (at load rest other carried whole : ℕ) → AreCells p near among cells → load ≤ p.capacity → other ≡ cells.unit → carried ≡ rest / other → whole ≡ carried * cells.unit → whole ≢ rest → IsLeastCell (HasRelaxed p near among at load rest) mark
 none_carried p near among cells at load rest other carried whole are light same_unit carried_is whole_is differs =
     none_in_units cells.unit p near among at load rest are.unit light
     (λ same. differs (whole_is ∙ ap (λ n. n * cells.unit) (carried_is ∙ ap (λ n. rest / n) same_unit) ∙ sym same))
@@ -52,7 +52,7 @@ none_carried p near among cells at load rest other carried whole are light same_
 whole_rest : (unit other rest carried whole : ℕ) → other ≡ unit → carried ≡ rest / other → whole ≡ carried * unit → whole ≡ rest → rest ≡ rest / unit * unit
 whole_rest unit other rest carried whole same_unit carried_is whole_is all = sym all ∙ whole_is ∙ ap (λ n. n * unit) (carried_is ∙ ap (λ n. rest / n) same_unit)
 
-pub least_from_depot : (p : Problem) (near : ℕ → List ℕ) (among : List ℕ) (cells : Cells) (at load rest other carried whole cell : ℕ) → AreCells p near among cells → at ≡ 0 → load ≡ 0 → rest ≤ load_of p among → other ≡ cells.unit → carried ≡ rest / other → whole ≡ carried * cells.unit → whole ≡ rest → cell ≡ get_or cells.tours.items carried cell → IsLeastCell (HasRelaxed p near among at load rest) cell
+pub least_from_depot : (p : Problem) (near : ℕ → List ℕ) (among : List ℕ) (cells : CompletionCells) (at load rest other carried whole cell : ℕ) → AreCells p near among cells → at ≡ 0 → load ≡ 0 → rest ≤ load_of p among → other ≡ cells.unit → carried ≡ rest / other → whole ≡ carried * cells.unit → whole ≡ rest → cell ≡ get_or cells.tours.items carried cell → IsLeastCell (HasRelaxed p near among at load rest) cell
 least_from_depot p near among cells at load rest other carried whole cell are none_out empty within same_unit carried_is whole_is all is =
     let unit = cells.unit in
     let q = in_units unit p in
@@ -79,13 +79,13 @@ least_from_customer p q near among others unit other at load free rest carried w
     (subst (λ n. IsLeastCell (HasRelaxed (in_units unit p) near among at (p.capacity / unit - n) carried) cell) left moved) in
     least_in_units unit p near among at load (p.capacity / unit - (p.capacity - load) / unit) rest cell is (load_floored unit p.capacity load is.some light) (whole_rest unit other rest carried whole same_unit carried_is whole_is all) here
 
-pub answer_some : (p : Problem) (near : ℕ → List ℕ) (among : List ℕ) (cells : Cells) (at load rest cell : ℕ) → AreCellsMade p near among cells → IsLeastCell (HasRelaxed p near among at load rest) cell → cell < mark → IsNgBound p near among at load rest (Some cell)
+pub answer_some : (p : Problem) (near : ℕ → List ℕ) (among : List ℕ) (cells : CompletionCells) (at load rest cell : ℕ) → AreCellsMade p near among cells → IsLeastCell (HasRelaxed p near among at load rest) cell → cell < mark → IsNgBound p near among at load rest (Some cell)
 answer_some p near among cells at load rest cell are least small = record {
   made = λ _. bound_of_cell p near among at load rest cell least small;
   none_made = λ none. absurd (none are.made);
 }
 
-pub answer_none : (p : Problem) (near : ℕ → List ℕ) (among : List ℕ) (cells : Cells) (at load rest cell : ℕ) → AreCellsMade p near among cells → rest ≤ load_of p among → IsLeastCell (HasRelaxed p near among at load rest) cell → mark ≤ cell → IsNgBound p near among at load rest None
+pub answer_none : (p : Problem) (near : ℕ → List ℕ) (among : List ℕ) (cells : CompletionCells) (at load rest cell : ℕ) → AreCellsMade p near among cells → rest ≤ load_of p among → IsLeastCell (HasRelaxed p near among at load rest) cell → mark ≤ cell → IsNgBound p near among at load rest None
 answer_none p near among cells at load rest cell are within least large = record {
   made = λ _. none_of_cell p near among at load rest cell are.are_cells.scope within least large;
   none_made = λ none. absurd (none are.made);

@@ -5,10 +5,10 @@ use Rattle.std.proofs.lemmas.List.{get_or_default}
 use Rattle.std.proofs.lemmas.Nat.{div-mul-add, mod-mul-add, mul-add-lt}
 use Rattle.vrp_model.specs.Problem.{Problem, place_count}
 use Rattle.vrp_model.specs.Route.{load_of}
-use Rattle.vrp_bound.specs.Inner.Cells.{IsCompletionTable, IsCompletionTableSoFar, AreTours, HasRelaxed, HasCompletion, IsLeastCell, IsSmallLeastCell, mark, small_mark}
+use Rattle.vrp_bound.specs.Inner.CompletionCells.{IsCompletionTable, IsCompletionTableSoFar, AreTours, HasRelaxed, HasCompletion, IsLeastCell, IsSmallLeastCell, mark, small_mark}
 use Rattle.vrp_bound.specs.Inner.Scope.{IsScope}
 use Rattle.vrp_bound.specs.Tables.{room_of}
-use Rattle.vrp_bound_ng.proofs.PushedCells.{each_push}
+use Rattle.vrp_model.proofs.PushedCells.{each_push}
 use Rattle.vrp_bound.proofs.FirstTour.{IsCompletionWith, home_is_relaxed, relaxed_is_home, small_completion}
 use Rattle.vrp_bound.proofs.LeastOfCosts.{IsCostBelow}
 

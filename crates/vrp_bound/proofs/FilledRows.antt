@@ -5,15 +5,15 @@ use Rattle.std.proofs.lemmas.Bool.{cases_eq, cases_lt}
 use Rattle.std.proofs.lemmas.List.{get_or-append_right, get_or_append_left, get_or_past}
 use Rattle.std.proofs.lemmas.Nat.{div-mul-add, mod-mul-add, mul-le}
 use Rattle.vrp_model.specs.Problem.{Problem, place_count, weight_of}
-use Rattle.vrp_bound.specs.Inner.Cells.{IsLeastCell, mark}
+use Rattle.vrp_bound.specs.Inner.CompletionCells.{IsLeastCell, mark}
 use Rattle.vrp_bound.specs.Inner.Scope.{IsScope}
 use Rattle.vrp_model.specs.Word.{stands_in}
 use Rattle.vrp_bound.specs.Inner.NgCells.{AreNgWalksSoFar, HasNgWalk}
-use Rattle.vrp_bound.specs.Inner.Cells.{HasWalk}
-use Rattle.vrp_bound_ng.specs.NgWalks.{remembered}
-use Rattle.vrp_bound_ng.proofs.Recalled.{few_bits}
-use Rattle.vrp_bound_ng.specs.NgSets.{ng_set_of}
-use Rattle.vrp_bound_ng.specs.Near.{NearOf, near_in}
+use Rattle.vrp_bound.specs.Inner.CompletionCells.{HasWalk}
+use Rattle.vrp_model.specs.NgWalks.{remembered}
+use Rattle.vrp_model.proofs.Recalled.{few_bits}
+use Rattle.vrp_model.specs.NgSets.{ng_set_of}
+use Rattle.vrp_model.specs.Near.{NearOf, near_in}
 use Rattle.vrp_bound.proofs.NgSteps.{least_at_once, none_at_once}
 
 pub no_cells : (p : Problem) (near : ℕ → List ℕ) (among : List ℕ) (masks : ℕ) → AreNgWalksSoFar p near among masks []

@@ -2,9 +2,9 @@
 use Rattle.std.proofs.Common.{◌≡◌, ℕ, ◌+◌, ◌*◌, ◌/◌, ◌%◌, ◌<◌, ◌≤◌, List, [], ◌∷◌, ◌++◌, length, get_or, sym, ◌∙◌, ap, subst, arith}
 use Rattle.std.proofs.lemmas.Nat.{div-mul-add, mod-mul-add}
 use Rattle.vrp_model.specs.Problem.{Problem, place_count}
-use Rattle.vrp_bound.specs.Inner.Cells.{AreToursSoFar, AreWalksSoFar, HasTours, HasWalk, IsLeastCell, mark}
+use Rattle.vrp_bound.specs.Inner.CompletionCells.{AreToursSoFar, AreWalksSoFar, HasTours, HasWalk, IsLeastCell, mark}
 use Rattle.vrp_model.proofs.BoundedLists.{bounded_push}
-use Rattle.vrp_bound_ng.proofs.PushedCells.{each_push}
+use Rattle.vrp_model.proofs.PushedCells.{each_push}
 
 -- no cell yet
 pub no_walks : (p : Problem) (near : ℕ → List ℕ) (among : List ℕ) → AreWalksSoFar p near among []

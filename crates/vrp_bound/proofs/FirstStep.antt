@@ -6,7 +6,7 @@ use Rattle.std.proofs.lemmas.List.Elements.{All-cons, All-contains, All-tail, Co
 use Rattle.std.proofs.lemmas.List.Sums.{sum_by-cons}
 use Rattle.vrp_model.specs.Problem.{IsProblem, Problem, demand_of, place_count, weight_of}
 use Rattle.vrp_model.specs.Route.{load_of}
-use Rattle.vrp_bound.specs.Inner.Cells.{HasWalk, IsLeastCell}
+use Rattle.vrp_bound.specs.Inner.CompletionCells.{HasWalk, IsLeastCell}
 use Rattle.vrp_bound.specs.Inner.Scope.{IsScope}
 use Rattle.vrp_bound.specs.NgWalks.{IsNgWalk, nothing_near}
 use Rattle.vrp_bound.specs.Walk.{walk_cost}

@@ -5,7 +5,7 @@ use Rattle.std.proofs.lemmas.List.Elements.{All-cons, All-tail}
 use Rattle.std.proofs.lemmas.List.Sums.{sum_by-cons}
 use Rattle.vrp_model.specs.Problem.{Problem}
 use Rattle.vrp_model.specs.Route.{load_of}
-use Rattle.vrp_bound.specs.Inner.Cells.{HasRelaxed, HasTours, HasWalk, IsLeastCell, mark}
+use Rattle.vrp_bound.specs.Inner.CompletionCells.{HasRelaxed, HasTours, HasWalk, IsLeastCell, mark}
 use Rattle.vrp_bound.specs.Inner.Scope.{IsScope}
 use Rattle.vrp_bound.specs.Tables.{room_of}
 use Rattle.vrp_bound.specs.Walk.{home_cost, relaxed_cost, walk_cost}

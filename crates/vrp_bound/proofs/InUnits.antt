@@ -3,7 +3,7 @@ use Rattle.std.proofs.Common.{◌≡◌, ◌≢◌, ℕ, ◌+◌, ◌-◌, ◌*�
 use Rattle.std.specs.List.{All, Contains, sum_by}
 use Rattle.vrp_model.specs.Problem.{Problem}
 use Rattle.vrp_model.specs.Route.{load_of}
-use Rattle.vrp_bound.specs.Inner.Cells.{HasRelaxed, IsLeastCell, mark}
+use Rattle.vrp_bound.specs.Inner.CompletionCells.{HasRelaxed, IsLeastCell, mark}
 use Rattle.vrp_bound.specs.Inner.Units.{IsUnit, in_units}
 use Rattle.vrp_bound.specs.NgWalks.{IsNgTour, IsNgWalk}
 use Rattle.vrp_bound.proofs.LeastOfCosts.{least_same}

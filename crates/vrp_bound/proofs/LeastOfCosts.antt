@@ -1,7 +1,7 @@
 -- The least of some costs, found by looking at them one after another.
 use Rattle.std.proofs.Common.{◌≡◌, ℕ, ◌+◌, ◌<◌, ◌≤◌, min, inl, inr, refl, subst, arith}
 use Rattle.std.proofs.lemmas.Bool.{cases_lt}
-use Rattle.vrp_bound.specs.Inner.Cells.{IsLeastCell, mark}
+use Rattle.vrp_bound.specs.Inner.CompletionCells.{IsLeastCell, mark}
 
 -- a cost of one of the first arcs
 pub record IsCostBelow (IsCost : ℕ → ℕ → Type 0) (arcs cost : ℕ) : Type 0 where

@@ -19,8 +19,8 @@ use Rattle.vrp_bound.proofs.FirstStep.{load_first}
 use Rattle.vrp_bound.proofs.ServedBehind.{cost_behind, served_more}
 use Rattle.vrp_bound.proofs.SymbolBySymbol.{HoldsBySymbol, all_served_behind, by_symbols, first_and_rest, sum_behind}
 use Rattle.vrp_bound.specs.NgWalks.{IsNgRelaxed, IsNgTour, IsNgWalk}
-use Rattle.vrp_bound_ng.specs.NgWalks.{remembered}
-use Rattle.vrp_bound_ng.proofs.RememberedStops.{remembered_stop}
+use Rattle.vrp_model.specs.NgWalks.{remembered}
+use Rattle.vrp_model.proofs.RememberedStops.{remembered_stop}
 
 -- what is added costs what a completion costs, whose walk home stops at nothing else
 record Completes (p : Problem) (near : ℕ → List ℕ) (among : List ℕ) (at load : ℕ) (more : List ℕ) : Type 0 where

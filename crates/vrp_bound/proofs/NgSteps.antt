@@ -7,16 +7,16 @@ use Rattle.std.proofs.lemmas.List.Elements.{All-cons, All-tail, Contains-get_or}
 use Rattle.vrp_model.specs.Problem.{Problem, demand_of, weight_of}
 use Rattle.vrp_model.specs.Route.{load_of}
 use Rattle.vrp_model.specs.Word.{stands_in}
-use Rattle.vrp_bound.specs.Inner.Cells.{IsLeastCell, mark}
+use Rattle.vrp_bound.specs.Inner.CompletionCells.{IsLeastCell, mark}
 use Rattle.vrp_bound.specs.Inner.Scope.{IsScope}
 use Rattle.vrp_bound.specs.Walk.{walk_cost}
 use Rattle.vrp_bound.proofs.FirstStep.{load_first, no_load_no_stop}
 use Rattle.vrp_bound.proofs.LeastOfCosts.{IsCostBelow, IsSum, least_none, least_same, least_skipped}
 use Rattle.vrp_bound.specs.Inner.NgCells.{ArePulled, HasNgWalk}
-use Rattle.vrp_bound_ng.specs.NgSets.{bits_of, ng_set_before, ng_set_of, recalls}
+use Rattle.vrp_model.specs.NgSets.{bits_of, ng_set_before, ng_set_of, recalls}
 use Rattle.vrp_bound.specs.NgWalks.{IsNgWalk}
-use Rattle.vrp_bound_ng.specs.NgWalks.{remembered}
-use Rattle.vrp_bound_ng.proofs.Recalled.{contained_stands, few_bits, is_recalled, ng_set_longer, no_bits, stands_contained}
+use Rattle.vrp_model.specs.NgWalks.{remembered}
+use Rattle.vrp_model.proofs.Recalled.{contained_stands, few_bits, is_recalled, ng_set_longer, no_bits, stands_contained}
 
 -- ---- walks that take up nothing
 

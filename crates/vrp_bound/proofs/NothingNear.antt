@@ -2,7 +2,7 @@
 use Rattle.std.proofs.Common.{◌≡◌, ℕ, zero, suc, List, [], ◌∷◌, refl, sym, subst, arith}
 use Rattle.std.specs.List.{Contains, filter}
 use Rattle.vrp_model.specs.Word.{stands_in}
-use Rattle.vrp_bound_ng.specs.NgWalks.{NoneRemembered, remembered}
+use Rattle.vrp_model.specs.NgWalks.{NoneRemembered, remembered}
 use Rattle.vrp_bound.specs.NgWalks.{nothing_near}
 use Rattle.vrp_bound.specs.Walk.{NeighborsDiffer}
 

@@ -1,5 +1,5 @@
 -- Cited only by inner contracts; no reader has to believe it.
-pub mod Cells
+pub mod CompletionCells
 pub mod Filled
 pub mod NgCells
 pub mod NgScaled

@@ -4,8 +4,8 @@ use Rattle.std.specs.Prelude.{◌≡◌, ◌≢◌, ℕ, ◌+◌, ◌≤◌, Opt
 use Rattle.std.specs.List.{All, Contains, sum_by}
 use Rattle.vrp_model.specs.Problem.{Problem, customers}
 use Rattle.vrp_model.specs.Route.{load_of}
-use Rattle.vrp_bound_ng.specs.Near.{NearOf, near_in}
-use Rattle.vrp_bound_ng.specs.NgWalks.{NoneRemembered}
+use Rattle.vrp_model.specs.Near.{NearOf, near_in}
+use Rattle.vrp_model.specs.NgWalks.{NoneRemembered}
 use Rattle.vrp_bound.specs.Tables.{AreMade, NgTablesOf}
 use Rattle.vrp_bound.specs.Walk.{relaxed_cost}
 

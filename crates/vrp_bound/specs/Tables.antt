@@ -3,7 +3,7 @@ use Rattle.std.specs.Prelude.{◌≡◌, ℕ, ◌+◌, ◌*◌, ◌≤◌, min, 
 use Rattle.std.specs.List.{All}
 use Rattle.vrp_model.specs.Problem.{Problem, demand_of}
 use Rattle.vrp_model.specs.Route.{load_of}
-use Rattle.vrp_bound_ng.specs.Near.{NearOf}
+use Rattle.vrp_model.specs.Near.{NearOf}
 use Rattle.vrp_bound.specs.Walk.{IsLeastRelaxed, NoneRelaxed}
 
 pub record TablesOf : Type 0 where

@@ -2,7 +2,7 @@
 ghost use Rattle.std.specs.Prelude.{◌≡◌, ◌≢◌, ◌+◌, ◌*◌, ◌≤◌, ◌<◌, min, length, IfOk, IfSome, IsTrue, vec_len, vec_capacity};
 ghost use Rattle.vrp_model.specs.Problem.{place_count};
 ghost use Rattle.vrp_model.specs.Route.{load_of};
-ghost use Rattle.vrp_bound.specs.Inner.Cells.{mark, small_mark};
+ghost use Rattle.vrp_bound.specs.Inner.CompletionCells.{mark, small_mark};
 ghost use Rattle.vrp_bound.specs.Inner.Scaled.{IsCompletionTableOver, IsCompletionTableOverSoFar, AreToursOver, AreWalksOver, IsLeastCompletion, room_over, scaled};
 
 use crate::units::UnitScope;

@@ -14,8 +14,7 @@ use crate::tours::tours;
 use crate::units::{UnitScope, demands_in_units, unit_of};
 use crate::walks::{MARK, walks};
 use std::alloc::Global;
-use vrp_bound_ng::NgSets;
-use vrp_model::{Instance, NoMemory};
+use vrp_model::{Instance, NgSets, NoMemory};
 
 /// Some customers of an instance, and the cells from which the least completions are read.
 #[derive(Debug, Drop)]
@@ -23,12 +22,12 @@ pub(crate) struct Completions<'a> {
     pub(crate) instance: &'a Instance,
     pub(crate) customers: Vec<u16>,
     // None if the tables would be too large, or a customer has no demand.
-    pub(crate) cells: Option<Cells>,
+    pub(crate) cells: Option<CompletionCells>,
 }
 
 // The cells: each is a least cost, or a mark if there is none.
 #[derive(Debug, Drop)]
-pub(crate) struct Cells {
+pub(crate) struct CompletionCells {
     // Divides the demand of each customer. Loads, rests and the room are counted in units.
     pub(crate) unit: u64,
     pub(crate) quotients: Quotients,
@@ -72,7 +71,7 @@ impl<'a> Completions<'a> {
     {
         let scope = Scope::new(instance, customers);
         let cells = if are_made(scope, MOST_STEPS) {
-            Some(Cells::fill(alloc, scope, ng_sets, looks)?)
+            Some(CompletionCells::fill(alloc, scope, ng_sets, looks)?)
         } else {
             None
         };
@@ -125,14 +124,14 @@ impl<'a> Completions<'a> {
     }
 }
 
-impl Cells {
+impl CompletionCells {
     // The cells over customers who demand something each, and not too much together.
     pub(crate) fn fill(
         alloc: Global,
         scope: Scope<'_>,
         ng_sets: Option<&NgSets>,
         looks: Looks,
-    ) -> Result<Cells, NoMemory>
+    ) -> Result<CompletionCells, NoMemory>
         requires scope { IsScope scope.instance.now scope.customers.now }
         requires places { IsOfPlaces ng_sets scope.places }
         ensures { IfOk result (λ cells. AreCellsOver scope.entry (near_with ng_sets.entry) cells) }
@@ -145,7 +144,7 @@ impl Cells {
         let tours = tours(alloc, units, &walks, room, demand)?;
         let completion_table = completion_table(looks, alloc, units, &walks, &tours, room)?;
         let quotients = Quotients::up_to(alloc, units.unit, demand_of_all(scope))?;
-        Ok(Cells {
+        Ok(CompletionCells {
             unit: units.unit,
             quotients,
             room,

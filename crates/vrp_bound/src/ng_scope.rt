@@ -3,7 +3,7 @@ ghost use Rattle.std.specs.Prelude.{◌≡◌, ◌^◌, ◌≤◌};
 ghost use Rattle.vrp_bound.specs.Inner.Scaled.{scaled};
 
 use crate::units::UnitScope;
-use vrp_bound_ng::NgSets;
+use vrp_model::NgSets;
 
 /// Some customers of an instance, and the ng-sets of walks through them.
 #[derive(Clone, Copy)]

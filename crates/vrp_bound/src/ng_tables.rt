@@ -10,8 +10,7 @@ use crate::completions::{Completions, Shape};
 use crate::tables::all_customers;
 use std::alloc::Global;
 use std::marker::Model;
-use vrp_bound_ng::NgSets;
-use vrp_model::{Instance, NoMemory};
+use vrp_model::{Instance, NgSets, NoMemory};
 
 /// Tables over all customers of an instance, of walks that return to no remembered customer. They bound more closely.
 #[derive(Debug, Drop)]
@@ -23,7 +22,7 @@ pub struct NgTables<'a> {
 impl<'a> Model for NgTables<'a> {
     ghost use Rattle.std.specs.Prelude.{◌≡◌};
     ghost use Rattle.vrp_model.specs.Problem.{customers, place_count};
-    ghost use Rattle.vrp_bound_ng.specs.Near.{near_in};
+    ghost use Rattle.vrp_model.specs.Near.{near_in};
     ghost use Rattle.vrp_bound.specs.Tables.{NgTablesOf};
     ghost use Rattle.vrp_bound.specs.Inner.Filled.{AreHeld};
 

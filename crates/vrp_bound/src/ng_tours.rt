@@ -2,18 +2,17 @@
 ghost use Rattle.std.specs.Prelude.{◌≡◌, ◌<◌, IfOk, IfSome, MatchOption};
 ghost use Rattle.vrp_model.specs.Problem.{IsProblem, customers as customers_of, place_count};
 ghost use Rattle.vrp_model.specs.Route.{load_of};
-ghost use Rattle.vrp_bound_ng.specs.Near.{near_in};
+ghost use Rattle.vrp_model.specs.Near.{near_in};
 ghost use Rattle.vrp_bound.specs.NgWalks.{AreLeastNgTours, NoNgTours};
 ghost use Rattle.vrp_bound.specs.Tables.{AreMadeWithin};
 
 use crate::completion_table::Looks;
-use crate::completions::Cells;
+use crate::completions::CompletionCells;
 use crate::scope::{Scope, are_made, demand_of_all};
 use crate::tables::all_customers;
 use crate::walks::MARK;
 use std::alloc::Global;
-use vrp_bound_ng::NgSets;
-use vrp_model::{Instance, NoMemory};
+use vrp_model::{Instance, NgSets, NoMemory};
 
 /// What the least closed ng-walks of one truck each cost that carry together exactly what all customers demand. `None`: there are no
 /// such walks, a customer has no demand, or it would take more than so many steps to fill the tables.
@@ -36,7 +35,7 @@ pub fn least_ng_tours(
     if !are_made(scope, most_steps) {
         return Ok(None);
     }
-    let cells = Cells::fill(alloc, scope, Some(ng_sets), Looks::Few)?;
+    let cells = CompletionCells::fill(alloc, scope, Some(ng_sets), Looks::Few)?;
     let least = cells.least(scope, Some(ng_sets), 0, 0, demand_of_all(scope));
     if least < MARK {
         Ok(Some(least))

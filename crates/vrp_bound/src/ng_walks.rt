@@ -1,6 +1,6 @@
 //! The table of the ng-walks: the least cost of a walk from each place to the depot, by its load.
 ghost use Rattle.std.specs.Prelude.{◌≡◌, ℕ, ◌+◌, ◌*◌, ◌≤◌, ◌<◌, ◌++◌, IfOk, SomeIndex, length, slice_index, vec_len, vec_capacity};
-ghost use Rattle.vrp_bound.specs.Inner.Cells.{mark};
+ghost use Rattle.vrp_bound.specs.Inner.CompletionCells.{mark};
 ghost use Rattle.vrp_bound.specs.Inner.NgCells.{ArePulled, IsRow};
 ghost use Rattle.vrp_bound.specs.Inner.NgScaled.{AreLeastNgWalks, AreNgWalksOver, AreNgWalksOverSoFar, AreLeastOverNgSets, load_cells, place_count_of};
 ghost use Rattle.vrp_bound.specs.Inner.Scaled.{room_over};

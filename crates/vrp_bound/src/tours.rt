@@ -1,7 +1,7 @@
 //! The table of the tours: the least cost of closed walks of one truck each, by their total load.
 ghost use Rattle.std.specs.Prelude.{◌≡◌, ◌≤◌, IfOk, length};
 ghost use Rattle.vrp_model.specs.Route.{load_of};
-ghost use Rattle.vrp_bound.specs.Inner.Cells.{mark};
+ghost use Rattle.vrp_bound.specs.Inner.CompletionCells.{mark};
 ghost use Rattle.vrp_bound.specs.Inner.Scaled.{AreToursOver, AreToursOverSoFar, AreWalksOver, IsLeastTours, room_over, scaled};
 
 use crate::units::UnitScope;

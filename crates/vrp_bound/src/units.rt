@@ -8,8 +8,7 @@ ghost use Rattle.vrp_bound.specs.Inner.Units.{IsGreatestUnit, IsUnit, in_units};
 use crate::divisor::gcd;
 use crate::scope::Scope;
 use std::alloc::Global;
-use vrp_bound_ng::NgSets;
-use vrp_model::{Instance, NoMemory};
+use vrp_model::{Instance, NgSets, NoMemory};
 
 /// Some customers of an instance, the ng-sets of walks through them, if any, and a unit that divides each of their demands.
 #[derive(Clone, Copy)]

@@ -1,7 +1,7 @@
 //! The table of the walks: the least cost of a walk from each place to the depot, by its load.
 ghost use Rattle.std.specs.Prelude.{◌≡◌, ◌+◌, ◌*◌, ◌≤◌, ◌<◌, IfOk, length, vec_len, vec_capacity};
 ghost use Rattle.vrp_model.specs.Problem.{place_count};
-ghost use Rattle.vrp_bound.specs.Inner.Cells.{mark};
+ghost use Rattle.vrp_bound.specs.Inner.CompletionCells.{mark};
 ghost use Rattle.vrp_bound.specs.Inner.Scaled.{ArePlainWalks, ArePlainWalksSoFar, AreWalksOver, IsLeastPlainWalk, room_over, scaled};
 
 use crate::ng_scope::NgScope;

@@ -1,6 +1,6 @@
 //! The mean flow on each arc: how often the tours of the rounds so far use it, with the newest rounds weighted most.
+use crate::tours_used::{UsedArc, WHOLE_TOUR};
 use std::alloc::Global;
-use vrp_bound_walks::{UsedArc, WHOLE_TOUR};
 use vrp_model::NoMemory;
 
 /// The weight of one use of an arc by a whole tour.

@@ -1,12 +1,12 @@
 //! The purpose of a search for prices, and how large its tables may be.
 ghost use Rattle.std.specs.Prelude.{◌≤◌};
 
-use vrp_bound_walks::Size;
+use crate::size::Size;
 use vrp_model::Instance;
 
 /// With up to this many customers prices serve a search; with more they only bound. A search would not end there, so a good bound is
 /// worth more than a fast look-up.
-pub const MOST_SEARCHED: u16 = 127;
+pub const MOST_SEARCHED: u16 = 125;
 
 /// The most steps of a round if prices serve a search.
 pub(crate) const MAX_ROUND: u64 = 20_000_000;

@@ -1,13 +1,13 @@
 //! The ng-sets of the walks in the rounds: as large as short rounds, and enough of them, allow.
 ghost use Rattle.std.specs.Prelude.{◌≡◌, ◌≤◌, ◌/◌, ◌↔◌, IfOk, IsTrue, max};
-ghost use Rattle.vrp_bound_ng.specs.declared.ng_sets.TheConstants.{MOST_NEAR};
+ghost use Rattle.vrp_model.specs.declared.ng_sets.TheConstants.{MOST_NEAR};
 ghost use Rattle.vrp_model.specs.Problem.{place_count};
 
+use crate::near_looks::NearLooks;
 use crate::purpose::{MAX_ROUND, Purpose, remembered_for_bound};
+use crate::size::Size;
 use std::alloc::Global;
-use vrp_bound_ng::{MOST_NEAR, NgSets};
-use vrp_bound_walks::{NearLooks, Size};
-use vrp_model::{Instance, NoMemory};
+use vrp_model::{Instance, MOST_NEAR, NgSets, NoMemory};
 
 // With fewer rounds than this, more rounds gain more than ng-sets.
 const LEAST_REMEMBERING_ROUNDS: u64 = 150;

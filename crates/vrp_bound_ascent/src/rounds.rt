@@ -1,21 +1,21 @@
 //! The rounds of a search for prices: each fills tables and steps towards a higher bound.
 ghost use Rattle.std.specs.Prelude.{◌≡◌, ◌≤◌, All, IfOk, IfSome, vec_len};
-ghost use Rattle.vrp_bound_ng.specs.declared.ng_sets.TheConstants.{MOST_NEAR};
+ghost use Rattle.vrp_model.specs.declared.ng_sets.TheConstants.{MOST_NEAR};
 ghost use Rattle.vrp_model.specs.Problem.{place_count};
-ghost use Rattle.vrp_bound_prices.specs.Cut.{IsCut};
+ghost use Rattle.vrp_bound_prices.specs.CapacityCut.{IsCut};
 ghost use Rattle.vrp_bound_prices.specs.declared.limits.TheConstants.{MAX_CUTS, MAX_SCALE};
 
 use crate::purpose::{Purpose, sparse_neighbors};
 use crate::remembered::Remembered;
 use crate::shares::Shares;
+use crate::size::Size;
 use crate::step::Ascent;
 use crate::stepped_cuts::SteppedCuts;
 use crate::unit::unit_for;
+use crate::walks::Walks;
 use std::alloc::Global;
-use vrp_bound_ng::{MOST_NEAR, NgSets};
-use vrp_bound_prices::{Cut, MAX_SCALE, Relaxation};
-use vrp_bound_walks::{Size, Walks};
-use vrp_model::{Instance, NoMemory};
+use vrp_bound_prices::{CapacityCut, MAX_SCALE, Relaxation};
+use vrp_model::{Instance, MOST_NEAR, NgSets, NoMemory, Watch};
 
 // The cost of a plan, after scaling, is about this.
 const SCALED_COST: u64 = 1_000_000_000;
@@ -32,53 +32,51 @@ pub struct FoundPrices<'a> {
 /// Finds prices and cut prices that bound the instance's plans well, with the ng-sets of the walks in the rounds (the ng-routes of
 /// Baldacci, Mingozzi and Roberti 2011). `cost` is the cost of a plan, at which the bound aims. At most `steps` steps are taken: looks
 /// from one cell of a table at another, and looks at an arc for a cut with a price. Up to `near` customers are near each place, fewer if
-/// rounds would be long or few. `should_continue` is asked before each round.
+/// rounds would be long or few. The watch is asked before each round.
 ///
-/// With up to 127 customers the prices serve a search, so demands are counted in a unit that is coarse enough for a completion table.
+/// With up to 125 customers the prices serve a search, so demands are counted in a unit that is coarse enough for a completion table.
 /// With more they only bound, in finer units; if costs are symmetric, rounds are then over the arcs between near places, and one over
 /// all arcs follows in any case. `None` if the steps don't suffice for a hundred rounds without ng-sets (if prices only bound, for
 /// twelve over all arcs, or for twenty if costs are not symmetric), if no unit makes the tables small enough, or if the prices are out
 /// of range. The contract leaves open which prices and ng-sets are found: any prices bound.
-pub fn find_prices<'a, F: Fn() -> bool>(
+pub fn find_prices<'a, W: Watch>(
     alloc: Global,
     instance: &'a Instance,
     cost: u64,
     near: usize,
     steps: u64,
-    should_continue: &F,
+    watch: &W,
 ) -> Result<Option<FoundPrices<'a>>, NoMemory>
     requires near { near ≤ MOST_NEAR }
-    requires should_continue { F.IsAlwaysCallable should_continue.now }
     ensures relaxation { IfOk result (λ found.
         IfSome found (λ prices. prices.relaxation.problem ≡ instance.now)) }
     ensures ng_sets { IfOk result (λ found.
         IfSome found (λ prices. prices.ng_sets.places ≡ place_count instance.now)) }
 {
     let aim = Aim { cost, near, steps };
-    prices_for(alloc, instance, Purpose::of(instance), aim, should_continue)
+    prices_for(alloc, instance, Purpose::of(instance), aim, watch)
 }
 
-/// Finds prices and cut prices for listing the routes of an instance of at most 127 customers, with the ng-sets of the walks in the
+/// Finds prices and cut prices for listing the routes of an instance of at most 125 customers, with the ng-sets of the walks in the
 /// rounds. The arguments are those of `find_prices`. If the steps suffice for 300 rounds, demands are counted in finer units than there,
 /// since no completion table is needed. `None` if the steps don't suffice for a hundred rounds, if no unit makes the tables small
 /// enough, or if the prices are out of range. The contract leaves open which prices, units and ng-sets are found: any prices bound.
-pub fn find_prices_for_routes<'a, F: Fn() -> bool>(
+pub fn find_prices_for_routes<'a, W: Watch>(
     alloc: Global,
     instance: &'a Instance,
     cost: u64,
     near: usize,
     steps: u64,
-    should_continue: &F,
+    watch: &W,
 ) -> Result<Option<FoundPrices<'a>>, NoMemory>
     requires near { near ≤ MOST_NEAR }
-    requires should_continue { F.IsAlwaysCallable should_continue.now }
     ensures relaxation { IfOk result (λ found.
         IfSome found (λ prices. prices.relaxation.problem ≡ instance.now)) }
     ensures ng_sets { IfOk result (λ found.
         IfSome found (λ prices. prices.ng_sets.places ≡ place_count instance.now)) }
 {
     let aim = Aim { cost, near, steps };
-    prices_for(alloc, instance, Purpose::Routes, aim, should_continue)
+    prices_for(alloc, instance, Purpose::Routes, aim, watch)
 }
 
 // The aim of a search for prices, and its limits.
@@ -93,14 +91,13 @@ struct Aim {
 }
 
 // Prices and cuts for a purpose.
-fn prices_for<'a, F: Fn() -> bool>(
+fn prices_for<'a, W: Watch>(
     alloc: Global,
     instance: &'a Instance,
     purpose: Purpose,
     aim: Aim,
-    should_continue: &F,
+    watch: &W,
 ) -> Result<Option<FoundPrices<'a>>, NoMemory>
-    requires should_continue { F.IsAlwaysCallable should_continue.now }
     ensures relaxation { IfOk result (λ found.
         IfSome found (λ prices. prices.relaxation.problem ≡ instance.now)) }
     ensures ng_sets { IfOk result (λ found.
@@ -126,7 +123,7 @@ fn prices_for<'a, F: Fn() -> bool>(
         size,
         scale,
     };
-    let best = rounds.best_prices(alloc, aim, should_continue)?;
+    let best = rounds.best_prices(alloc, aim, watch)?;
     match Relaxation::new(alloc, instance, scale, unit, &best.prices, &best.cuts)? {
         Some(relaxation) => Ok(Some(FoundPrices {
             relaxation,
@@ -140,7 +137,7 @@ fn prices_for<'a, F: Fn() -> bool>(
 #[derive(Drop)]
 struct BestPrices {
     prices: Vec<i64>,
-    cuts: Vec<Cut>,
+    cuts: Vec<CapacityCut>,
 }
 
 // What all rounds share: the tables that they fill, the size of these, and the scale of the weights.
@@ -154,13 +151,12 @@ struct Rounds<'a> {
 
 impl Rounds<'_> {
     // The prices with the highest bound.
-    fn best_prices<F: Fn() -> bool>(
+    fn best_prices<W: Watch>(
         &mut self,
         alloc: Global,
         aim: Aim,
-        should_continue: &F,
+        watch: &W,
     ) -> Result<BestPrices, NoMemory>
-        requires { F.IsAlwaysCallable should_continue.now }
         ensures one_each { IfOk result (λ best. vec_len best.prices ≡ place_count self.old.instance.now) }
         ensures cuts { IfOk result (λ best. All (IsCut self.old.instance.now) best.cuts.items) }
         ensures few { IfOk result (λ best. vec_len best.cuts ≤ MAX_CUTS) }
@@ -168,7 +164,7 @@ impl Rounds<'_> {
         let mut ascent = self.new_ascent(alloc, aim.cost)?;
         // The last round is over all arcs.
         let steps = aim.steps.saturating_sub(self.size.steps());
-        self.ascend(alloc, &mut ascent, steps, should_continue)?;
+        self.ascend(alloc, &mut ascent, steps, watch)?;
         let (prices, cuts) = ascent.into_best(&mut self.walks)?;
         let prices = self.lifted(alloc, &prices, &cuts)?;
         let cuts = cuts.into_cuts(alloc, self.instance)?;
@@ -194,21 +190,20 @@ impl Rounds<'_> {
     }
 
     // Fills the tables and steps until the steps are spent, more of them are not worth it, or it is stopped.
-    fn ascend<F: Fn() -> bool>(
+    fn ascend<W: Watch>(
         &mut self,
         alloc: Global,
         ascent: &mut Ascent,
         steps: u64,
-        should_continue: &F,
+        watch: &W,
     ) -> Result<(), NoMemory>
-        requires { F.IsAlwaysCallable should_continue.now }
         ensures { self.new.instance ≡ self.old.instance }
     {
         let mut left = steps;
         let filling = self.size.steps_over(self.walks.arcs_looked_at());
         for _ in 0..Purpose::of(self.instance).most_rounds() {
             let round = filling.saturating_add(self.size.cut_prices(ascent.priced_cuts()));
-            if left < round || !should_continue() {
+            if left < round || !watch.should_continue() {
                 break;
             }
             left -= round;

@@ -7,7 +7,7 @@ use vrp_bound::trucks_needed;
 use vrp_model::{Instance, NoMemory};
 
 // The most customers of a set.
-const MOST_GROWN: u16 = 127;
+const MOST_GROWN: u16 = 125;
 
 // A set is violated if at least this much of a crossing is missing: a fifth of one.
 const LEAST_WANTING: i64 = USE / 5;

@@ -1,7 +1,9 @@
 //! Shares: each customer pays a part of the least route through it. A round learns more from one route for each customer than from the
 //! least tours, which are mostly one tour repeated. After Baldacci, Christofides and Mingozzi (2008).
+use crate::least_routes::{LeastRoute, LeastRoutes};
+use crate::tours_used::UsedArc;
+use crate::walks::Walks;
 use std::alloc::Global;
-use vrp_bound_walks::{LeastRoute, LeastRoutes, UsedArc, Walks};
 use vrp_model::NoMemory;
 
 /// The least route through each customer.

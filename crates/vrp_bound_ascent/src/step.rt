@@ -3,8 +3,9 @@ ghost use Rattle.std.specs.Prelude.{pos, ◌<ℤ◌};
 
 use crate::shares::Shares;
 use crate::stepped_cuts::SteppedCuts;
+use crate::tours_used::{UsedArc, WHOLE_TOUR};
+use crate::walks::Walks;
 use std::alloc::Global;
-use vrp_bound_walks::{UsedArc, WHOLE_TOUR, Walks};
 use vrp_model::{Instance, NoMemory};
 
 // The weight of one visit or crossing too many or too few in a direction.

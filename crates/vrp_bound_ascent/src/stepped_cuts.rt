@@ -1,14 +1,15 @@
 //! Cuts whose prices step along with the prices of customers.
 ghost use Rattle.std.specs.Prelude.{◌≤◌, All, IfOk, pos, ◌<ℤ◌, vec_len};
-ghost use Rattle.vrp_bound_prices.specs.Cut.{IsCut};
+ghost use Rattle.vrp_bound_prices.specs.CapacityCut.{IsCut};
 ghost use Rattle.vrp_bound_prices.specs.declared.limits.TheConstants.{MAX_CUTS};
 
 use crate::flow::Flow;
 use crate::separation::violated_cuts;
 use crate::step::deflected;
+use crate::tours_used::{UsedArc, WHOLE_TOUR};
+use crate::walks::Walks;
 use std::alloc::Global;
-use vrp_bound_prices::{Cut, MAX_CUT_PRICE, MAX_CUTS};
-use vrp_bound_walks::{UsedArc, WHOLE_TOUR, Walks};
+use vrp_bound_prices::{CapacityCut, MAX_CUT_PRICE, MAX_CUTS};
 use vrp_model::{Instance, NoMemory};
 
 // Cuts are looked for after this many rounds, and then whenever `ROUNDS_BETWEEN` more are made.
@@ -178,7 +179,11 @@ impl SteppedCuts {
     }
 
     /// The cuts that have a price.
-    pub(crate) fn into_cuts(self, alloc: Global, instance: &Instance) -> Result<Vec<Cut>, NoMemory>
+    pub(crate) fn into_cuts(
+        self,
+        alloc: Global,
+        instance: &Instance,
+    ) -> Result<Vec<CapacityCut>, NoMemory>
         ensures cuts { IfOk result (λ cuts. All (IsCut instance.now) cuts.items) }
         ensures few { IfOk result (λ cuts. vec_len cuts ≤ MAX_CUTS) }
     {
@@ -187,7 +192,7 @@ impl SteppedCuts {
         for cut in self.cuts {
             let cut_price = u64::try_from(cut.cut_price).unwrap_or(0).min(MAX_CUT_PRICE);
             if cut_price > 0 && cut.inside.len() == places && cuts.len() < MAX_CUTS {
-                cuts.push(Cut::new(instance, cut.inside, cut_price))?;
+                cuts.push(CapacityCut::new(instance, cut.inside, cut_price))?;
             }
         }
         Ok(cuts)

@@ -2,8 +2,8 @@
 ghost use Rattle.std.specs.Prelude.{◌≤◌, IfSome};
 
 use crate::purpose::Purpose;
+use crate::size::Size;
 use vrp_bound::gcd;
-use vrp_bound_walks::Size;
 use vrp_model::Instance;
 
 // More halvings than any capacity has.

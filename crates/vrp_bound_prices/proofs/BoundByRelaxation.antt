@@ -11,7 +11,7 @@ use Rattle.vrp_bound.specs.Bound.{IsLowerBound}
 use Rattle.vrp_bound.specs.Capacity.{IsInboundSumOf}
 use Rattle.vrp_bound.specs.NgWalks.{AreLeastNgTours, IsNgBound, IsNgRelaxed}
 use Rattle.vrp_bound.specs.Walk.{relaxed_cost}
-use Rattle.vrp_bound_ng.specs.Near.{NearOf, near_in}
+use Rattle.vrp_model.specs.Near.{NearOf, near_in}
 use Rattle.vrp_bound.proofs.BothBounds.{none_below}
 use Rattle.vrp_bound.proofs.NgCompletions.{ng_completion}
 use Rattle.vrp_model.proofs.UnservedCustomers.{all_unserved, unserved_are_customers}

@@ -14,7 +14,7 @@ use Rattle.vrp_model.proofs.DistinctWithin.{sum_among}
 use Rattle.vrp_model.proofs.UnservedCustomers.{all_unserved, stands_behind}
 use Rattle.vrp_model.proofs.Words.{last_behind, last_is, serves_customer}
 use Rattle.vrp_bound.proofs.SymbolBySymbol.{HoldsBySymbol, by_symbols, sum_behind}
-use Rattle.vrp_bound_prices.specs.Cut.{Cut, IsCut, crossings}
+use Rattle.vrp_bound_prices.specs.CapacityCut.{CapacityCut, IsCut, crossings}
 
 -- ---- one arc, by where its ends are
 
@@ -114,7 +114,7 @@ inner_load p inside (k ∷ some) within =
     omega (arith, here, rest, sum_by-cons (inner_demand p inside) k some, sum_by-cons (demand_of p) k some)
 
 -- a feasible word crosses the border of a cut twice for each of its trucks
-pub crossed_by_trucks : (p : Problem) (word : List ℕ) (cut : Cut) → IsProblem p → IsLawfulWord p word → IsCut p cut → 2 * cut.trucks ≤ crossings cut.inside 0 word
+pub crossed_by_trucks : (p : Problem) (word : List ℕ) (cut : CapacityCut) → IsProblem p → IsLawfulWord p word → IsCut p cut → 2 * cut.trucks ≤ crossings cut.inside 0 word
 crossed_by_trucks p word cut problem lawful is =
     let inside = cut.inside in
     let outside : stands_in inside 0 ≡ false = depot_outside inside (λ i d lt. customer_is_some p _ (is.known i d lt)) in

@@ -10,7 +10,7 @@ use Rattle.vrp_model.specs.Word.{stands_in}
 use Rattle.vrp_model.proofs.CustomerPlaces.{customer_is_some, is_customer}
 use Rattle.vrp_model.proofs.DistinctLists.{behind_head, customers_distinct}
 use Rattle.vrp_bound.specs.Capacity.{IsTrucks}
-use Rattle.vrp_bound_prices.specs.Cut.{IsCut}
+use Rattle.vrp_bound_prices.specs.CapacityCut.{IsCut}
 use Rattle.vrp_bound_prices.proofs.Crossed.{depot_outside, stands_not, stands_where}
 
 pub contains_picked : (test : ℕ → Bool) (xs : List ℕ) (x : ℕ) → Contains xs x → test x ≡ true → Contains (filter test xs) x

@@ -3,7 +3,7 @@ use Rattle.std.proofs.Common.{◌≡◌, ◌⊎◌, ℕ, zero, suc, ◌+◌, ◌
 use Rattle.std.specs.Prelude.{slice_index_or}
 use Rattle.std.proofs.lemmas.Nat.{mul-le}
 use Rattle.vrp_model.specs.Problem.{IsProblem, Problem, place_count, weight_of}
-use Rattle.vrp_bound_prices.specs.Cut.{Cut, cut_prices_of}
+use Rattle.vrp_bound_prices.specs.CapacityCut.{CapacityCut, cut_prices_of}
 use Rattle.vrp_bound_prices.specs.Priced.{AreLawfulPrices, above_nothing, below_nothing, price_in, rebate_in}
 
 pub not_both : (b : Bool) → b ≡ false → b ≡ true → ⊥
@@ -13,7 +13,7 @@ one_is_nothing : (z : ℤ) → (above_nothing z ≡ 0) ⊎ (below_nothing z ≡ 
 one_is_nothing (pos n) = inr refl
 one_is_nothing (negsuc n) = inl refl
 
-pub lawful_moderate : (p : Problem) (scale : ℕ) (prices : List ℤ) (cuts : List Cut) (place : ℕ) → IsProblem p → scale ≤ 1000 → place < place_count p → AreLawfulPrices p scale prices cuts
+pub lawful_moderate : (p : Problem) (scale : ℕ) (prices : List ℤ) (cuts : List CapacityCut) (place : ℕ) → IsProblem p → scale ≤ 1000 → place < place_count p → AreLawfulPrices p scale prices cuts
     → (price_in prices place ≤ 1000000000 + cut_prices_of cuts 0 place) × (rebate_in prices place ≤ 1000000000000)
 lawful_moderate p scale prices cuts zero problem few within lawful = (omega arith, omega arith)
 lawful_moderate p scale prices cuts (suc k) problem few within lawful =

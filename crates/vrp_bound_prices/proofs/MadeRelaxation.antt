@@ -3,7 +3,7 @@ use Rattle.std.proofs.Common.{◌≡◌, ℕ, ◌*◌, ◌≤◌, ℤ, List, len
 use Rattle.std.specs.Prelude.{slice_index}
 use Rattle.std.specs.List.{All}
 use Rattle.vrp_model.specs.Problem.{IsProblem, Problem, customers, demand_of, place_count}
-use Rattle.vrp_bound_prices.specs.Cut.{Cut, IsCut}
+use Rattle.vrp_bound_prices.specs.CapacityCut.{CapacityCut, IsCut}
 use Rattle.vrp_bound_prices.specs.Inner.Kept.{IsSmallRelaxation}
 use Rattle.vrp_bound_prices.specs.Inner.Arcs.{ArePricedArcs}
 use Rattle.vrp_bound_prices.specs.Priced.{IsByPrices, IsPriced, charges_of, price_in, rebate_in, rewards_of}
@@ -12,7 +12,7 @@ use Rattle.vrp_bound_prices.specs.Units.{rounded_capacity, units_of}
 use Rattle.vrp_bound_prices.proofs.PricedRows.{all_arcs}
 use Rattle.vrp_bound_prices.proofs.PricesRelax.{priced_relaxation}
 
-pub priced_when_made : (p : Problem) (unit scale : ℕ) (prices : List ℤ) (cuts : List Cut) (weights demands : List ℕ) (capacity : ℕ) → 1 ≤ unit → 1 ≤ scale → length weights ≡ place_count p * place_count p → ArePricedArcs p scale prices cuts weights → All (IsCut p) cuts
+pub priced_when_made : (p : Problem) (unit scale : ℕ) (prices : List ℤ) (cuts : List CapacityCut) (weights demands : List ℕ) (capacity : ℕ) → 1 ≤ unit → 1 ≤ scale → length weights ≡ place_count p * place_count p → ArePricedArcs p scale prices cuts weights → All (IsCut p) cuts
     → slice_index demands 0 ≡ 0 → All (λ customer. slice_index demands customer ≡ units_of unit (demand_of p customer)) (customers p) → capacity ≡ rounded_capacity p unit
     → IsPriced p (record p { weights = weights; demands = demands; capacity = capacity }) unit scale (price_in prices) (rebate_in prices) cuts
 priced_when_made p unit scale prices cuts weights demands capacity some_unit some_scale square arcs are_cuts empty units is_capacity = record {
@@ -28,7 +28,7 @@ priced_when_made p unit scale prices cuts weights demands capacity some_unit som
 
 -- ---- the numbers beside it
 
-pub by_prices : (p q : Problem) (unit scale charges rewards : ℕ) (prices : List ℤ) (cuts : List Cut) → IsPriced p q unit scale (price_in prices) (rebate_in prices) cuts → charges ≡ charges_of p (price_in prices) → rewards ≡ rewards_of p (rebate_in prices) cuts
+pub by_prices : (p q : Problem) (unit scale charges rewards : ℕ) (prices : List ℤ) (cuts : List CapacityCut) → IsPriced p q unit scale (price_in prices) (rebate_in prices) cuts → charges ≡ charges_of p (price_in prices) → rewards ≡ rewards_of p (rebate_in prices) cuts
     → IsByPrices p unit scale prices cuts (record { problem = p; relaxed = q; scale = scale; charges = charges; rewards = rewards })
 by_prices p q unit scale charges rewards prices cuts priced charged rewarded = record {
   same_problem = refl;
@@ -38,7 +38,7 @@ by_prices p q unit scale charges rewards prices cuts priced charged rewarded = r
   rewards = rewarded;
 }
 
-pub kept_when_made : (p q : Problem) (unit scale charges rewards : ℕ) (prices : List ℤ) (cuts : List Cut) → IsProblem p → IsPriced p q unit scale (price_in prices) (rebate_in prices) cuts → charges ≡ charges_of p (price_in prices) → rewards ≡ rewards_of p (rebate_in prices) cuts
+pub kept_when_made : (p q : Problem) (unit scale charges rewards : ℕ) (prices : List ℤ) (cuts : List CapacityCut) → IsProblem p → IsPriced p q unit scale (price_in prices) (rebate_in prices) cuts → charges ≡ charges_of p (price_in prices) → rewards ≡ rewards_of p (rebate_in prices) cuts
     → 1 ≤ scale → scale ≤ MAX_SCALE → charges ≤ MAX_CHARGES → rewards ≤ MAX_REWARDS → IsSmallRelaxation (record { problem = p; relaxed = q; scale = scale; charges = charges; rewards = rewards })
 kept_when_made p q unit scale charges rewards prices cuts problem priced charged rewarded some_scale small_scale small_charges small_rewards = record {
   bounds = rw (charged, rewarded) (priced_relaxation p q unit scale (price_in prices) (rebate_in prices) cuts problem priced);

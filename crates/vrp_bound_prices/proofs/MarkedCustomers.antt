@@ -11,7 +11,7 @@ use Rattle.vrp_model.specs.Route.{load_of}
 use Rattle.vrp_model.specs.Word.{stands_in}
 use Rattle.vrp_bound.specs.Capacity.{IsTrucks}
 use Rattle.vrp_bound.proofs.Trucks.{all_carried}
-use Rattle.vrp_bound_prices.specs.Cut.{IsCut, marked}
+use Rattle.vrp_bound_prices.specs.CapacityCut.{IsCut, marked}
 use Rattle.vrp_bound_prices.proofs.CutsByTest.{contains_picked, cut_by_test}
 use Rattle.vrp_bound_prices.proofs.Crossed.{stands_not, stands_where}
 

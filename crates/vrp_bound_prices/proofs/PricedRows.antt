@@ -6,12 +6,12 @@ use Rattle.std.proofs.lemmas.List.{get_or_append_left, get_or_push, length_push}
 use Rattle.std.proofs.lemmas.Nat.{mul-add-lt, same_from_place}
 use Rattle.vrp_model.specs.Problem.{Problem, place_count}
 use Rattle.vrp_model.proofs.BoundedLists.{bounded_push}
-use Rattle.vrp_bound_prices.specs.Cut.{Cut}
+use Rattle.vrp_bound_prices.specs.CapacityCut.{CapacityCut}
 use Rattle.vrp_bound_prices.specs.Inner.Arcs.{ArePricedArcs, IsPricedArc}
 use Rattle.vrp_bound_prices.specs.Priced.{costly_arc, taken_off}
 
 -- one weight more, at the next place
-pub arcs_more : (p : Problem) (scale : ℕ) (prices : List ℤ) (cuts : List Cut) (weights : List ℕ) (row column weight : ℕ) → length weights ≡ row * place_count p + column → column < place_count p
+pub arcs_more : (p : Problem) (scale : ℕ) (prices : List ℤ) (cuts : List CapacityCut) (weights : List ℕ) (row column weight : ℕ) → length weights ≡ row * place_count p + column → column < place_count p
     → IsPricedArc p scale prices cuts row column weight → weight ≤ 1000000000 → ArePricedArcs p scale prices cuts weights → ArePricedArcs p scale prices cuts (weights ++ weight ∷ [])
 arcs_more p scale prices cuts weights row column weight next within arc small so_far = record {
   each = λ from to inside before.
@@ -26,7 +26,7 @@ arcs_more p scale prices cuts weights row column weight next within arc small so
 }
 
 -- each arc, once all are written
-pub all_arcs : (p : Problem) (scale : ℕ) (prices : List ℤ) (cuts : List Cut) (weights : List ℕ) (from to : ℕ) → length weights ≡ place_count p * place_count p → ArePricedArcs p scale prices cuts weights → from < place_count p → to < place_count p → from ≢ to
+pub all_arcs : (p : Problem) (scale : ℕ) (prices : List ℤ) (cuts : List CapacityCut) (weights : List ℕ) (from to : ℕ) → length weights ≡ place_count p * place_count p → ArePricedArcs p scale prices cuts weights → from < place_count p → to < place_count p → from ≢ to
     → slice_index weights (from * place_count p + to) + taken_off prices cuts from to ≡ costly_arc p scale prices from to
 all_arcs p scale prices cuts weights from to square are here there differs =
     are.each from to there (omega (arith, square, mul-add-lt from (place_count p) to (place_count p) here there)) differs

@@ -6,7 +6,7 @@ use Rattle.std.proofs.lemmas.Nat.{mul-le}
 use Rattle.vrp_model.specs.Problem.{IsProblem, IsSymmetric, Problem, place_count, weight_of}
 use Rattle.vrp_model.specs.Word.{stands_in}
 use Rattle.vrp_model.proofs.UnservedCustomers.{nat_same}
-use Rattle.vrp_bound_prices.specs.Cut.{Cut, crosses, cut_prices_of}
+use Rattle.vrp_bound_prices.specs.CapacityCut.{CapacityCut, crosses, cut_prices_of}
 use Rattle.vrp_bound_prices.specs.Priced.{HasPrices, IsPriced, charges_of, rewards_of}
 use Rattle.vrp_bound_prices.specs.Relaxation.{IsRelaxation}
 use Rattle.vrp_bound_prices.proofs.PricedWords.{cost_with_prices, cut_prices_paid}
@@ -20,12 +20,12 @@ crossed_back true false = refl
 crossed_back false true = refl
 crossed_back false false = refl
 
-cut_prices_back : (cuts : List Cut) (from to : ℕ) → cut_prices_of cuts from to ≡ cut_prices_of cuts to from
+cut_prices_back : (cuts : List CapacityCut) (from to : ℕ) → cut_prices_of cuts from to ≡ cut_prices_of cuts to from
 cut_prices_back [] from to = refl
 cut_prices_back (cut ∷ cuts) from to =
     let here : (if crosses cut.inside from to then cut.cut_price else 0) ≡ (if crosses cut.inside to from then cut.cut_price else 0) = ap (λ b. if b then cut.cut_price else 0) (crossed_back (stands_in cut.inside from) (stands_in cut.inside to)) in
-    let there = sum_by-cons (λ (c : Cut). if crosses c.inside from to then c.cut_price else 0) cut cuts in
-    let back = sum_by-cons (λ (c : Cut). if crosses c.inside to from then c.cut_price else 0) cut cuts in
+    let there = sum_by-cons (λ (c : CapacityCut). if crosses c.inside from to then c.cut_price else 0) cut cuts in
+    let back = sum_by-cons (λ (c : CapacityCut). if crosses c.inside to from then c.cut_price else 0) cut cuts in
     omega (arith, here, cut_prices_back cuts from to, there, back)
 
 no_less : (scale one other : ℕ) → 1 ≤ scale → scale * one ≤ scale * other → one ≤ other
@@ -39,7 +39,7 @@ no_less scale one other some less = elim (cases_lt other one) [
 same_when_scaled : (scale one other : ℕ) → 1 ≤ scale → scale * one ≡ scale * other → one ≡ other
 same_when_scaled scale one other some same = omega (arith, no_less scale one other some (omega (arith, same)), no_less scale other one some (omega (arith, same)))
 
-pub symmetric_alike : (p q : Problem) (scale : ℕ) (price rebate : ℕ → ℕ) (cuts : List Cut) → place_count q ≡ place_count p → HasPrices p q scale price rebate cuts → IsSymmetric p ↔ IsSymmetric q
+pub symmetric_alike : (p q : Problem) (scale : ℕ) (price rebate : ℕ → ℕ) (cuts : List CapacityCut) → place_count q ≡ place_count p → HasPrices p q scale price rebate cuts → IsSymmetric p ↔ IsSymmetric q
 symmetric_alike p q scale price rebate cuts places has = (
   λ symmetric. λ from to here there. elim (nat_same from to) [
     | inl same ↦ subst (λ k. weight_of q from k ≡ weight_of q k from) same refl
@@ -63,7 +63,7 @@ symmetric_alike p q scale price rebate cuts places has = (
 
 -- ---- the relaxation
 
-pub priced_relaxation : (p q : Problem) (unit scale : ℕ) (price rebate : ℕ → ℕ) (cuts : List Cut) → IsProblem p → IsPriced p q unit scale price rebate cuts → IsRelaxation p q scale (charges_of p price) (rewards_of p rebate cuts)
+pub priced_relaxation : (p q : Problem) (unit scale : ℕ) (price rebate : ℕ → ℕ) (cuts : List CapacityCut) → IsProblem p → IsPriced p q unit scale price rebate cuts → IsRelaxation p q scale (charges_of p price) (rewards_of p rebate cuts)
 priced_relaxation p q unit scale price rebate cuts problem is =
     let symmetric = (symmetric_alike p q scale price rebate cuts is.rounded.same_places is.priced).1 in
     record {

@@ -1,4 +1,4 @@
-pub mod Cut
+pub mod CapacityCut
 pub mod Inner
 pub mod Priced
 pub mod Relaxation

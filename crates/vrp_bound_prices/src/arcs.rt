@@ -5,7 +5,7 @@ ghost use Rattle.vrp_bound_prices.specs.Inner.Arcs.{AreModerate, ArePricedArcs, 
 ghost use Rattle.vrp_bound_prices.specs.Priced.{AreLawfulPrices};
 ghost use Rattle.vrp_bound_prices.specs.declared.limits.TheConstants.{MAX_CUTS, MAX_SCALE};
 
-use crate::cut::Cut;
+use crate::cut::CapacityCut;
 use crate::cut_prices::cut_prices;
 use crate::prices::{price_at, rebate_at};
 use std::alloc::Global;
@@ -17,7 +17,7 @@ pub(crate) fn priced_weights(
     instance: &Instance,
     scale: u64,
     prices: &[i64],
-    cuts: &[Cut],
+    cuts: &[CapacityCut],
 ) -> Result<Option<Vec<u32>>, NoMemory>
     requires small_scale { scale ≤ MAX_SCALE }
     requires few_cuts { length cuts.now ≤ MAX_CUTS }
@@ -46,7 +46,7 @@ fn push_row(
     instance: &Instance,
     scale: u64,
     prices: &[i64],
-    cuts: &[Cut],
+    cuts: &[CapacityCut],
     from: u16,
 ) -> bool
     requires small_scale { scale ≤ MAX_SCALE }
@@ -79,7 +79,7 @@ fn priced_arc(
     instance: &Instance,
     scale: u64,
     prices: &[i64],
-    cuts: &[Cut],
+    cuts: &[CapacityCut],
     from: u16,
     to: u16,
 ) -> Option<u32>

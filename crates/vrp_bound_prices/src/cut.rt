@@ -5,7 +5,7 @@ ghost use Rattle.vrp_model.specs.Problem.{place_count};
 ghost use Rattle.vrp_model.specs.Route.{load_of};
 ghost use Rattle.vrp_model.specs.Word.{stands_in};
 ghost use Rattle.vrp_model.specs.declared.limits.TheConstants.{MAX_NODES};
-ghost use Rattle.vrp_bound_prices.specs.Cut.{IsCut, crosses, marked};
+ghost use Rattle.vrp_bound_prices.specs.CapacityCut.{IsCut, crosses, marked};
 ghost use Rattle.vrp_bound_prices.specs.declared.limits.TheConstants.{MAX_CUT_PRICE};
 
 use std::marker::Model;
@@ -15,29 +15,29 @@ use vrp_model::Instance;
 /// A set of customers, the number of trucks that their demand needs, and a cut price: the amount taken off each arc that
 /// crosses the border, with exactly one end inside (the rounded capacity inequalities of Laporte and Nobert 1983).
 #[derive(Debug, Drop)]
-pub struct Cut {
+pub struct CapacityCut {
     // A mark for each place.
     inside: Vec<bool>,
     trucks: u64,
     cut_price: u64,
 }
 
-impl Model for Cut {
+impl Model for CapacityCut {
     ghost use Rattle.std.specs.Prelude.{◌≤◌};
     ghost use Rattle.vrp_model.specs.declared.limits.TheConstants.{MAX_NODES};
-    ghost use Rattle.vrp_bound_prices.specs.Cut.{Cut, cut_of};
+    ghost use Rattle.vrp_bound_prices.specs.CapacityCut.{CapacityCut, cut_of};
     ghost use Rattle.vrp_bound_prices.specs.declared.limits.TheConstants.{MAX_CUT_PRICE};
 
-    ghost Value = { Cut };
+    ghost Value = { CapacityCut };
 
     ghost view = { λ a. cut_of a.inside.items a.trucks a.cut_price };
 
     ghost invariant = { λ a. (a.trucks ≤ MAX_NODES) × (a.cut_price ≤ MAX_CUT_PRICE) };
 }
 
-impl Cut {
+impl CapacityCut {
     /// The cut of the marked customers, with a mark for each place; the depot's mark is ignored.
-    pub fn new(instance: &Instance, inside: Vec<bool>, cut_price: u64) -> Cut
+    pub fn new(instance: &Instance, inside: Vec<bool>, cut_price: u64) -> CapacityCut
         requires one_each { vec_len inside ≡ place_count instance.now }
         requires small { cut_price ≤ MAX_CUT_PRICE }
         ensures cut { IsCut instance.now result }
@@ -45,7 +45,7 @@ impl Cut {
         ensures cut_price { result.cut_price ≡ cut_price }
     {
         let trucks = trucks_for(instance, inside.as_slice());
-        Cut {
+        CapacityCut {
             inside,
             trucks,
             cut_price,

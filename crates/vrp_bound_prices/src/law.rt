@@ -8,8 +8,8 @@ ghost use Rattle.vrp_model.specs.Word.{IsPrefix, IsLawfulWord, stands_in, unserv
 ghost use Rattle.vrp_bound.specs.AtPrefix.{IsLowerBoundAt, IsNgBoundAt};
 ghost use Rattle.vrp_bound.specs.Capacity.{IsInboundSumOf, IsTrucks};
 ghost use Rattle.vrp_bound.specs.NgWalks.{AreLeastNgTours};
-ghost use Rattle.vrp_bound_ng.specs.Near.{NearOf};
-ghost use Rattle.vrp_bound_prices.specs.Cut.{Cut, IsCut, crossings, cut_prices_along};
+ghost use Rattle.vrp_model.specs.Near.{NearOf};
+ghost use Rattle.vrp_bound_prices.specs.CapacityCut.{CapacityCut, IsCut, crossings, cut_prices_along};
 ghost use Rattle.vrp_bound_prices.specs.Priced.{HasPrices, IsPriced, charges_of, rewards_of};
 ghost use Rattle.vrp_bound_prices.specs.Relaxation.{Bounds, IsAbove, IsLimit, IsRelaxation, RelaxationOf};
 ghost use Rattle.vrp_bound_prices.specs.Units.{IsRounded};
@@ -73,7 +73,7 @@ pub fn relaxed_prefixes()
 
 /// A feasible word crosses the border of a cut at least twice for each truck that its customers' demand needs.
 pub fn cuts_are_crossed()
-    ensures { (p : Problem) (word : List ℕ) (cut : Cut)
+    ensures { (p : Problem) (word : List ℕ) (cut : CapacityCut)
         → IsProblem p → IsLawfulWord p word → IsCut p cut
         → 2 * cut.trucks ≤ crossings cut.inside 0 word }
 {}
@@ -91,7 +91,7 @@ pub fn cuts_by_test()
 /// The cost of a feasible word with prices: `scale` times its cost, plus twice the price of each customer, minus twice its
 /// rebate and the prices of the cuts that it crosses.
 pub fn costs_with_prices()
-    ensures { (p q : Problem) (scale : ℕ) (price rebate : ℕ → ℕ) (cuts : List Cut) (word : List ℕ)
+    ensures { (p q : Problem) (scale : ℕ) (price rebate : ℕ → ℕ) (cuts : List CapacityCut) (word : List ℕ)
         → IsProblem p → HasPrices p q scale price rebate cuts → IsLawfulWord p word
         → word_cost q word + cut_prices_along cuts 0 word + 2 * sum_by rebate (customers p)
         ≡ scale * word_cost p word + 2 * sum_by price (customers p) }
@@ -107,14 +107,14 @@ pub fn rounded_words()
 
 /// With prices the problem is symmetric exactly if it is without.
 pub fn same_symmetry()
-    ensures { (p q : Problem) (scale : ℕ) (price rebate : ℕ → ℕ) (cuts : List Cut)
+    ensures { (p q : Problem) (scale : ℕ) (price rebate : ℕ → ℕ) (cuts : List CapacityCut)
         → place_count q ≡ place_count p → HasPrices p q scale price rebate cuts
         → (IsSymmetric p ↔ IsSymmetric q) }
 {}
 
 /// A problem with prices, and with demands in units, is a relaxation.
 pub fn prices_relax()
-    ensures { (p q : Problem) (unit scale : ℕ) (price rebate : ℕ → ℕ) (cuts : List Cut)
+    ensures { (p q : Problem) (unit scale : ℕ) (price rebate : ℕ → ℕ) (cuts : List CapacityCut)
         → IsProblem p → IsPriced p q unit scale price rebate cuts
         → IsRelaxation p q scale (charges_of p price) (rewards_of p rebate cuts) }
 {}

@@ -12,7 +12,7 @@ mod prices;
 mod relaxation;
 
 pub use amounts::{capacity_in_units, demand_in_units};
-pub use cut::Cut;
+pub use cut::CapacityCut;
 pub use law::{
     costly_prefixes, costs_with_prices, cuts_are_crossed, cuts_by_test, prices_relax,
     relaxations_bound, relaxed_prefixes, rounded_words, same_symmetry, tours_bound, walks_bound,

@@ -6,7 +6,7 @@ ghost use Rattle.vrp_bound_prices.specs.Inner.Arcs.{AreModerate};
 ghost use Rattle.vrp_bound_prices.specs.Priced.{NoneAreLawful, price_in, rebate_in};
 ghost use Rattle.vrp_bound_prices.specs.declared.limits.TheConstants.{MAX_CHARGES, MAX_CUTS, MAX_REBATE_REWARDS};
 
-use crate::cut::Cut;
+use crate::cut::CapacityCut;
 use crate::cut_prices::cut_prices;
 use crate::limits::MAX_REBATE;
 use vrp_model::{Instance, MAX_WEIGHT};
@@ -39,7 +39,7 @@ pub(crate) fn rebate_at(prices: &[i64], place: u16) -> u64
 
 /// Whether no price is above the greatest weight plus the cut prices on the arc from the depot, and no rebate is above the
 /// greatest cost of an arc before rebates. Other prices are refused.
-pub(crate) fn are_moderate(instance: &Instance, prices: &[i64], cuts: &[Cut]) -> bool
+pub(crate) fn are_moderate(instance: &Instance, prices: &[i64], cuts: &[CapacityCut]) -> bool
     requires one_each { length prices.now ≡ place_count instance.now }
     requires few { length cuts.now ≤ MAX_CUTS }
     ensures moderate { IsTrue result → AreModerate prices.now }

@@ -6,14 +6,14 @@ ghost use Rattle.vrp_bound.specs.LowerBound.{rounded_up};
 ghost use Rattle.vrp_bound.specs.NgWalks.{NoNgTours};
 ghost use Rattle.vrp_bound.specs.Tables.{AreMadeWithin};
 ghost use Rattle.vrp_model.specs.declared.limits.TheConstants.{MAX_CAPACITY, NO_COST};
-ghost use Rattle.vrp_bound_prices.specs.Cut.{IsCut};
+ghost use Rattle.vrp_bound_prices.specs.CapacityCut.{IsCut};
 ghost use Rattle.vrp_bound_prices.specs.Priced.{AreLawfulPrices, IsByPrices};
 ghost use Rattle.vrp_bound_prices.specs.Relaxation.{Bounds, IsLimit};
 ghost use Rattle.vrp_bound_prices.specs.Units.{rounded_capacity};
 
 use crate::amounts::{capacity_in_units, demands_in_units};
 use crate::arcs::priced_weights;
-use crate::cut::Cut;
+use crate::cut::CapacityCut;
 use crate::cut_prices::cut_rewards;
 use crate::law::tours_bound;
 use crate::limits::{MAX_CUTS, MAX_SCALE};
@@ -21,8 +21,7 @@ use crate::prices::{are_moderate, charges, rebate_rewards};
 use std::alloc::Global;
 use std::marker::Model;
 use vrp_bound::{LowerBound, least_ng_tours};
-use vrp_bound_ng::NgSets;
-use vrp_model::{Instance, MAX_CAPACITY, NO_COST, NoMemory};
+use vrp_model::{Instance, MAX_CAPACITY, NO_COST, NgSets, NoMemory};
 
 /// An instance, and a second one whose plans bound its plans.
 #[derive(Debug, Drop)]
@@ -58,7 +57,7 @@ impl<'a> Relaxation<'a> {
         scale: u64,
         unit: u64,
         prices: &[i64],
-        cuts: &[Cut],
+        cuts: &[CapacityCut],
     ) -> Result<Option<Relaxation<'a>>, NoMemory>
         requires some_scale { 1 ≤ scale }
         requires small_scale { scale ≤ MAX_SCALE }

@@ -1,10 +1,11 @@
 -- From the cheapest choice of the pool to the canonical plan.
 use Rattle.std.proofs.Common.{◌≡◌, ℕ, ◌+◌, ◌≤◌, Option, Some, None, IfSome, Result, Ok, Err, IfOk, List, map, sym, ap, subst, ◌∙◌, arith}
 use Rattle.vrp_canonical.specs.Ending.{IfBound}
-use Rattle.vrp_canonical.specs.declared.canonical.PlanSearch.{PlanSearch}
-use Rattle.vrp_canonical.specs.declared.canonical.PlanSearch.TheVariants.{Canonical, Unfinished}
+use Rattle.vrp_canonical.specs.declared.canonical.RoutesOutcome.{RoutesOutcome}
+use Rattle.vrp_canonical.specs.declared.canonical.RoutesOutcome.TheVariants.{Canonical, Unfinished}
 use Rattle.vrp_canonical.specs.Ordering.{AreOrdered, route_of, stops_of}
-use Rattle.vrp_canonical.specs.Reaching.{IsFleet, IsTask, plan_at}
+use Rattle.vrp_canonical.specs.Reaching.{IsTask, plan_at}
+use Rattle.vrp_customers.specs.Fleet.{IsFleet}
 use Rattle.vrp_canonical.specs.declared.ordered.ListedRoute.{ListedRoute}
 use Rattle.vrp_canonical.specs.declared.residual.Residual.{Residual}
 use Rattle.vrp_canonical.proofs.Answered.{bounded, cheapest_canonical}
@@ -16,7 +17,7 @@ use Rattle.vrp_model.specs.Word.{word_of}
 use Rattle.vrp_model.proofs.CanonicalPlans.{same_routes}
 use Rattle.vrp_partition.specs.Choice.{IsCheapest, NoneBelow}
 use Rattle.vrp_partition.specs.declared.route.Route.{Route}
-use Rattle.vrp_routes.specs.Label.{set_of}
+use Rattle.vrp_customers.specs.CustomerSet.{set_of}
 
 -- a fact of what is there
 pub told : {X : Type 0} (o : Option X) (x : X) (P : X → Type 0) → o ≡ Some x → IfSome o P → P x
@@ -65,11 +66,11 @@ canonical_by_word p plan other canonical lawful word =
     subst (IsCanonical p) same canonical
 
 -- what is known of an unfinished search's bound, from what is known more closely
-bound_told : (found : PlanSearch) (P Q : ℕ → Type 0) → ((bound : ℕ) → P bound → Q bound) → IfBound P found → IfBound Q found
+bound_told : (found : RoutesOutcome) (P Q : ℕ → Type 0) → ((bound : ℕ) → P bound → Q bound) → IfBound P found → IfBound Q found
 bound_told (Canonical plan) P Q give is = tt
 bound_told (Unfinished word lower_bound) P Q give is = give lower_bound is
 
 -- so it is where the search was not refused memory
-pub bound_follows : {E : Type 0} (found : Result PlanSearch E) (P Q : ℕ → Type 0) → ((bound : ℕ) → P bound → Q bound) → IfOk found (IfBound P) → IfOk found (IfBound Q)
+pub bound_follows : {E : Type 0} (found : Result RoutesOutcome E) (P Q : ℕ → Type 0) → ((bound : ℕ) → P bound → Q bound) → IfOk found (IfBound P) → IfOk found (IfBound Q)
 bound_follows (Ok found) P Q give is = bound_told found P Q give is
 bound_follows (Err refusal) P Q give is = tt

@@ -2,7 +2,6 @@ pub mod Answered
 pub mod Begun
 pub mod CanonicalPlans
 pub mod Counted
-pub mod Fleets
 pub mod KnownChoices
 pub mod Marked
 pub mod Narrowing
@@ -11,3 +10,4 @@ pub mod OrderedPools
 pub mod PlanChoices
 pub mod Replies
 pub mod Rising
+pub mod SetTests

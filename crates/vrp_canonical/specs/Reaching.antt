@@ -1,16 +1,17 @@
 -- Routes of a pool by their stops, and as a choice sees them; what is asked of the pool; and what a plan may begin with.
-use Rattle.std.specs.Prelude.{◌≡◌, ◌≢◌, ℕ, ◌+◌, ◌≤◌, List, [], ◌++◌, length, map, slice_index_or}
+use Rattle.std.specs.Prelude.{◌≡◌, ◌≢◌, ℕ, ◌+◌, ◌≤◌, List, [], ◌++◌, map, slice_index_or}
 use Rattle.std.specs.Int.{bit_at}
 use Rattle.std.specs.List.{All, AllPairs, Contains}
 use Rattle.vrp_model.specs.Order.{IsEarlier, IsCanonical}
-use Rattle.vrp_model.specs.Problem.{HasTrucks, Problem, customers}
+use Rattle.vrp_model.specs.Problem.{Problem, customers}
 use Rattle.vrp_model.specs.Route.{IsLawful, PricedPlan, plan_cost, route_cost}
+use Rattle.vrp_customers.specs.Fleet.{IsFleet}
 use Rattle.vrp_partition.specs.Choice.{IsChoice}
 use Rattle.vrp_canonical.specs.declared.residual.Residual.{Residual}
 use Rattle.vrp_partition.specs.Choice.{cost_of, set_of, visits}
 use Rattle.vrp_partition.specs.declared.route.Route.{Route}
 use Rattle.vrp_routes.specs.Label.{IsBeginning}
-use Rattle.vrp_routes.specs.Label.{set_of as stops_set}
+use Rattle.vrp_customers.specs.CustomerSet.{set_of as stops_set}
 use Rattle.vrp_routes.specs.Useful.{IsUseful}
 
 -- customers, none of them twice, whom one truck can carry
@@ -27,11 +28,6 @@ pub record IsPoolOf (p : Problem) (limit : ℕ) (stops : List (List ℕ)) (pool 
   pub is : pool ≡ map (seen p) stops
   pub each : All (IsRoute p) stops
   pub every : (xs : List ℕ) → IsUseful p limit xs → Contains stops xs
-
--- a feasible plan has no more routes than this, and for each number of routes up to it there are trucks
-pub record IsFleet (p : Problem) (trucks : ℕ) : Type 0 where
-  pub has : (routes : ℕ) → routes ≤ trucks → HasTrucks p routes
-  pub most : (routes : List (List ℕ)) → IsLawful p routes → length routes ≤ trucks
 
 -- some routes of the pool serve the unserved customers with so many trucks at most, and cost no more than this
 pub record Reaches (pool : List Route) (unserved trucks most : ℕ) : Type 0 where

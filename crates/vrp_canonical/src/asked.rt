@@ -3,25 +3,26 @@ ghost use Rattle.std.specs.Prelude.{◌≤◌, IfOk};
 ghost use Rattle.std.specs.List.{All};
 ghost use Rattle.vrp_canonical.specs.Asking.{IsReply};
 
-use crate::loads::Loads;
 use crate::part::part_of;
 use crate::question::{Answered, Question};
 use crate::searches::search_within;
 use std::alloc::{AllocError, Global};
 use std::sync::atomic::{AtomicUsize, Ordering};
 use std::thread::{Threads, for_each_mut};
-use vrp_partition::{Ask, Found, Guide, Route, Team};
+use vrp_customers::Fleet;
+use vrp_model::{Crew, Watch};
+use vrp_partition::{Found, Guide, Route};
 
 /// The reply to a question: its answer, if it is known, and the part of the budget that was spent.
 #[derive(Debug, Drop)]
-pub struct Reply {
+pub struct SearchReply {
     /// The position of the question among those asked.
     pub place: usize,
     pub answer: Option<Answered>,
     pub spent: u64,
 }
 
-impl Reply {
+impl SearchReply {
     // Whether replies to later questions are useless: the known choice is not the canonical plan, or nothing is known.
     fn is_last(&self) -> bool {
         match &self.answer {
@@ -33,9 +34,9 @@ impl Reply {
 
 /// Questions about a pool. Each is answered by a search within a budget, by one worker.
 #[derive(Clone, Copy)]
-pub struct Inquiry<'a, R, A> {
-    pub team: Team<'a, R, A>,
-    pub loads: &'a Loads,
+pub struct Inquiry<'a, R, W> {
+    pub crew: &'a Crew<'a, R, W>,
+    pub fleet: &'a Fleet,
     pub pool: &'a [Route],
     pub budget: u64,
     pub questions: &'a [Question],
@@ -79,55 +80,53 @@ impl Turns {
 
 // The watch of the search for one answer: it continues only as long as the reply may be useful.
 #[derive(Clone, Copy)]
-struct Turn<'a, A> {
-    ask: &'a A,
+struct UsefulWatch<'a, W> {
+    watch: &'a W,
     turns: &'a Turns,
     place: usize,
 }
 
-impl<A: Ask> Ask for Turn<'_, A> {
+impl<W: Watch> Watch for UsefulWatch<'_, W> {
     fn should_continue(&self) -> bool {
-        self.turns.is_of_use(self.place) && self.ask.should_continue()
+        self.turns.is_of_use(self.place) && self.watch.should_continue()
     }
 }
 
 // A worker: a guide for its searches, and its replies to the questions that it took; an error until it has worked.
 #[derive(Drop)]
-struct Worker<P: Guide> {
+struct QuestionWorker<P: Guide> {
     guide: P,
-    replies: Result<Vec<Reply>, AllocError>,
+    replies: Result<Vec<SearchReply>, AllocError>,
 }
 
-impl<P: Guide + Send> Worker<P> {
+impl<P: Guide + Send> QuestionWorker<P> {
     // Takes questions as long as useful ones are left, and searches for the answers.
-    fn work<R: Threads + Sync, A: Ask>(&mut self, inquiry: &Inquiry<'_, R, A>, turns: &Turns)
-        requires workers { 1 ≤ inquiry.now.team.workers }
+    fn work<R: Threads + Sync, W: Watch>(&mut self, inquiry: &Inquiry<'_, R, W>, turns: &Turns)
         ensures { IfOk self.new.replies (λ replies. All (IsReply inquiry.now.pool.now) replies.items) }
     {
         self.replies = self.taken_replies(inquiry, turns);
     }
 
     // The replies to the questions that are taken.
-    fn taken_replies<R: Threads + Sync, A: Ask>(
+    fn taken_replies<R: Threads + Sync, W: Watch>(
         &self,
-        inquiry: &Inquiry<'_, R, A>,
+        inquiry: &Inquiry<'_, R, W>,
         turns: &Turns,
-    ) -> Result<Vec<Reply>, AllocError>
-        requires workers { 1 ≤ inquiry.now.team.workers }
+    ) -> Result<Vec<SearchReply>, AllocError>
         ensures { IfOk result (λ replies. All (IsReply inquiry.now.pool.now) replies.items) }
     {
-        let mut replies = Vec::new(inquiry.team.alloc);
+        let mut replies = Vec::new(inquiry.crew.alloc);
         for _ in 0..inquiry.questions.len() {
             let place = turns.take();
             if place >= inquiry.questions.len() || !turns.is_of_use(place) {
                 return Ok(replies);
             }
-            let turn = Turn {
-                ask: inquiry.team.ask,
+            let turn = UsefulWatch {
+                watch: inquiry.crew.watch,
                 turns,
                 place,
             };
-            let reply = self.reply_to(inquiry, &turn, inquiry.questions[place])?;
+            let reply = self.reply_to(inquiry, &turn, &inquiry.questions[place])?;
             if reply.is_last() {
                 turns.end_at(place);
             }
@@ -137,41 +136,40 @@ impl<P: Guide + Send> Worker<P> {
     }
 
     // The reply to a question, by one search.
-    fn reply_to<R: Threads + Sync, A: Ask>(
+    fn reply_to<R: Threads + Sync, W: Watch>(
         &self,
-        inquiry: &Inquiry<'_, R, A>,
-        turn: &Turn<'_, A>,
-        question: Question,
-    ) -> Result<Reply, AllocError>
-        requires workers { 1 ≤ inquiry.now.team.workers }
+        inquiry: &Inquiry<'_, R, W>,
+        turn: &UsefulWatch<'_, W>,
+        question: &Question,
+    ) -> Result<SearchReply, AllocError>
         ensures { IfOk result (IsReply inquiry.now.pool.now) }
     {
-        let rest = question.rest;
-        let team = Team {
-            rt: inquiry.team.rt,
-            alloc: inquiry.team.alloc,
-            workers: inquiry.team.workers,
-            ask: turn,
+        let rest = &question.rest;
+        let crew = Crew {
+            rt: inquiry.crew.rt,
+            alloc: inquiry.crew.alloc,
+            workers: inquiry.crew.workers,
+            watch: turn,
         };
-        let part = part_of(inquiry.team.alloc, inquiry.pool, question)?;
+        let part = part_of(inquiry.crew.alloc, inquiry.pool, question)?;
         let part = part.as_slice();
         let mut left = inquiry.budget;
-        let found = search_within(&team, &self.guide, inquiry.loads, part, rest, &mut left)?;
+        let found = search_within(&crew, &self.guide, inquiry.fleet, part, rest, &mut left)?;
         let spent = inquiry.budget - left;
         let place = turn.place;
         let Some(Found::Cheapest(chosen)) = found else {
-            return Ok(Reply {
+            return Ok(SearchReply {
                 place,
                 answer: None,
                 spent,
             });
         };
         let answer = Some(Answered {
-            question,
+            question: *question,
             yes: chosen.cost <= rest.most,
             choice: chosen.routes,
         });
-        Ok(Reply {
+        Ok(SearchReply {
             place,
             answer,
             spent,
@@ -179,19 +177,18 @@ impl<P: Guide + Send> Worker<P> {
     }
 }
 
-impl<R: Threads + Sync, A: Ask + Sync> Inquiry<'_, R, A> {
+impl<R: Threads + Sync, W: Watch + Sync> Inquiry<'_, R, W> {
     /// The replies of this many workers, in the order of the questions. The contract leaves open which questions get no reply: those may
     /// be some behind the first one whose answer is yes or unknown. Up to that one the replies are the same for any number of workers.
     pub fn replies<P: Guide + Send>(
         &self,
         guide: &P,
         workers: usize,
-    ) -> Result<Vec<Reply>, AllocError>
-        requires alone { 1 ≤ self.now.team.workers }
-        requires workers { 1 ≤ workers }
+    ) -> Result<Vec<SearchReply>, AllocError>
+        requires { 1 ≤ workers }
         ensures { IfOk result (λ replies. All (IsReply self.now.pool.now) replies.items) }
     {
-        let alloc = self.team.alloc;
+        let alloc = self.crew.alloc;
         let team = new_team(alloc, guide, workers.min(self.questions.len()))?;
         let mut replies = Vec::new(alloc);
         for worker in after_work(self, workers, team) {
@@ -208,10 +205,10 @@ fn new_team<P: Guide>(
     alloc: Global,
     guide: &P,
     workers: usize,
-) -> Result<Vec<Worker<P>>, AllocError> {
+) -> Result<Vec<QuestionWorker<P>>, AllocError> {
     let mut team = Vec::new(alloc);
     for _ in 0..workers {
-        team.push(Worker {
+        team.push(QuestionWorker {
             guide: guide.fork()?,
             replies: Err(AllocError),
         })?;
@@ -220,22 +217,20 @@ fn new_team<P: Guide>(
 }
 
 // The workers after they have worked in parallel.
-fn after_work<R: Threads + Sync, A: Ask + Sync, P: Guide + Send>(
-    inquiry: &Inquiry<'_, R, A>,
+fn after_work<R: Threads + Sync, W: Watch + Sync, P: Guide + Send>(
+    inquiry: &Inquiry<'_, R, W>,
     threads: usize,
-    mut team: Vec<Worker<P>>,
-) -> Vec<Worker<P>>
-    requires alone { 1 ≤ inquiry.now.team.workers }
-    requires threads { 1 ≤ threads }
+    mut team: Vec<QuestionWorker<P>>,
+) -> Vec<QuestionWorker<P>>
+    requires { 1 ≤ threads }
     ensures { All (λ worker. IfOk worker.replies (λ replies. All (IsReply inquiry.now.pool.now) replies.items)) result.items }
 {
     let turns = Turns::new();
     for_each_mut(
-        inquiry.team.rt,
+        inquiry.crew.rt,
         team.as_mut_slice(),
         threads,
-        &|_, worker: &mut Worker<P>|
-            requires { 1 ≤ inquiry.now.team.workers }
+        &|_, worker: &mut QuestionWorker<P>|
             ensures { IfOk worker.exit.now.replies (λ replies. All (IsReply inquiry.entry.now.pool.now) replies.items) }
         { worker.work(inquiry, &turns) },
     );

@@ -6,6 +6,7 @@ ghost use Rattle.vrp_canonical.specs.Asking.{Answers, IsRight};
 ghost use Rattle.vrp_canonical.specs.Passing.{AllHave, IsBegun, IsNarrowed};
 ghost use Rattle.vrp_canonical.specs.Reaching.{IsTask};
 ghost use Rattle.vrp_canonical.specs.declared.residual.Residual.{Residual};
+ghost use Rattle.vrp_customers.specs.declared.customer_set.TheConstants.{PLACES};
 ghost use Rattle.vrp_model.specs.Problem.{Problem};
 
 use crate::part::part_of;
@@ -13,28 +14,29 @@ use crate::question::{Answered, Question, answer_to};
 use crate::searches::Searches;
 use std::alloc::{AllocError, Global};
 use std::thread::Threads;
-use vrp_partition::{Ask, Guide, Route};
+use vrp_model::Watch;
+use vrp_partition::{Guide, Route};
 
 /// The place of the next route of the canonical plan, if it is in a run of routes that share a customer, and otherwise the end of the
 /// run. Each question asks for a route between two places of the run; known answers are used. `None` if an answer is unknown.
-pub fn narrow<R: Threads + Sync, P: Guide + Send, A: Ask + Sync>(
+pub fn narrow<R: Threads + Sync, P: Guide + Send, W: Watch + Sync>(
     alloc: Global,
-    searches: &mut Searches<'_, R, P, A>,
+    searches: &mut Searches<'_, R, P, W>,
     pool: &[Route],
     answers: &[Answered],
-    question: Question,
+    question: &Question,
 ) -> Result<Option<usize>, AllocError>
     requires right { All (IsRight pool.now) answers.now }
-    requires unserved { bit_at question.rest.unserved question.customer ≡ 1 }
-    requires end { question.high ≤ length pool.now }
-    requires some { question.low < question.high }
-    requires have { AllHave pool.now question.rest.unserved question.customer question.low question.high }
-    ensures from { IfOk result (λ answer. IfSome answer (λ at. question.low ≤ at)) }
-    ensures to { IfOk result (λ answer. IfSome answer (λ at. at ≤ question.high)) }
+    requires unserved { bit_at question.now.rest.unserved question.now.customer ≡ 1 }
+    requires end { question.now.high ≤ length pool.now }
+    requires some { question.now.low < question.now.high }
+    requires have { AllHave pool.now question.now.rest.unserved question.now.customer question.now.low question.now.high }
+    ensures from { IfOk result (λ answer. IfSome answer (λ at. question.now.low ≤ at)) }
+    ensures to { IfOk result (λ answer. IfSome answer (λ at. at ≤ question.now.high)) }
     ensures next { IfOk result (λ answer. IfSome answer (λ at. (p : Problem) (limit : ℕ) (stops : List (List ℕ))
         (whole : Residual) (chosen : List ℕ) → (task : IsTask p limit stops pool.now whole)
-        → IsBegun p stops task.plan whole question.low chosen question.rest
-        → IsNarrowed p stops task.plan whole chosen question.rest question.high at)) }
+        → IsBegun p stops task.plan whole question.now.low chosen question.now.rest
+        → IsNarrowed p stops task.plan whole chosen question.now.rest question.now.high at)) }
 {
     let Some(some) = answer_of(alloc, searches, pool, answers, question)? else {
         return Ok(None);
@@ -53,7 +55,7 @@ pub fn narrow<R: Threads + Sync, P: Guide + Send, A: Ask + Sync>(
             low,
             high: middle,
         };
-        let Some(lower) = answer_of(alloc, searches, pool, answers, lower_half)? else {
+        let Some(lower) = answer_of(alloc, searches, pool, answers, &lower_half)? else {
             return Ok(None);
         };
         if lower {
@@ -66,15 +68,15 @@ pub fn narrow<R: Threads + Sync, P: Guide + Send, A: Ask + Sync>(
 }
 
 // The answer to a question: a known one, or one by a search.
-fn answer_of<R: Threads + Sync, P: Guide + Send, A: Ask + Sync>(
+fn answer_of<R: Threads + Sync, P: Guide + Send, W: Watch + Sync>(
     alloc: Global,
-    searches: &mut Searches<'_, R, P, A>,
+    searches: &mut Searches<'_, R, P, W>,
     pool: &[Route],
     answers: &[Answered],
-    question: Question,
+    question: &Question,
 ) -> Result<Option<bool>, AllocError>
     requires right { All (IsRight pool.now) answers.now }
-    ensures { IfOk result (λ answer. IfSome answer (Answers pool.now question)) }
+    ensures { IfOk result (λ answer. IfSome answer (Answers pool.now question.now)) }
 {
     if let Some(answered) = answer_to(answers, question) {
         let yes = answered.yes;
@@ -88,27 +90,27 @@ fn answer_of<R: Threads + Sync, P: Guide + Send, A: Ask + Sync>(
 }
 
 // The answer to a question by a search.
-fn searched_answer<R: Threads + Sync, P: Guide + Send, A: Ask + Sync>(
+fn searched_answer<R: Threads + Sync, P: Guide + Send, W: Watch + Sync>(
     alloc: Global,
-    searches: &mut Searches<'_, R, P, A>,
+    searches: &mut Searches<'_, R, P, W>,
     pool: &[Route],
-    question: Question,
+    question: &Question,
 ) -> Result<Option<bool>, AllocError>
-    ensures { IfOk result (λ answer. IfSome answer (Answers pool.now question)) }
+    ensures { IfOk result (λ answer. IfSome answer (Answers pool.now question.now)) }
 {
     let part = part_of(alloc, pool, question)?;
-    searches.reaches(part.as_slice(), question.rest)
+    searches.reaches(part.as_slice(), &question.rest)
 }
 
 // A place between two others to ask up to: just before the place of the likely route, or just behind it.
-fn middle_between<R: Threads + Sync, P: Guide + Send, A: Ask + Sync>(
-    searches: &Searches<'_, R, P, A>,
+fn middle_between<R: Threads + Sync, P: Guide + Send, W: Watch + Sync>(
+    searches: &Searches<'_, R, P, W>,
     pool: &[Route],
-    customer: u32,
+    customer: u16,
     low: usize,
     high: usize,
 ) -> usize
-    requires customer { customer < 128 }
+    requires customer { customer < PLACES }
     requires some { low + 1 < high }
     requires high { high ≤ length pool.now }
     ensures from { low < result }
@@ -129,7 +131,7 @@ pub fn likely_place(pool: &[Route], low: usize, high: usize, route: Option<Route
 {
     let route = route?;
     for at in low..high {
-        let other = pool[at];
+        let other = &pool[at];
         if other.set == route.set && other.cost == route.cost {
             return Some(at);
         }

@@ -4,11 +4,9 @@
 mod ahead;
 mod asked;
 mod canonical;
-mod everyone;
 mod halving;
 mod known;
 mod law;
-mod loads;
 mod narrowed;
 mod ordered;
 mod part;
@@ -17,13 +15,11 @@ mod question;
 mod residual;
 mod run;
 mod searches;
-mod trucks;
 
-pub use canonical::{PlanSearch, canonical_plan};
+pub use canonical::{RoutesOutcome, canonical_plan};
 pub use law::{
     cheapest_answers, cheapest_is_canonical, choices_are_plans, earliest_is_next,
     least_is_canonical, next_route, none_is_cheap, plans_are_choices,
 };
 pub use plan_places::canonical_places;
 pub use residual::Residual;
-pub use trucks::fleet;

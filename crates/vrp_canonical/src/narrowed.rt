@@ -1,29 +1,29 @@
 //! The routes that may be in a choice within the cost limit, in the order of their stops.
 ghost use Rattle.std.specs.Prelude.{◌≡◌, ◌≤◌, ℕ, IfOk, IfSome, map};
 ghost use Rattle.vrp_canonical.specs.Ordering.{AreOrdered, chosen_of};
-ghost use Rattle.vrp_canonical.specs.Reaching.{IsFleet};
+ghost use Rattle.vrp_customers.specs.CustomerSet.{set_of};
+ghost use Rattle.vrp_customers.specs.Fleet.{IsFleet};
 ghost use Rattle.vrp_model.specs.Problem.{Problem, customers};
 ghost use Rattle.vrp_partition.specs.Pricing.{MarksWithin};
-ghost use Rattle.vrp_routes.specs.Label.{set_of};
 ghost use Rattle.vrp_routes.specs.Pool.{IsPool};
 
-use crate::loads::Loads;
 use crate::ordered::{ListedRoute, in_order, kept_routes, marked_routes, routes_of};
 use crate::residual::Residual;
 use std::alloc::Global;
-use vrp_model::NoMemory;
-use vrp_partition::{Ask, Guide, Query, Route, all_fit, routes_within};
+use vrp_customers::{Fleet, FleetView};
+use vrp_model::{NoMemory, Watch};
+use vrp_partition::{Guide, Query, Route, all_fit, routes_within};
 use vrp_routes::RoutePool;
 
 /// What narrows routes: the demands and the capacity, and the watch that decides whether more rounds are worth it.
 #[derive(Clone, Copy)]
-pub struct Narrowing<'a, A> {
+pub struct Narrowing<'a, W> {
     pub alloc: Global,
-    pub ask: &'a A,
-    pub loads: &'a Loads,
+    pub watch: &'a W,
+    pub fleet: &'a Fleet,
 }
 
-impl<A: Ask> Narrowing<'_, A> {
+impl<W: Watch> Narrowing<'_, W> {
     /// The routes of the pool that may be in a choice within the cost limit, in the order of their stops. `routes` are those of the pool,
     /// as a choice sees them. `None` if an amount doesn't fit 32 bits. The contract leaves open how much of the budget is spent.
     pub fn narrowed_routes<P: Guide>(
@@ -31,13 +31,13 @@ impl<A: Ask> Narrowing<'_, A> {
         guide: &mut P,
         pool: &RoutePool,
         routes: &[Route],
-        whole: Residual,
+        whole: &Residual,
         budget: &mut u64,
     ) -> Result<Option<Vec<ListedRoute>>, NoMemory>
         requires { routes.now ≡ map chosen_of pool.now }
         ensures ordered { IfOk result (λ found. IfSome found (λ ordered. (p : Problem) (limit : ℕ)
-            → IsPool p limit pool.now → IsFleet p whole.trucks → whole.unserved ≡ set_of (customers p) → whole.most ≤ limit
-            → AreOrdered p whole.most ordered.items)) }
+            → IsPool p limit pool.now → IsFleet p whole.now.trucks → whole.now.unserved ≡ set_of (customers p) → whole.now.most ≤ limit
+            → AreOrdered p whole.now.most ordered.items)) }
         ensures budget { budget.new ≤ budget.old }
     {
         let Some(marks) = self.marks_within(guide, routes, whole, budget)? else {
@@ -53,13 +53,13 @@ impl<A: Ask> Narrowing<'_, A> {
         &self,
         guide: &mut P,
         ordered: Vec<ListedRoute>,
-        before: Residual,
-        whole: Residual,
+        before: &Residual,
+        whole: &Residual,
         budget: &mut u64,
     ) -> Result<Option<Vec<ListedRoute>>, NoMemory>
         ensures ordered { IfOk result (λ found. IfSome found (λ left. (p : Problem)
-            → AreOrdered p before.most ordered.items → IsFleet p whole.trucks → whole.unserved ≡ set_of (customers p)
-            → whole.most ≤ before.most → AreOrdered p whole.most left.items)) }
+            → AreOrdered p before.now.most ordered.items → IsFleet p whole.now.trucks → whole.now.unserved ≡ set_of (customers p)
+            → whole.now.most ≤ before.now.most → AreOrdered p whole.now.most left.items)) }
         ensures budget { budget.new ≤ budget.old }
     {
         if whole.most == before.most {
@@ -83,14 +83,17 @@ impl<A: Ask> Narrowing<'_, A> {
         &self,
         guide: &mut P,
         routes: &[Route],
-        whole: Residual,
+        whole: &Residual,
         budget: &mut u64,
     ) -> Result<Option<Vec<bool>>, NoMemory>
         ensures marks { IfOk result (λ found. IfSome found (λ marks.
-            MarksWithin routes.now whole.unserved whole.trucks whole.most marks.items)) }
+            MarksWithin routes.now whole.now.unserved whole.now.trucks whole.now.most marks.items)) }
         ensures budget { budget.new ≤ budget.old }
     {
-        let fleet = self.loads.fleet(whole.trucks);
+        let fleet = FleetView {
+            trucks: whole.trucks,
+            ..self.fleet.lent()
+        };
         let Ok(limit) = u32::try_from(whole.most) else {
             return Ok(None);
         };
@@ -102,7 +105,7 @@ impl<A: Ask> Narrowing<'_, A> {
             customers: whole.unserved,
             limit,
         };
-        let marks = routes_within(self.alloc, guide, self.ask, &query, routes, budget)?;
+        let marks = routes_within(self.alloc, guide, self.watch, &query, routes, budget)?;
         Ok(Some(marks))
     }
 }

@@ -8,6 +8,7 @@ ghost use Rattle.vrp_model.specs.Order.{IsEarlier};
 ghost use Rattle.vrp_model.specs.Word.{word_of};
 
 use std::alloc::{AllocError, Global};
+use vrp_customers::CustomerSet;
 use vrp_model::NoMemory;
 use vrp_partition::Route;
 use vrp_routes::RoutePool;
@@ -16,7 +17,7 @@ use vrp_routes::RoutePool;
 #[derive(Debug, PartialEq, Eq, PartialOrd, Ord, Drop)]
 pub struct ListedRoute {
     pub stops: Vec<u16>,
-    pub set: u128,
+    pub set: CustomerSet,
     pub cost: u32,
 }
 
@@ -50,8 +51,12 @@ pub fn marked_routes(
     for at in 0..pool.len() {
         if marks[at] {
             let stops = pool.stops(alloc, at)?;
-            let Route { set, cost } = routes[at];
-            listed.push(ListedRoute { stops, set, cost })?;
+            let route = &routes[at];
+            listed.push(ListedRoute {
+                stops,
+                set: route.set,
+                cost: route.cost,
+            })?;
         }
     }
     Ok(listed)

@@ -1,6 +1,7 @@
 //! Questions about parts of the pool, and their answers.
 ghost use Rattle.std.specs.Prelude.{◌≡◌, ◌<◌, IfSome};
 ghost use Rattle.std.specs.List.{Contains};
+ghost use Rattle.vrp_customers.specs.declared.customer_set.TheConstants.{PLACES};
 
 use crate::residual::Residual;
 use vrp_partition::Route;
@@ -10,10 +11,10 @@ use vrp_partition::Route;
 #[derive(Clone, Copy, Debug, PartialEq, Eq)]
 pub struct Question {
     pub rest: Residual,
-    pub customer: u32,
+    pub customer: u16,
     pub low: usize,
     pub high: usize,
-    ghost place: { customer < 128 },
+    ghost place: { customer < PLACES },
 }
 
 /// A question and its answer. If that is yes, the routes are a choice that shows it; they are not trusted.
@@ -25,13 +26,13 @@ pub struct Answered {
 }
 
 /// The answer to a question, if it is among these answers.
-pub fn answer_to(answers: &[Answered], question: Question) -> Option<&Answered>
+pub fn answer_to<'a>(answers: &'a [Answered], question: &Question) -> Option<&'a Answered>
     ensures among { IfSome result (λ answered. Contains answers.now answered.now) }
-    ensures question { IfSome result (λ answered. answered.now.question ≡ question) }
+    ensures question { IfSome result (λ answered. answered.now.question ≡ question.now) }
 {
     for index in 0..answers.len() {
         let answered = &answers[index];
-        if answered.question == question {
+        if answered.question == *question {
             return Some(answered);
         }
     }

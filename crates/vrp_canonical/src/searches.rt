@@ -1,75 +1,63 @@
 //! Answers by searches over parts of the pool.
 ghost use Rattle.std.specs.Prelude.{◌≡◌, ◌+◌, ◌<◌, ◌≤◌, ◌↔◌, IfOk, IfSome, IsTrue, OnOk};
 ghost use Rattle.vrp_canonical.specs.Reaching.{Reaches};
+ghost use Rattle.vrp_customers.specs.declared.customer_set.TheConstants.{PLACES};
 ghost use Rattle.vrp_partition.specs.Branching.{IsFound};
 
 use crate::known::{is_choice, routes_inside};
-use crate::loads::Loads;
 use crate::residual::Residual;
 use std::alloc::{AllocError, Global};
 use std::thread::Threads;
-use vrp_partition::{Ask, Found, Guide, Route, Task, Team, all_fit, cheapest_choice};
-
-/// A watch that may stop searches, but hears nothing.
-#[derive(Clone, Copy, Debug)]
-pub struct Quiet<'a, A> {
-    pub ask: &'a A,
-}
-
-impl<A: Ask> Ask for Quiet<'_, A> {
-    fn should_continue(&self) -> bool {
-        self.ask.should_continue()
-    }
-}
+use vrp_customers::{Fleet, FleetView};
+use vrp_model::{Crew, Watch};
+use vrp_partition::{Found, Guide, Route, Task, all_fit, cheapest_choice};
 
 /// Searches within a budget, each by a fork of one guide. The choice found last answers some questions by itself.
 #[derive(Drop)]
-pub struct Searches<'a, R, P: Guide, A> {
-    pub team: &'a Team<'a, R, A>,
+pub struct Searches<'a, R, P: Guide, W> {
+    pub crew: &'a Crew<'a, R, W>,
     pub guide: &'a P,
-    pub loads: &'a Loads,
+    pub fleet: &'a Fleet,
     pub budget: u64,
     pub known: Vec<Route>,
-    ghost some_worker: { 1 ≤ team.now.workers },
 }
 
-impl<'a, R, P: Guide, A> Searches<'a, R, P, A> {
+impl<'a, R, P: Guide, W> Searches<'a, R, P, W> {
     /// Searches within a budget, with a known choice.
     pub fn new(
-        team: &'a Team<'a, R, A>,
+        crew: &'a Crew<'a, R, W>,
         guide: &'a P,
-        loads: &'a Loads,
+        fleet: &'a Fleet,
         budget: u64,
         known: Vec<Route>,
     ) -> Self
-        requires { 1 ≤ team.now.workers }
         ensures { result.budget ≡ budget }
     {
         Searches {
-            team,
+            crew,
             guide,
-            loads,
+            fleet,
             budget,
             known,
         }
     }
 }
 
-impl<R: Threads + Sync, P: Guide + Send, A: Ask + Sync> Searches<'_, R, P, A> {
+impl<R: Threads + Sync, P: Guide + Send, W: Watch + Sync> Searches<'_, R, P, W> {
     /// Whether some routes of the part serve the unserved customers with the trucks that are left, within the cost limit. `None` if that
     /// is unknown.
-    pub fn reaches(&mut self, part: &[Route], rest: Residual) -> Result<Option<bool>, AllocError>
+    pub fn reaches(&mut self, part: &[Route], rest: &Residual) -> Result<Option<bool>, AllocError>
         ensures { IfOk result (λ answer. IfSome answer (λ yes.
-            IsTrue yes ↔ Reaches part.now rest.unserved rest.trucks rest.most)) }
+            IsTrue yes ↔ Reaches part.now rest.now.unserved rest.now.trucks rest.now.most)) }
     {
-        let known = routes_inside(self.team.alloc, self.known.as_slice(), rest.unserved)?;
+        let known = routes_inside(self.crew.alloc, self.known.as_slice(), rest.unserved)?;
         if is_choice(part, known.as_slice(), rest) {
             return Ok(Some(true));
         }
         let found = search_within(
-            self.team,
+            self.crew,
             self.guide,
-            self.loads,
+            self.fleet,
             part,
             rest,
             &mut self.budget,
@@ -88,46 +76,48 @@ impl<R: Threads + Sync, P: Guide + Send, A: Ask + Sync> Searches<'_, R, P, A> {
     pub fn know(&mut self, choice: &[Route]) -> Result<(), AllocError>
         ensures { OnOk result (self.new.known.items ≡ choice.now) }
     {
-        self.known = Vec::from_slice(self.team.alloc, choice)?;
+        self.known = Vec::from_slice(self.crew.alloc, choice)?;
         Ok(())
     }
 
     /// A route that is likely to serve the customer. It is not trusted, and no clause pins it.
-    pub fn likely(&self, customer: u32) -> Option<Route>
-        requires { customer < 128 }
+    pub fn likely(&self, customer: u16) -> Option<Route>
+        requires { customer < PLACES }
     {
         self.known
             .iter()
             .copied()
-            .find(|route| route.set >> customer & 1 == 1)
+            .find(|route| route.set.contains(customer))
     }
 }
 
 /// The result of a search for a residual problem: the cheapest choice of routes, if it is within the cost limit; otherwise a cost of one
 /// more than the limit. `None` if amounts are too great for a search; no clause says when.
-pub fn search_within<R: Threads + Sync, P: Guide + Send, A: Ask>(
-    team: &Team<'_, R, A>,
+pub fn search_within<R: Threads + Sync, P: Guide + Send, W: Watch>(
+    crew: &Crew<'_, R, W>,
     guide: &P,
-    loads: &Loads,
+    fleet: &Fleet,
     routes: &[Route],
-    rest: Residual,
+    rest: &Residual,
     budget: &mut u64,
 ) -> Result<Option<Found>, AllocError>
-    requires workers { 1 ≤ team.now.workers }
-    ensures found { IfOk result (λ answer. IfSome answer (IsFound routes.now rest.unserved rest.trucks (rest.most + 1))) }
+    ensures found { IfOk result (λ answer. IfSome answer (IsFound routes.now rest.now.unserved rest.now.trucks (rest.now.most + 1))) }
     ensures budget { budget.new ≤ budget.old }
 {
-    let fleet = loads.fleet(rest.trucks);
+    let fleet = FleetView {
+        trucks: rest.trucks,
+        ..fleet.lent()
+    };
     if rest.most >= 1 << 32 || !all_fit(routes, fleet.demands, fleet.capacity) {
         return Ok(None);
     }
     let fork = guide.fork()?;
-    let pool = Vec::from_slice(team.alloc, routes)?;
+    let pool = Vec::from_slice(crew.alloc, routes)?;
     let task = Task {
         fleet,
         customers: rest.unserved,
         incumbent: rest.most + 1,
     };
-    let found = cheapest_choice(team, fork, &task, pool, budget)?;
+    let found = cheapest_choice(crew, fork, &task, pool, budget)?;
     Ok(Some(found))
 }

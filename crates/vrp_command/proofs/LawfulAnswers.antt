@@ -7,12 +7,12 @@ use Rattle.vrp_model.specs.Cheapest.{NoneCheaper}
 use Rattle.vrp_model.specs.Order.{IsCanonical}
 use Rattle.vrp_model.specs.Problem.{Problem}
 use Rattle.vrp_model.specs.Route.{IsPlanOf, PricedPlan, plan_cost}
-use Rattle.vrp_pool_answer.specs.Finding.{FindingOf, bounded_finding}
+use Rattle.vrp_answer.specs.Finding.{FindingOf, bounded_finding}
 use Rattle.vrp_command.specs.Answer.{IsAnswerTo}
 use Rattle.vrp_command.specs.Found.{told_of}
-use Rattle.vrp_pool.specs.Answer.{known_plan}
-use Rattle.vrp_pool_answer.specs.declared.answers.Answer.{Answer}
-use Rattle.vrp_pool_answer.specs.declared.answers.Answer.TheVariants.{NoPlan, Open, Proven}
+use Rattle.vrp_answer.specs.Answer.{known_plan}
+use Rattle.vrp_answer.specs.declared.answers.Answer.{Answer}
+use Rattle.vrp_answer.specs.declared.answers.Answer.TheVariants.{NoPlan, Open, Proven}
 
 pub answer_lawful : (p : Problem) (pieces budget : ℕ) (may_stop : Bool) (found : Answer) → IsAnswerTo p pieces budget may_stop found → ForSome (known_plan found) (IsPlanOf p)
 answer_lawful p pieces budget may_stop (Proven plan) canonical = λ other same. (let one : plan ≡ other = cc in subst (IsPlanOf p) one canonical.plan_of)

@@ -1,10 +1,10 @@
 -- Two runs that answer Proven tell the same.
 use Rattle.std.proofs.Common.{◌≡◌, ◌∙◌, inl, inr, ℕ, Bool, Option, None, Some, List, refl, sym, ap, subst}
-use Rattle.vrp_pool_answer.specs.Finding.{FindingOf, finding_of}
-use Rattle.vrp_pool_answer.specs.declared.answers.Answer.{Answer}
-use Rattle.vrp_pool_answer.specs.declared.answers.Answer.TheVariants as answer
-use Rattle.vrp_pool_answer.specs.declared.status.Status.{Status}
-use Rattle.vrp_pool_answer.specs.declared.status.Status.TheVariants as status
+use Rattle.vrp_answer.specs.Finding.{FindingOf, finding_of}
+use Rattle.vrp_answer.specs.declared.answers.Answer.{Answer}
+use Rattle.vrp_answer.specs.declared.answers.Answer.TheVariants as answer
+use Rattle.vrp_answer.specs.declared.status.Status.{Status}
+use Rattle.vrp_answer.specs.declared.status.Status.TheVariants as status
 use Rattle.vrp_model.specs.Order.{IsCanonical}
 use Rattle.vrp_model.specs.Problem.{Problem}
 use Rattle.vrp_model.specs.Route.{PricedPlan}

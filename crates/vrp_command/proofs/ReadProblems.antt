@@ -1,9 +1,9 @@
 -- What is written of a problem, said of the bytes that mean it.
 use Rattle.std.proofs.Common.{◌≡◌, ◌∙◌, inl, inr, ℕ, Bool, None, Option, Some, List, ap, refl, subst, sym}
-use Rattle.vrp_pool_answer.specs.Finding.{FindingOf, finding_of}
-use Rattle.vrp_pool_answer.specs.declared.answers.Answer.{Answer}
-use Rattle.vrp_pool_answer.specs.declared.answers.Answer.TheVariants.{NoPlan, Open, Proven}
-use Rattle.vrp_pool_answer.specs.declared.status.Status.{Status}
+use Rattle.vrp_answer.specs.Finding.{FindingOf, finding_of}
+use Rattle.vrp_answer.specs.declared.answers.Answer.{Answer}
+use Rattle.vrp_answer.specs.declared.answers.Answer.TheVariants.{NoPlan, Open, Proven}
+use Rattle.vrp_answer.specs.declared.status.Status.{Status}
 use Rattle.vrp_model.specs.Problem.{Problem}
 use Rattle.vrp_command.specs.Answer.{IsAnswerTo}
 use Rattle.vrp_command.specs.Form.{IsFormIn}

@@ -1,10 +1,10 @@
 -- What is found of a problem and written, said of the request and of the bytes that were read.
 use Rattle.std.proofs.Common.{◌≡◌, ◌∙◌, ◌≤◌, inl, inr, ℕ, Bool, None, Option, Some, List, Result, Ok, Err, IsTrue, OnOk, IfOk, IfErr, ap, refl, subst, sym}
 use Rattle.std.specs.Option.{ForSome, option_and_then, option_map}
-use Rattle.vrp_pool_answer.specs.Answer.{known_plan}
-use Rattle.vrp_pool_answer.specs.Finding.{FindingOf, lawful_finding}
-use Rattle.vrp_pool_answer.specs.declared.answers.Answer.{Answer}
-use Rattle.vrp_pool_answer.specs.declared.status.Status.{Status}
+use Rattle.vrp_answer.specs.Answer.{known_plan}
+use Rattle.vrp_answer.specs.Finding.{FindingOf, lawful_finding}
+use Rattle.vrp_answer.specs.declared.answers.Answer.{Answer}
+use Rattle.vrp_answer.specs.declared.status.Status.{Status}
 use Rattle.vrp_command.proofs.LawfulAnswers.{best_none_cheaper}
 use Rattle.vrp_command.specs.Answer.{IsAnswerTo}
 use Rattle.vrp_command.specs.Form.{IsFormIn, IsTextAs, WritesPart, WritesText}

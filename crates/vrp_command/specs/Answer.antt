@@ -7,9 +7,9 @@ use Rattle.vrp_model.specs.Problem.{Problem}
 use Rattle.vrp_model.specs.Route.{PricedPlan}
 use Rattle.vrp_model.specs.declared.limits.TheConstants.{MAX_NODES}
 use Rattle.vrp_search_tree.specs.Cutting.{HasNoChild, IsCutting}
-use Rattle.vrp_pool.specs.Answer.{IsLeftOpen}
-use Rattle.vrp_pool_answer.specs.declared.answers.Answer.{Answer}
-use Rattle.vrp_pool_answer.specs.declared.answers.Answer.TheVariants.{Proven, Open, NoPlan}
+use Rattle.vrp_answer.specs.Answer.{IsLeftOpen}
+use Rattle.vrp_answer.specs.declared.answers.Answer.{Answer}
+use Rattle.vrp_answer.specs.declared.answers.Answer.TheVariants.{Proven, Open, NoPlan}
 
 -- The words are cut into pieces, at least the requested number or until none has a child, and fewer than `MAX_NODES` more;
 -- some of these pieces are left.

@@ -1,7 +1,7 @@
 -- A form, and the text written in it.
 use Rattle.std.specs.Io.KnownBytes.{Appends}
 use Rattle.std.specs.Prelude.{◌≡◌, ℕ, Option, List, ⊤}
-use Rattle.vrp_pool_answer.specs.Finding.{FindingOf}
+use Rattle.vrp_answer.specs.Finding.{FindingOf}
 use Rattle.vrp_command.specs.declared.form.Form.{Form}
 use Rattle.vrp_command.specs.declared.form.Form.TheVariants as form
 use Rattle.vrp_plan_write.specs.Json.{ContextOf, IsJsonOf, context_by}

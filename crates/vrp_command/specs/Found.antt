@@ -2,10 +2,10 @@
 use Rattle.std.specs.Io.KnownBytes.{Appends}
 use Rattle.std.specs.Option.{ForSome}
 use Rattle.std.specs.Prelude.{◌≡◌, ◌⊎◌, ℕ, ◌≤◌, Bool, IsTrue, Option, Some, None, List}
-use Rattle.vrp_pool_answer.specs.Answer.{known_plan}
-use Rattle.vrp_pool_answer.specs.Finding.{FindingOf, bounded_finding, by_best_bound, lawful_finding}
-use Rattle.vrp_pool_answer.specs.declared.answers.Answer.{Answer}
-use Rattle.vrp_pool_answer.specs.declared.status.Status.{Status}
+use Rattle.vrp_answer.specs.Answer.{known_plan}
+use Rattle.vrp_answer.specs.Finding.{FindingOf, bounded_finding, by_best_bound, lawful_finding}
+use Rattle.vrp_answer.specs.declared.answers.Answer.{Answer}
+use Rattle.vrp_answer.specs.declared.status.Status.{Status}
 use Rattle.vrp_command.specs.Answer.{IsAnswerTo}
 use Rattle.vrp_command.specs.Text.{IsTextIn}
 use Rattle.vrp_plan_write.specs.Json.{ContextOf}

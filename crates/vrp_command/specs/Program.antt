@@ -2,8 +2,8 @@
 use Rattle.std.specs.Io.KnownBytes.{Appends}
 use Rattle.std.specs.Option.{option_and_then}
 use Rattle.std.specs.Prelude.{◌≡◌, ◌≢◌, ℕ, ◌<◌, ◌≤◌, Bool, true, IsSomeAnd, Option, Some, None, Result, Ok, Err, List, length, ⊤}
-use Rattle.vrp_pool_answer.specs.Finding.{FindingOf}
-use Rattle.vrp_pool_answer.specs.declared.status.Status.{Status}
+use Rattle.vrp_answer.specs.Finding.{FindingOf}
+use Rattle.vrp_answer.specs.declared.status.Status.{Status}
 use Rattle.vrp_command.specs.Found.{IsFoundBy}
 use Rattle.vrp_command.specs.Run.{OnRefusedFile, ReadsProblem, limited}
 use Rattle.vrp_command.specs.Start.{start_code}

@@ -12,9 +12,9 @@ use Rattle.vrp_command_streams.specs.Report.{report_of}
 use Rattle.vrp_command_streams.specs.declared.fault.RunError.{RunError}
 use Rattle.vrp_command_streams.specs.declared.fault.RunError.TheVariants as fault
 use Rattle.vrp_command_request.specs.declared.options.Options.{Options}
-use Rattle.vrp_pool_answer.specs.Finding.{finding_of}
-use Rattle.vrp_pool_answer.specs.declared.answers.Answer.{Answer}
-use Rattle.vrp_pool_answer.specs.declared.status.Status.{Status}
+use Rattle.vrp_answer.specs.Finding.{finding_of}
+use Rattle.vrp_answer.specs.declared.answers.Answer.{Answer}
+use Rattle.vrp_answer.specs.declared.status.Status.{Status}
 
 -- the status of a run that prints this answer
 abbrev pub status_of : Answer → Status

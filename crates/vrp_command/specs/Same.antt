@@ -1,6 +1,6 @@
 -- The common output of two runs that answer Proven over the same bytes.
 use Rattle.std.specs.Prelude.{◌≡◌, ℕ, List, ⊤}
-use Rattle.vrp_pool_answer.specs.Finding.{FindingOf}
+use Rattle.vrp_answer.specs.Finding.{FindingOf}
 use Rattle.vrp_command_request.specs.declared.options.Format.{Format}
 use Rattle.vrp_command_request.specs.declared.options.Format.TheVariants as format
 use Rattle.vrp_command_request.specs.declared.options.Request.{Request}

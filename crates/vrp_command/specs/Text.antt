@@ -1,10 +1,10 @@
 -- The text of a finding, in the form of a request.
 use Rattle.std.specs.Prelude.{◌≡◌, ℕ, if◌then◌else◌, Option, None, Some, List, ⊤}
-use Rattle.vrp_pool_answer.specs.Finding.{FindingOf}
+use Rattle.vrp_answer.specs.Finding.{FindingOf}
 use Rattle.vrp_plan_write.specs.Json.{ContextOf, IsJsonOf}
 use Rattle.vrp_plan_write.specs.declared.json.Settings.{Settings}
 use Rattle.vrp_model.specs.Problem.{Problem}
-use Rattle.vrp_command_grammar.specs.declared.grammar.TheConstants.{VERSION}
+use Rattle.vrp_command_request.specs.declared.grammar.TheConstants.{VERSION}
 use Rattle.vrp_command_request.specs.declared.options.Format.{Format}
 use Rattle.vrp_command_request.specs.declared.options.Format.TheVariants as format
 use Rattle.vrp_command_request.specs.declared.options.Request.{Request}

@@ -3,7 +3,7 @@ ghost use Rattle.std.specs.Prelude.{◌≤◌, IfOk};
 ghost use Rattle.std.specs.Option.{ForSome, option_map};
 ghost use Rattle.vrp_model.specs.Route.{IsPlanOf};
 ghost use Rattle.vrp_model.specs.Cheapest.{NoneCheaper, cost_of};
-ghost use Rattle.vrp_pool_answer.specs.Answer.{known_plan};
+ghost use Rattle.vrp_answer.specs.Answer.{known_plan};
 ghost use Rattle.vrp_command.specs.Answer.{IsAnswerTo};
 ghost use Rattle.vrp_command_request.specs.Options.{AreInRange};
 
@@ -11,8 +11,8 @@ use std::sync::Wait;
 use std::thread::Threads;
 use vrp_command_request::Options;
 use vrp_model::{Instance, Plan};
-use vrp_pool::{Gate, Resources, SolveError, Solved, solve_from};
 use vrp_search_tree::Cutting;
+use vrp_solver::{Gate, Resources, SolveError, Solved, solve_from};
 
 /// Cuts the tree of an instance into at least as many pieces as the options say, and searches them with the options' budget
 /// and workers, beginning with a plan, if one is given.

@@ -18,14 +18,14 @@ use crate::form::{NoPoints, form_of, print_finding};
 use crate::found::find;
 use crate::problem::{Problem, read_problem};
 use crate::start::{StartFile, plan_of, start_plan, stated_cost_of};
-use crate::task::Task;
+use crate::task::RequestTask;
 use std::io::{Read, Write};
 use std::sync::Wait;
 use std::thread::Threads;
 use vrp_command_request::{Format, Request};
 use vrp_command_streams::{RunError, Status};
 use vrp_model::Plan;
-use vrp_pool::{Gate, Resources};
+use vrp_solver::{Gate, Resources};
 use vrp_text::MAX_BYTES;
 
 /// Answers a request with a gate that hears of the run and may stop the search.
@@ -100,7 +100,7 @@ fn answer_on<T: Threads + Wait + Sync, S: Read + Drop, W: Write, E: Write, G: Ga
 {
     match form_of(&request, problem) {
         Ok(form) => {
-            let task = Task {
+            let task = RequestTask {
                 problem,
                 request,
                 form,
@@ -117,7 +117,7 @@ fn answer_on<T: Threads + Wait + Sync, S: Read + Drop, W: Write, E: Write, G: Ga
 // Answers a request once the problem is read and the output form is known.
 fn answer_in<T: Threads + Wait + Sync, S: Read + Drop, W: Write, E: Write, G: Gate + Sync>(
     resources: &Resources<'_, T, G>,
-    task: &Task<'_>,
+    task: &RequestTask<'_>,
     start: Option<StartFile<S>>,
     output: &mut W,
     errors: &mut E,
@@ -141,7 +141,7 @@ fn answer_in<T: Threads + Wait + Sync, S: Read + Drop, W: Write, E: Write, G: Ga
     match start_plan(resources.alloc, &task.problem.instance, start, errors) {
         Ok(solution) => {
             let plan = plan_of(solution.as_ref());
-            let stating = Task {
+            let stating = RequestTask {
                 form: task.form.stating(stated_cost_of(solution.as_ref())),
                 ..*task
             };
@@ -159,7 +159,7 @@ fn answer_in<T: Threads + Wait + Sync, S: Read + Drop, W: Write, E: Write, G: Ga
 /// Finds the answer to a task, with this start plan, if there is one, and prints it.
 pub(crate) fn answer_with<T: Threads + Wait + Sync, W: Write, E: Write, G: Gate + Sync>(
     resources: &Resources<'_, T, G>,
-    task: &Task<'_>,
+    task: &RequestTask<'_>,
     start: Option<&Plan>,
     output: &mut W,
     errors: &mut E,

@@ -11,16 +11,15 @@ use crate::deadline::Deadline;
 use crate::fault::RequestError;
 use crate::problem::read_problem;
 use crate::start::StartFile;
-use crate::task::Task;
+use crate::task::RequestTask;
 use std::alloc::Global;
 use std::io::{self, Eprint, Read, Write};
 use std::sync::Wait;
 use std::thread::Threads;
 use std::time::Clock;
-use vrp_command_progress::Progress;
 use vrp_command_request::{Format, Options, Request};
-use vrp_command_streams::{RunError, Status};
-use vrp_pool::{Gate, NoGate, Resources};
+use vrp_command_streams::{Progress, RunError, Status};
+use vrp_solver::{Gate, NoGate, Resources};
 use vrp_text::MAX_BYTES;
 
 /// Reads a CVRP file, and writes the report of a feasible plan for the problem that it means, with the chosen node as its
@@ -49,7 +48,7 @@ pub fn run<T: Threads + Wait + Sync, R: Read, W: Write>(
 {
     let problem = read_problem(alloc, options, Format::Report, input)?;
     let resources = Resources::new(rt, alloc, &NoGate);
-    let task = Task::report(&problem, options);
+    let task = RequestTask::report(&problem, options);
     // Only a report is printed, so `errors` gets nothing.
     let printed = answer_with(&resources, &task, None, output, &mut io::sink());
     drop(problem);

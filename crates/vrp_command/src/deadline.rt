@@ -3,7 +3,7 @@ ghost use Rattle.std.specs.Prelude.{◌≡◌};
 ghost use Rattle.vrp_command.specs.Program.{may_stop_by};
 
 use std::time::{Clock, Duration, Instant};
-use vrp_pool::{Event, Gate};
+use vrp_solver::{Event, Gate};
 
 /// Stops a search this many seconds after it was made, if a number is given, or when another gate says so; it passes all
 /// events on to that gate. If the clock fails or stands still, the search continues. No clause says that the clock is right.

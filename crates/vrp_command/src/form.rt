@@ -2,7 +2,7 @@
 ghost use Rattle.std.specs.Io.KnownBytes.{Keeps};
 ghost use Rattle.std.specs.Option.{ForSome, option_map};
 ghost use Rattle.std.specs.Prelude.{◌≡◌, ◌≢◌, ◌⊎◌, ℕ, Option, None, IfOk, IfErr, List, OnErr, OnOk, string_bytes};
-ghost use Rattle.vrp_pool_answer.specs.Finding.{told_by};
+ghost use Rattle.vrp_answer.specs.Finding.{told_by};
 ghost use Rattle.vrp_command.specs.Form.{IsFormIn, IsTextAs, WritesPart, WritesText};
 ghost use Rattle.vrp_command.specs.Text.{context_of, settings_of};
 ghost use Rattle.vrp_plan_write.specs.Json.{context_by};
@@ -12,12 +12,11 @@ ghost use Rattle.vrp_command_request.specs.declared.options.Request.{Request};
 use crate::problem::{Beside, Problem};
 use std::alloc::Global;
 use std::io::Write;
+use vrp_answer::Finding;
 use vrp_command_request::{Format, Request, VERSION};
 use vrp_command_streams::{RunError, Status, report_text, solution_text, write_report};
 use vrp_model::{Instance, NoMemory};
-use vrp_plan_draw::{Points, picture_text};
-use vrp_plan_write::{Context, Settings, json_text};
-use vrp_pool_answer::Finding;
+use vrp_plan_write::{Context, Points, Settings, json_text, picture_text};
 
 /// A form, and the data that it needs.
 #[derive(Clone, Copy)]
@@ -135,6 +134,8 @@ fn text_of(
     requires { ForSome (option_map (λ plan. plan.now) finding.now.plan) (IsPlanOf instance.now) }
     ensures { IfOk result (λ text. IsTextAs form.entry instance.now (told_by finding.now) (string_bytes text)) }
 {
+    // What it says of every instance is needed below.
+    let _customers = instance.customers();
     match form {
         Form::Report => Ok(report_text(alloc, instance, finding)?),
         Form::Solution => Ok(solution_text(alloc, finding)?),

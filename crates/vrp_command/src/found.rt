@@ -1,7 +1,7 @@
 //! The result of a request for an instance.
 ghost use Rattle.std.specs.Option.{ForSome, option_map};
 ghost use Rattle.std.specs.Prelude.{◌≡◌, None, Some, IfOk, IsTrue, MatchOption};
-ghost use Rattle.vrp_pool_answer.specs.Finding.{told_by};
+ghost use Rattle.vrp_answer.specs.Finding.{told_by};
 ghost use Rattle.vrp_model.specs.Route.{IsPlanOf};
 ghost use Rattle.vrp_command_request.specs.Options.{AreInRange};
 ghost use Rattle.vrp_command.specs.Found.{IsFoundBy, told_of};
@@ -10,10 +10,10 @@ ghost use Rattle.vrp_command.specs.Inner.Told.{told_found};
 use crate::answer::cut_and_solve;
 use std::sync::Wait;
 use std::thread::Threads;
+use vrp_answer::Finding;
 use vrp_command_request::Request;
 use vrp_model::{Instance, Plan};
-use vrp_pool::{Gate, Resources, SolveError, Solved};
-use vrp_pool_answer::Finding;
+use vrp_solver::{Gate, Resources, SolveError, Solved};
 
 /// The result of a request for an instance.
 #[derive(Drop)]

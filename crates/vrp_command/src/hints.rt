@@ -7,11 +7,10 @@ use crate::kept::{Kept, StartText};
 use crate::start::StartError;
 use std::fmt::Display;
 use std::io::Write;
-use vrp_command_hints::{depot_hint, file_hint, no_plan_hint, start_hint};
 use vrp_command_request::Request;
-use vrp_command_streams::{RunError, Status};
+use vrp_command_streams::{RunError, Status, depot_hint, file_hint, no_plan_hint, start_hint};
 use vrp_model::Instance;
-use vrp_pool::LEAST_PREPARED_BUDGET;
+use vrp_solver::LEAST_PREPARED_BUDGET;
 
 /// Writes a hint, if there is one, on its own line. If that fails, nothing more is done.
 pub(crate) fn tell_hint<H: Display + Drop, E: Write>(hint: Option<H>, errors: &mut E) {

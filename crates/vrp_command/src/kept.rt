@@ -17,7 +17,7 @@ use std::time::Clock;
 use vrp_command_request::Request;
 use vrp_command_streams::{RunError, Status, read_input};
 use vrp_model::Instance;
-use vrp_pool::{Gate, Resources};
+use vrp_solver::{Gate, Resources};
 use vrp_text::TextError;
 
 /// The input of a run.

@@ -1,7 +1,7 @@
 //! Laws about runs.
 ghost use Rattle.std.specs.Prelude.{◌≡◌, ℕ, Bool, List, Option};
-ghost use Rattle.vrp_pool_answer.specs.Finding.{FindingOf};
-ghost use Rattle.vrp_pool_answer.specs.declared.status.Status.TheVariants.{Proven};
+ghost use Rattle.vrp_answer.specs.Finding.{FindingOf};
+ghost use Rattle.vrp_answer.specs.declared.status.Status.TheVariants.{Proven};
 ghost use Rattle.vrp_command.specs.Program.{AnswersRequest};
 ghost use Rattle.vrp_command.specs.Run.{AnswersBytes};
 ghost use Rattle.vrp_command.specs.Same.{TellsSame};

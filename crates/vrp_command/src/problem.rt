@@ -13,8 +13,7 @@ use std::io::Read;
 use vrp_command_request::{Format, Options};
 use vrp_command_streams::{RunError, read_input};
 use vrp_model::{Instance, NoMemory};
-use vrp_plan_draw::Points;
-use vrp_plan_write::name_of;
+use vrp_plan_write::{Points, name_of};
 use vrp_text::MAX_BYTES;
 
 /// A problem that was read.

@@ -1,7 +1,7 @@
-//! The program over the words of a command line and its streams.
+//! The program over the arguments of a command line and its streams.
 ghost use Rattle.std.specs.Io.KnownBytes.{Keeps};
 ghost use Rattle.std.specs.Prelude.{◌≡◌, ◌≤◌};
-ghost use Rattle.vrp_command_request.specs.Words.{line_code};
+ghost use Rattle.vrp_command_request.specs.Arguments.{line_code};
 
 use crate::command::run_request;
 use crate::fault::end;
@@ -13,14 +13,14 @@ use std::rt::Files;
 use std::sync::Wait;
 use std::thread::Threads;
 use std::time::Clock;
-use vrp_command_request::{LineFault, line_status, parse_request, word_hint};
-use vrp_pool::{Gate, Resources};
+use vrp_command_request::{LineFault, argument_hint, line_status, parse_request};
+use vrp_solver::{Gate, Resources};
 
-/// Runs the program on the words of a command line, without the program's name, and answers the exit status: `parse_request`
-/// and then `run_request`, or `end_without_run`. Requested hints follow, and for refused words they always do. The report,
+/// Runs the program on the arguments of a command line, without the program's name, and answers the exit status: `parse_request`
+/// and then `run_request`, or `end_without_run`. Requested hints follow, and for refused arguments they always do. The report,
 /// the help and the version go to `output`; the reason for having no report goes to `errors`, and requested progress to the
 /// system's standard error. It promises nothing itself.
-pub fn run_words<
+pub fn run_arguments<
     T: Threads + Wait + Clock + Eprint + Files + Sync,
     R: Read,
     W: Write,
@@ -28,14 +28,14 @@ pub fn run_words<
     G: Gate + Sync,
 >(
     resources: &Resources<'_, T, G>,
-    words: &[&str],
+    arguments: &[&str],
     input: &mut R,
     output: &mut W,
     errors: &mut E,
 ) -> u8 {
-    let request = match parse_request(resources.alloc, words) {
+    let request = match parse_request(resources.alloc, arguments) {
         Ok(request) => request,
-        Err(fault) => return refuse(words, &fault, output, errors),
+        Err(fault) => return refuse(arguments, &fault, output, errors),
     };
     if request.explain || request.strict {
         return run_kept(resources, request, input, output, errors);
@@ -45,9 +45,9 @@ pub fn run_words<
     end(resources.alloc, &outcome, errors)
 }
 
-// Ends a run whose words give no options, with a hint on them.
+// Ends a run whose arguments give no options, with a hint on them.
 fn refuse<W: Write, E: Write>(
-    words: &[&str],
+    arguments: &[&str],
     fault: &LineFault,
     output: &mut W,
     errors: &mut E,
@@ -56,12 +56,12 @@ fn refuse<W: Write, E: Write>(
 {
     let status = end_without_run(fault, output, errors);
     if let LineFault::Refused(_) = fault {
-        tell_hint(word_hint(words), errors);
+        tell_hint(argument_hint(arguments), errors);
     }
     status
 }
 
-/// The exit status if the words give no options, or if there are none. The help and the version go to `output`, and
+/// The exit status if the arguments give no options, or if there are none. The help and the version go to `output`, and
 /// everything else to `errors`. If writing fails, nothing more is done.
 pub fn end_without_run<W: Write, E: Write>(fault: &LineFault, output: &mut W, errors: &mut E) -> u8
     ensures status { result ≡ line_code fault.now }

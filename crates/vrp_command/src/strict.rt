@@ -4,7 +4,7 @@ ghost use Rattle.vrp_command.specs.Strict.{IsCostStatus};
 
 use std::alloc::Global;
 use std::io::Write;
-use vrp_command_hints::{Quoted, stated_cost};
+use vrp_command_streams::{Quoted, stated_cost};
 use vrp_model::Instance;
 use vrp_plan_read::Solution;
 

@@ -1,2 +1,2 @@
 pub mod Options
-pub mod Words
+pub mod Arguments

@@ -3,12 +3,12 @@ use Rattle.std.specs.Prelude.{◌≡◌, ◌≢◌, ◌≤◌, None, false}
 use Rattle.std.specs.Option.{ForSome}
 use Rattle.vrp_model.specs.declared.limits.TheConstants.{MAX_NODES}
 use Rattle.vrp_search_tree.specs.declared.cutting.TheConstants.{MAX_PIECES}
-use Rattle.vrp_pool.specs.Limits.{MAX_WORKERS}
+use Rattle.vrp_solver.specs.declared.pieces.TheConstants.{MAX_WORKERS}
 use Rattle.vrp_command_request.specs.declared.options.Format.{Format}
 use Rattle.vrp_command_request.specs.declared.options.Format.TheVariants as format
 use Rattle.vrp_command_request.specs.declared.options.Options.{Options}
 use Rattle.vrp_command_request.specs.declared.options.Request.{Request}
-use Rattle.vrp_command_grammar.specs.declared.limits.TheConstants.{MAX_BUDGET}
+use Rattle.vrp_command_request.specs.declared.limits.TheConstants.{MAX_BUDGET}
 
 abbrev pub IsDefault : Options → Type 0
 IsDefault options = options ≡ record { workers = 1; pieces = 64; budget = 10000000; depot = None; trucks = None }

@@ -4,7 +4,7 @@ ghost use Rattle.vrp_command_request.specs.Options.{IsDefault, IsReport};
 /// The options of a run.
 #[derive(Clone, Copy, Debug, PartialEq, Eq)]
 pub struct Options {
-    /// The number of threads, from 1 to `vrp_pool::MAX_WORKERS`.
+    /// The number of threads, from 1 to `vrp_solver::MAX_WORKERS`.
     pub workers: u32,
     /// The least number of parts into which the search is cut, from 1 to `MAX_PIECES`.
     pub pieces: u32,

@@ -3,8 +3,8 @@ use Rattle.std.specs.Prelude.{ℕ, List, Result, Ok, Err, codes}
 use Rattle.vrp_text.specs.declared.error.TextError.{TextError}
 use Rattle.vrp_text.specs.declared.error.TextError.TheVariants as text
 use Rattle.vrp_command_streams.specs.Refusal.{refusal_text}
-use Rattle.vrp_pool_answer.specs.declared.status.Status.{Status}
-use Rattle.vrp_pool_answer.specs.declared.status.Status.TheVariants as status
+use Rattle.vrp_answer.specs.declared.status.Status.{Status}
+use Rattle.vrp_answer.specs.declared.status.Status.TheVariants as status
 use Rattle.vrp_command_streams.specs.declared.fault.RunError.{RunError}
 use Rattle.vrp_command_streams.specs.declared.fault.RunError.TheVariants as fault
 

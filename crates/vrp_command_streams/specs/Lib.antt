@@ -1,6 +1,7 @@
 pub mod Fault
 pub mod Input
-pub mod Numbering
+pub mod StopNumbers
 pub mod Output
 pub mod Refusal
 pub mod Report
+pub mod Hints

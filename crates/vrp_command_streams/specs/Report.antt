@@ -3,9 +3,9 @@ use Rattle.std.specs.Prelude.{ℕ, ◌+◌, ◌<◌, All, Option, None, Some, Li
 use Rattle.std.specs.List.{flat_map}
 use Rattle.vrp_model.specs.Problem.{Problem, node_of, place_count}
 use Rattle.vrp_model.specs.Route.{PricedPlan}
-use Rattle.vrp_pool_answer.specs.Finding.{FindingOf}
-use Rattle.vrp_pool_answer.specs.declared.status.Status.{Status}
-use Rattle.vrp_pool_answer.specs.declared.status.Status.TheVariants as status
+use Rattle.vrp_answer.specs.Finding.{FindingOf}
+use Rattle.vrp_answer.specs.declared.status.Status.{Status}
+use Rattle.vrp_answer.specs.declared.status.Status.TheVariants as status
 
 -- the stops of all these routes are places of the problem
 abbrev pub HasStopsIn : Problem → List (List ℕ) → Type 0

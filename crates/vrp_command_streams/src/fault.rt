@@ -7,8 +7,8 @@ use crate::refusal::Refusal;
 use std::alloc::{AllocError, Global};
 use std::error::Error;
 use std::fmt;
+use vrp_answer::{SolveError, Status};
 use vrp_model::NoMemory;
-use vrp_pool_answer::{SolveError, Status};
 use vrp_text::TextError;
 
 /// Why a run failed. Nothing was written, except that `Write` may leave a beginning of the report.

@@ -2,14 +2,14 @@
 //! same lines with other numbers.
 ghost use Rattle.std.specs.Prelude.{◌≡◌, ◌+◌, Some, OnOk, IfOk, ◌++◌, decimal, string_bytes, All};
 ghost use Rattle.std.specs.Option.{ForSome, option_map};
-ghost use Rattle.vrp_pool_answer.specs.Finding.{told_by};
-ghost use Rattle.vrp_command_streams.specs.Numbering.{HasNumber, HaveNumbers, number_in};
+ghost use Rattle.vrp_answer.specs.Finding.{told_by};
+ghost use Rattle.vrp_command_streams.specs.StopNumbers.{HasNumber, HaveNumbers, number_in};
 ghost use Rattle.vrp_command_streams.specs.Report.{HasStopsIn, cost_line, plan_lines, report_of, route_line, route_lines, solution_of, stops_text, verdict_line};
 
 use itoa::Buffer;
 use std::alloc::{AllocError, Global};
+use vrp_answer::{Finding, Status};
 use vrp_model::{Instance, Plan};
-use vrp_pool_answer::{Finding, Status};
 
 /// The report of a finding for the instance.
 pub fn report_text(
@@ -22,7 +22,7 @@ pub fn report_text(
 {
     let mut text = String::new(alloc);
     if let Some(plan) = finding.plan {
-        push_plan(&mut text, Numbering::Nodes(instance), plan)?;
+        push_plan(&mut text, StopNumbers::Nodes(instance), plan)?;
     }
     push_verdict(&mut text, finding)?;
     Ok(text)
@@ -35,35 +35,35 @@ pub fn solution_text(alloc: Global, finding: &Finding<'_>) -> Result<String, All
 {
     let mut text = String::new(alloc);
     if let Some(plan) = finding.plan {
-        push_plan(&mut text, Numbering::Places, plan)?;
+        push_plan(&mut text, StopNumbers::Places, plan)?;
     }
     Ok(text)
 }
 
 // The numbers by which the stops of a plan are printed.
 #[derive(Clone, Copy)]
-enum Numbering<'a> {
+enum StopNumbers<'a> {
     // The instance's node numbers.
     Nodes(&'a Instance),
     // The numbers of the places.
     Places,
 }
 
-impl Numbering<'_> {
+impl StopNumbers<'_> {
     // The number of a place.
     fn number(self, place: u16) -> u16
         requires { HasNumber self place }
         ensures { result ≡ number_in self.entry place }
     {
         match self {
-            Numbering::Nodes(instance) => instance.node(place),
-            Numbering::Places => place,
+            StopNumbers::Nodes(instance) => instance.node(place),
+            StopNumbers::Places => place,
         }
     }
 }
 
 // Appends the lines of a plan.
-fn push_plan(text: &mut String, numbering: Numbering<'_>, plan: &Plan) -> Result<(), AllocError>
+fn push_plan(text: &mut String, numbering: StopNumbers<'_>, plan: &Plan) -> Result<(), AllocError>
     requires { HaveNumbers numbering plan.now.routes }
     ensures { OnOk result (string_bytes text.new ≡ string_bytes text.old ++ plan_lines (number_in numbering.entry) (Some plan.now)) }
 {
@@ -72,7 +72,7 @@ fn push_plan(text: &mut String, numbering: Numbering<'_>, plan: &Plan) -> Result
 }
 
 // Appends a line for each route.
-fn push_routes(text: &mut String, numbering: Numbering<'_>, plan: &Plan) -> Result<(), AllocError>
+fn push_routes(text: &mut String, numbering: StopNumbers<'_>, plan: &Plan) -> Result<(), AllocError>
     requires { HaveNumbers numbering plan.now.routes }
     ensures { OnOk result (string_bytes text.new ≡ string_bytes text.old ++ route_lines (number_in numbering.entry) 1 plan.now.routes) }
 {
@@ -85,7 +85,7 @@ fn push_routes(text: &mut String, numbering: Numbering<'_>, plan: &Plan) -> Resu
 // Appends the line of one route, which has this number.
 fn push_route(
     text: &mut String,
-    numbering: Numbering<'_>,
+    numbering: StopNumbers<'_>,
     number: usize,
     route: &[u16],
 ) -> Result<(), AllocError>
@@ -101,7 +101,11 @@ fn push_route(
 }
 
 // Appends a space and the number of each stop.
-fn push_stops(text: &mut String, numbering: Numbering<'_>, route: &[u16]) -> Result<(), AllocError>
+fn push_stops(
+    text: &mut String,
+    numbering: StopNumbers<'_>,
+    route: &[u16],
+) -> Result<(), AllocError>
     requires { All (HasNumber numbering) route.now }
     ensures { OnOk result (string_bytes text.new ≡ string_bytes text.old ++ stops_text (number_in numbering.entry) route.now) }
 {

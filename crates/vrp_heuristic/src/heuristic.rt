@@ -3,12 +3,13 @@ ghost use Rattle.std.specs.Prelude.{◌<◌, ◌≤◌, IfOk, IfSome};
 ghost use Rattle.vrp_model.specs.Route.{IsPlanOf};
 
 use crate::recombined::recombined;
-use crate::runs::{Crew, Round, Run, run_all};
+use crate::runs::{Round, Run, run_all};
+use crate::savings::savings_plan;
+use crate::surroundings::Surroundings;
+use crate::threshold::Threshold;
 use std::alloc::Global;
 use std::thread::Threads;
-use vrp_heuristic_recreate::{Setting, Threshold, Watch};
-use vrp_heuristic_savings::savings_plan;
-use vrp_model::{Instance, NoMemory, Plan};
+use vrp_model::{Crew, Instance, NoMemory, Plan, Watch};
 use vrp_search_tree::{cheaper_plan, lawful_plan};
 
 /// With this many moves a run finds the cheapest plan of most instances of some 60 customers.
@@ -23,7 +24,7 @@ const RUNS_OF_MORE: u16 = 8;
 const FIRST_RUN: u64 = 49;
 
 // From this many customers on the runs go in two rounds, and no routes are gathered.
-const MANY_CUSTOMERS: u16 = 128;
+const MANY_CUSTOMERS: u16 = 126;
 
 // The most symbols of routes that a run gathers: mostly all that it finds.
 const MOST_GATHERED: usize = 1 << 20;
@@ -35,11 +36,11 @@ const POSITIONS_A_MOVE: u64 = 2_000;
 /// routes and puts each customer back where it costs least. The new plan is kept if it costs less than the last one plus a threshold,
 /// which falls to 0. There are four runs of this many moves, and eight if that is more than `ENOUGH_MOVES`. With many customers there are
 /// fewer moves, since a move looks at no more than 2,000 positions on average. The workers share the runs. Each run starts from the plan
-/// by savings; from 128 customers on the second half of the runs starts from the best plan of the first half. The answer is the best of
+/// by savings; from 126 customers on the second half of the runs starts from the best plan of the first half. The answer is the best of
 /// all these plans, by cost and then by word. It is the same at each call and for any number of workers, unless the watch stops the runs;
 /// the watch is asked before each move, and hears of each cheaper cost.
 ///
-/// With eight runs and fewer than 128 customers, the routes of good plans are gathered too, and the cheapest plan over these routes is
+/// With eight runs and fewer than 126 customers, the routes of good plans are gathered too, and the cheapest plan over these routes is
 /// taken if it costs less, as far as a search of a few seconds finds it.
 ///
 /// With a limit on trucks no route is opened beyond it. If savings find no plan within the limit, the runs start with nobody served;
@@ -48,16 +49,16 @@ const POSITIONS_A_MOVE: u64 = 2_000;
 /// `None`: no feasible plan was found. The contract leaves open which feasible plan is answered, and when there is none.
 pub fn heuristic_plan<R: Threads + Sync, W: Watch + Sync>(
     crew: &Crew<'_, R, W>,
+    instance: &Instance,
     moves: u32,
 ) -> Result<Option<Plan>, NoMemory>
-    ensures { IfOk result (λ plan. IfSome plan (IsPlanOf crew.now.instance.now)) }
+    ensures { IfOk result (λ plan. IfSome plan (IsPlanOf instance.now)) }
 {
-    let instance = crew.instance;
     let mut best = savings_plan(crew.alloc, instance)?;
     if moves == 0 || instance.customers() == 0 {
         return Ok(best);
     }
-    let setting = Setting::new(crew.alloc, instance)?;
+    let setting = Surroundings::new(crew.alloc, instance)?;
     let rounds = rounds_of(instance.customers());
     let (runs, gathers) = match (moves > ENOUGH_MOVES, rounds) {
         (false, _) => (RUNS / rounds, 0),
@@ -76,7 +77,7 @@ pub fn heuristic_plan<R: Threads + Sync, W: Watch + Sync>(
             threshold,
             gathers,
         };
-        best = best_of_round(crew, &setting, round, best)?;
+        best = best_of_round(crew, instance, &setting, round, best)?;
     }
     Ok(best)
 }
@@ -92,12 +93,13 @@ fn rounds_of(customers: u16) -> u16
 // The best of a plan, if there is one, of the plans that a round makes of it, and of a plan over the routes gathered meanwhile.
 fn best_of_round<R: Threads + Sync, W: Watch + Sync>(
     crew: &Crew<'_, R, W>,
-    setting: &Setting<'_>,
+    instance: &Instance,
+    setting: &Surroundings<'_>,
     round: Round,
     plan: Option<Plan>,
 ) -> Result<Option<Plan>, NoMemory>
-    requires { IfSome plan (IsPlanOf crew.now.instance.now) }
-    ensures { IfOk result (λ found. IfSome found (IsPlanOf crew.now.instance.now)) }
+    requires { IfSome plan (IsPlanOf instance.now) }
+    ensures { IfOk result (λ found. IfSome found (IsPlanOf instance.now)) }
 {
     let word = match &plan {
         Some(plan) => plan.word(),
@@ -113,10 +115,10 @@ fn best_of_round<R: Threads + Sync, W: Watch + Sync>(
             ..
         } = run;
         gathered.extend_from_slice(routes.word())?;
-        best = better(crew.alloc, crew.instance, &word?, best)?;
+        best = better(crew.alloc, instance, &word?, best)?;
     }
     match best {
-        Some(plan) => Ok(Some(recombined(crew, gathered.as_slice(), plan)?)),
+        Some(plan) => Ok(Some(recombined(crew, instance, gathered.as_slice(), plan)?)),
         None => Ok(None),
     }
 }

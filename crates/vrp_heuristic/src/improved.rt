@@ -4,10 +4,11 @@ ghost use Rattle.vrp_model.specs.Route.{IsPlanOf};
 
 use crate::heuristic::first_threshold;
 use crate::pace::Pace;
-use crate::runs::{Crew, Round, run_all};
+use crate::runs::{Round, run_all};
+use crate::surroundings::Surroundings;
+use crate::threshold::Threshold;
 use std::thread::Threads;
-use vrp_heuristic_recreate::{Setting, Threshold, Watch};
-use vrp_model::{NoMemory, Plan};
+use vrp_model::{Crew, Instance, NoMemory, Plan, Watch};
 use vrp_search_tree::cheaper_plan;
 
 // The number of the first run; the runs of a heuristic plan have lower ones.
@@ -22,18 +23,19 @@ const MOST_ROUNDS: u32 = 100_000;
 /// answered as it is. The contract leaves open which feasible plan is answered.
 pub fn improved_plan<R: Threads + Sync, W: Watch + Sync>(
     crew: &Crew<'_, R, W>,
+    instance: &Instance,
     plan: &Plan,
 ) -> Result<Plan, NoMemory>
-    requires { IsPlanOf crew.now.instance.now plan.now }
-    ensures lawful { IfOk result (IsPlanOf crew.now.instance.now) }
+    requires { IsPlanOf instance.now plan.now }
+    ensures lawful { IfOk result (IsPlanOf instance.now) }
     ensures no_costlier { IfOk result (λ found. found.cost ≤ plan.now.cost) }
 {
     let mut best = plan.copy(crew.alloc)?;
-    if crew.watch.milliseconds_left().is_none() || crew.instance.customers() == 0 {
+    if crew.watch.milliseconds_left().is_none() || instance.customers() == 0 {
         return Ok(best);
     }
-    let setting = Setting::new(crew.alloc, crew.instance)?;
-    let start = first_threshold(crew.instance);
+    let setting = Surroundings::new(crew.alloc, instance)?;
+    let start = first_threshold(instance);
     let mut pace = Pace::new();
     let mut first = FIRST_RUN;
     for _ in 0..MOST_ROUNDS {
@@ -52,7 +54,7 @@ pub fn improved_plan<R: Threads + Sync, W: Watch + Sync>(
             threshold,
             gathers: 0,
         };
-        best = best_of_round(crew, &setting, round, best)?;
+        best = best_of_round(crew, instance, &setting, round, best)?;
         first = first.saturating_add(u64::from(crew.workers));
         pace.note(positions, left, crew.watch.milliseconds_left());
     }
@@ -71,18 +73,19 @@ fn time_left<W: Watch>(watch: &W) -> Option<u64> {
 // The best of a plan and the plans that a round makes of it.
 fn best_of_round<R: Threads + Sync, W: Watch + Sync>(
     crew: &Crew<'_, R, W>,
-    setting: &Setting<'_>,
+    instance: &Instance,
+    setting: &Surroundings<'_>,
     round: Round,
     plan: Plan,
 ) -> Result<Plan, NoMemory>
-    requires { IsPlanOf crew.now.instance.now plan }
-    ensures lawful { IfOk result (IsPlanOf crew.now.instance.now) }
+    requires { IsPlanOf instance.now plan }
+    ensures lawful { IfOk result (IsPlanOf instance.now) }
     ensures no_costlier { IfOk result (λ found. found.cost ≤ plan.cost) }
 {
     let runs = run_all(crew, setting, round, plan.word())?;
     let mut best = plan;
     for run in runs {
-        best = cheaper_plan(crew.alloc, crew.instance, &run.word?, best)?;
+        best = cheaper_plan(crew.alloc, instance, &run.word?, best)?;
     }
     Ok(best)
 }

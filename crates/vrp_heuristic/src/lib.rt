@@ -1,15 +1,37 @@
-//! Near-optimal plans: ruin and recreate, from a plan by savings or from any other.
+//! Near-optimal plans: a plan by savings (Clarke and Wright 1964), runs of ruin and recreate (Christiaens and Vanden Berghe 2020) from it
+//! or from any other plan, and the best recombination of the routes that they find. What a run finds only guides: whoever makes a plan
+//! of it checks first that it is feasible.
 #![tactic(auto)]
 
+mod arcs;
+mod gathered;
 mod heuristic;
 mod improved;
+mod joined_routes;
+mod joint;
+mod moves;
+mod near;
 mod pace;
+mod random;
+mod reach;
 mod recombined;
+mod recreate;
+mod routes;
+mod ruin;
 mod runs;
-mod sets;
+mod savings;
+mod surroundings;
+mod taken;
+mod threshold;
 
+pub use gathered::Gathered;
 pub use heuristic::{ENOUGH_MOVES, heuristic_plan};
 pub use improved::improved_plan;
-pub use runs::Crew;
-pub use sets::route_sets;
-pub use vrp_heuristic_recreate::{Unhurried, Watch};
+pub use joined_routes::JoinedRoutes;
+pub use moves::{Course, States, run};
+pub use random::Random;
+pub use routes::Routes;
+pub use savings::savings_plan;
+pub use surroundings::Surroundings;
+pub use taken::Taken;
+pub use threshold::Threshold;

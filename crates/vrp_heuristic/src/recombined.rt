@@ -3,62 +3,47 @@ ghost use Rattle.std.specs.Prelude.{◌≡◌, ◌<◌, ◌≤◌, IfOk, length}
 ghost use Rattle.vrp_model.specs.Problem.{place_count};
 ghost use Rattle.vrp_model.specs.Route.{IsPlanOf};
 
-use crate::runs::Crew;
-use crate::sets::route_sets;
 use std::alloc::Global;
 use std::thread::Threads;
-use vrp_heuristic_recreate::Watch;
-use vrp_model::{Instance, NoMemory, Plan};
-use vrp_partition::{
-    Ask, Fleet, Found, MOST_CUSTOMERS, Route, Task, Team, all_fit, cheapest_choice,
-};
+use vrp_customers::{CustomerSet, Fleet, MOST_CUSTOMERS, PLACES, all_customers, route_sets};
+use vrp_model::{Crew, Instance, NoMemory, Plan, Quiet, Watch};
+use vrp_partition::{Found, Route, Task, all_fit, cheapest_choice};
 use vrp_search_tree::cheaper_plan;
 use vrp_simplex::ProgramGuide;
 
 // The most reduced costs that the search for the cheapest choice looks at: mostly a second at most.
 const BUDGET: u64 = 6_000_000;
 
-// A route of a word: its customers, a bit for each, its cost, its first stop, and the position of its stops. Routes are compared by
+// A route of a word: its customers, its cost, its first stop, and the position of its stops. Routes are compared by
 // customers and then by cost.
 #[derive(Clone, Copy, PartialEq, Eq, PartialOrd, Ord)]
-struct Listed {
-    set: u128,
+struct GatheredRoute {
+    set: CustomerSet,
     cost: u32,
     first: u16,
     start: usize,
     end: usize,
 }
 
-// Continues while a watch does.
-#[derive(Drop)]
-struct Asked<'a, W> {
-    watch: &'a W,
-}
-
-impl<W: Watch> Ask for Asked<'_, W> {
-    fn should_continue(&self) -> bool {
-        self.watch.should_continue()
-    }
-}
-
 /// The plan, or a cheaper one over gathered routes. These are given as a word: the stops of each route, followed by 0. They are not
 /// trusted.
 pub(crate) fn recombined<R: Threads + Sync, W: Watch + Sync>(
     crew: &Crew<'_, R, W>,
+    instance: &Instance,
     gathered: &[u16],
     plan: Plan,
 ) -> Result<Plan, NoMemory>
-    requires { IsPlanOf crew.now.instance.now plan }
-    ensures lawful { IfOk result (IsPlanOf crew.now.instance.now) }
+    requires { IsPlanOf instance.now plan }
+    ensures lawful { IfOk result (IsPlanOf instance.now) }
     ensures no_costlier { IfOk result (λ found. found.cost ≤ plan.cost) }
 {
-    if gathered.is_empty() || usize::from(crew.instance.customers()) >= MOST_CUSTOMERS {
+    if gathered.is_empty() || instance.customers() > MOST_CUSTOMERS {
         return Ok(plan);
     }
-    let listed = distinct_routes(crew.alloc, crew.instance, gathered)?;
-    let chosen = chosen_routes(crew, listed.as_slice(), &plan)?;
+    let listed = distinct_routes(crew.alloc, instance, gathered)?;
+    let chosen = chosen_routes(crew, instance, listed.as_slice(), &plan)?;
     let word = word_of(crew.alloc, gathered, listed.as_slice(), chosen.as_slice())?;
-    cheaper_plan(crew.alloc, crew.instance, &word, plan)
+    cheaper_plan(crew.alloc, instance, &word, plan)
 }
 
 // The routes of a word by their customers; among those with the same customers the cheapest.
@@ -66,7 +51,7 @@ fn distinct_routes(
     alloc: Global,
     instance: &Instance,
     word: &[u16],
-) -> Result<Vec<Listed>, NoMemory> {
+) -> Result<Vec<GatheredRoute>, NoMemory> {
     let mut listed = listed_routes(alloc, instance, word)?;
     listed.sort_unstable();
     listed.dedup_by_key(|route| route.set);
@@ -78,7 +63,7 @@ fn listed_routes(
     alloc: Global,
     instance: &Instance,
     word: &[u16],
-) -> Result<Vec<Listed>, NoMemory> {
+) -> Result<Vec<GatheredRoute>, NoMemory> {
     let mut listed = Vec::new(alloc);
     let mut start = 0;
     for end in 0..word.len() {
@@ -91,22 +76,24 @@ fn listed_routes(
 }
 
 // The route whose stops are between two positions of a word.
-fn route_between(instance: &Instance, word: &[u16], start: usize, end: usize) -> Listed
+fn route_between(instance: &Instance, word: &[u16], start: usize, end: usize) -> GatheredRoute
     requires start { start ≤ end }
     requires end { end ≤ length word.now }
 {
     let customers = instance.customers();
-    let mut set = 0u128;
+    let mut set = CustomerSet::empty();
     let mut cost: u64 = 0;
     let mut last = 0;
     for index in start..end {
         let place = word[index].min(customers);
-        set |= 1u128.checked_shl(u32::from(place)).unwrap_or(0);
+        if usize::from(place) < PLACES {
+            set = set.with(place);
+        }
         cost = cost.saturating_add(instance.weight(last, place));
         last = place;
     }
     cost = cost.saturating_add(instance.weight(last, 0));
-    Listed {
+    GatheredRoute {
         set,
         cost: u32::try_from(cost).unwrap_or(u32::MAX),
         first: word.get(start).copied().unwrap_or(0),
@@ -118,46 +105,36 @@ fn route_between(instance: &Instance, word: &[u16], start: usize, end: usize) ->
 // The cheapest choice of routes that costs less than a plan, as far as the search got. If none was found, the routes are no choice.
 fn chosen_routes<R: Threads + Sync, W: Watch + Sync>(
     crew: &Crew<'_, R, W>,
-    listed: &[Listed],
+    instance: &Instance,
+    listed: &[GatheredRoute],
     plan: &Plan,
 ) -> Result<Vec<Route>, NoMemory>
-    requires { place_count crew.now.instance.now ≤ 128 }
+    requires { place_count instance.now ≤ PLACES }
 {
-    let (alloc, instance) = (crew.alloc, crew.instance);
+    let alloc = crew.alloc;
     let pool = pool_of(alloc, listed)?;
-    let demands = demands_of(instance);
-    let capacity = u32::try_from(instance.capacity()).unwrap_or(0);
+    let fleet = Fleet::of_instance(alloc, instance)?;
     let cost = u32::try_from(plan.cost()).unwrap_or(0);
-    if cost == 0 || !all_fit(pool.as_slice(), &demands, capacity) {
+    if cost == 0 || !all_fit(pool.as_slice(), &fleet.demands, fleet.capacity) {
         return Ok(Vec::new(alloc));
     }
-    let fleet = Fleet {
-        demands: &demands,
-        capacity,
-        trucks: trucks_of(instance),
-    };
-    let ask = Asked { watch: crew.watch };
-    let team = Team {
-        rt: crew.rt,
-        alloc,
-        workers: usize::from(crew.workers),
-        ask: &ask,
-    };
-    let guide = ProgramGuide::new(alloc, fleet, route_sets(alloc, plan)?, &ask);
+    // The lower bounds of this choice hold among these routes alone, so nobody hears of them.
+    let quiet = Quiet { watch: crew.watch };
+    let guide = ProgramGuide::new(alloc, fleet.lent(), route_sets(alloc, plan)?, &quiet);
     let task = Task {
-        fleet,
+        fleet: fleet.lent(),
         customers: all_customers(instance),
         incumbent: u64::from(cost),
     };
     let mut budget = BUDGET;
-    match cheapest_choice(&team, guide, &task, pool, &mut budget)? {
+    match cheapest_choice(&crew.watched_by(&quiet), guide, &task, pool, &mut budget)? {
         Found::Cheapest(chosen) => Ok(chosen.routes),
         Found::Unfinished { best, .. } => Ok(best.routes),
     }
 }
 
 // The routes as a choice sees them.
-fn pool_of(alloc: Global, listed: &[Listed]) -> Result<Vec<Route>, NoMemory> {
+fn pool_of(alloc: Global, listed: &[GatheredRoute]) -> Result<Vec<Route>, NoMemory> {
     let mut pool = Vec::with_capacity(alloc, listed.len())?;
     for route in listed {
         pool.push(Route {
@@ -168,45 +145,11 @@ fn pool_of(alloc: Global, listed: &[Listed]) -> Result<Vec<Route>, NoMemory> {
     Ok(pool)
 }
 
-// The demands of customers 0 to 127, 0 if there is no such customer.
-fn demands_of(instance: &Instance) -> [u32; MOST_CUSTOMERS]
-    requires { place_count instance.now ≤ 128 }
-{
-    let mut demands = [0; MOST_CUSTOMERS];
-    for customer in 1..instance.customers() + 1 {
-        let demand = instance.demand(customer);
-        demands[usize::from(customer)] = u32::try_from(demand).unwrap_or(u32::MAX);
-    }
-    demands
-}
-
-// The number of trucks that may be sent out.
-fn trucks_of(instance: &Instance) -> u8
-    requires { place_count instance.now ≤ 128 }
-{
-    let customers = instance.customers();
-    match instance.trucks() {
-        Some(trucks) => trucks.min(customers) as u8,
-        None => customers as u8,
-    }
-}
-
-// All customers, a bit for each.
-fn all_customers(instance: &Instance) -> u128
-    requires { place_count instance.now ≤ 128 }
-{
-    let mut set = 0u128;
-    for index in 0..instance.customers() {
-        set |= 1 << u32::from(index + 1);
-    }
-    set
-}
-
 // The word of chosen routes by rising first stop, as far as they are listed.
 fn word_of(
     alloc: Global,
     gathered: &[u16],
-    listed: &[Listed],
+    listed: &[GatheredRoute],
     chosen: &[Route],
 ) -> Result<Vec<u16>, NoMemory> {
     let mut found = Vec::with_capacity(alloc, chosen.len())?;
@@ -220,7 +163,11 @@ fn word_of(
 }
 
 // The stops of routes of a word, each followed by 0.
-fn word_between(alloc: Global, gathered: &[u16], routes: &[Listed]) -> Result<Vec<u16>, NoMemory> {
+fn word_between(
+    alloc: Global,
+    gathered: &[u16],
+    routes: &[GatheredRoute],
+) -> Result<Vec<u16>, NoMemory> {
     let mut word = Vec::new(alloc);
     for route in routes {
         if route.start <= route.end && route.end <= gathered.len() {

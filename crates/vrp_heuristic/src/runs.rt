@@ -1,21 +1,11 @@
-//! Parallel runs of ruin and recreate, and their watch.
-ghost use Rattle.std.specs.Prelude.{◌≤◌};
-
+//! Parallel runs of ruin and recreate.
+use crate::gathered::Gathered;
+use crate::moves::{Course, run};
+use crate::surroundings::Surroundings;
+use crate::threshold::Threshold;
 use std::alloc::Global;
 use std::thread::{Threads, for_each_mut};
-use vrp_heuristic_recreate::{Course, Gathered, Setting, Threshold, Watch, run};
-use vrp_model::{Instance, NoMemory};
-
-/// The workers that look for plans, each in a thread of its own if one can be made, and their watch.
-#[derive(Drop)]
-pub struct Crew<'a, R, W> {
-    pub rt: &'a R,
-    pub alloc: Global,
-    pub instance: &'a Instance,
-    pub workers: u16,
-    pub watch: &'a W,
-    ghost some_worker: { 1 ≤ workers },
-}
+use vrp_model::{Crew, NoMemory, Watch};
 
 /// Runs of the same length; consecutive numbers from the first one on seed their chances.
 #[derive(Clone, Copy)]
@@ -60,7 +50,7 @@ pub(crate) struct Run {
 /// Makes the runs of a round from a word, in parallel. The result is the same for any number of workers, unless the watch stops them.
 pub(crate) fn run_all<R: Threads + Sync, W: Watch + Sync>(
     crew: &Crew<'_, R, W>,
-    setting: &Setting<'_>,
+    setting: &Surroundings<'_>,
     round: Round,
     word: &[u16],
 ) -> Result<Vec<Run>, NoMemory> {

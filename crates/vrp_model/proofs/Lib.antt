@@ -38,3 +38,7 @@ pub mod WeightPlaces
 pub mod WordReading
 pub mod Words
 pub mod WrittenCells
+pub mod PlacePairs
+pub mod PushedCells
+pub mod Recalled
+pub mod RememberedStops

@@ -27,7 +27,7 @@ reversed_with : (stop : ℕ) (stops : List ℕ) → reverse (stop ∷ stops) ≡
 reversed_with stop stops = reverse-append (stop ∷ []) stops
 
 -- from one place through stops to another costs as much as back, where each arc does
-arc_back : (p : Problem) (from to : ℕ) (stops : List ℕ) → IsSymmetric p → from < place_count p → to < place_count p → All (λ k. k < place_count p) stops
+pub arc_back : (p : Problem) (from to : ℕ) (stops : List ℕ) → IsSymmetric p → from < place_count p → to < place_count p → All (λ k. k < place_count p) stops
     → cost_along p from (stops ++ to ∷ []) ≡ cost_along p to (reverse stops ++ from ∷ [])
 arc_back p from to [] symmetric here there within = omega (arith, symmetric from to here there)
 arc_back p from to (stop ∷ stops) symmetric here there within =

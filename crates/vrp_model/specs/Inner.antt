@@ -7,3 +7,4 @@ pub mod Places
 pub mod Rows
 pub mod Stops
 pub mod Symmetry
+pub mod Before

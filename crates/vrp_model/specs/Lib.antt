@@ -11,3 +11,6 @@ pub mod Refusal
 pub mod Request
 pub mod Route
 pub mod Word
+pub mod NgSets
+pub mod Near
+pub mod NgWalks

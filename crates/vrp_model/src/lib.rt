@@ -1,7 +1,8 @@
-//! The capacitated vehicle routing problem: exact weights, instances and plans, and the definitions that the promises of all
-//! other crates cite (`specs/`).
+//! The capacitated vehicle routing problem: exact weights, instances and plans, the memory of walks (ng-sets), and the definitions that
+//! the promises of all other crates cite (`specs/`).
 #![tactic(auto)]
 
+mod crew;
 mod depots;
 mod instance;
 mod law;
@@ -11,12 +12,16 @@ mod limits;
 mod matrix;
 mod memory;
 mod metric;
+mod near;
+mod ng_law;
+mod ng_sets;
 mod places;
 mod plan;
 mod root;
 mod symmetry;
 mod weights;
 
+pub use crew::{Crew, News, Quiet, Unhurried, Watch};
 pub use instance::{Instance, InstanceError};
 pub use law::{
     canonical_is_cheapest, child_cases, equal_words_equal_plans, longer_trees, one_canonical,
@@ -30,6 +35,8 @@ pub use limits::{
 };
 pub use memory::NoMemory;
 pub use metric::Metric;
-pub use plan::Plan;
+pub use ng_law::{comes_back_to_none, ng_set_continues};
+pub use ng_sets::{MOST_NEAR, NgSets};
+pub use plan::{Plan, route_cost, route_load};
 pub use root::isqrt;
 pub use weights::Weights;

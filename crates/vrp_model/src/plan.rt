@@ -4,7 +4,7 @@ ghost use Rattle.std.specs.List.{All, position_or_len};
 ghost use Rattle.std.specs.List.Sorted.{IsStrictlyIncreasing};
 ghost use Rattle.vrp_model.specs.Order.{IsBefore};
 ghost use Rattle.vrp_model.specs.Problem.{HasTruckForEach, IsProblem, Problem, place_count};
-ghost use Rattle.vrp_model.specs.Route.{IsPlanOf, SendsOneToEach, route_cost};
+ghost use Rattle.vrp_model.specs.Route.{IsPlanOf, SendsOneToEach, load_of, route_cost};
 ghost use Rattle.vrp_model.specs.Inner.Stops.{routes_in, IsWordEnd};
 ghost use Rattle.vrp_model.specs.Word.{AllRunForward, HasLawfulWord, IsLawfulWord, first_stops, word_cost, word_of};
 
@@ -215,8 +215,8 @@ fn split_route(word: &[u16]) -> (&[u16], &[u16])
     (&word[..end], &word[end + 1..])
 }
 
-// The cost of a route, from the depot through its stops and back.
-fn route_cost(instance: &Instance, stops: &[u16]) -> u64
+/// The cost of a route, from the depot through its stops and back.
+pub fn route_cost(instance: &Instance, stops: &[u16]) -> u64
     requires some { 0 < place_count instance.now }
     requires places { All (λ stop. stop < place_count instance.now) stops.now }
     requires few { length stops.now ≤ 2 * MAX_NODES }
@@ -230,4 +230,19 @@ fn route_cost(instance: &Instance, stops: &[u16]) -> u64
         at = *stop;
     }
     cost + instance.weight(at, 0)
+}
+
+/// The load of a route: the total demand of its stops.
+pub fn route_load(instance: &Instance, stops: &[u16]) -> u64
+    requires places { All (λ stop. stop < place_count instance.now) stops.now }
+    requires few { length stops.now ≤ 2 * MAX_NODES }
+    ensures { result ≡ load_of instance.now stops.now }
+{
+    // The invariant of an instance bounds its demands.
+    let _customers = instance.customers();
+    let mut load = 0;
+    for stop in stops {
+        load += instance.demand(*stop);
+    }
+    load
 }

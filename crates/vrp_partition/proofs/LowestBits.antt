@@ -1,14 +1,14 @@
 -- The prices of the customers of a set, one by one.
 use Rattle.std.proofs.Common.{◌≡◌, ℕ, zero, suc, ◌+◌, ◌*◌, ◌/◌, ◌%◌, ◌^◌, ◌<◌, ◌≤◌, ◌-◌, List, [], ◌∷◌, length, get_or, refl, sym, ◌∙◌, arith, bit_and, ℤ, pos, ◌+ℤ◌, ◌*ℤ◌, unsigned_abs}
-use Rattle.std.specs.Int.{bit_at, w128}
-use Rattle.std.specs.Int.Count.{count_trailing_zeros}
+use Rattle.std.specs.Int.{bit_at}
 use Rattle.std.specs.Int.Bits.{and_self}
 use Rattle.std.specs.List.{All}
 use Rattle.std.proofs.Math.Nat.{mul-le-mul_right, zero-mul, one-mul}
 use Rattle.std.proofs.Math.IntN.{zero-*ℤ, *ℤ-one, *ℤ_comm, one}
 use Rattle.std.proofs.lemmas.Int.{ints}
 use Rattle.std.proofs.lemmas.List.Elements.{All-head, All-tail}
-use Rattle.std.proofs.lemmas.Nat.Bits.{bit_at-suc, bit_at_and, bit_at_lowest, bit_at-trailing_zeros}
+use Rattle.std.proofs.lemmas.Nat.Bits.{bit_at-suc, bit_at_and, bit_at_lowest}
+use Rattle.vrp_customers.specs.CustomerSet.{IsFirst}
 use Rattle.vrp_partition.specs.Prices.{dual_sum, load_of}
 use Rattle.vrp_partition.proofs.Weights.{and_lowest, and_half}
 
@@ -59,28 +59,23 @@ dual_sum_small (y ∷ ys) s m each =
     let both = sum_small (pos (s % 2) *ℤ y) (dual_sum ys (s / 2)) m (length ys * m) here rest in
     omega (arith, both)
 
--- one price more
-pub record NextPrice (ys : List ℤ) (s customers : ℕ) (total : ℤ) : Type 0 where
-  pub within : count_trailing_zeros 128 s < 128
-  pub price : unsigned_abs (get_or ys (count_trailing_zeros 128 s) (pos 0)) ≤ 2 ^ 52
-  pub small : unsigned_abs (total +ℤ get_or ys (count_trailing_zeros 128 s) (pos 0)) ≤ 2 ^ 60
-  pub next : total +ℤ get_or ys (count_trailing_zeros 128 s) (pos 0) +ℤ dual_sum ys (bit_and s (s - 1)) ≡ dual_sum ys customers
+-- one price more: that of the lowest customer
+pub record NextPrice (ys : List ℤ) (s first customers : ℕ) (total : ℤ) : Type 0 where
+  pub price : unsigned_abs (get_or ys first (pos 0)) ≤ 2 ^ 52
+  pub small : unsigned_abs (total +ℤ get_or ys first (pos 0)) ≤ 2 ^ 61
+  pub next : total +ℤ get_or ys first (pos 0) +ℤ dual_sum ys (bit_and s (s - 1)) ≡ dual_sum ys customers
 
-pub next_price : (ys : List ℤ) (s customers : ℕ) (total : ℤ) → length ys ≡ 128 → All (λ y. unsigned_abs y ≤ 2 ^ 52) ys → 0 < s → s < 2 ^ 128 → total +ℤ dual_sum ys s ≡ dual_sum ys customers → NextPrice ys s customers total
-next_price ys s customers total len small some fits was =
-    let bits = bit_at-trailing_zeros w128 s some fits in
-    let k = count_trailing_zeros 128 s in
-    let within : k < 128 = bits.0 in
-    let inside : k < length ys = omega (arith, len, within) in
-    let step = dual_sum_lowest ys k s (pos 0) inside bits.1 bits.2 in
-    let price : unsigned_abs (get_or ys k (pos 0)) ≤ 2 ^ 52 = small k (pos 0) inside in
-    let next : total +ℤ get_or ys k (pos 0) +ℤ dual_sum ys (bit_and s (s - 1)) ≡ dual_sum ys customers = omega (arith, ints, step, was) in
+pub next_price : (ys : List ℤ) (s first customers : ℕ) (total : ℤ) → length ys ≡ 256 → All (λ y. unsigned_abs y ≤ 2 ^ 52) ys → IsFirst s first → total +ℤ dual_sum ys s ≡ dual_sum ys customers → NextPrice ys s first customers total
+next_price ys s first customers total len small is was =
+    let inside : first < length ys = omega (arith, len, is.within) in
+    let step = dual_sum_lowest ys first s (pos 0) inside is.stands is.lowest in
+    let price : unsigned_abs (get_or ys first (pos 0)) ≤ 2 ^ 52 = small first (pos 0) inside in
+    let next : total +ℤ get_or ys first (pos 0) +ℤ dual_sum ys (bit_and s (s - 1)) ≡ dual_sum ys customers = omega (arith, ints, step, was) in
     let a = dual_sum_small ys customers (2 ^ 52) small in
     let b = dual_sum_small ys (bit_and s (s - 1)) (2 ^ 52) small in
     record {
-      within = within;
       price = price;
-      small = differ (total +ℤ get_or ys k (pos 0)) (dual_sum ys (bit_and s (s - 1))) (dual_sum ys customers) (2 ^ 59) next (omega (arith, b, len)) (omega (arith, a, len));
+      small = differ (total +ℤ get_or ys first (pos 0)) (dual_sum ys (bit_and s (s - 1))) (dual_sum ys customers) (2 ^ 60) next (omega (arith, b, len)) (omega (arith, a, len));
       next = next;
     }
   where
@@ -90,9 +85,6 @@ next_price ys s customers total len small some fits was =
 -- without the lowest bit, a set has fewer
 pub lowest_dropped : (s left : ℕ) → ((i : ℕ) → bit_at s i ≤ bit_at left i) → (i : ℕ) → bit_at (bit_and s (s - 1)) i ≤ bit_at left i
 lowest_dropped s left part i = omega (arith, bit_at_and s (s - 1) i, part i)
-
-pub lowest_one : (s : ℕ) → 0 < s → s < 2 ^ 128 → (count_trailing_zeros 128 s < 128) × (bit_at s (count_trailing_zeros 128 s) ≡ 1)
-lowest_one s some fits = let bits = bit_at-trailing_zeros w128 s some fits in (bits.0, bits.1)
 
 -- the same of demands
 pub load_of_lowest : (ws : List ℕ) (k s d : ℕ) → k < length ws → bit_at s k ≡ 1 → ((i : ℕ) → i < k → bit_at s i ≡ 0) → load_of ws s ≡ get_or ws k d + load_of ws (bit_and s (s - 1))
@@ -112,7 +104,5 @@ load_of_small (w ∷ ws) s m each = omega (arith, part (s % 2) w (omega arith), 
     part : (bit w : ℕ) → bit ≤ 1 → bit * w ≤ w
     part bit w le = omega (arith, mul-le-mul_right w le, one-mul w)
 
-pub load_of_step : (ws : List ℕ) (s : ℕ) → length ws ≡ 128 → 0 < s → s < 2 ^ 128 → load_of ws s ≡ get_or ws (count_trailing_zeros 128 s) 0 + load_of ws (bit_and s (s - 1))
-load_of_step ws s len some fits =
-    let bits = bit_at-trailing_zeros w128 s some fits in
-    load_of_lowest ws (count_trailing_zeros 128 s) s 0 (omega (arith, len, bits.0)) bits.1 bits.2
+pub load_of_step : (ws : List ℕ) (s first : ℕ) → length ws ≡ 256 → IsFirst s first → load_of ws s ≡ get_or ws first 0 + load_of ws (bit_and s (s - 1))
+load_of_step ws s first len is = load_of_lowest ws first s 0 (omega (arith, len, is.within)) is.stands is.lowest

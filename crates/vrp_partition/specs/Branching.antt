@@ -1,6 +1,7 @@
 -- The nodes of a search, and what is known of them.
 use Rattle.std.specs.Prelude.{◌≡◌, ◌≤◌, ◌<◌, ◌⊎◌, ◌^◌, ◌++◌, ◌∷◌, [], ℕ, ⊤, List, IfOk, Result, length, slice_index_or}
 use Rattle.std.specs.List.{All, Contains, filter}
+use Rattle.vrp_customers.specs.declared.customer_set.TheConstants.{PLACES}
 use Rattle.vrp_partition.specs.Choice.{IsCheapest, IsChoice, NoneBelow, cost_of, is_apart, is_together, set_of}
 use Rattle.vrp_partition.specs.Prices.{AllFit}
 use Rattle.vrp_partition.specs.declared.bounding.Chosen.{Chosen}
@@ -43,7 +44,7 @@ pub record AreLeftBranches (left : OpenRoutes) (branches : Branches) : Type 0 wh
 
 -- what has to hold before a node is looked at
 pub record CanLook (task : Task) (node : NodeState) : Type 0 where
-  pub len : length task.fleet.demands.now ≡ 128
+  pub len : length task.fleet.demands.now ≡ PLACES
   pub fit : AllFit task.fleet.demands.now task.fleet.capacity node.pool
   pub incumbent : task.incumbent ≤ 2 ^ 32
 

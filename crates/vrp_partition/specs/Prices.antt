@@ -1,6 +1,7 @@
 -- Prices of customers and cuts, the reduced costs of routes and the lower bound by them.
 use Rattle.std.specs.Prelude.{◌≡◌, ◌≤◌, ◌<◌, ◌==◌, ◌+◌, ◌*◌, ◌/◌, ◌%◌, ℕ, ℤ, pos, ◌+ℤ◌, ◌-ℤ◌, ◌*ℤ◌, Bool, nat_le, not, if◌then◌else◌, List, [], ◌∷◌, bit_and, count_ones, length, unsigned_abs, ◌^◌, int_le, ◌≤ℤ◌}
 use Rattle.std.specs.List.{All, sum_by}
+use Rattle.vrp_customers.specs.declared.customer_set.TheConstants.{PLACES}
 use Rattle.vrp_partition.specs.Choice.{IsChoice, set_of}
 use Rattle.vrp_partition.specs.declared.prices.Cut.{Cut}
 use Rattle.vrp_partition.specs.declared.route.Route.{Route}
@@ -17,7 +18,7 @@ pub record Prices : Type 0 where
 
 -- few cuts, and prices of moderate size, so that sums of them fit
 pub record AreModerate (prices : Prices) : Type 0 where
-  pub duals : length prices.duals ≡ 128
+  pub duals : length prices.duals ≡ PLACES
   pub dual : All (λ price. unsigned_abs price ≤ 2 ^ 52) prices.duals
   pub subset_rows : length prices.subset_rows ≤ 512
   pub subset_row : All (λ (cut : Cut). cut.price ≤ 2 ^ 50) prices.subset_rows

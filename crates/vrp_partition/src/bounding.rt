@@ -14,6 +14,7 @@ use crate::prices::{PriceOffer, Prices, SCALE};
 use crate::route::Route;
 use crate::task::Task;
 use std::alloc::{AllocError, Global};
+use vrp_customers::{CustomerSet, PLACES};
 
 // With more routes than these a node is branched on at once.
 const MOST_COLUMNS: usize = 3_000;
@@ -50,7 +51,7 @@ pub(crate) fn price_node(
     task: &Task<'_>,
     pool: &[Route],
 ) -> Result<NodeOutcome, AllocError>
-    requires len { length task.now.fleet.demands.now ≡ 128 }
+    requires len { length task.now.fleet.demands.now ≡ PLACES }
     requires fit { AllFit task.now.fleet.demands.now task.now.fleet.capacity pool.now }
     requires incumbent { task.now.incumbent ≤ 2 ^ 32 }
     ensures { IfOk result (IsOutcome pool.now task.now.customers task.now.fleet.trucks task.now.incumbent) }
@@ -111,7 +112,7 @@ fn bound_node(
 }
 
 // The lower bound, rounded up to whole units of cost; 0 if it is negative or doesn't fit.
-pub(crate) fn whole_lower_bound(prices: &Prices, customers: u128, trucks: u8) -> u64
+pub(crate) fn whole_lower_bound(prices: &Prices, customers: CustomerSet, trucks: u8) -> u64
     ensures { 0 < result → gap_of prices.now SCALE customers trucks (result - 1) <ℤ pos 0 }
 {
     let bound = prices.lower_bound(customers, trucks);
@@ -123,7 +124,12 @@ pub(crate) fn whole_lower_bound(prices: &Prices, customers: u128, trucks: u8) ->
 }
 
 // The gap between the lower bound and the costs below the incumbent's; `None` if it is negative.
-pub(crate) fn gap_below(prices: &Prices, customers: u128, trucks: u8, incumbent: u64) -> Option<i64>
+pub(crate) fn gap_below(
+    prices: &Prices,
+    customers: CustomerSet,
+    trucks: u8,
+    incumbent: u64,
+) -> Option<i64>
     requires some { 1 ≤ incumbent }
     requires incumbent { incumbent ≤ 2 ^ 32 }
     ensures none { IfNone result (gap_of prices.now SCALE customers trucks (incumbent - 1) <ℤ pos 0) }

@@ -4,11 +4,12 @@ ghost use Rattle.std.specs.Int.{bit_at};
 ghost use Rattle.vrp_partition.specs.Covering.{IsLeast, is_inside};
 
 use std::alloc::{AllocError, Global};
+use vrp_customers::{CustomerSet, PLACES};
 
-/// A column of the set partitioning: a route's customers, a bit for each, its reduced cost, which is not negative, and its cost.
+/// A column of the set partitioning: a route's customers, its reduced cost, which is not negative, and its cost.
 #[derive(Debug, Clone, Copy)]
 pub struct Column {
-    pub set: u128,
+    pub set: CustomerSet,
     pub reduced_cost: u64,
     pub cost: u32,
 }
@@ -21,11 +22,11 @@ pub struct Cover {
     pub parts: Vec<Column>,
 }
 
-/// A node of the exact cover: the unserved customers, a bit for each, the trucks that are left, the incumbent, below whose cost choices
+/// A node of the exact cover: the unserved customers, the trucks that are left, the incumbent, below whose cost choices
 /// are sought, and the gap, which is the greatest sum of their reduced costs.
 #[derive(Debug, Clone, Copy)]
 pub struct CoverNode {
-    pub unserved: u128,
+    pub unserved: CustomerSet,
     pub trucks: u8,
     pub incumbent: u64,
     pub gap: u64,
@@ -50,7 +51,7 @@ pub fn cheapest_cover(
     }
     *budget -= 1;
     let mut parts = Vec::new(alloc);
-    if node.unserved == 0 {
+    if node.unserved.is_empty() {
         return Ok(Some(Cover { cost: 0, parts }));
     }
     if node.trucks == 0 {
@@ -62,12 +63,12 @@ pub fn cheapest_cover(
     let mut found = node.incumbent;
     for column in columns {
         let cost = u64::from(column.cost);
-        if column.set >> customer & 1 == 1
-            && column.set & unserved == column.set
+        if column.set.contains(customer)
+            && column.set.is_subset(unserved)
             && column.reduced_cost <= gap
             && cost < found
         {
-            let (rest, under) = (unserved ^ column.set, gap - column.reduced_cost);
+            let (rest, under) = (unserved.difference(column.set), gap - column.reduced_cost);
             let inside = columns_inside(alloc, columns, rest, under)?;
             let child = CoverNode {
                 unserved: rest,
@@ -92,7 +93,7 @@ pub fn cheapest_cover(
 fn columns_inside(
     alloc: Global,
     columns: &[Column],
-    unserved: u128,
+    unserved: CustomerSet,
     gap: u64,
 ) -> Result<Vec<Column>, AllocError>
     ensures { IfOk result (λ kept. kept.items ≡ filter (is_inside unserved gap) columns.now) }
@@ -100,38 +101,34 @@ fn columns_inside(
     columns
         .iter()
         .copied()
-        .filter(|column| column.set & unserved == column.set && column.reduced_cost <= gap)
+        .filter(|column| column.set.is_subset(unserved) && column.reduced_cost <= gap)
         .collect(alloc)
 }
 
 // One of these customers, in the fewest columns.
-fn rarest_customer(columns: &[Column], unserved: u128) -> u32
+fn rarest_customer(columns: &[Column], unserved: CustomerSet) -> u16
     requires { 0 < unserved }
     ensures one { bit_at unserved result ≡ 1 }
-    ensures small { result < 128 }
+    ensures small { result < PLACES }
 {
-    let mut counts = [0u32; 128];
+    let mut counts = [0; PLACES];
     for column in columns {
         count_customers(&mut counts, column.set);
     }
-    let mut best = unserved.trailing_zeros();
-    let mut others = unserved & (unserved - 1);
-    while others != 0 {
-        let customer = others.trailing_zeros();
-        if counts[customer as usize] < counts[best as usize] {
+    let mut others = unserved;
+    let mut best = others.take_first().unwrap();
+    while let Some(customer) = others.take_first() {
+        if counts[usize::from(customer)] < counts[usize::from(best)] {
             best = customer;
         }
-        others &= others - 1;
     }
     best
 }
 
 // Counts one more column for each customer of a set.
-fn count_customers(counts: &mut [u32; 128], set: u128) {
-    let mut left = set;
-    while left != 0 {
-        let customer = left.trailing_zeros() as usize;
-        counts[customer] = counts[customer].saturating_add(1);
-        left &= left - 1;
+fn count_customers(counts: &mut [u16; PLACES], set: CustomerSet) {
+    for customer in set.iter() {
+        let count = &mut counts[usize::from(customer)];
+        *count = count.saturating_add(1);
     }
 }

@@ -6,11 +6,13 @@ ghost use Rattle.vrp_partition.specs.Pricing.{MarksWithin, StandsInNone};
 ghost use Rattle.vrp_partition.specs.declared.route.Route.{Route};
 ghost use Rattle.vrp_partition.specs.Prices.{AllFit};
 
-use crate::guide::{Ask, Guide, Tally};
+use crate::guide::Guide;
 use crate::priced::marks_by_prices;
 use crate::route::Route;
 use crate::task::Query;
 use std::alloc::{AllocError, Global};
+use vrp_customers::PLACES;
+use vrp_model::{News, Watch};
 
 // The most rounds.
 const MOST_ROUNDS: u32 = 32;
@@ -32,17 +34,17 @@ struct Round {
 
 /// Marks the routes of the pool that may be in a choice within the query's limit; a route that can't be in one is `false`. The guide
 /// prices the routes, and then those that are left, as long as it names no customers to branch on and the budget lasts. Each round
-/// takes one of the budget, and as much as the guide's own work; `ask` hears of each round. The contract leaves open how many routes
-/// are `false`, and what is spent. The demands are those of customers 0 to 127, and each route of the pool must fit one truck.
-pub fn routes_within<P: Guide, A: Ask>(
+/// takes one of the budget, and as much as the guide's own work; the watch hears of each round. The contract leaves open how many routes
+/// are `false`, and what is spent. The demands are those of all places, and each route of the pool must fit one truck.
+pub fn routes_within<P: Guide, W: Watch>(
     alloc: Global,
     guide: &mut P,
-    ask: &A,
+    watch: &W,
     query: &Query<'_>,
     pool: &[Route],
     budget: &mut u64,
 ) -> Result<Vec<bool>, AllocError>
-    requires len { length query.now.fleet.demands.now ≡ 128 }
+    requires len { length query.now.fleet.demands.now ≡ PLACES }
     requires fit { AllFit query.now.fleet.demands.now query.now.fleet.capacity pool.now }
     ensures marks { IfOk result (λ marks. MarksWithin pool.now query.now.customers query.now.fleet.trucks query.now.limit marks.items) }
     ensures budget { budget.new ≤ budget.old }
@@ -54,9 +56,9 @@ pub fn routes_within<P: Guide, A: Ask>(
         }
         let round = narrowed(alloc, guide, query, pool, kept)?;
         *budget = (*budget - 1).saturating_sub(round.work);
-        ask.on_round(tally_of(&round, query.limit));
+        watch.on_news(news_of(&round, query.limit));
         kept = round.kept;
-        if guide.group(kept.routes.as_slice())? != 0 || !guide.should_continue() {
+        if !guide.group(kept.routes.as_slice())?.is_empty() || !guide.should_continue() {
             break;
         }
     }
@@ -64,9 +66,9 @@ pub fn routes_within<P: Guide, A: Ask>(
 }
 
 // The progress after a round: the first node is still open. No clause pins it.
-fn tally_of(round: &Round, limit: u32) -> Tally {
+fn news_of(round: &Round, limit: u32) -> News {
     let incumbent = u64::from(limit) + 1;
-    Tally {
+    News::Nodes {
         done: 0,
         open: 1,
         incumbent,
@@ -82,7 +84,7 @@ fn narrowed<P: Guide>(
     pool: &[Route],
     kept: Kept,
 ) -> Result<Round, AllocError>
-    requires len { length query.now.fleet.demands.now ≡ 128 }
+    requires len { length query.now.fleet.demands.now ≡ PLACES }
     requires fit { AllFit query.now.fleet.demands.now query.now.fleet.capacity pool.now }
     requires narrowed { IsNarrowed pool.now query.now.customers query.now.fleet.trucks query.now.limit kept }
     ensures { IfOk result (λ round. IsNarrowed pool.now query.now.customers query.now.fleet.trucks query.now.limit round.kept) }

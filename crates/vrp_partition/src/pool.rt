@@ -8,6 +8,7 @@ ghost use Rattle.vrp_partition.specs.declared.prices.TheConstants.{SCALE};
 use crate::prices::{Prices, demand_of};
 use crate::route::Route;
 use std::alloc::{AllocError, Global};
+use vrp_customers::{CustomerSet, PLACES};
 
 /// The reduced cost of each route by the prices.
 pub fn reduced_costs(alloc: Global, prices: &Prices, pool: &[Route]) -> Result<Vec<i64>, AllocError>
@@ -18,9 +19,9 @@ pub fn reduced_costs(alloc: Global, prices: &Prices, pool: &[Route]) -> Result<V
         .collect(alloc)
 }
 
-/// Whether each route fits one truck. The demands are those of customers 0 to 127.
+/// Whether each route fits one truck. The demands are those of all places.
 pub fn all_fit(pool: &[Route], demands: &[u32], capacity: u32) -> bool
-    requires { length demands.now ≡ 128 }
+    requires { length demands.now ≡ PLACES }
     ensures { IsTrue result ↔ AllFit demands.now capacity pool.now }
 {
     for route in pool {
@@ -60,21 +61,21 @@ pub fn within_gap(
 }
 
 /// The routes that have all customers of a group, or none of them: the branch where one route serves them together.
-pub fn together(alloc: Global, pool: &[Route], group: u128) -> Result<Vec<Route>, AllocError>
+pub fn together(alloc: Global, pool: &[Route], group: CustomerSet) -> Result<Vec<Route>, AllocError>
     ensures { IfOk result (λ kept. kept.items ≡ filter (is_together group) pool.now) }
 {
     pool.iter()
         .copied()
-        .filter(|route| route.set & group == group || route.set & group == 0)
+        .filter(|route| route.set.intersection(group) == group || route.set.is_disjoint(group))
         .collect(alloc)
 }
 
 /// The routes that lack a customer of a group: the branch where no route serves all of them.
-pub fn apart(alloc: Global, pool: &[Route], group: u128) -> Result<Vec<Route>, AllocError>
+pub fn apart(alloc: Global, pool: &[Route], group: CustomerSet) -> Result<Vec<Route>, AllocError>
     ensures { IfOk result (λ kept. kept.items ≡ filter (is_apart group) pool.now) }
 {
     pool.iter()
         .copied()
-        .filter(|route| route.set & group != group)
+        .filter(|route| route.set.intersection(group) != group)
         .collect(alloc)
 }

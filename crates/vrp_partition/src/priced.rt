@@ -4,13 +4,13 @@ ghost use Rattle.vrp_partition.specs.Pricing.{IsPriced, MarksWithin};
 ghost use Rattle.vrp_partition.specs.Prices.{AllFit};
 
 use crate::bounding::{gap_below, whole_lower_bound};
-use crate::fleet::Fleet;
 use crate::guide::Guide;
 use crate::pool::{none_negative, reduced_costs};
 use crate::prices::{PriceOffer, Prices};
 use crate::route::Route;
 use crate::task::{Query, Task};
 use std::alloc::{AllocError, Global};
+use vrp_customers::{CustomerSet, FleetView, PLACES};
 
 // The number of offers that are tried: the guide's offer, the same with lower duals, and prices of 0.
 const MOST_OFFERS: u32 = 3;
@@ -39,7 +39,7 @@ pub(crate) fn marks_by_prices<P: Guide>(
     query: &Query<'_>,
     pool: &[Route],
 ) -> Result<PricedMarks, AllocError>
-    requires len { length query.now.fleet.demands.now ≡ 128 }
+    requires len { length query.now.fleet.demands.now ≡ PLACES }
     requires fit { AllFit query.now.fleet.demands.now query.now.fleet.capacity pool.now }
     ensures { IfOk result (λ priced. MarksWithin pool.now query.now.customers query.now.fleet.trucks query.now.limit priced.marks.items) }
 {
@@ -102,11 +102,11 @@ fn marks_within(alloc: Global, costs: &[i64], gap: i64) -> Result<Vec<bool>, All
 pub(crate) fn valid_prices(
     alloc: Global,
     offer: PriceOffer,
-    fleet: &Fleet<'_>,
+    fleet: &FleetView<'_>,
     pool: &[Route],
-    customers: u128,
+    customers: CustomerSet,
 ) -> Result<Option<PricedPool>, AllocError>
-    requires len { length fleet.now.demands.now ≡ 128 }
+    requires len { length fleet.now.demands.now ≡ PLACES }
     requires fit { AllFit fleet.now.demands.now fleet.now.capacity pool.now }
     ensures { IfOk result (λ answer. IfSome answer (IsPriced pool.now customers)) }
 {

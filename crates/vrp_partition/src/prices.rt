@@ -8,12 +8,10 @@ ghost use Rattle.vrp_partition.specs.declared.prices.TheConstants.{SCALE};
 
 use std::alloc::{AllocError, Global};
 use std::marker::Model;
+use vrp_customers::{CustomerSet, PLACES};
 
 /// The number of price units in a unit of cost.
 pub const SCALE: u64 = 1 << 20;
-
-/// The most customers, with a bit for each.
-pub const MOST_CUSTOMERS: usize = 128;
 
 // The most cuts of each kind.
 const MOST_CUTS: usize = 512;
@@ -29,7 +27,7 @@ const MOST_CUT_PRICE: u64 = 1 << 50;
 /// 2008).
 #[derive(Debug, Clone, Copy)]
 pub struct Cut {
-    pub set: u128,
+    pub set: CustomerSet,
     // The least number of routes that come to the set; unused for a subset-row cut.
     pub count: u32,
     pub price: u64,
@@ -54,7 +52,7 @@ impl Model for Prices {
     ghost invariant = { λ a. AreModerate (record { duals = a.duals.items; subset_rows = a.subset_rows.items; capacity_cuts = a.capacity_cuts.items; truck_price = a.truck_price }) };
 }
 
-/// Untrusted prices. There are 128 duals, the first one for customer 0.
+/// Untrusted prices. There is a dual for each place, the first one for the depot's 0.
 #[derive(Debug, Drop)]
 pub struct PriceOffer {
     pub duals: Vec<i64>,
@@ -75,7 +73,7 @@ impl PriceOffer {
         ensures trucks { IfOk result (λ offer. offer.truck_price ≡ 0) }
     {
         Ok(PriceOffer {
-            duals: vec![in alloc; 0; MOST_CUSTOMERS]?,
+            duals: vec![in alloc; 0; PLACES]?,
             subset_rows: Vec::new(alloc),
             capacity_cuts: Vec::new(alloc),
             truck_price: 0,
@@ -87,14 +85,14 @@ impl PriceOffer {
 impl Prices {
     /// The offered prices, if they bound: at most 512 cuts of each kind, prices of moderate size, no subset-row cut of more than three
     /// customers, and no capacity cut that asks for more routes than its customers' demand does; otherwise `None`. No clause says that
-    /// such prices are admitted. The demands are those of customers 0 to 127.
+    /// such prices are admitted. The demands are those of all places.
     pub fn admit(
         offer: PriceOffer,
         demands: &[u32],
         capacity: u32,
-        customers: u128,
+        customers: CustomerSet,
     ) -> Option<Prices>
-        requires { length demands.now ≡ 128 }
+        requires { length demands.now ≡ PLACES }
         ensures { IfSome result (λ prices. (pool : List Route)
             → AllFit demands.now capacity pool → AreValid prices pool customers) }
     {
@@ -105,7 +103,7 @@ impl Prices {
             truck_price,
             work: _work,
         } = offer;
-        if duals.len() == MOST_CUSTOMERS
+        if duals.len() == PLACES
             && subset_rows.len() <= MOST_CUTS
             && capacity_cuts.len() <= MOST_CUTS
             && truck_price <= MOST_CUT_PRICE
@@ -147,7 +145,7 @@ impl Prices {
 
     /// The reduced cost of a route: its cost, plus the prices of the subset-row cuts of which it has two customers and of a truck, minus
     /// its duals and the prices of the capacity cuts that it comes to.
-    pub fn reduced_cost(&self, set: u128, cost: u32) -> i64
+    pub fn reduced_cost(&self, set: CustomerSet, cost: u32) -> i64
         ensures { result ≡ reduced_cost_of self.now SCALE (record { set = set; cost = cost }) }
     {
         let charged = self.charged(set) as i64;
@@ -157,13 +155,13 @@ impl Prices {
     }
 
     // The price that a route with these customers pays for subset-row cuts.
-    fn charged(&self, set: u128) -> u64
+    fn charged(&self, set: CustomerSet) -> u64
         ensures value { result ≡ charges self.now.subset_rows set }
         ensures small { result ≤ 2 ^ 59 }
     {
         let mut total = 0;
         for cut in &self.subset_rows {
-            if (set & cut.set).count_ones() >= 2 {
+            if set.intersection(cut.set).has_two() {
                 total += cut.price;
             }
         }
@@ -171,13 +169,13 @@ impl Prices {
     }
 
     // The price that a route with these customers gets for capacity cuts.
-    fn rewarded(&self, set: u128) -> u64
+    fn rewarded(&self, set: CustomerSet) -> u64
         ensures value { result ≡ rewards self.now.capacity_cuts set }
         ensures small { result ≤ 2 ^ 59 }
     {
         let mut total = 0;
         for cut in &self.capacity_cuts {
-            if set & cut.set != 0 {
+            if !set.is_disjoint(cut.set) {
                 total += cut.price;
             }
         }
@@ -185,7 +183,7 @@ impl Prices {
     }
 
     /// A lower bound on each choice with this many trucks, in price units, if no reduced cost is negative. It is at least -2 ^ 61.
-    pub fn lower_bound(&self, customers: u128, trucks: u8) -> i128
+    pub fn lower_bound(&self, customers: CustomerSet, trucks: u8) -> i128
         ensures value { result ≡ lower_bound_of self.now customers trucks }
         ensures small { pos 0 ≤ℤ (result +ℤ pos (2 ^ 61)) }
     {
@@ -223,16 +221,17 @@ fn are_moderate(prices: &[i64]) -> bool
 fn are_subset_rows(cuts: &[Cut]) -> bool
     ensures { IsTrue result → All IsSubsetRow cuts.now }
 {
-    cuts.iter().all(|cut| cut.price <= MOST_CUT_PRICE && cut.set.count_ones() <= 3)
+    cuts.iter()
+        .all(|cut| cut.price <= MOST_CUT_PRICE && cut.set.len() <= 3)
 }
 
 // Whether each cut is within the customers, asks for no more routes than its demand does, and has a price that is not too high.
-fn are_capacity_cuts(cuts: &[Cut], demands: &[u32], capacity: u32, customers: u128) -> bool
-    requires { length demands.now ≡ 128 }
+fn are_capacity_cuts(cuts: &[Cut], demands: &[u32], capacity: u32, customers: CustomerSet) -> bool
+    requires { length demands.now ≡ PLACES }
     ensures { IsTrue result → All (IsCapacityCut demands.now capacity customers) cuts.now }
 {
     for cut in cuts {
-        if cut.price > MOST_CUT_PRICE || cut.set & customers != cut.set {
+        if cut.price > MOST_CUT_PRICE || !cut.set.is_subset(customers) {
             return false;
         }
         let load = demand_of(demands, cut.set);
@@ -244,32 +243,30 @@ fn are_capacity_cuts(cuts: &[Cut], demands: &[u32], capacity: u32, customers: u1
 }
 
 // The demand of a set of customers.
-pub fn demand_of(demands: &[u32], set: u128) -> u64
-    requires { length demands.now ≡ 128 }
+pub fn demand_of(demands: &[u32], set: CustomerSet) -> u64
+    requires { length demands.now ≡ PLACES }
     ensures value { result ≡ load_of demands.now set }
-    ensures small { result ≤ 2 ^ 39 }
+    ensures small { result ≤ 2 ^ 40 }
 {
     let mut left = set;
     let mut total: u64 = 0;
-    while left != 0 {
-        total += u64::from(demands[left.trailing_zeros() as usize]);
-        left &= left - 1;
+    while let Some(customer) = left.take_first() {
+        total += u64::from(demands[usize::from(customer)]);
     }
     total
 }
 
 // The sum of the duals of a set of customers.
-fn dual_sum_of(prices: &[i64], set: u128) -> i64
-    requires len { length prices.now ≡ 128 }
+fn dual_sum_of(prices: &[i64], set: CustomerSet) -> i64
+    requires len { length prices.now ≡ PLACES }
     requires moderate { All (λ price. unsigned_abs price ≤ 2 ^ 52) prices.now }
     ensures value { result ≡ dual_sum prices.now set }
-    ensures small { unsigned_abs result ≤ 2 ^ 59 }
+    ensures small { unsigned_abs result ≤ 2 ^ 60 }
 {
     let mut left = set;
     let mut total = 0;
-    while left != 0 {
-        total += prices[left.trailing_zeros() as usize];
-        left &= left - 1;
+    while let Some(customer) = left.take_first() {
+        total += prices[usize::from(customer)];
     }
     total
 }

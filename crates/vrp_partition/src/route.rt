@@ -1,8 +1,9 @@
 //! Routes, as a choice among them sees them.
+use vrp_customers::CustomerSet;
 
-/// A route: its customers, a bit for each, and its cost.
+/// A route: its customers and its cost.
 #[derive(Debug, Clone, Copy)]
 pub struct Route {
-    pub set: u128,
+    pub set: CustomerSet,
     pub cost: u32,
 }

@@ -8,26 +8,19 @@ ghost use Rattle.vrp_partition.specs.Prices.{AllFit};
 ghost use Rattle.vrp_partition.specs.declared.route.Route.{Route};
 
 use crate::bounding::Chosen;
-use crate::guide::{Ask, Guide, Tally};
+use crate::guide::Guide;
 use crate::node::{Branches, Node, NodeEnd};
 use crate::route::Route;
 use crate::task::Task;
 use std::alloc::{AllocError, Global};
 use std::marker::Model;
 use std::thread::{Threads, for_each_mut};
+use vrp_customers::PLACES;
+use vrp_model::{Crew, News, Watch};
 
 // The number of open nodes that are looked at in parallel, for any number of workers: so a search takes the same steps with every number
 // of them.
 const NODES_AT_ONCE: usize = 8;
-
-/// The workers of a search, each in a thread of its own if one can be made, and the watch of the search.
-#[derive(Clone, Copy)]
-pub struct Team<'a, R, A> {
-    pub rt: &'a R,
-    pub alloc: Global,
-    pub workers: usize,
-    pub ask: &'a A,
-}
 
 /// The result of a search. If no choice costs less than the incumbent, the cost is the incumbent's, and the routes are no choice.
 #[derive(Debug, Drop)]
@@ -42,32 +35,31 @@ pub enum Found {
 /// cost; if there is none, the incumbent's cost. The search ends unfinished if the budget is spent, or the watch stops it; then the rest of
 /// the budget is given up. A round of nodes takes one of the budget, and as much as the guides' own work. Each route of the pool must fit
 /// one truck. Several open nodes are looked at at a time, the last ones first.
-pub fn cheapest_choice<R: Threads + Sync, P: Guide + Send, A: Ask>(
-    team: &Team<'_, R, A>,
+pub fn cheapest_choice<R: Threads + Sync, P: Guide + Send, W: Watch>(
+    crew: &Crew<'_, R, W>,
     guide: P,
     task: &Task<'_>,
     pool: Vec<Route>,
     budget: &mut u64,
 ) -> Result<Found, AllocError>
-    requires workers { 1 ≤ team.now.workers }
-    requires len { length task.now.fleet.demands.now ≡ 128 }
+    requires len { length task.now.fleet.demands.now ≡ PLACES }
     requires fit { AllFit task.now.fleet.demands.now task.now.fleet.capacity pool.items }
     requires incumbent { task.now.incumbent ≤ 2 ^ 32 }
     ensures found { IfOk result (IsFound pool.items task.now.customers task.now.fleet.trucks task.now.incumbent) }
     ensures budget { budget.new ≤ budget.old }
     ensures spent { IfOk result (IfUnfinished (budget.new ≡ 0)) }
 {
-    let mut search = Search::new(team.alloc, guide, pool, task.incumbent)?;
+    let mut search = Search::new(crew.alloc, guide, pool, task.incumbent)?;
     while !search.open_nodes.is_empty() {
-        if *budget == 0 || !team.ask.should_continue() {
+        if *budget == 0 || !crew.watch.should_continue() {
             *budget = 0;
             let lower_bound = search.lower_bound();
             let best = search.best;
             return Ok(Found::Unfinished { best, lower_bound });
         }
-        let work = search.round(team, task)?;
+        let work = search.round(crew, task)?;
         *budget = (*budget - 1).saturating_sub(work);
-        team.ask.on_round(search.tally());
+        crew.watch.on_news(search.news());
     }
     Ok(Found::Cheapest(search.best))
 }
@@ -112,13 +104,12 @@ impl<P: Guide + Send> Search<P> {
     }
 
     // Looks at some open nodes for choices cheaper than the best so far, and answers the work of the guides.
-    fn round<R: Threads + Sync, A>(
+    fn round<R: Threads + Sync, W>(
         &mut self,
-        team: &Team<'_, R, A>,
+        crew: &Crew<'_, R, W>,
         task: &Task<'_>,
     ) -> Result<u64, AllocError>
-        requires workers { 1 ≤ team.now.workers }
-        requires len { length task.now.fleet.demands.now ≡ 128 }
+        requires len { length task.now.fleet.demands.now ≡ PLACES }
         requires search { (pool : List Route) × (incumbent : ℕ) × AllFit task.now.fleet.demands.now task.now.fleet.capacity pool
             × (incumbent ≤ 2 ^ 32) × IsSearched pool task.now.customers task.now.fleet.trucks incumbent self.old self.old.open_nodes }
         ensures { OnOk result ((pool : List Route) (incumbent : ℕ)
@@ -129,8 +120,14 @@ impl<P: Guide + Send> Search<P> {
             incumbent: self.best.cost,
             ..*task
         };
-        let nodes = self.take_nodes(team.alloc)?;
-        let nodes = looked_at(team.rt, team.alloc, team.workers, &below, nodes);
+        let nodes = self.take_nodes(crew.alloc)?;
+        let nodes = looked_at(
+            crew.rt,
+            crew.alloc,
+            usize::from(crew.workers),
+            &below,
+            nodes,
+        );
         let work = self.absorb_all(nodes)?;
         Ok(work)
     }
@@ -254,8 +251,8 @@ impl<P: Guide + Send> Search<P> {
     }
 
     // The progress of the search.
-    fn tally(&self) -> Tally {
-        Tally {
+    fn news(&self) -> News {
+        News::Nodes {
             done: self.done,
             open: self.open_nodes.len() as u64,
             incumbent: self.best.cost,

@@ -1,12 +1,11 @@
 //! What a search looks for among the routes of a pool.
-use crate::fleet::Fleet;
+use vrp_customers::{CustomerSet, FleetView};
 
 /// A search for the cheapest choice that serves these customers with the fleet's trucks and costs less than the incumbent.
 #[derive(Clone, Copy, Debug)]
 pub struct Task<'a> {
-    pub fleet: Fleet<'a>,
-    /// A bit for each customer.
-    pub customers: u128,
+    pub fleet: FleetView<'a>,
+    pub customers: CustomerSet,
     pub incumbent: u64,
 }
 
@@ -14,8 +13,7 @@ pub struct Task<'a> {
 /// limit.
 #[derive(Clone, Copy, Debug)]
 pub struct Query<'a> {
-    pub fleet: Fleet<'a>,
-    /// A bit for each customer.
-    pub customers: u128,
+    pub fleet: FleetView<'a>,
+    pub customers: CustomerSet,
     pub limit: u32,
 }

@@ -16,7 +16,7 @@ use Rattle.vrp_plan_read.specs.declared.line.LineError.{LineError}
 use Rattle.vrp_plan_read.specs.declared.line.LineError.TheVariants as bad
 use Rattle.vrp_plan_read.specs.declared.line.StatedCost.{StatedCost}
 use Rattle.vrp_plan_read.specs.declared.line.StatedCost.TheVariants.{Whole, Fraction}
-use Rattle.vrp_plan_read.specs.declared.listing.Listing.{Listing}
+use Rattle.vrp_plan_read.specs.declared.listing.ListedPlan.{ListedPlan}
 
 -- ---- what is kept
 
@@ -40,7 +40,7 @@ few_costs None = omega arith
 few_costs (Some cost) = omega arith
 
 -- the lines list what is kept of them
-pub lists_kept : (p : Problem) (lines : List Line) (listing : Listing) → Keeps p lines listing → ListRoutes p lines (given_routes listing.routes.items)
+pub lists_kept : (p : Problem) (lines : List Line) (listing : ListedPlan) → Keeps p lines listing → ListRoutes p lines (given_routes listing.routes.items)
 lists_kept p lines listing keeps = record {
   said = keeps.said;
   one_cost = omega (arith, ap length keeps.costs, few_costs listing.cost);
@@ -53,7 +53,7 @@ lists_kept p lines listing keeps = record {
 -- ---- what is wrong
 
 -- the line behind those that are kept
-first_here : (p : Problem) (before behind : List Line) (line : Line) (listing : Listing) (number : ℕ) → Keeps p before listing → number ≡ length before + 1 → IsFirstAtFault p (before ++ line ∷ behind) number line
+first_here : (p : Problem) (before behind : List Line) (line : Line) (listing : ListedPlan) (number : ℕ) → Keeps p before listing → number ≡ length before + 1 → IsFirstAtFault p (before ++ line ∷ behind) number line
 first_here p before behind line listing number keeps is = record {
   before = before;
   behind = behind;
@@ -69,7 +69,7 @@ bad_number p (Route number stops) has = inl has
 bad_number p (Cost cost) has = has
 bad_number p Unknown has = has
 
-pub wrong_line : (p : Problem) (before behind : List Line) (line : Line) (listing : Listing) (number : ℕ) (wrong : LineError) → Keeps p before listing → number ≡ length before + 1 → IsWrong line wrong → HaveFault p (before ++ line ∷ behind) (fault_at number wrong)
+pub wrong_line : (p : Problem) (before behind : List Line) (line : Line) (listing : ListedPlan) (number : ℕ) (wrong : LineError) → Keeps p before listing → number ≡ length before + 1 → IsWrong line wrong → HaveFault p (before ++ line ∷ behind) (fault_at number wrong)
 wrong_line p before behind line listing number bad.Unknown keeps is has =
     subst (λ (l : Line). IsFirstAtFault p (before ++ l ∷ behind) number Unknown) (sym has) (first_here p before behind Unknown listing number keeps is)
 wrong_line p before behind line listing number bad.BadNumber keeps is has = (line, first_here p before behind line listing number keeps is, bad_number p line has)
@@ -78,7 +78,7 @@ stated_is_said : (cost : StatedCost) → IsSaid (Cost (number_stated cost))
 stated_is_said (Whole cost) = λ is. absurd (cc)
 stated_is_said Fraction = λ is. absurd (cc)
 
-pub repeated_cost : (p : Problem) (before behind : List Line) (line : Line) (listing : Listing) (number : ℕ) (first cost : StatedCost) → Keeps p before listing → listing.cost ≡ Some first → line ≡ Cost (number_stated cost) → number ≡ length before + 1
+pub repeated_cost : (p : Problem) (before behind : List Line) (line : Line) (listing : ListedPlan) (number : ℕ) (first cost : StatedCost) → Keeps p before listing → listing.cost ≡ Some first → line ≡ Cost (number_stated cost) → number ≡ length before + 1
     → IsRepeatedCost p (before ++ line ∷ behind) number
 unfolding first_here
 repeated_cost p before behind line listing number first cost keeps stated is numbered =
@@ -93,7 +93,7 @@ repeated_cost p before behind line listing number first cost keeps stated is num
       earlier = (there.0, slice_get_within before there.0 earlier there.1, get_or_from_slice_get before there.0 earlier earlier there.1);
     })
 
-pub stop_fault : (p : Problem) (before behind : List Line) (line : Line) (listing : Listing) (number route : ℕ) (stops : List Number) (fault : SolutionError) → Keeps p before listing → line ≡ Route (Ok (pos route)) stops → number ≡ length before + 1 → IsStopFault p number route stops fault
+pub stop_fault : (p : Problem) (before behind : List Line) (line : Line) (listing : ListedPlan) (number route : ℕ) (stops : List Number) (fault : SolutionError) → Keeps p before listing → line ≡ Route (Ok (pos route)) stops → number ≡ length before + 1 → IsStopFault p number route stops fault
     → HaveFault p (before ++ line ∷ behind) fault
 stop_fault p before behind line listing number route stops fault keeps is numbered (inl (named, wrong)) =
     let says = Route (Ok (pos route)) stops in
@@ -113,7 +113,7 @@ stop_fault p before behind line listing number route stops fault keeps is number
 
 -- ---- one line more
 
-pub keep_nothing : (p : Problem) (lines : List Line) (line : Line) (listing : Listing) → line ≡ Blank → Keeps p lines listing → Keeps p (lines ++ line ∷ []) listing
+pub keep_nothing : (p : Problem) (lines : List Line) (line : Line) (listing : ListedPlan) → line ≡ Blank → Keeps p lines listing → Keeps p (lines ++ line ∷ []) listing
 keep_nothing p lines line listing is keeps =
     subst (λ (l : Line). Keeps p (lines ++ l ∷ []) listing) (sym is)
     (record {
@@ -125,7 +125,7 @@ keep_nothing p lines line listing is keeps =
       customers = keeps.customers;
     })
 
-pub keep_cost : (p : Problem) (lines : List Line) (line : Line) (cost : StatedCost) (old new : Listing) → line ≡ Cost (number_stated cost) → IsCostAdded cost old new → Keeps p lines old → Keeps p (lines ++ line ∷ []) new
+pub keep_cost : (p : Problem) (lines : List Line) (line : Line) (cost : StatedCost) (old new : ListedPlan) → line ≡ Cost (number_stated cost) → IsCostAdded cost old new → Keeps p lines old → Keeps p (lines ++ line ∷ []) new
 keep_cost p lines line cost old new is added keeps =
     let stated = Cost (number_stated cost) in
     let routes = ap (λ v. given_routes v.items) added.routes in
@@ -139,7 +139,7 @@ keep_cost p lines line cost old new is added keeps =
       customers = subst (All (λ route. AreCustomers p route.stops)) (sym routes) keeps.customers;
     })
 
-pub keep_route : (p : Problem) (lines : List Line) (line : Line) (number : ℕ) (stops : List ℕ) (old new : Listing) → line ≡ Route (Ok (pos number)) (map (λ stop. Ok (pos stop)) stops) → AreCustomers p stops → IsRouteAdded number stops old new → Keeps p lines old
+pub keep_route : (p : Problem) (lines : List Line) (line : Line) (number : ℕ) (stops : List ℕ) (old new : ListedPlan) → line ≡ Route (Ok (pos number)) (map (λ stop. Ok (pos stop)) stops) → AreCustomers p stops → IsRouteAdded number stops old new → Keeps p lines old
     → Keeps p (lines ++ line ∷ []) new
 keep_route p lines line number stops old new is customers added keeps =
     let route : GivenRoute = record { number = number; stops = stops } in

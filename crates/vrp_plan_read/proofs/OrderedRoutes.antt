@@ -10,7 +10,7 @@ use Rattle.std.proofs.lemmas.List.Folds.{list_any-append}
 use Rattle.std.proofs.lemmas.List.Sorted.{All-permutation, IsPermutation-sym, length_permutation, list_any-IsPermutation, sum_by-IsPermutation}
 use Rattle.std.proofs.lemmas.List.Sums.{sum_by-cons}
 use Rattle.vrp_model.specs.Problem.{HasTrucks, IsSymmetric, Problem, customers, demand_of, place_count}
-use Rattle.vrp_model.specs.Route.{IsLawful, IsPlanOf, PricedPlan, load_of}
+use Rattle.vrp_model.specs.Route.{IsLawful, IsPlanOf, PricedPlan, load_of, plan_cost, route_cost}
 use Rattle.vrp_model.specs.Word.{IsLawfulWord, RunsForward, closed_routes, first_stops, stands_in, word_of}
 use Rattle.vrp_model.proofs.CustomerPlaces.{is_customer}
 use Rattle.vrp_model.proofs.DistinctLists.{AreDistinct, AreDistinct-permutation, customers_distinct}
@@ -18,7 +18,7 @@ use Rattle.vrp_model.proofs.FittingPlans.{as_many_stops, each_stands, serves_eac
 use Rattle.vrp_model.proofs.PlanWords.{closed_plan, has_length, word_of_plan}
 use Rattle.vrp_model.proofs.Words.{AreClosed, IsStops, closed_routes_are}
 use Rattle.vrp_plan_read.specs.Inner.Ordered.{AreOrdered, AreRoutesOf, start_of, turned}
-use Rattle.vrp_plan_read.proofs.TurnedRoutes.{all_turned, first_of_turned, turned_forward, turned_moves}
+use Rattle.vrp_plan_read.proofs.TurnedRoutes.{all_cost_turned, all_turned, first_of_turned, none_turned, turned_forward, turned_moves}
 
 -- ---- the plan of the word
 
@@ -41,18 +41,28 @@ same_routes : (routes others : List (List ℕ)) → AreClosed routes → AreClos
 same_routes routes others are too same =
     sym (closed_routes_are routes [] are (All-nil (λ k. (k == 0) ≡ false))) ∙ ap (λ (w : List ℕ). closed_routes (w ++ [])) same ∙ closed_routes_are others [] too (All-nil (λ k. (k == 0) ≡ false))
 
+as_they_are : (symmetric : Bool) (routes : List (List ℕ)) → (IsTrue symmetric → ⊥) → map (turned symmetric) routes ≡ routes
+as_they_are true routes differs = absurd (differs refl)
+as_they_are false routes differs = none_turned routes
+
 -- the routes of the plan are those that are listed
-pub routes_of_plan : (p : Problem) (symmetric : Bool) (listed ordered : List (List ℕ)) (word : List ℕ) (plan : PricedPlan) → AreOrdered symmetric listed ordered → word ≡ word_of (map (turned symmetric) ordered)
-    → All (λ r. 0 < length r) listed → All IsStops listed → IsPlanOf p plan → word_of plan.routes ≡ word → AreRoutesOf listed plan.routes
-routes_of_plan p symmetric listed ordered word plan are is some free plan_of has =
+pub routes_of_plan : (p : Problem) (symmetric : Bool) (listed ordered : List (List ℕ)) (word : List ℕ) (plan : PricedPlan) → (IsTrue symmetric ↔ IsSymmetric p) → 0 < place_count p → AreOrdered symmetric listed ordered
+    → word ≡ word_of (map (turned symmetric) ordered) → All (λ r. 0 < length r) listed → All IsStops listed → All (λ r. All (λ k. k < place_count p) r) listed → IsPlanOf p plan → word_of plan.routes ≡ word
+    → AreRoutesOf p listed plan.routes
+routes_of_plan p symmetric listed ordered word plan tells places are is some free within plan_of has =
     let long = All-permutation (λ r. 0 < length r) listed ordered are.same some in
     let stops = All-permutation IsStops listed ordered are.same free in
     let closed = closed_from_all (map (turned symmetric) ordered) (some_turned symmetric ordered long) (free_turned symmetric ordered stops) in
     let same : plan.routes ≡ map (turned symmetric) ordered = same_routes plan.routes (map (turned symmetric) ordered) (closed_plan p plan.routes plan_of.lawful) closed (has ∙ is) in
+    let turned_cost : plan_cost p (map (turned symmetric) ordered) ≡ plan_cost p ordered =
+    all_cost_turned p symmetric ordered (λ yes. tells.0 yes) places (All-permutation (λ r. All (λ k. k < place_count p) r) listed ordered are.same within) in
+    let listed_cost : plan_cost p ordered ≡ plan_cost p listed = sum_by-IsPermutation (route_cost p) listed ordered are.same in
     record {
       ordered = ordered;
       same = are.same;
       turned = rw same (all_turned symmetric ordered);
+      as_listed = λ differs. same ∙ as_they_are symmetric ordered (λ yes. differs (tells.0 yes));
+      cost = ap (plan_cost p) same ∙ turned_cost ∙ listed_cost;
     }
 
 -- ---- whom routes serve

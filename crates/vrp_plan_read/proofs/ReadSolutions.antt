@@ -10,7 +10,7 @@ use Rattle.std.proofs.lemmas.List.{get_or-map, length-map}
 use Rattle.std.proofs.lemmas.List.Elements.{filter_passes}
 use Rattle.std.proofs.lemmas.Option.{get_or_from_slice_get, slice_get_within}
 use Rattle.vrp_model.specs.Problem.{Problem}
-use Rattle.vrp_model.specs.Route.{IsPlanOf, PricedPlan}
+use Rattle.vrp_model.specs.Route.{IsPlanOf, PricedPlan, plan_cost}
 use Rattle.vrp_model.proofs.DistinctLists.{behind_head}
 use Rattle.vrp_plan_read.specs.Line.{Cost, Line, Number, lines_of}
 use Rattle.vrp_plan_read.specs.Solution.{AreCustomers, GivenRoute, GivesPlan, StatesOtherCost, is_cost, stated_cost, stops_of, whole_cost}
@@ -19,8 +19,8 @@ use Rattle.vrp_plan_read.specs.Inner.Ordered.{AreRoutesOf}
 use Rattle.vrp_plan_read.specs.Inner.Read.{number_stated}
 use Rattle.vrp_plan_read.specs.declared.line.StatedCost.{StatedCost}
 use Rattle.vrp_plan_read.specs.declared.line.StatedCost.TheVariants.{Whole, Fraction}
-use Rattle.vrp_plan_read.specs.declared.listing.Listing.{Listing}
-use Rattle.vrp_plan_read.specs.declared.route.Route.{Route}
+use Rattle.vrp_plan_read.specs.declared.listing.ListedPlan.{ListedPlan}
+use Rattle.vrp_plan_read.specs.declared.route.NonemptyRoute.{NonemptyRoute}
 use Rattle.vrp_plan_read.proofs.ListingLemmas.{kept_stands, lists_kept}
 use Rattle.vrp_plan_read.proofs.RouteLists.{map_twice}
 
@@ -31,29 +31,31 @@ all_made : {A B : Type 0} (P : B → Type 0) (f : A → B) (xs : List A) → All
 all_made P f xs all = λ k d within. subst P (get_or-map f xs k d (f d) within) (all k (f d) (omega (arith, within, length-map xs f)))
 
 -- all stops are customers
-pub customers_kept : (p : Problem) (lines : List Line) (listing : Listing) → Keeps p lines listing → All (λ (r : Route). AreCustomers p r.stops.items) listing.routes.items
+pub customers_kept : (p : Problem) (lines : List Line) (listing : ListedPlan) → Keeps p lines listing → All (λ (r : NonemptyRoute). AreCustomers p r.stops.items) listing.routes.items
 customers_kept p lines listing keeps = all_made (λ (r : GivenRoute). AreCustomers p r.stops) given_route listing.routes.items keeps.customers
 
 has_stops : (route : GivenRoute) → not (length route.stops == 0) ≡ true → 0 < length route.stops
 has_stops route passes = grind (arith, nat_tests)
 
 -- each route has stops
-pub stops_kept : (p : Problem) (lines : List Line) (listing : Listing) → Keeps p lines listing → All (λ (r : Route). 0 < length r.stops.items) listing.routes.items
+pub stops_kept : (p : Problem) (lines : List Line) (listing : ListedPlan) → Keeps p lines listing → All (λ (r : NonemptyRoute). 0 < length r.stops.items) listing.routes.items
 stops_kept p lines listing keeps =
     let passing : All (λ (r : GivenRoute). not (length r.stops == 0) ≡ true) (given_routes listing.routes.items) = subst (All (λ (r : GivenRoute). not (length r.stops == 0) ≡ true)) (sym keeps.kept) (filter_passes (λ (r : GivenRoute). not (length r.stops == 0)) keeps.given) in
     all_made (λ (r : GivenRoute). 0 < length r.stops) given_route listing.routes.items (λ k d within. has_stops (get_or (given_routes listing.routes.items) k d) (passing k d within))
 
-pub stops_are : (routes : List Route) → stops_of (given_routes routes) ≡ map (λ (r : Route). r.stops.items) routes
+pub stops_are : (routes : List NonemptyRoute) → stops_of (given_routes routes) ≡ map (λ (r : NonemptyRoute). r.stops.items) routes
 stops_are routes = map_twice given_route (λ (r : GivenRoute). r.stops) routes
 
 -- the plan that the text gives
-pub gives_plan : (p : Problem) (text : List ℕ) (listing : Listing) (plan : PricedPlan) → Keeps p (lines_of text) listing → AreRoutesOf (map (λ (r : Route). r.stops.items) listing.routes.items) plan.routes → IsPlanOf p plan → GivesPlan p text plan
+pub gives_plan : (p : Problem) (text : List ℕ) (listing : ListedPlan) (plan : PricedPlan) → Keeps p (lines_of text) listing → AreRoutesOf p (map (λ (r : NonemptyRoute). r.stops.items) listing.routes.items) plan.routes → IsPlanOf p plan → GivesPlan p text plan
 gives_plan p text listing plan keeps are plan_of = record {
   routes = given_routes listing.routes.items;
   listed = lists_kept p (lines_of text) listing keeps;
   ordered = are.ordered;
   same = subst (λ (l : List (List ℕ)). IsPermutation l are.ordered) (sym (stops_are listing.routes.items)) are.same;
   turned = are.turned;
+  as_listed = are.as_listed;
+  cost = plan_of.priced ∙ are.cost ∙ ap (plan_cost p) (sym (stops_are listing.routes.items));
   plan_of = plan_of;
 }
 
@@ -76,7 +78,7 @@ stated_is (Some kept) stated (zero, within, is) = (kept, refl, cc)
 stated_is (Some kept) stated (suc k, within, is) = absurd (omega (arith, within))
 
 -- whether another cost is stated
-pub states_other : (p : Problem) (text : List ℕ) (listing : Listing) (cost true_cost : ℕ) (tells : Bool) → Keeps p (lines_of text) listing → cost ≡ true_cost
+pub states_other : (p : Problem) (text : List ℕ) (listing : ListedPlan) (cost true_cost : ℕ) (tells : Bool) → Keeps p (lines_of text) listing → cost ≡ true_cost
     → (IsTrue tells ↔ ((stated : StatedCost) × (listing.cost ≡ Some stated) × (number_stated stated ≢ Ok (pos cost)))) → (IsTrue tells ↔ StatesOtherCost text true_cost)
 states_other p text listing cost true_cost tells keeps same answer = (
   λ is.
@@ -96,5 +98,5 @@ kept_first None = refl
 kept_first (Some (Whole cost)) = refl
 kept_first (Some Fraction) = refl
 
-pub kept_is_stated : (p : Problem) (text : List ℕ) (listing : Listing) → Keeps p (lines_of text) listing → kept_cost listing.cost ≡ stated_cost text
+pub kept_is_stated : (p : Problem) (text : List ℕ) (listing : ListedPlan) → Keeps p (lines_of text) listing → kept_cost listing.cost ≡ stated_cost text
 kept_is_stated p text listing keeps = kept_first listing.cost ∙ ap (λ (l : List Line). option_and_then whole_cost (slice_get l 0)) (sym keeps.costs)

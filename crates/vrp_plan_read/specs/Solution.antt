@@ -4,8 +4,8 @@ use Rattle.std.specs.List.{All, AllPairs, Contains, concat, slice_get}
 use Rattle.std.specs.Option.{option_and_then}
 use Rattle.std.specs.List.Sorted.{IsPermutation}
 use Rattle.vrp_text_lexer.specs.declared.fault.FileLineFault.TheVariants.{BadNumber}
-use Rattle.vrp_model.specs.Problem.{HasTrucks, Problem, customers}
-use Rattle.vrp_model.specs.Route.{AreTurned, IsPlanOf, OverloadsNoTruck, PricedPlan, load_of}
+use Rattle.vrp_model.specs.Problem.{HasTrucks, IsSymmetric, Problem, customers}
+use Rattle.vrp_model.specs.Route.{AreTurned, IsPlanOf, OverloadsNoTruck, PricedPlan, load_of, plan_cost}
 use Rattle.vrp_plan_read.specs.Line.{Blank, Cost, Line, Number, Route, Unknown, lines_of}
 use Rattle.vrp_plan_read.specs.declared.error.SolutionError.{SolutionError}
 use Rattle.vrp_plan_read.specs.declared.error.SolutionError.TheVariants as error
@@ -60,14 +60,16 @@ pub record ListRoutes (p : Problem) (lines : List Line) (routes : List GivenRout
 abbrev pub stops_of : List GivenRoute → List (List ℕ)
 stops_of routes = map (λ route. route.stops) routes
 
--- The text lists exactly the routes of the plan, each as listed or reversed, in some order; and the plan is feasible with its
--- true cost.
+-- The text lists exactly the routes of the plan, in some order: each as listed or, only in a symmetric problem, reversed. The plan is
+-- feasible, and costs what the listed routes cost.
 pub record GivesPlan (p : Problem) (text : List ℕ) (plan : PricedPlan) : Type 0 where
   pub routes : List GivenRoute
   pub listed : ListRoutes p (lines_of text) routes
   pub ordered : List (List ℕ)
   pub same : IsPermutation (stops_of routes) ordered
   pub turned : AreTurned ordered plan.routes
+  pub as_listed : (IsSymmetric p → ⊥) → plan.routes ≡ ordered
+  pub cost : plan.cost ≡ plan_cost p (stops_of routes)
   pub plan_of : IsPlanOf p plan
 
 -- the cost that a line states, if it is whole

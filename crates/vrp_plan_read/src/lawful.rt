@@ -9,7 +9,7 @@ ghost use Rattle.vrp_plan_read.specs.Inner.Ordered.{AreOrdered, AreRoutesOf, tur
 ghost use Rattle.vrp_plan_read.specs.Inner.Served.{AreDifferent, AreFaulty, AreServed, Marks, StandsTwice};
 
 use crate::error::SolutionError;
-use crate::route::Route;
+use crate::route::NonemptyRoute;
 use std::alloc::{AllocError, Global};
 use vrp_model::{Instance, NoMemory, Plan};
 use vrp_search_tree::lawful_plan;
@@ -18,13 +18,13 @@ use vrp_search_tree::lawful_plan;
 pub(crate) fn plan_of(
     alloc: Global,
     instance: &Instance,
-    routes: &[Route],
+    routes: &[NonemptyRoute],
 ) -> Result<Option<Plan>, NoMemory>
     requires customers { All (λ route. AreCustomers instance.now route.stops.items) routes.now }
     requires stops { All (λ route. 0 < length route.stops.items) routes.now }
     ensures lawful { IfOk result (λ plan. IfSome plan (IsPlanOf instance.now)) }
     ensures routes { IfOk result (λ plan. IfSome plan (λ plan.
-        AreRoutesOf (map (λ route. route.stops.items) routes.now) plan.routes)) }
+        AreRoutesOf instance.now (map (λ route. route.stops.items) routes.now) plan.routes)) }
     ensures none { IfOk result (λ plan. IfNone plan
         (IsLawful instance.now (map (λ route. route.stops.items) routes.now) → ⊥)) }
 {
@@ -35,7 +35,7 @@ pub(crate) fn plan_of(
 }
 
 // The word of these routes, sorted by their starts.
-fn word_of(alloc: Global, symmetric: bool, routes: &[Route]) -> Result<Vec<u16>, NoMemory>
+fn word_of(alloc: Global, symmetric: bool, routes: &[NonemptyRoute]) -> Result<Vec<u16>, NoMemory>
     ensures { IfOk result (λ word. (ordered : List (List ℕ))
         × AreOrdered symmetric (map (λ route. route.stops.items) routes.now) ordered
         × (word.items ≡ word_of (map (turned symmetric) ordered))) }
@@ -49,7 +49,11 @@ fn word_of(alloc: Global, symmetric: bool, routes: &[Route]) -> Result<Vec<u16>,
 }
 
 // The routes in the order of their starts.
-fn by_start(alloc: Global, symmetric: bool, routes: &[Route]) -> Result<Vec<&Route>, AllocError>
+fn by_start(
+    alloc: Global,
+    symmetric: bool,
+    routes: &[NonemptyRoute],
+) -> Result<Vec<&NonemptyRoute>, AllocError>
     ensures { IfOk result (λ rising. AreOrdered symmetric
         (map (λ route. route.stops.items) routes.now)
         (map (λ route. route.now.stops.items) rising.items)) }
@@ -60,7 +64,7 @@ fn by_start(alloc: Global, symmetric: bool, routes: &[Route]) -> Result<Vec<&Rou
 }
 
 // A reference to each of the routes, in order.
-fn references(alloc: Global, routes: &[Route]) -> Result<Vec<&Route>, AllocError>
+fn references(alloc: Global, routes: &[NonemptyRoute]) -> Result<Vec<&NonemptyRoute>, AllocError>
     ensures { IfOk result (λ listed. map (λ route. route.now) listed.items ≡ routes.now) }
 {
     routes.iter().collect(alloc)
@@ -70,7 +74,7 @@ fn references(alloc: Global, routes: &[Route]) -> Result<Vec<&Route>, AllocError
 pub(crate) fn refusal_of(
     alloc: Global,
     instance: &Instance,
-    routes: &[Route],
+    routes: &[NonemptyRoute],
 ) -> Result<SolutionError, NoMemory>
     requires customers { All (λ route. AreCustomers instance.now route.stops.items) routes.now }
     requires stops { All (λ route. 0 < length route.stops.items) routes.now }
@@ -90,7 +94,11 @@ pub(crate) fn refusal_of(
 }
 
 // The first route that has a customer twice, or one of an earlier route, or too much load. Its stops are marked as served.
-fn faulty_route(instance: &Instance, routes: &[Route], served: &mut [bool]) -> Option<SolutionError>
+fn faulty_route(
+    instance: &Instance,
+    routes: &[NonemptyRoute],
+    served: &mut [bool],
+) -> Option<SolutionError>
     requires customers { All (λ route. AreCustomers instance.now route.stops.items) routes.now }
     requires none { AreServed instance.now served.old [] }
     ensures { MatchOption result

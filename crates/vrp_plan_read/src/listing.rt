@@ -7,31 +7,31 @@ ghost use Rattle.vrp_plan_read.specs.Inner.Read.{number_stated, stops_written};
 
 use crate::error::SolutionError;
 use crate::line::{LineError, MAX_NUMBER, Said, StatedCost, line_of, parted, whole};
-use crate::route::Route;
+use crate::route::NonemptyRoute;
 use std::alloc::Global;
 use vrp_model::Instance;
 use vrp_text_lexer::Tokens;
 
 /// The routes that a text lists, not yet known to be a feasible plan, and the cost that it states.
 #[derive(Drop)]
-pub(crate) struct Listing {
+pub(crate) struct ListedPlan {
     /// In the order of the text; those without stops are left out.
-    pub(crate) routes: Vec<Route>,
+    pub(crate) routes: Vec<NonemptyRoute>,
     pub(crate) cost: Option<StatedCost>,
 }
 
-impl Listing {
+impl ListedPlan {
     /// Reads all lines of a text.
     pub(crate) fn read(
         alloc: Global,
         text: &[u8],
         instance: &Instance,
-    ) -> Result<Listing, SolutionError>
+    ) -> Result<ListedPlan, SolutionError>
         ensures listed { IfOk result (Keeps instance.now (lines_of text.now)) }
         ensures refused { IfErr result (λ error.
             error ≢ SolutionError.OutOfMemory → IsRefusedFor instance.now text.now error) }
     {
-        let mut listing = Listing {
+        let mut listing = ListedPlan {
             routes: Vec::new(alloc),
             cost: None,
         };
@@ -96,7 +96,7 @@ impl Listing {
         ensures refused { IfErr result (λ error. error ≡ SolutionError.OutOfMemory) }
     {
         if !stops.is_empty() {
-            self.routes.push(Route { number, stops })?;
+            self.routes.push(NonemptyRoute { number, stops })?;
         }
         Ok(())
     }

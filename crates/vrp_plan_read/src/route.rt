@@ -10,13 +10,13 @@ use vrp_model::Instance;
 
 /// A route with at least one stop.
 #[derive(Drop)]
-pub(crate) struct Route {
+pub(crate) struct NonemptyRoute {
     /// The route's number in the solution.
     pub(crate) number: u64,
     pub(crate) stops: Vec<u16>,
 }
 
-impl Route {
+impl NonemptyRoute {
     /// The first stop of the route when it runs forward: in a symmetric instance the lower of its ends. 0 if it has no stops.
     pub(crate) fn start(&self, symmetric: bool) -> u16
         ensures { result ≡ start_of symmetric self.now.stops.items }

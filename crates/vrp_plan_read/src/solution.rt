@@ -5,7 +5,7 @@ ghost use Rattle.vrp_plan_read.specs.Solution.{GivesPlan, IsRefusedFor, StatesOt
 
 use crate::error::SolutionError;
 use crate::lawful::{plan_of, refusal_of};
-use crate::listing::Listing;
+use crate::listing::ListedPlan;
 use std::alloc::Global;
 use vrp_model::{Instance, Plan};
 
@@ -34,7 +34,7 @@ impl Solution {
         ensures refused { IfErr result (λ error.
             error ≢ SolutionError.OutOfMemory → IsRefusedFor instance.now text.now error) }
     {
-        let listing = Listing::read(alloc, text, instance)?;
+        let listing = ListedPlan::read(alloc, text, instance)?;
         match plan_of(alloc, instance, &listing.routes)? {
             Some(plan) => {
                 let states_other_cost = listing.states_other_cost(plan.cost());

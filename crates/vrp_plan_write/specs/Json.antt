@@ -1,16 +1,17 @@
 -- A finding as JSON (RFC 8259).
 use Rattle.std.specs.Option.{option_map}
-use Rattle.std.specs.Prelude.{◌≡◌, ℕ, ◌-◌, Option, None, Some, List, [], ◌++◌, codes, map}
-use Rattle.serde_json.specs.Data.{Data, array, member, no_members, null, number, object, string, unsigned}
+use Rattle.std.specs.Prelude.{◌≡◌, ℕ, ◌-◌, nat_le, Option, None, Some, List, [], ◌++◌, codes, map}
+use Rattle.serde_json.specs.Data.{Data, array, boolean, member, no_members, null, number, object, string, unsigned}
 use Rattle.serde_json.specs.Find.{get}
 use Rattle.serde_json.specs.Read.{read}
 use Rattle.serde_json.specs.View.{items_of}
-use Rattle.vrp_pool_answer.specs.Finding.{FindingOf, status_text}
+use Rattle.serde_json.specs.Written.{compact_text}
+use Rattle.vrp_answer.specs.Finding.{FindingOf, status_text}
 use Rattle.vrp_plan_write.specs.Gap.{IsGapOf}
 use Rattle.vrp_plan_write.specs.declared.json.Context.{Context}
 use Rattle.vrp_plan_write.specs.declared.json.Settings.{Settings}
 use Rattle.vrp_model.specs.Problem.{Problem, node_of, place_count}
-use Rattle.vrp_model.specs.Route.{PricedPlan}
+use Rattle.vrp_model.specs.Route.{PricedPlan, load_of, route_cost}
 
 -- the number, or `null` if there is none
 abbrev pub number_or_null : Option ℕ → Data
@@ -60,11 +61,18 @@ options_told asked =
 abbrev pub cost_told : FindingOf → Option ℕ
 cost_told finding = option_map (λ plan. plan.cost) finding.plan
 
--- The object has the verdict, the cost, both lower bounds and the gap by the best one, the nodes and the customers of each
--- route, the problem's data, and the context.
+-- whether no plan costs less, as far as the bound tells: so it is if the cost is no higher. `null` without a plan or a bound
+abbrev pub least_told : Option ℕ → Option ℕ → Data
+least_told (Some cost) (Some bound) = boolean (nat_le cost bound)
+least_told (Some cost) None = null
+least_told None bound = null
+
+-- The object has the verdict, the cost and whether it is known to be least, both lower bounds and the gap by the best one; the nodes, the
+-- customers, the cost and the load of each route; the problem's data, and the context.
 pub record IsDocument (p : Problem) (finding : FindingOf) (context : ContextOf) (document : Data) : Type 0 where
   pub verdict : get (codes "verdict") document ≡ Some (string (status_text finding.status))
   pub cost : get (codes "cost") document ≡ Some (number_or_null (cost_told finding))
+  pub cost_is_least : get (codes "cost_is_least") document ≡ Some (least_told (cost_told finding) finding.best_lower_bound)
   pub lower_bound : get (codes "lower_bound") document ≡ Some (number_or_null finding.lower_bound)
   pub best_lower_bound : get (codes "best_lower_bound") document ≡ Some (number_or_null finding.best_lower_bound)
   pub gap : Option ℕ
@@ -73,6 +81,8 @@ pub record IsDocument (p : Problem) (finding : FindingOf) (context : ContextOf) 
   pub routes : List Data
   pub listed : get (codes "routes") document ≡ Some (array (items_of routes))
   pub nodes : map (get (codes "nodes")) routes ≡ map (λ stops. Some (nodes_of p stops)) (routes_told finding.plan)
+  pub costs : map (get (codes "cost")) routes ≡ map (λ stops. Some (number (unsigned (route_cost p stops)))) (routes_told finding.plan)
+  pub loads : map (get (codes "load")) routes ≡ map (λ stops. Some (number (unsigned (load_of p stops)))) (routes_told finding.plan)
   pub served : map (get (codes "customers")) routes ≡ map (λ stops. Some (customers_of stops)) (routes_told finding.plan)
   pub customers : get (codes "customers") document ≡ Some (number (unsigned (place_count p - 1)))
   pub capacity : get (codes "capacity") document ≡ Some (number (unsigned p.capacity))
@@ -82,11 +92,10 @@ pub record IsDocument (p : Problem) (finding : FindingOf) (context : ContextOf) 
   pub stated_cost : get (codes "stated_cost") document ≡ Some (number_or_null context.stated_cost)
   pub options : get (codes "options") document ≡ Some (options_told context.asked)
 
--- a text that reads as the value, and a line feed
+-- the compact text of the value, without blanks or line feeds between its parts, and one line feed; it reads as the value
 pub record IsLineOf (value : Data) (text : List ℕ) : Type 0 where
-  pub line : List ℕ
-  pub ends : text ≡ line ++ codes "\n"
-  pub reads : read line ≡ Some value
+  pub line : text ≡ compact_text value ++ codes "\n"
+  pub reads : read (compact_text value) ≡ Some value
 
 -- the line of such an object
 pub record IsJsonOf (p : Problem) (finding : FindingOf) (context : ContextOf) (text : List ℕ) : Type 0 where

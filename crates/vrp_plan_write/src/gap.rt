@@ -1,13 +1,13 @@
 //! The optimality gap of a plan.
 ghost use Rattle.std.specs.Option.{ForSome, option_map};
 ghost use Rattle.std.specs.Prelude.{◌<◌};
-ghost use Rattle.vrp_pool_answer.specs.Finding.{told_by};
+ghost use Rattle.vrp_answer.specs.Finding.{told_by};
 ghost use Rattle.vrp_plan_write.specs.Gap.{IsGap, IsGapOf};
 ghost use Rattle.vrp_plan_write.specs.Json.{cost_told};
 ghost use Rattle.vrp_model.specs.Route.{IsPlanOf};
 
+use vrp_answer::Finding;
 use vrp_model::{Instance, NO_COST, plans_cost_less};
-use vrp_pool_answer::Finding;
 
 /// Cost minus best lower bound in hundredths of a percent of that bound, rounded up: no feasible plan is cheaper by more than
 /// that. `None` if there is no such number.

@@ -1,21 +1,21 @@
 //! A finding as JSON (RFC 8259).
 ghost use Rattle.std.specs.Option.{ForSome, option_map};
-ghost use Rattle.std.specs.Prelude.{◌≡◌, ◌≤◌, ℕ, IfOk, OnOk, map, string_bytes};
+ghost use Rattle.std.specs.Prelude.{◌≡◌, ◌≤◌, IfOk, OnOk, false, map, string_bytes};
 ghost use Rattle.serde_json.specs.Data.{array, depth};
 ghost use Rattle.serde_json.specs.View.{items_view, members_view, view};
-ghost use Rattle.vrp_pool_answer.specs.Finding.{told_by};
-ghost use Rattle.vrp_plan_write.specs.Inner.Document.{document_of, route_object, with_answer, with_problem, with_run, with_settings};
-ghost use Rattle.vrp_plan_write.specs.Inner.Routes.{AreRoutes};
-ghost use Rattle.vrp_plan_write.specs.Json.{IsJsonOf, IsLineOf, context_by, customers_of, nodes_of, number_or_null, options_told, routes_told, text_or_null};
+ghost use Rattle.serde_json.specs.Written.{has_float};
+ghost use Rattle.vrp_answer.specs.Finding.{told_by};
+ghost use Rattle.vrp_plan_write.specs.Inner.Document.{document_of, with_answer, with_problem, with_run, with_settings};
+ghost use Rattle.vrp_plan_write.specs.Inner.Routes.{AreRoutes, IsRoute};
+ghost use Rattle.vrp_plan_write.specs.Json.{IsJsonOf, IsLineOf, context_by, customers_of, least_told, nodes_of, number_or_null, options_told, routes_told, text_or_null};
 ghost use Rattle.vrp_plan_write.specs.Stops.{ArePlaces, HaveStopsIn};
 ghost use Rattle.vrp_model.specs.Route.{IsPlanOf};
 
 use crate::gap::gap_of;
-use crate::route::{route_cost, route_load};
 use serde_json::{Map, Value, json, put};
 use std::alloc::{AllocError, Global};
-use vrp_model::{Instance, NoMemory, Plan};
-use vrp_pool_answer::Finding;
+use vrp_answer::Finding;
+use vrp_model::{Instance, NoMemory, Plan, route_cost, route_load};
 
 /// The options of a run.
 #[derive(Clone, Copy, Debug, PartialEq, Eq, Drop)]
@@ -47,13 +47,12 @@ pub struct Context<'a> {
     pub asked: Settings,
 }
 
-/// A finding as one JSON object and a line feed. It has the members `best_lower_bound`, `capacity`, `cost`, `customers`,
+/// A finding as one JSON object on one line. It has the members `best_lower_bound`, `capacity`, `cost`, `cost_is_least`, `customers`,
 /// `depot`, `gap`, `lower_bound`, `name`, `options`, `routes`, each of them with its `cost`, `customers`, `load` and `nodes`,
 /// `stated_cost`, `verdict` and `version`. Nodes have the file's numbers, and the customers of a route have CVRPLIB's: from 1
 /// by rising node, without the depot. The gap is cost minus best lower bound in hundredths of a percent of that bound,
-/// rounded up. Unknown values are `null`, and without a plan there are no routes.
-///
-/// The contract leaves the `load` and `cost` of a route open.
+/// rounded up. The cost is known to be least if the best lower bound is no lower. Unknown values are `null`, and without a plan there are no
+/// routes.
 pub fn json_text(
     alloc: Global,
     instance: &Instance,
@@ -76,7 +75,7 @@ pub fn json_text(
 
 // The line of an object.
 fn line_of(alloc: Global, object: Value) -> Result<String, AllocError>
-    ensures { IfOk result (λ text. depth (view object) ≤ 4 → IsLineOf (view object) (string_bytes text)) }
+    ensures { IfOk result (λ text. depth (view object) ≤ 4 → has_float (view object) ≡ false → IsLineOf (view object) (string_bytes text)) }
 {
     let text = object.to_string(alloc);
     drop(object);
@@ -140,7 +139,10 @@ fn put_answer(
     let finding = told.finding;
     let verdict = Value::try_from_str(alloc, finding.status.as_str())?;
     put(members, alloc, "verdict", verdict)?;
-    put(members, alloc, "cost", or_null(cost_of(finding.plan)))?;
+    let cost = cost_of(finding.plan);
+    put(members, alloc, "cost", or_null(cost))?;
+    let least = least_or_null(cost, finding.best_lower_bound);
+    put(members, alloc, "cost_is_least", least)?;
     let stated_cost = or_null(told.context.stated_cost);
     put(members, alloc, "stated_cost", stated_cost)?;
     let lower_bound = or_null(finding.lower_bound);
@@ -182,6 +184,16 @@ fn or_null(number: Option<u64>) -> Value
     match number {
         Some(number) => Value::from(number),
         None => Value::Null,
+    }
+}
+
+// Whether no plan costs less, as far as the bound tells; `null` without a cost or a bound.
+fn least_or_null(cost: Option<u64>, bound: Option<u64>) -> Value
+    ensures { view result ≡ least_told cost bound }
+{
+    match (cost, bound) {
+        (Some(cost), Some(bound)) => Value::Bool(cost <= bound),
+        _ => Value::Null,
     }
 }
 
@@ -234,6 +246,8 @@ fn routes_of(
     ensures { IfOk result (λ routes. AreRoutes instance.now (routes_told (option_map (λ plan. plan.now) plan.entry))
         (map view routes.items)) }
 {
+    // What is known of every instance.
+    let _customers = instance.customers();
     match plan {
         Some(plan) => objects_of(alloc, instance, plan),
         None => Ok(Vec::new(alloc)),
@@ -255,9 +269,10 @@ fn objects_of(alloc: Global, instance: &Instance, plan: &Plan) -> Result<Vec<Val
 // A route with these stops.
 fn route_of(alloc: Global, instance: &Instance, stops: &[u16]) -> Result<Value, AllocError>
     requires { ArePlaces instance.now stops.now }
-    ensures { IfOk result (λ route. (cost load : ℕ)
-        × (view route ≡ route_object cost load (customers_of stops.now) (nodes_of instance.now stops.now))) }
+    ensures { IfOk result (λ route. IsRoute instance.now stops.now (view route)) }
 {
+    // There is a depot.
+    let _customers = instance.customers();
     let cost = route_cost(instance, stops);
     let load = route_load(instance, stops);
     let customers = customer_numbers(alloc, stops)?;

@@ -13,8 +13,8 @@ use Rattle.vrp_model.proofs.CustomerPlaces.{customer_is_some}
 use Rattle.vrp_model.proofs.DistinctLists.{AreDistinct, AreDistinct-permutation, customers_distinct, head_differs, tail_distinct}
 use Rattle.vrp_model.proofs.PlanWords.{closed_plan, cost_of_word, lawful_of_closed}
 use Rattle.vrp_model.proofs.Words.{last_behind, last_is}
-use Rattle.vrp_bound_ng.specs.NgWalks.{NoneRemembered}
-use Rattle.vrp_bound_ng.proofs.RememberedStops.{none_twice}
+use Rattle.vrp_model.specs.NgWalks.{NoneRemembered}
+use Rattle.vrp_model.proofs.RememberedStops.{none_twice}
 use Rattle.vrp_bound.specs.NgWalks.{IsNgBound, IsNgRelaxed, IsNgTour}
 use Rattle.vrp_bound.specs.Walk.{home_cost, relaxed_cost, walk_cost}
 use Rattle.vrp_bound.proofs.NgCompletions.{distinct_behind}

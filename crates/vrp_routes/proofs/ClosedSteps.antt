@@ -7,40 +7,41 @@ use Rattle.std.proofs.lemmas.List.{append-nil, get_or-drop, get_or-set_other, ge
 use Rattle.std.proofs.lemmas.List.Elements.{Contains-get_or}
 use Rattle.vrp_model.specs.Order.{ComesBefore, IsEarlier}
 use Rattle.vrp_model.specs.Route.{route_cost}
-use Rattle.vrp_routes.specs.Closed.{AreClosedIn, HasPlaces, IsAdded, IsLeftOut, IsReplaced, TakesRoute, closed_at, no_closed, place_of, route_by}
-use Rattle.vrp_routes.specs.Label.{IsLabel, SettingOf, set_of}
+use Rattle.vrp_routes.specs.ClosedLevel.{AreClosedIn, HasPlaces, IsAdded, IsLeftOut, IsReplaced, TakesRoute, closed_at, no_closed, place_of, route_by}
+use Rattle.vrp_customers.specs.CustomerSet.{set_of}
+use Rattle.vrp_customers.proofs.Sets.{same_set}
+use Rattle.vrp_routes.specs.Label.{IsLabel, SettingOf}
 use Rattle.vrp_routes.specs.Level.{IsLevel}
 use Rattle.vrp_routes.specs.Pool.{IsListed}
 use Rattle.vrp_routes.specs.Useful.{BeginsUseful, IsUseful}
-use Rattle.vrp_routes.specs.declared.closed.Closed.{Closed}
+use Rattle.vrp_routes.specs.declared.closed.ClosedLevel.{ClosedLevel}
 use Rattle.vrp_routes.specs.declared.closed.ClosedRoute.{ClosedRoute}
 use Rattle.vrp_routes.specs.declared.label.Label.{Label}
 use Rattle.vrp_routes.proofs.Extensions.{some_same}
 use Rattle.vrp_routes.proofs.Replaced.{no_better_route}
-use Rattle.vrp_routes.proofs.Sets.{same_set}
 
 -- ---- a route more
 
 -- the routes of the new list
-added_before : (old new : Closed) (route : ClosedRoute) (i : ℕ) → IsAdded old route new → i < length old.routes.items → closed_at new i ≡ closed_at old i
+added_before : (old new : ClosedLevel) (route : ClosedRoute) (i : ℕ) → IsAdded old route new → i < length old.routes.items → closed_at new i ≡ closed_at old i
 added_before old new route i added lt = ap (λ (rs : List ClosedRoute). get_or rs i no_closed) added.routes ∙ get_or_append_left old.routes.items (route ∷ []) no_closed i lt
 
-added_last : (old new : Closed) (route : ClosedRoute) → IsAdded old route new → closed_at new (length old.routes.items) ≡ route
+added_last : (old new : ClosedLevel) (route : ClosedRoute) → IsAdded old route new → closed_at new (length old.routes.items) ≡ route
 added_last old new route added = ap (λ (rs : List ClosedRoute). get_or rs (length old.routes.items) no_closed) added.routes ∙ get_or_push old.routes.items route no_closed (length old.routes.items) (let same : length old.routes.items ≡ length old.routes.items = omega arith in same)
 
-replaced_other : (old new : Closed) (route : ClosedRoute) (i : ℕ) → (taken : IsReplaced old route new) → i ≢ taken.at → closed_at new i ≡ closed_at old i
+replaced_other : (old new : ClosedLevel) (route : ClosedRoute) (i : ℕ) → (taken : IsReplaced old route new) → i ≢ taken.at → closed_at new i ≡ closed_at old i
 replaced_other old new route i taken other = ap (λ (rs : List ClosedRoute). get_or rs i no_closed) taken.routes ∙ get_or-set_other old.routes.items taken.at i route no_closed other
 
-replaced_same : (old new : Closed) (route : ClosedRoute) → (taken : IsReplaced old route new) → taken.at < length old.routes.items → closed_at new taken.at ≡ route
+replaced_same : (old new : ClosedLevel) (route : ClosedRoute) → (taken : IsReplaced old route new) → taken.at < length old.routes.items → closed_at new taken.at ≡ route
 replaced_same old new route taken lt = ap (λ (rs : List ClosedRoute). get_or rs taken.at no_closed) taken.routes ∙ get_or-set_same old.routes.items taken.at route no_closed lt
 
-long_replaced : (old new : Closed) (route : ClosedRoute) → (taken : IsReplaced old route new) → length new.routes.items ≡ length old.routes.items
+long_replaced : (old new : ClosedLevel) (route : ClosedRoute) → (taken : IsReplaced old route new) → length new.routes.items ≡ length old.routes.items
 long_replaced old new route taken = ap length taken.routes ∙ length-set old.routes.items taken.at route
 
-long_added : (old new : Closed) (route : ClosedRoute) → IsAdded old route new → length new.routes.items ≡ length old.routes.items + 1
+long_added : (old new : ClosedLevel) (route : ClosedRoute) → IsAdded old route new → length new.routes.items ≡ length old.routes.items + 1
 long_added old new route added = ap length added.routes ∙ length_push old.routes.items route
 
-pub keeps_places : (old new : Closed) (route : ClosedRoute) → HasPlaces old → TakesRoute old route new → HasPlaces new
+pub keeps_places : (old new : ClosedLevel) (route : ClosedRoute) → HasPlaces old → TakesRoute old route new → HasPlaces new
 keeps_places old new route has (inl left_out) = subst HasPlaces (sym left_out.same) has
 keeps_places old new route has (inr (inl taken)) = λ set at is.
     let (within, of_set) = has set at (sym (taken.places set) ∙ is) in
@@ -61,7 +62,7 @@ keeps_places old new route has (inr (inr added)) = λ set at is.
           (omega (arith, within, long_added old new route added), ap (λ (r : ClosedRoute). r.set) (added_before old new route at added within) ∙ of_set)
     ]
 
-pub no_places : (closed : Closed) → closed.by_set.entries ≡ [] → HasPlaces closed
+pub no_places : (closed : ClosedLevel) → closed.by_set.entries ≡ [] → HasPlaces closed
 no_places closed empty set at is = absurd (let none : place_of closed set ≡ None = ap (lookup (λ other. set == other)) empty in let never : None ≡ Some at = sym none ∙ is in cc)
 
 -- ---- the routes of the labels so far
@@ -74,18 +75,18 @@ pub record IsOfLabel (s : SettingOf) (start : ℕ) (stops : List (List ℕ)) (at
   pub listed : IsListed s.relaxation.problem (route_by stops route)
 
 -- the route of this label stands here, in the place of its set
-pub record StandsAt (start from : ℕ) (set : ℕ) (closed : Closed) : Type 0 where
+pub record StandsAt (start from : ℕ) (set : ℕ) (closed : ClosedLevel) : Type 0 where
   pub at : ℕ
   pub within : at < length closed.routes.items
   pub label : (closed_at closed at).label ≡ start + from
   pub there : place_of closed set ≡ Some at
 
 -- of those labels whose sets pass the test
-pub record ClosesSome (s : SettingOf) (mine : ℕ → Bool) (start : ℕ) (stops : List (List ℕ)) (at : ℕ) (closed : Closed) : Type 0 where
+pub record ClosesSome (s : SettingOf) (mine : ℕ → Bool) (start : ℕ) (stops : List (List ℕ)) (at : ℕ) (closed : ClosedLevel) : Type 0 where
   pub each : (i : ℕ) → i < length closed.routes.items → IsOfLabel s start stops at (closed_at closed i)
   pub every : (j : ℕ) → j < at → mine (set_of (get_or stops (start + j) [])) ≡ true → IsUseful s.relaxation.problem s.limit (get_or stops (start + j) []) → StandsAt start j (set_of (get_or stops (start + j) [])) closed
 
-pub closes_none : (s : SettingOf) (mine : ℕ → Bool) (start : ℕ) (stops : List (List ℕ)) (closed : Closed) → closed.routes.items ≡ [] → ClosesSome s mine start stops 0 closed
+pub closes_none : (s : SettingOf) (mine : ℕ → Bool) (start : ℕ) (stops : List (List ℕ)) (closed : ClosedLevel) → closed.routes.items ≡ [] → ClosesSome s mine start stops 0 closed
 closes_none s mine start stops closed none = record {
   each = λ i lt. absurd (omega (arith, lt, ap length none));
   every = λ j lt own useful. absurd (omega (arith, lt));
@@ -95,7 +96,7 @@ later : (s : SettingOf) (start : ℕ) (stops : List (List ℕ)) (at : ℕ) (rout
 later s start stops at route is = record { from = is.from; before = omega (arith, is.before); label = is.label; listed = is.listed }
 
 -- a label that is no useful route
-pub closes_not : (s : SettingOf) (mine : ℕ → Bool) (start : ℕ) (stops : List (List ℕ)) (at : ℕ) (closed : Closed) → ClosesSome s mine start stops at closed → (mine (set_of (get_or stops (start + at) [])) ≡ true → IsUseful s.relaxation.problem s.limit (get_or stops (start + at) []) → ⊥) → ClosesSome s mine start stops (at + 1) closed
+pub closes_not : (s : SettingOf) (mine : ℕ → Bool) (start : ℕ) (stops : List (List ℕ)) (at : ℕ) (closed : ClosedLevel) → ClosesSome s mine start stops at closed → (mine (set_of (get_or stops (start + at) [])) ≡ true → IsUseful s.relaxation.problem s.limit (get_or stops (start + at) []) → ⊥) → ClosesSome s mine start stops (at + 1) closed
 closes_not s mine start stops at closed some none = record {
   each = λ i lt. later s start stops at (closed_at closed i) (some.each i lt);
   every = λ j lt own useful. elim (cases_lt j at) [
@@ -134,7 +135,7 @@ own_set s start stops at route one = one.listed.set ∙ ap (λ n. set_of (get_or
 mine_of : (s : SettingOf) (start : ℕ) (stops : List (List ℕ)) (at : ℕ) (route : ClosedRoute) → ClosesOne s start stops at route → IsOfLabel s start stops (at + 1) route
 mine_of s start stops at route one = record { from = at; before = omega arith; label = one.label; listed = one.listed }
 
-left_out_route : (s : SettingOf) (mine : ℕ → Bool) (start : ℕ) (stops : List (List ℕ)) (at : ℕ) (old new : Closed) (route : ClosedRoute) → ClosesSome s mine start stops at old → HasPlaces old → ClosesOne s start stops at route → IsLeftOut old route new → ClosesSome s mine start stops (at + 1) new
+left_out_route : (s : SettingOf) (mine : ℕ → Bool) (start : ℕ) (stops : List (List ℕ)) (at : ℕ) (old new : ClosedLevel) (route : ClosedRoute) → ClosesSome s mine start stops at old → HasPlaces old → ClosesOne s start stops at route → IsLeftOut old route new → ClosesSome s mine start stops (at + 1) new
 left_out_route s mine start stops at old new route some has one left_out =
     subst (ClosesSome s mine start stops (at + 1)) (sym left_out.same) (closes_not s mine start stops at old some (λ own useful.
     let (within, of_set) = has route.set left_out.at left_out.there in
@@ -146,7 +147,7 @@ left_out_route s mine start stops at old new route some has one left_out =
       | inr more ↦ inr (omega (arith, left_out.no_costlier, more), earlier)
     ])))
 
-replaced_route : (s : SettingOf) (mine : ℕ → Bool) (start : ℕ) (stops : List (List ℕ)) (at : ℕ) (old new : Closed) (route : ClosedRoute) → ClosesSome s mine start stops at old → HasPlaces old → ClosesOne s start stops at route → IsReplaced old route new → ClosesSome s mine start stops (at + 1) new
+replaced_route : (s : SettingOf) (mine : ℕ → Bool) (start : ℕ) (stops : List (List ℕ)) (at : ℕ) (old new : ClosedLevel) (route : ClosedRoute) → ClosesSome s mine start stops at old → HasPlaces old → ClosesOne s start stops at route → IsReplaced old route new → ClosesSome s mine start stops (at + 1) new
 replaced_route s mine start stops at old new route some has one taken = record {
   each = λ i lt. elim (cases_eq i taken.at) [
     | inl same ↦ subst (IsOfLabel s start stops (at + 1)) (sym (ap (closed_at new) same ∙ replaced_same old new route taken there)) (mine_of s start stops at route one)
@@ -187,7 +188,7 @@ replaced_route s mine start stops at old new route some has one taken = record {
     long : length new.routes.items ≡ length old.routes.items
     long = long_replaced old new route taken
 
-added_route : (s : SettingOf) (mine : ℕ → Bool) (start : ℕ) (stops : List (List ℕ)) (at : ℕ) (old new : Closed) (route : ClosedRoute) → ClosesSome s mine start stops at old → ClosesOne s start stops at route → IsAdded old route new → ClosesSome s mine start stops (at + 1) new
+added_route : (s : SettingOf) (mine : ℕ → Bool) (start : ℕ) (stops : List (List ℕ)) (at : ℕ) (old new : ClosedLevel) (route : ClosedRoute) → ClosesSome s mine start stops at old → ClosesOne s start stops at route → IsAdded old route new → ClosesSome s mine start stops (at + 1) new
 added_route s mine start stops at old new route some one added = record {
   each = λ i lt. elim (cases_lt i (length old.routes.items)) [
     | inl first ↦ subst (IsOfLabel s start stops (at + 1)) (sym (added_before old new route i added first)) (later s start stops at (closed_at old i) (some.each i first))
@@ -225,7 +226,7 @@ added_route s mine start stops at old new route some one added = record {
     itself : (n : ℕ) → (n == n) ≡ true
     itself n = grind (arith, nat_tests)
 
-pub closes_one : (s : SettingOf) (mine : ℕ → Bool) (start : ℕ) (stops : List (List ℕ)) (at : ℕ) (old new : Closed) (route : ClosedRoute) → ClosesSome s mine start stops at old → HasPlaces old → ClosesOne s start stops at route → TakesRoute old route new → ClosesSome s mine start stops (at + 1) new
+pub closes_one : (s : SettingOf) (mine : ℕ → Bool) (start : ℕ) (stops : List (List ℕ)) (at : ℕ) (old new : ClosedLevel) (route : ClosedRoute) → ClosesSome s mine start stops at old → HasPlaces old → ClosesOne s start stops at route → TakesRoute old route new → ClosesSome s mine start stops (at + 1) new
 closes_one s mine start stops at old new route some has one (inl left_out) = left_out_route s mine start stops at old new route some has one left_out
 closes_one s mine start stops at old new route some has one (inr (inl taken)) = replaced_route s mine start stops at old new route some has one taken
 closes_one s mine start stops at old new route some has one (inr (inr added)) = added_route s mine start stops at old new route some one added
@@ -259,7 +260,7 @@ route_of_label s k start stops labels at label cost level some lt is cost_is =
       rises = λ j less. subst (λ (ys : List ℕ). IsEarlier ys xs) (label_stops start stops j) (subst (IsEarlier (get_or mine j [])) there (level.are.rising j at [] less within));
     }
 
-pub closes_all : (s : SettingOf) (mine : ℕ → Bool) (k start : ℕ) (stops : List (List ℕ)) (labels : List Label) (at : ℕ) (closed : Closed) → IsLevel s k (drop start stops) labels → at ≡ length labels → ClosesSome s mine start stops at closed → AreClosedIn s k mine stops closed.routes.items
+pub closes_all : (s : SettingOf) (mine : ℕ → Bool) (k start : ℕ) (stops : List (List ℕ)) (labels : List Label) (at : ℕ) (closed : ClosedLevel) → IsLevel s k (drop start stops) labels → at ≡ length labels → ClosesSome s mine start stops at closed → AreClosedIn s k mine stops closed.routes.items
 closes_all s mine k start stops labels at closed level all some =
     let count = level.are.long in
     record {

@@ -3,8 +3,9 @@ use Rattle.std.proofs.Common.{Global, Vec, ◌≡◌, ℕ, ◌+◌, ◌*◌, ◌
 use Rattle.std.proofs.Math.Seq.{get_or-append_seam}
 use Rattle.std.proofs.lemmas.Bool.{cases_lt}
 use Rattle.std.proofs.lemmas.List.Elements.{All-append, All-nil, Contains-append_left, Contains-append_right}
-use Rattle.vrp_routes.specs.Closed.{AreClosed, AreClosedIn, AreClosedParts, closing_share, is_closed_in, route_by}
-use Rattle.vrp_routes.specs.Label.{SettingOf, set_of}
+use Rattle.vrp_customers.specs.CustomerSet.{folded_of, set_of}
+use Rattle.vrp_routes.specs.ClosedLevel.{AreClosed, AreClosedIn, AreClosedParts, closing_share, is_closed_in, route_by}
+use Rattle.vrp_routes.specs.Label.{SettingOf}
 use Rattle.vrp_routes.specs.Pool.{IsListed}
 use Rattle.vrp_routes.specs.declared.closed.ClosedRoute.{ClosedRoute}
 use Rattle.vrp_routes.proofs.NumbersBelow.{is_below, tests_below}
@@ -47,5 +48,5 @@ all_shares_closed s k stops routes are = record {
   each = are.each;
   every = λ xs long useful.
       let set = set_of xs in
-      are.every xs long (tests_below (closing_share set) 8 (small_share ((set / 2 ^ 64 + set % 2 ^ 64) % 2 ^ 64 * 6364136223846793005))) useful;
+      are.every xs long (tests_below (closing_share set) 8 (small_share (folded_of set * 6364136223846793005))) useful;
 }

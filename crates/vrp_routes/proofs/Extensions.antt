@@ -1,5 +1,6 @@
 -- The extensions of a level's labels, as they are offered one by one.
 use Rattle.std.proofs.Common.{◌≡◌, ℕ, zero, suc, ◌+◌, ◌%◌, ◌<◌, ◌≤◌, ◌==◌, ◌&&◌, append_assoc, Bool, true, false, if◌then◌else◌, inl, inr, None, Some, List, [], ◌∷◌, ◌++◌, length, length-append, get_or, refl, sym, ap, subst, ◌∙◌, arith}
+use Rattle.std.specs.Option.{option_map}
 use Rattle.std.specs.List.{All, AllPairs, Contains}
 use Rattle.std.specs.Map.{lookup}
 use Rattle.std.proofs.lemmas.Bool.{cases_Bool, cases_lt, eqb-true, false≢true}
@@ -14,17 +15,18 @@ use Rattle.vrp_model.proofs.CustomerPlaces.{customer_below, customer_is_some}
 use Rattle.vrp_model.proofs.LastRoute.{last_symbol_with}
 use Rattle.vrp_model.proofs.Ordered.{earlier_behind}
 use Rattle.vrp_routes.specs.Label.{IsLabel, SettingOf}
-use Rattle.vrp_routes.specs.Candidates.{HasExtensions, IsBefore, IsGrown, IsKept, IsKeyed, IsOffered, IsRefused, IsTaken, kept_for, key_of, label_at, no_label, same_key}
+use Rattle.vrp_routes.specs.Candidates.{HasExtensions, IsBefore, IsGrown, IsKept, IsKeyed, IsOffered, IsRefused, IsTaken, kept_for, kept_in, key_of, label_at, no_label, same_key}
 use Rattle.vrp_routes.specs.Level.{AreExtensions, ComesFirst, IsLevel, IsShare, sequences, stops_of}
 use Rattle.vrp_routes.specs.Share.{is_in}
 use Rattle.vrp_routes.specs.Useful.{BeginsUseful, IsUseful}
 use Rattle.vrp_routes.specs.declared.label.Label.{Label}
 use Rattle.vrp_routes.specs.declared.candidates.Candidates.{Candidates}
+use Rattle.vrp_routes.specs.declared.candidates.KeptLabel.{KeptLabel}
 use Rattle.vrp_routes.specs.declared.share.Share.{Share}
 use Rattle.vrp_routes.proofs.CheapBeginnings.{ends_at, useful_begins}
 use Rattle.vrp_routes.proofs.Replaced.{earlier_longer, no_better_beginning}
 use Rattle.vrp_routes.proofs.Rests.{none_between}
-use Rattle.vrp_routes.proofs.Sets.{same_set}
+use Rattle.vrp_customers.proofs.Sets.{same_set}
 
 -- ---- keys
 
@@ -70,23 +72,51 @@ pub label_last : (old new : Candidates) (label : Label) → new.labels.items ≡
 label_last old new label longer = ap (λ (ls : List Label). get_or ls (length old.labels.items) no_label) longer ∙ at_end old.labels.items label _
 
 -- what is kept for a key once the label is taken
+kept_own : (old new : Candidates) (label : Label) (key : ℕ × ℕ) → IsTaken old label new → same_key (key_of label) key ≡ true → kept_in new key ≡ Some (record { at = length old.labels.items; cost = label.cost })
+kept_own old new label key taken same = taken.kept key ∙ ap (λ b. if b then Some (record { at = length old.labels.items; cost = label.cost }) else kept_in old key) same
+
+kept_other : (old new : Candidates) (label : Label) (key : ℕ × ℕ) → IsTaken old label new → same_key (key_of label) key ≡ false → kept_in new key ≡ kept_in old key
+kept_other old new label key taken other = taken.kept key ∙ ap (λ b. if b then Some (record { at = length old.labels.items; cost = label.cost }) else kept_in old key) other
+
 kept_if : (old new : Candidates) (label : Label) (key : ℕ × ℕ) → IsTaken old label new → same_key (key_of label) key ≡ true → kept_for new key ≡ Some (length old.labels.items)
-kept_if old new label key taken same = taken.kept key ∙ ap (λ b. if b then Some (length old.labels.items) else kept_for old key) same
+kept_if old new label key taken same = ap (option_map (λ (kept : KeptLabel). kept.at)) (kept_own old new label key taken same)
 
 kept_else : (old new : Candidates) (label : Label) (key : ℕ × ℕ) → IsTaken old label new → same_key (key_of label) key ≡ false → kept_for new key ≡ kept_for old key
-kept_else old new label key taken other = taken.kept key ∙ ap (λ b. if b then Some (length old.labels.items) else kept_for old key) other
+kept_else old new label key taken other = ap (option_map (λ (kept : KeptLabel). kept.at)) (kept_other old new label key taken other)
 
-pub keyed_taken : (old new : Candidates) (label : Label) → IsKeyed old → IsTaken old label new → IsKeyed new
-keyed_taken old new label keyed taken key at is =
+-- where the label of a key stands
+pub place_of_kept : (found : Candidates) (key : ℕ × ℕ) (kept : KeptLabel) → kept_in found key ≡ Some kept → kept_for found key ≡ Some kept.at
+place_of_kept found key kept is = ap (option_map (λ (k : KeptLabel). k.at)) is
+
+pub same_kept : (one other : KeptLabel) → Some one ≡ Some other → one ≡ other
+same_kept one other same = cc
+
+keyed_places : (old new : Candidates) (label : Label) → IsKeyed old → IsTaken old label new → (key : ℕ × ℕ) (at : ℕ) → kept_for new key ≡ Some at → (at < length new.labels.items) × (key_of (label_at new at) ≡ key)
+keyed_places old new label keyed taken key at is =
     let long : length new.labels.items ≡ length old.labels.items + 1 = ap length taken.longer ∙ length-append old.labels.items (label ∷ []) in
     elim (cases_Bool (same_key (key_of label) key)) [
       | inl same ↦
           let here : length old.labels.items ≡ at = some_same (length old.labels.items) at (sym (kept_if old new label key taken same) ∙ is) in
           (omega (arith, long, here), ap (λ n. key_of (label_at new n)) (sym here) ∙ ap key_of (label_last old new label taken.longer) ∙ keys_same (key_of label) key same)
       | inr other ↦
-          let (within, of_key) = keyed key at (sym (kept_else old new label key taken other) ∙ is) in
+          let (within, of_key) = keyed.places key at (sym (kept_else old new label key taken other) ∙ is) in
           (omega (arith, long, within), ap key_of (label_first old new label at taken.longer within) ∙ of_key)
     ]
+
+keyed_costs : (old new : Candidates) (label : Label) → IsKeyed old → IsTaken old label new → (key : ℕ × ℕ) (kept : KeptLabel) → kept_in new key ≡ Some kept → kept.cost ≡ (label_at new kept.at).cost
+keyed_costs old new label keyed taken key kept is =
+    elim (cases_Bool (same_key (key_of label) key)) [
+      | inl same ↦
+          let here = same_kept (record { at = length old.labels.items; cost = label.cost }) kept (sym (kept_own old new label key taken same) ∙ is) in
+          subst (λ (k : KeptLabel). k.cost ≡ (label_at new k.at).cost) here (sym (ap (λ (l : Label). l.cost) (label_last old new label taken.longer)))
+      | inr other ↦
+          let before : kept_in old key ≡ Some kept = sym (kept_other old new label key taken other) ∙ is in
+          let (within, _) = keyed.places key kept.at (place_of_kept old key kept before) in
+          keyed.costs key kept before ∙ sym (ap (λ (l : Label). l.cost) (label_first old new label kept.at taken.longer within))
+    ]
+
+pub keyed_taken : (old new : Candidates) (label : Label) → IsKeyed old → IsTaken old label new → IsKeyed new
+keyed_taken old new label keyed taken = record { places = keyed_places old new label keyed taken; costs = keyed_costs old new label keyed taken }
 
 pub keyed_offered : (old new : Candidates) (label : Label) → IsKeyed old → IsOffered old label new → IsKeyed new
 keyed_offered old new label keyed (inl refused) = subst IsKeyed (sym refused.same) keyed
@@ -282,7 +312,7 @@ refused_extension : (s : SettingOf) (k : ℕ) (stops : List (List ℕ)) (old new
     → HasExtensions s k stops child.parent (child.last + 1) new
 refused_extension s k stops old new child has keyed lt is refused =
     subst (HasExtensions s k stops child.parent (child.last + 1)) (sym refused.same) (passed s k stops child.parent child.last old has (λ mine useful.
-    let (within, of_key) = keyed (key_of child) refused.at refused.kept in
+    let (within, of_key) = keyed.places (key_of child) refused.at refused.kept in
     let other = label_at old refused.at in
     let earlier : IsEarlier (stops_of stops other) (stops_of stops child) = extensions_rise k stops other.parent other.last child.parent child.last has.size has.rising (has.are.parents refused.at no_label within) lt (has.before refused.at no_label within) in
     no_rival s (stops_of stops other) (stops_of stops child) other child (has.are.each refused.at no_label within) is of_key useful (no_costlier_before other.cost child.cost (stops_of stops other) (stops_of stops child) refused.no_costlier earlier)))
@@ -360,11 +390,14 @@ whole_level s k mine stops before labels is every share = record {
 
 -- ---- none so far
 
-none_kept : (level : Candidates) (key : ℕ × ℕ) → level.kept.entries ≡ [] → kept_for level key ≡ None
+none_kept : (level : Candidates) (key : ℕ × ℕ) → level.kept.entries ≡ [] → kept_in level key ≡ None
 none_kept level key empty = ap (lookup (same_key key)) empty
 
 pub empty_is_keyed : (level : Candidates) → level.kept.entries ≡ [] → IsKeyed level
-empty_is_keyed level empty key at is = absurd (let never : None ≡ Some at = sym (none_kept level key empty) ∙ is in cc)
+empty_is_keyed level empty = record {
+  places = λ key at is. absurd (let never : None ≡ Some at = sym (ap (option_map (λ (kept : KeptLabel). kept.at)) (none_kept level key empty)) ∙ is in cc);
+  costs = λ key kept is. absurd (let never : None ≡ Some kept = sym (none_kept level key empty) ∙ is in cc);
+}
 
 -- ---- the level of no stops
 

@@ -1,5 +1,6 @@
 -- What is counted along a beginning with one more stop.
-use Rattle.std.proofs.Common.{◌≡◌, ◌≢◌, ℕ, ◌+◌, ◌-◌, ◌*◌, ◌/◌, ◌^◌, ◌<◌, ◌≤◌, ◌==◌, if◌then◌else◌, false, true, false, Option, None, Some, MatchOption, List, [], ◌∷◌, ◌++◌, length, length-append, get_or, bit_and, sym, ap, subst, ◌∙◌, arith}
+use Rattle.std.proofs.Common.{◌≡◌, ◌≢◌, ℕ, ◌+◌, ◌-◌, ◌*◌, ◌^◌, ◌<◌, ◌≤◌, ◌==◌, if◌then◌else◌, false, true, false, Option, None, Some, MatchOption, List, [], ◌∷◌, ◌++◌, length, length-append, get_or, sym, ap, subst, ◌∙◌, arith}
+use Rattle.std.specs.Int.{bit_at}
 use Rattle.std.specs.Int.RustNames.{bit_or}
 use Rattle.std.specs.List.{All, Contains, range_with_len}
 use Rattle.std.proofs.lemmas.List.{get_or-append-add, get_or_append_left}
@@ -18,17 +19,23 @@ use Rattle.vrp_model.proofs.DistinctWithin.{length_among, sum_among}
 use Rattle.vrp_model.proofs.LastRoute.{last_symbol_with}
 use Rattle.vrp_model.proofs.PlanWords.{cost_parts}
 use Rattle.vrp_model.proofs.Words.{last_is}
-use Rattle.vrp_bound_ng.proofs.Recalled.{contained_stands, stands_contained}
+use Rattle.vrp_model.proofs.Recalled.{contained_stands, stands_contained}
 use Rattle.vrp_bound_prices.specs.Relaxation.{Bounds, IsLimit, RelaxationOf}
-use Rattle.vrp_bound_ng.specs.Near.{near_in}
+use Rattle.vrp_model.specs.Near.{near_in}
 use Rattle.vrp_bound.specs.NgWalks.{IsNgTablesBound, IsNgBound}
 use Rattle.vrp_bound.specs.Tables.{NgTablesOf}
-use Rattle.vrp_routes.specs.Label.{IsBeginning, IsLabel, IsSetting, SettingOf, set_of}
+use Rattle.vrp_customers.specs.CustomerSet.{set_of}
+use Rattle.vrp_customers.proofs.Sets.{set_with, stands_if_set, stands_not_if_not_set}
+use Rattle.vrp_routes.specs.Label.{IsBeginning, IsLabel, IsSetting, SettingOf}
+use Rattle.vrp_routes.specs.Level.{IsLevel}
 use Rattle.vrp_routes.specs.Useful.{BeginsUseful, IsUseful}
 use Rattle.vrp_routes.specs.declared.label.Label.{Label}
 use Rattle.vrp_routes.proofs.CheapBeginnings.{cheap_beginning, cheap_route, useful_begins, useful_begins_relaxed}
 use Rattle.vrp_routes.proofs.CanonicalPlanRoutes.{useful_runs_forward}
-use Rattle.vrp_routes.proofs.Sets.{set_with, stands_if_tested, stands_not_if_tested}
+
+-- a label that was read is that of its stops
+pub read_label : (s : SettingOf) (k : ℕ) (stops : List (List ℕ)) (labels : List Label) (i : ℕ) (label : Label) → IsLevel s k stops labels → i < length stops → label ≡ get_or labels i label → IsLabel s (get_or stops i []) label
+read_label s k stops labels i label is lt read = subst (IsLabel s (get_or stops i [])) (sym read) (is.are.each i label lt)
 
 pub cost_with : (p : Problem) (stops : List ℕ) (k : ℕ) → word_cost p (stops ++ k ∷ []) ≡ word_cost p stops + weight_of p (last_symbol stops) k
 cost_with p stops k = let parts = cost_parts p 0 stops (k ∷ []) in rw (last_is stops) (omega (arith, parts))
@@ -50,9 +57,9 @@ twice stops k stands distinct =
     distinct i (length stops) k lt (omega (arith, length-append stops (k ∷ []))) (get_or_append_left stops (k ∷ []) k i lt ∙ is ∙ sym there)
 
 -- what keeps a useful route from going on to a stop
-pub not_twice : (p : Problem) (limit : ℕ) (stops : List ℕ) (k set : ℕ) → set ≡ set_of stops → bit_and (set / 2 ^ k) 1 ≡ 1 → BeginsUseful p limit (stops ++ k ∷ []) → ⊥
-not_twice p limit stops k set is tested useful =
-    twice stops k (stands_if_tested stops k (subst (λ n. bit_and (n / 2 ^ k) 1 ≡ 1) is tested)) (useful_begins p limit (stops ++ k ∷ []) useful).once
+pub not_twice : (p : Problem) (limit : ℕ) (stops : List ℕ) (k set : ℕ) → set ≡ set_of stops → bit_at set k ≡ 1 → BeginsUseful p limit (stops ++ k ∷ []) → ⊥
+not_twice p limit stops k set is taken useful =
+    twice stops k (stands_if_set stops k (subst (λ n. bit_at n k ≡ 1) is taken)) (useful_begins p limit (stops ++ k ∷ []) useful).once
 
 pub not_too_heavy : (p : Problem) (limit : ℕ) (stops : List ℕ) (k load : ℕ) → load ≡ load_of p stops → p.capacity < load + demand_of p k → BeginsUseful p limit (stops ++ k ∷ []) → ⊥
 not_too_heavy p limit stops k load is heavy useful = omega (arith, (useful_begins p limit (stops ++ k ∷ []) useful).light, load_with p stops k, is, heavy)
@@ -86,7 +93,7 @@ pub record Continues (r : RelaxationOf) (label : Label) (stop first load relaxed
   pub bounds : Bounds r
   pub some : 0 < stop
   pub place : stop < place_count r.problem
-  pub fresh : bit_and (label.set / 2 ^ stop) 1 ≡ 1 → ⊥
+  pub fresh : bit_at label.set stop ≡ 1 → ⊥
   pub load_is : load ≡ label.load + demand_of r.problem stop
   pub light : load ≤ r.problem.capacity
   pub relaxed_load_is : relaxed_load ≡ label.relaxed_load + demand_of r.relaxed stop
@@ -120,7 +127,7 @@ longer_label s stops label stop parent first load relaxed_load cost relaxed_cost
     let q = s.relaxation.relaxed in
     let arc : cost ≡ label.cost + weight_of p (last_symbol stops) stop = on.cost_is ∙ ap (λ at. label.cost + weight_of p at stop) is.last in
     let priced : relaxed_cost ≡ label.relaxed_cost + weight_of q (last_symbol stops) stop = on.relaxed_cost_is ∙ ap (λ at. label.relaxed_cost + weight_of q at stop) is.last in
-    let fresh : stands_in stops stop ≡ false = stands_not_if_tested stops stop (subst (λ n. bit_and (n / 2 ^ stop) 1 ≡ 1 → ⊥) is.set on.fresh) in
+    let fresh : stands_in stops stop ≡ false = stands_not_if_not_set stops stop (subst (λ n. bit_at n stop ≡ 1 → ⊥) is.set on.fresh) in
     record {
       begins = longer_beginning p stops stop is.begins on.some on.place fresh (omega (arith, on.load_is, is.load, on.light));
       first = on.first_is ∙ first_with s.relaxation.problem stops stop label.first is.begins is.first;
@@ -165,9 +172,9 @@ label_place s tabled most whole label known (stops, is) =
 
 -- what is left for the others
 pub label_within : (s : SettingOf) (tabled : Problem) (most whole : ℕ) (label : Label) (stop : ℕ) → IsSetting s tabled most whole → (stops : List ℕ) × IsLabel s stops label
-    → 0 < stop → stop < place_count s.relaxation.problem → (bit_and (label.set / 2 ^ stop) 1 ≡ 1 → ⊥) → label.relaxed_load + demand_of s.relaxation.relaxed stop ≤ whole
+    → 0 < stop → stop < place_count s.relaxation.problem → (bit_at label.set stop ≡ 1 → ⊥) → label.relaxed_load + demand_of s.relaxation.relaxed stop ≤ whole
 label_within s tabled most whole label stop known (stops, is) some place fresh =
-    omega (arith, is.relaxed_load, known.whole_is, within_whole s.relaxation stops stop known.bounds is.begins some place (stands_not_if_tested stops stop (subst (λ n. bit_and (n / 2 ^ stop) 1 ≡ 1 → ⊥) is.set fresh)))
+    omega (arith, is.relaxed_load, known.whole_is, within_whole s.relaxation stops stop known.bounds is.begins some place (stands_not_if_not_set stops stop (subst (λ n. bit_at n stop ≡ 1 → ⊥) is.set fresh)))
 
 pub label_small : (s : SettingOf) (tabled : Problem) (most whole : ℕ) (label : Label) → IsSetting s tabled most whole → (stops : List ℕ) × IsLabel s stops label → (label.cost ≤ MAX_WEIGHT * MAX_NODES) × (label.relaxed_cost ≤ MAX_WEIGHT * MAX_NODES)
 label_small s tabled most whole label known (stops, is) = small_label s stops label known.problem is

@@ -5,7 +5,7 @@ use Rattle.std.proofs.lemmas.Bool.{cases_lt}
 use Rattle.std.proofs.lemmas.List.{append-nil, drop_at, get_or-map, get_or_append_left, length-append, length-map}
 use Rattle.std.proofs.lemmas.List.Elements.{All-append, All-contains, All-map, All-nil, All-weaker, Contains-append_left, Contains-append_right, Contains-get_or}
 use Rattle.vrp_model.specs.Problem.{IsProblem, Problem, place_count}
-use Rattle.vrp_routes.specs.Closed.{AreClosed, route_by}
+use Rattle.vrp_routes.specs.ClosedLevel.{AreClosed, route_by}
 use Rattle.vrp_routes.specs.Extended.{IfLabels}
 use Rattle.vrp_routes.specs.Label.{IsLabel, SettingOf}
 use Rattle.vrp_routes.specs.Level.{IsLevel, sequences}

@@ -2,6 +2,7 @@
 use Rattle.std.specs.Prelude.{◌≡◌, ◌⊎◌, ℕ, ◌<◌, ◌≤◌, ◌==◌, ◌&&◌, if◌then◌else◌, Bool, true, Option, Some, List, [], ◌∷◌, ◌++◌, length, slice_index_or}
 use Rattle.std.specs.HashMap.{get}
 use Rattle.std.specs.List.{All, AllPairs}
+use Rattle.std.specs.Option.{option_map}
 use Rattle.vrp_model.specs.Order.{IsEarlier}
 use Rattle.vrp_model.specs.Word.{last_symbol}
 use Rattle.vrp_routes.specs.Label.{SettingOf}
@@ -9,6 +10,7 @@ use Rattle.vrp_routes.specs.Level.{AreExtensions, sequences}
 use Rattle.vrp_routes.specs.Share.{is_in}
 use Rattle.vrp_routes.specs.Useful.{BeginsUseful}
 use Rattle.vrp_routes.specs.declared.candidates.Candidates.{Candidates}
+use Rattle.vrp_routes.specs.declared.candidates.KeptLabel.{KeptLabel}
 use Rattle.vrp_routes.specs.declared.label.Label.{Label}
 
 -- the set and the last stop
@@ -18,9 +20,13 @@ key_of label = (label.set, label.last)
 abbrev pub same_key : ℕ × ℕ → ℕ × ℕ → Bool
 same_key key other = (key.0 == other.0) && (key.1 == other.1)
 
+-- what is kept for a key
+abbrev pub kept_in : Candidates → ℕ × ℕ → Option KeptLabel
+kept_in found key = get same_key found.kept key
+
 -- which label is kept for a key
 abbrev pub kept_for : Candidates → ℕ × ℕ → Option ℕ
-kept_for found key = get same_key found.kept key
+kept_for found key = option_map (λ kept. kept.at) (kept_in found key)
 
 abbrev pub no_label : Label
 no_label = record { set = 0; load = 0; cost = 0; relaxed_load = 0; relaxed_cost = 0; parent = 0; first = 0; last = 0 }
@@ -32,9 +38,10 @@ label_at found at = slice_index_or found.labels.items at no_label
 abbrev pub kept_at : Candidates → ℕ → Option ℕ
 kept_at found at = kept_for found (key_of (label_at found at))
 
--- what is kept for a key is a label with that key
-abbrev pub IsKeyed : Candidates → Type 0
-IsKeyed found = (key : ℕ × ℕ) (at : ℕ) → kept_for found key ≡ Some at → (at < length found.labels.items) × (key_of (label_at found at) ≡ key)
+-- what is kept for a key is a label with that key, and its cost
+pub record IsKeyed (found : Candidates) : Type 0 where
+  pub places : (key : ℕ × ℕ) (at : ℕ) → kept_for found key ≡ Some at → (at < length found.labels.items) × (key_of (label_at found at) ≡ key)
+  pub costs : (key : ℕ × ℕ) (kept : KeptLabel) → kept_in found key ≡ Some kept → kept.cost ≡ (label_at found kept.at).cost
 
 -- a label was offered: refused where one is kept for its key that costs no more, and else kept in its stead
 pub record IsRefused (old : Candidates) (label : Label) (new : Candidates) : Type 0 where
@@ -47,7 +54,7 @@ pub record IsTaken (old : Candidates) (label : Label) (new : Candidates) : Type 
   pub share : new.share ≡ old.share
   pub longer : new.labels.items ≡ old.labels.items ++ label ∷ []
   pub cheaper : (at : ℕ) → kept_for old (key_of label) ≡ Some at → label.cost < (label_at old at).cost
-  pub kept : (key : ℕ × ℕ) → kept_for new key ≡ (if same_key (key_of label) key then Some (length old.labels.items) else kept_for old key)
+  pub kept : (key : ℕ × ℕ) → kept_in new key ≡ (if same_key (key_of label) key then Some (record { at = length old.labels.items; cost = label.cost }) else kept_in old key)
 
 abbrev pub IsOffered : Candidates → Label → Candidates → Type 0
 IsOffered old label new = IsRefused old label new ⊎ IsTaken old label new

@@ -1,18 +1,14 @@
 -- What is counted along the beginning of a route.
-use Rattle.std.specs.Prelude.{◌≡◌, ◌≢◌, ℕ, ◌*◌, ◌^◌, ◌≤◌, Some, List, [], ◌∷◌, length, slice_index}
-use Rattle.std.specs.Int.RustNames.{bit_or}
+use Rattle.std.specs.Prelude.{◌≡◌, ◌≢◌, ℕ, ◌*◌, ◌≤◌, Some, List, length, slice_index}
 use Rattle.std.specs.List.{All, AllPairs, Contains}
 use Rattle.vrp_model.specs.Problem.{IsProblem, Problem, customers, place_count}
 use Rattle.vrp_model.specs.Route.{load_of}
 use Rattle.vrp_model.specs.Word.{last_symbol, word_cost}
 use Rattle.vrp_model.specs.declared.limits.TheConstants.{MAX_WEIGHT}
+use Rattle.vrp_customers.specs.CustomerSet.{set_of}
+use Rattle.vrp_customers.specs.declared.customer_set.TheConstants.{PLACES}
 use Rattle.vrp_bound_prices.specs.Relaxation.{Bounds, IsLimit, RelaxationOf}
 use Rattle.vrp_routes.specs.declared.label.Label.{Label}
-
--- the stops as bits
-abbrev pub set_of : List ℕ → ℕ
-set_of [] = 0
-set_of (stop ∷ stops) = bit_or (2 ^ stop) (set_of stops)
 
 -- a route may begin so: customers, none of them twice, whom one truck can carry
 pub record IsBeginning (p : Problem) (stops : List ℕ) : Type 0 where
@@ -30,7 +26,7 @@ pub record IsSetting (s : SettingOf) (tabled : Problem) (most whole : ℕ) : Typ
   pub tables : tabled ≡ s.relaxation.relaxed
   pub whole_is : whole ≡ load_of s.relaxation.relaxed (customers s.relaxation.relaxed)
   pub is_limit : IsLimit s.relaxation s.limit (Some most)
-  pub few : place_count s.relaxation.problem ≤ 128
+  pub few : place_count s.relaxation.problem ≤ PLACES
   pub bounds : Bounds s.relaxation
   pub problem : IsProblem s.relaxation.problem
   pub relaxed : IsProblem s.relaxation.relaxed

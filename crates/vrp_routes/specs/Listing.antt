@@ -1,7 +1,7 @@
 -- How far the list of useful routes has come, level by level.
 use Rattle.std.specs.Prelude.{◌≡◌, ℕ, ◌+◌, ◌^◌, ◌<◌, ◌≤◌, List, [], drop, length, slice_index_or}
 use Rattle.std.specs.List.{All, Contains}
-use Rattle.vrp_routes.specs.Closed.{route_by}
+use Rattle.vrp_routes.specs.ClosedLevel.{route_by}
 use Rattle.vrp_routes.specs.Label.{SettingOf}
 use Rattle.vrp_routes.specs.Level.{IsLevel}
 use Rattle.vrp_routes.specs.Pool.{IsListed, RouteOf}

@@ -3,7 +3,8 @@ use Rattle.std.specs.Prelude.{◌≡◌, ◌≢◌, ℕ, List, []}
 use Rattle.std.specs.List.{All, Contains}
 use Rattle.vrp_model.specs.Problem.{Problem}
 use Rattle.vrp_model.specs.Route.{load_of, route_cost}
-use Rattle.vrp_routes.specs.Label.{IsBeginning, set_of}
+use Rattle.vrp_customers.specs.CustomerSet.{set_of}
+use Rattle.vrp_routes.specs.Label.{IsBeginning}
 use Rattle.vrp_routes.specs.Useful.{IsUseful}
 
 -- a route as a pool has it

@@ -11,6 +11,7 @@ use crate::setting::Setting;
 use crate::share::Share;
 use std::alloc::Global;
 use std::collections::HashMap;
+use vrp_customers::CustomerSet;
 use vrp_model::NoMemory;
 
 /// Labels of one length whose last customer is in a share, in the order of their stops, symbol by symbol. Among labels with the same
@@ -20,7 +21,14 @@ pub struct Candidates {
     share: Share,
     labels: Vec<Label>,
     // The label that is kept, by set and last customer.
-    kept: HashMap<(u128, u16), usize>,
+    kept: HashMap<(CustomerSet, u16), KeptLabel>,
+}
+
+// Where a label that is kept stands, and its cost, by which a further one is refused without a look at the label.
+#[derive(Clone, Copy, Debug)]
+pub struct KeptLabel {
+    pub at: usize,
+    pub cost: u64,
 }
 
 impl Candidates {
@@ -113,7 +121,7 @@ impl Candidates {
     {
         let label = self.labels[at];
         match self.kept.get(&(label.set, label.last)) {
-            Some(kept) => *kept == at,
+            Some(kept) => kept.at == at,
             None => false,
         }
     }
@@ -125,12 +133,16 @@ impl Candidates {
         ensures keyed { OnOk result (IsKeyed self.new) }
     {
         let key = (label.set, label.last);
-        if let Some(at) = self.kept.get(&key) {
-            if self.labels[*at].cost <= label.cost {
+        if let Some(kept) = self.kept.get(&key) {
+            if kept.cost <= label.cost {
                 return Ok(());
             }
         }
-        self.kept.insert(key, self.labels.len())?;
+        let kept = KeptLabel {
+            at: self.labels.len(),
+            cost: label.cost,
+        };
+        self.kept.insert(key, kept)?;
         self.labels.push(label)?;
         Ok(())
     }

@@ -1,29 +1,29 @@
 //! The routes of one length, the cheapest for each set of customers.
 ghost use Rattle.std.specs.Prelude.{◌≡◌, ◌≢◌, ◌+◌, ◌^◌, ◌<◌, ◌≤◌, ℕ, true, List, [], OnOk, IfOk, IfNone, IfSome, drop, length, vec_len};
 ghost use Rattle.vrp_model.specs.Route.{route_cost};
-ghost use Rattle.vrp_routes.specs.Closed.{AreClosed, AreClosedIn, AreClosedParts, CanClose, HasPlaces, TakesRoute, closing_share, is_closed_in};
-ghost use Rattle.vrp_routes.specs.Label.{IsLabel, SettingOf, set_of};
+ghost use Rattle.vrp_customers.specs.CustomerSet.{set_of};
+ghost use Rattle.vrp_routes.specs.ClosedLevel.{AreClosed, AreClosedIn, AreClosedParts, CanClose, HasPlaces, TakesRoute, closing_share, is_closed_in};
+ghost use Rattle.vrp_routes.specs.Label.{IsLabel, SettingOf};
 ghost use Rattle.vrp_routes.specs.Level.{IsLevel};
 ghost use Rattle.vrp_routes.specs.Useful.{IsUseful};
 
 use crate::label::Label;
-use crate::listers::Listers;
 use crate::setting::Setting;
 use crate::tasks::values_of;
 use std::alloc::Global;
 use std::collections::HashMap;
 use std::thread::Threads;
-use vrp_model::NoMemory;
+use vrp_customers::CustomerSet;
+use vrp_model::{Crew, NoMemory};
 
 // The number of shares of the sets. The order of the routes depends on it, but not on the number of workers.
 const CLOSING_SHARES: usize = 8;
 
 /// A route, given by the label of all its customers.
-// With fields in this order it takes 32 bytes.
+// With fields in this order it takes 48 bytes.
 #[derive(Clone, Copy, Debug)]
 pub struct ClosedRoute {
-    // A bit for each customer.
-    pub set: u128,
+    pub set: CustomerSet,
     pub cost: u64,
     pub load: u32,
     pub label: u32,
@@ -32,16 +32,16 @@ pub struct ClosedRoute {
 /// Routes of one length. Among those with the same customers the cheapest is kept, and among equal ones the earliest, symbol by
 /// symbol.
 #[derive(Drop)]
-pub struct Closed {
+pub struct ClosedLevel {
     routes: Vec<ClosedRoute>,
     // The route of each set.
-    by_set: HashMap<u128, usize>,
+    by_set: HashMap<CustomerSet, usize>,
 }
 
 /// Closes the labels of one length, whose numbers start at `start`, into routes. Routes with the same customers are closed in the same
 /// share, and each worker closes one share at a time.
-pub fn close_level<R: Threads + Sync, F>(
-    listers: &Listers<'_, R, F>,
+pub fn close_level<R: Threads + Sync, W>(
+    crew: &Crew<'_, R, W>,
     setting: &Setting<'_>,
     labels: &[Label],
     start: u32,
@@ -52,11 +52,11 @@ pub fn close_level<R: Threads + Sync, F>(
         → IsLevel setting.now k (drop start stops) labels.now
         → AreClosed setting.now k stops routes.items) }
 {
-    let alloc = listers.alloc;
+    let alloc = crew.alloc;
     let parts = values_of(
-        listers.rt,
+        crew.rt,
         alloc,
-        listers.workers,
+        crew.workers,
         CLOSING_SHARES,
         &|share: usize| -> Result<Vec<ClosedRoute>, NoMemory>
             requires level { CanClose setting.now start labels.now }
@@ -96,7 +96,7 @@ fn close_share(
         → IsLevel setting.now k (drop start stops) labels.now
         → AreClosedIn setting.now k (is_closed_in share) stops routes.items) }
 {
-    let mut closed = Closed {
+    let mut closed = ClosedLevel {
         routes: Vec::new(alloc),
         by_set: HashMap::new(alloc),
     };
@@ -111,7 +111,7 @@ fn close_share(
             })?;
         }
     }
-    let Closed {
+    let ClosedLevel {
         routes,
         by_set: _by_set,
     } = closed;
@@ -136,18 +136,14 @@ fn cost_in_share(setting: &Setting<'_>, label: &Label, share: usize) -> Option<u
 
 // The share that closes a set. After this multiplication the highest bits of a number depend on all others.
 #[inline(always)]
-fn share_of(set: u128) -> usize
+fn share_of(set: CustomerSet) -> usize
     ensures { result ≡ closing_share set }
 {
-    let high = (set >> 64) as u64;
-    let low = (set & 0xffff_ffff_ffff_ffff) as u64;
-    let mixed = high
-        .wrapping_add(low)
-        .wrapping_mul(6_364_136_223_846_793_005);
+    let mixed = set.folded().wrapping_mul(6_364_136_223_846_793_005);
     (mixed >> 61) as usize
 }
 
-impl Closed {
+impl ClosedLevel {
     // Adds a route, unless one with the same customers costs no more.
     fn offer(&mut self, route: ClosedRoute) -> Result<(), NoMemory>
         requires { HasPlaces self.old }

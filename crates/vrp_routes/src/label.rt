@@ -2,12 +2,13 @@
 ghost use Rattle.std.specs.Prelude.{[], ◌≡◌, ◌==◌, if◌then◌else◌};
 ghost use Rattle.vrp_routes.specs.Label.{IsLabel, SettingOf};
 
+use vrp_customers::CustomerSet;
+
 /// The label of a beginning of a route, which the field calls a partial path from the depot.
-// Wider fields come first, and loads are at most MAX_CAPACITY: so a label takes 48 bytes.
+// Wider fields come first, and loads are at most MAX_CAPACITY: so a label takes 64 bytes.
 #[derive(Clone, Copy, Debug)]
 pub struct Label {
-    // A bit for each customer.
-    pub set: u128,
+    pub set: CustomerSet,
     pub cost: u64,
     pub relaxed_cost: u64,
     pub load: u32,
@@ -26,7 +27,7 @@ impl Label {
         ensures { (s : SettingOf) → IsLabel s [] result }
     {
         Label {
-            set: 0,
+            set: CustomerSet::empty(),
             cost: 0,
             relaxed_cost: 0,
             load: 0,

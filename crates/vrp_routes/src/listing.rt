@@ -2,6 +2,7 @@
 ghost use Rattle.std.specs.Prelude.{◌≡◌, ◌+◌, ◌<◌, ◌≤◌, ◌↔◌, ℕ, IfNone, IfOk, IsTrue};
 ghost use Rattle.vrp_model.specs.Problem.{IsProblem, place_count};
 ghost use Rattle.vrp_model.specs.declared.limits.TheConstants.{NO_COST};
+ghost use Rattle.vrp_customers.specs.declared.customer_set.TheConstants.{PLACES};
 ghost use Rattle.vrp_routes.specs.Label.{SettingOf};
 ghost use Rattle.vrp_routes.specs.Listing.{IfPool, IsListing};
 ghost use Rattle.vrp_routes.specs.Pool.{IsPool};
@@ -9,19 +10,16 @@ ghost use Rattle.vrp_routes.specs.Pool.{IsPool};
 use crate::closed::{ClosedRoute, close_level};
 use crate::label::Label;
 use crate::level::{Extended, Limit, extend_level};
-use crate::listers::Listers;
 use crate::pool::RoutePool;
 use crate::sequences::Sequences;
 use crate::setting::Setting;
-use crate::tally::Tally;
+use crate::tally::LabelTally;
 use std::alloc::Global;
 use std::thread::Threads;
 use vrp_bound::NgTables;
 use vrp_bound_prices::Relaxation;
-use vrp_model::{Instance, NoMemory};
-
-/// The most customers of an instance, since a set has a bit for each place.
-pub const MOST_CUSTOMERS: u16 = 127;
+use vrp_customers::MOST_CUSTOMERS;
+use vrp_model::{Crew, Instance, NoMemory, Watch};
 
 /// The pool of routes, or the limit that was met.
 #[derive(Drop)]
@@ -32,7 +30,7 @@ pub enum Listed {
 
 /// Whether an instance has few enough customers that its routes can be listed.
 pub fn can_list(instance: &Instance) -> bool
-    ensures { IsTrue result ↔ (place_count instance.now ≤ MOST_CUSTOMERS + 1) }
+    ensures { IsTrue result ↔ (place_count instance.now ≤ PLACES) }
 {
     instance.customers() <= MOST_CUSTOMERS
 }
@@ -41,27 +39,26 @@ pub fn can_list(instance: &Instance) -> bool
 /// those of the relaxed instance, for any near customers. Labels are extended customer by customer. A label is dropped if its cost and
 /// its least completion by the tables exceed the limit, or if another label with the same customers and the same last one costs less, or
 /// as much and is earlier. At most `most_labels` labels are made; the label of no customers, and labels dropped later, count too. Now and
-/// then the listers' `should_continue` is called with the number of labels made so far. The contract leaves open that number, which limit
+/// then the watch hears the number of labels made so far, and is asked whether to go on. The contract leaves open that number, which limit
 /// is met and when, and that the pool is the same for every number of workers.
-pub fn list_routes<R: Threads + Sync, F: Fn(u64) -> bool>(
-    listers: &Listers<'_, R, F>,
+pub fn list_routes<R: Threads + Sync, W: Watch + Sync>(
+    crew: &Crew<'_, R, W>,
     relaxation: &Relaxation<'_>,
     tables: &NgTables<'_>,
     limit: u64,
     most_labels: u32,
 ) -> Result<Listed, NoMemory>
     requires tables { tables.now.problem ≡ relaxation.now.relaxed }
-    requires few { place_count relaxation.now.problem ≤ MOST_CUSTOMERS + 1 }
+    requires few { place_count relaxation.now.problem ≤ PLACES }
     requires limit { limit ≤ NO_COST }
-    requires should_continue { F.IsAlwaysCallable listers.now.should_continue.now }
     ensures { IfOk result (λ listed. IfPool listed (IsPool relaxation.now.problem limit)) }
 {
     let Some(setting) = Setting::new(relaxation, tables, limit) else {
-        return Ok(Listed::Pool(RoutePool::empty(listers.alloc)));
+        return Ok(Listed::Pool(RoutePool::empty(crew.alloc)));
     };
-    let mut listing = Listing::new(listers.alloc)?;
+    let mut listing = Listing::new(crew.alloc)?;
     for _level in 1..setting.places() {
-        if let Some(limit) = listing.step(listers, &setting, most_labels)? {
+        if let Some(limit) = listing.step(crew, &setting, most_labels)? {
             return Ok(Listed::Met(limit));
         }
     }
@@ -94,29 +91,28 @@ impl Listing {
     }
 
     // Advances to the labels that are one customer longer.
-    fn step<R: Threads + Sync, F: Fn(u64) -> bool>(
+    fn step<R: Threads + Sync, W: Watch + Sync>(
         &mut self,
-        listers: &Listers<'_, R, F>,
+        crew: &Crew<'_, R, W>,
         setting: &Setting<'_>,
         most_labels: u32,
     ) -> Result<Option<Limit>, NoMemory>
         requires listing { (k : ℕ) × IsListing setting.now k self.old }
-        requires should_continue { F.IsAlwaysCallable listers.now.should_continue.now }
         ensures { IfOk result (λ met. IfNone met ((k : ℕ)
             → IsListing setting.now k self.old → IsListing setting.now (k + 1) self.new)) }
     {
         let start = self.sequences.len() as u32;
-        let tally = Tally {
+        let tally = LabelTally {
             made: u64::from(start),
             room: most_labels.saturating_sub(start) as usize,
         };
-        let extended = extend_level(listers, setting, &self.labels, tally)?;
+        let extended = extend_level(crew, setting, &self.labels, tally)?;
         let labels = match extended {
             Extended::Labels(labels) => labels,
             Extended::Met(limit) => return Ok(Some(limit)),
         };
         self.sequences.push_level(self.start, &labels)?;
-        let routes = close_level(listers, setting, &labels, start)?;
+        let routes = close_level(crew, setting, &labels, start)?;
         self.routes.extend_from_slice(&routes)?;
         self.labels = labels;
         self.start = start;

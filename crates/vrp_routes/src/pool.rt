@@ -1,16 +1,17 @@
 //! Routes, with what a choice among them needs.
 ghost use Rattle.std.specs.Prelude.{◌≡◌, ◌<◌, ◌==◌, ℕ, List, [], IfOk, length, map, slice_index_or};
 ghost use Rattle.std.specs.List.{All};
-ghost use Rattle.vrp_routes.specs.Closed.{route_by};
+ghost use Rattle.vrp_routes.specs.ClosedLevel.{route_by};
 ghost use Rattle.vrp_routes.specs.Pool.{no_route};
 
 use crate::closed::ClosedRoute;
 use crate::sequences::Sequences;
 use std::alloc::Global;
 use std::marker::Model;
+use vrp_customers::CustomerSet;
 use vrp_model::NoMemory;
 
-/// Routes, numbered from 0. Each has its set of customers, with a bit for each, its load, its cost and its customers in order.
+/// Routes, numbered from 0. Each has its set of customers, its load, its cost and its customers in order.
 #[derive(Drop)]
 pub struct RoutePool {
     sequences: Sequences,
@@ -20,7 +21,7 @@ pub struct RoutePool {
 impl Model for RoutePool {
     ghost use Rattle.std.specs.Prelude.{◌<◌, List, length, map};
     ghost use Rattle.std.specs.List.{All};
-    ghost use Rattle.vrp_routes.specs.Closed.{route_by};
+    ghost use Rattle.vrp_routes.specs.ClosedLevel.{route_by};
     ghost use Rattle.vrp_routes.specs.Pool.{RouteOf};
 
     ghost Value = { List RouteOf };
@@ -63,8 +64,8 @@ impl RoutePool {
         self.routes.is_empty()
     }
 
-    /// The customers of a route, a bit for each.
-    pub fn set(&self, at: usize) -> u128
+    /// The customers of a route.
+    pub fn set(&self, at: usize) -> CustomerSet
         requires { at < length self.now }
         ensures { result ≡ (slice_index_or self.now at no_route).set }
     {

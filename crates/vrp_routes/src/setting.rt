@@ -3,6 +3,7 @@ ghost use Rattle.std.specs.Prelude.{◌≡◌, ◌≢◌, ◌≤◌, ◌<◌, Li
 ghost use Rattle.vrp_model.specs.Problem.{IsProblem, place_count};
 ghost use Rattle.vrp_model.specs.Route.{route_cost};
 ghost use Rattle.vrp_model.specs.declared.limits.TheConstants.{NO_COST};
+ghost use Rattle.vrp_customers.specs.declared.customer_set.TheConstants.{PLACES};
 ghost use Rattle.vrp_bound_prices.specs.Relaxation.{RelaxationOf};
 ghost use Rattle.vrp_routes.specs.Label.{IsLabel, SettingOf};
 ghost use Rattle.vrp_routes.specs.Useful.{BeginsUseful, IsUseful};
@@ -44,7 +45,7 @@ impl<'a> Setting<'a> {
         limit: u64,
     ) -> Option<Setting<'a>>
         requires tables { tables.now.problem ≡ relaxation.now.relaxed }
-        requires few { place_count relaxation.now.problem ≤ 128 }
+        requires few { place_count relaxation.now.problem ≤ PLACES }
         requires limit { limit ≤ NO_COST }
         ensures { MatchOption result
             ((stops : List ℕ) → BeginsUseful relaxation.now.problem limit stops → ⊥)
@@ -114,7 +115,7 @@ impl<'a> Setting<'a> {
     {
         let problem = self.relaxation.problem();
         let relaxed = self.relaxation.relaxed();
-        if (label.set >> stop) & 1 == 1 {
+        if label.set.contains(stop) {
             return None;
         }
         let load = label.load as u64 + problem.demand(stop);
@@ -135,7 +136,7 @@ impl<'a> Setting<'a> {
         }
         let cost = label.cost + problem.weight(label.last, stop);
         Some(Label {
-            set: label.set | (1 << stop),
+            set: label.set.with(stop),
             cost,
             relaxed_cost,
             load: load as u32,

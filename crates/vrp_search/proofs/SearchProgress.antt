@@ -14,7 +14,7 @@ use Rattle.vrp_model.specs.Word.{BeginsWith, IsPrefix, IsLawfulWord, TreeHasAtLe
 use Rattle.vrp_model.proofs.PrefixesBefore.{prefixes_before}
 use Rattle.vrp_model.proofs.Ordered.{earlier_irreflexive}
 use Rattle.vrp_search_tree.specs.Child.{IsNextChild, NoChildFrom}
-use Rattle.vrp_search.specs.Inner.Found.{IsFoundAt, IsLastOffer}
+use Rattle.vrp_search.specs.Inner.LastOffer.{IsFoundAt, IsLastOffer}
 use Rattle.vrp_search.specs.Search.{IsFinished, IsFoundUnder, IsNotBefore}
 use Rattle.vrp_search.proofs.WordOrder.{IsFrom, child_of_prefix, child_or_behind, from_itself, from_next, from_shorter, from_sibling, prefix_or_behind, none_earlier, not_from_longer, sibling_or_behind}
 

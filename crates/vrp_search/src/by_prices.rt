@@ -8,7 +8,7 @@ ghost use Rattle.vrp_search_tree.specs.Tally.{IsTally};
 use crate::pruning::Pruning;
 use std::alloc::Global;
 use vrp_model::{NO_COST, NoMemory};
-use vrp_search_tree::{Partial, PricedTally, Prices, Tally};
+use vrp_search_tree::{Partial, PriceTables, PricedTally, Tally};
 
 /// The tallies of a word, in the instance and in the problem with prices.
 #[derive(Clone, Copy)]
@@ -21,7 +21,7 @@ pub(crate) struct Counted {
 /// few trucks left.
 #[derive(Drop)]
 pub(crate) struct ByPrices<'a> {
-    prices: &'a Prices<'a>,
+    prices: &'a PriceTables<'a>,
     priced_tally: PricedTally,
     // The priced tallies before each symbol, which a pop restores. Room is reserved for the longest partial plan.
     before: Vec<PricedTally>,
@@ -31,7 +31,7 @@ impl<'a> ByPrices<'a> {
     /// In step with a partial plan.
     pub(crate) fn at(
         alloc: Global,
-        prices: &'a Prices<'a>,
+        prices: &'a PriceTables<'a>,
         partial: &Partial<'_>,
     ) -> Result<ByPrices<'a>, NoMemory>
         requires problem { prices.now.problem ≡ partial.now.problem }

@@ -9,7 +9,7 @@ ghost use Rattle.vrp_search.specs.Inner.Under.{EndsUnder};
 use crate::board::Board;
 use crate::bounds::Bounds;
 use crate::by_prices::ByPrices;
-use crate::found::Found;
+use crate::found::LastOffer;
 use crate::pruning::Pruning;
 use crate::spending::Spending;
 use std::alloc::Global;
@@ -17,7 +17,7 @@ use vrp_bound::{Tables, bounds_hold};
 use vrp_model::{
     Instance, NoMemory, Plan, plans_cost_less, prefixes_without_completion, words_are_plans,
 };
-use vrp_search_tree::{Partial, Piece, Prices};
+use vrp_search_tree::{Partial, Piece, PriceTables};
 
 /// How the search of a piece ended.
 #[derive(Debug, Drop)]
@@ -70,7 +70,7 @@ pub fn search<B: Board>(
 #[derive(Clone, Copy)]
 pub struct Lookups<'a> {
     pub tables: &'a Tables<'a>,
-    pub prices: &'a Prices<'a>,
+    pub prices: &'a PriceTables<'a>,
 }
 
 /// Searches the plans under a piece with the contract of `search`, and prunes by prices. It prunes a partial plan if the
@@ -179,7 +179,7 @@ pub(crate) fn search_under<B: Board, P: Pruning>(
     plans_cost_less();
     let root = partial.depth();
     let mut spending = Spending::first(budget);
-    let mut found = Found::nothing();
+    let mut found = LastOffer::nothing();
     found.offer_complete(alloc, partial, board)?;
     let mut next = 0;
     loop {

@@ -1,7 +1,7 @@
 //! The last plan that a search offered to its board.
 ghost use Rattle.std.specs.Prelude.{◌≡◌, ◌≤◌, OnOk, None};
 ghost use Rattle.vrp_model.specs.Cheapest.{cost_of};
-ghost use Rattle.vrp_search.specs.Inner.Found.{IsLastOffer};
+ghost use Rattle.vrp_search.specs.Inner.LastOffer.{IsLastOffer};
 
 use crate::board::Board;
 use std::alloc::Global;
@@ -10,19 +10,19 @@ use vrp_search_tree::Partial;
 
 /// The last plan that a search offered, if any. It costs less than those that were offered before.
 #[derive(Drop)]
-pub(crate) struct Found {
+pub(crate) struct LastOffer {
     plan: Option<Plan>,
     // The plan's cost, `NO_COST` if there is none; read at each partial plan.
     cost: u64,
     ghost priced: { cost ≡ cost_of plan },
 }
 
-impl Found {
+impl LastOffer {
     /// No plan yet.
-    pub(crate) fn nothing() -> Found
+    pub(crate) fn nothing() -> LastOffer
         ensures { result.plan ≡ None }
     {
-        Found {
+        LastOffer {
             plan: None,
             cost: NO_COST,
         }

@@ -15,6 +15,6 @@ pub use board::{Board, LOOKS_BEFORE_ASKING};
 pub use depth_first::{Ended, Lookups, search, search_by_prices};
 pub use local::Local;
 pub use vrp_search_tree::{
-    Cutting, MAX_PIECES, MAX_REFINED, Partial, Piece, Prices, Reserved, one_low, one_piece,
+    Cutting, MAX_PIECES, MAX_REFINED, Partial, Piece, PriceTables, Reserved, one_low, one_piece,
     own_low_no_lower,
 };

@@ -1,7 +1,7 @@
 -- What prices no longer tell of the plans under a prefix: that each costs more than some cost.
 use Rattle.std.specs.Prelude.{ℕ, ◌+◌, ◌*◌, ◌≤◌, Some, []}
 use Rattle.vrp_bound.specs.NgWalks.{IsNgTablesBound}
-use Rattle.vrp_bound_ng.specs.Near.{NearOf}
+use Rattle.vrp_model.specs.Near.{NearOf}
 use Rattle.vrp_bound_prices.specs.Relaxation.{RelaxationOf}
 use Rattle.vrp_search_tree.specs.PricedTally.{IsPricedTallyAt}
 use Rattle.vrp_search_tree.specs.declared.priced_tally.PricedTally.{PricedTally}

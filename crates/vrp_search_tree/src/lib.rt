@@ -17,5 +17,5 @@ pub use lawful::{cheaper_plan, lawful_plan};
 pub use partial::{Partial, Reserved};
 pub use piece::Piece;
 pub use priced_tally::PricedTally;
-pub use prices::Prices;
+pub use prices::PriceTables;
 pub use tally::Tally;

@@ -15,18 +15,17 @@ use crate::priced_tally::PricedTally;
 use std::alloc::Global;
 use std::marker::Model;
 use vrp_bound::{LowerBound, NgTables};
-use vrp_bound_ng::NgSets;
 use vrp_bound_prices::{Relaxation, costly_prefixes, walks_bound};
-use vrp_model::{Instance, NO_COST, NoMemory};
+use vrp_model::{Instance, NO_COST, NgSets, NoMemory};
 
 /// A relaxation of an instance by prices, with tables of ng-walks over all its customers.
 #[derive(Drop)]
-pub struct Prices<'a> {
+pub struct PriceTables<'a> {
     relaxation: &'a Relaxation<'a>,
     tables: NgTables<'a>,
 }
 
-impl<'a> Model for Prices<'a> {
+impl<'a> Model for PriceTables<'a> {
     ghost use Rattle.std.specs.Prelude.{◌≡◌};
     ghost use Rattle.vrp_model.specs.Problem.{place_count};
     ghost use Rattle.vrp_bound_prices.specs.Relaxation.{RelaxationOf};
@@ -38,18 +37,18 @@ impl<'a> Model for Prices<'a> {
     ghost invariant = { λ a. a.tables.problem ≡ a.relaxation.now.relaxed };
 }
 
-impl<'a> Prices<'a> {
+impl<'a> PriceTables<'a> {
     /// The prices of a relaxation, with walks that have these ng-sets.
     pub fn new(
         alloc: Global,
         relaxation: &'a Relaxation<'a>,
         ng_sets: NgSets,
-    ) -> Result<Prices<'a>, NoMemory>
+    ) -> Result<PriceTables<'a>, NoMemory>
         requires places { ng_sets.places ≡ place_count relaxation.now.problem }
         ensures { IfOk result (λ prices. prices ≡ relaxation.now) }
     {
         let tables = NgTables::new(alloc, relaxation.relaxed(), ng_sets)?;
-        Ok(Prices { relaxation, tables })
+        Ok(PriceTables { relaxation, tables })
     }
 
     /// A lower bound on every plan of the instance, by the prices. It is `NO_COST` if they show that there is no plan. No clause

@@ -2,6 +2,7 @@
 use crate::program::{Basic, Column, Program};
 use crate::rows::kept;
 use std::alloc::{AllocError, Global};
+use vrp_customers::CustomerSet;
 use vrp_partition::Route;
 
 // The program's routes by their sets: a table with open addressing.
@@ -33,9 +34,8 @@ impl RouteTable {
 
     // The first position to look for a set.
     #[inline(always)]
-    fn start(&self, set: u128) -> usize {
-        let folded = (set & 0xffff_ffff_ffff_ffff) as u64 ^ ((set >> 64) as u64).rotate_left(29);
-        (folded.wrapping_mul(0x9e37_79b9_7f4a_7c15) >> 32) as usize
+    fn start(&self, set: CustomerSet) -> usize {
+        (set.folded().wrapping_mul(0x9e37_79b9_7f4a_7c15) >> 32) as usize
     }
 
     #[inline(always)]
@@ -65,7 +65,7 @@ impl Program {
         let mut stays = vec![in self.alloc; false; self.routes.len()]?;
         let mut rest = Vec::new(self.alloc);
         for route in pool {
-            if route.set & self.customers == route.set && route.set != 0 {
+            if route.set.is_subset(self.customers) && !route.set.is_empty() {
                 match table.find(self.routes.as_slice(), route) {
                     Some(number) => mark(stays.as_mut_slice(), number),
                     None => rest.push(*route)?,

@@ -4,6 +4,7 @@ use crate::cut::CutKind;
 use crate::fixed_point::{ONE, add_signed};
 use crate::program::{Basic, Program};
 use std::alloc::AllocError;
+use vrp_customers::CustomerSet;
 
 /// A basis, its inverse and its solution.
 #[derive(Drop)]
@@ -52,7 +53,7 @@ impl Program {
         self.exchanges = 0;
         for row in 0..height {
             let first = self.first_column(row);
-            let cost = self.cost_of(first);
+            let cost = self.cost_of(&first);
             self.sides.push(0)?;
             self.costs.push(cost)?;
             self.basis.push(first)?;
@@ -81,11 +82,14 @@ impl Program {
     }
 
     /// Writes the rows of a column, and returns the entry in each.
-    pub(crate) fn write_rows(&self, basic: Basic, rows: &mut Vec<u16>) -> Result<i64, AllocError> {
+    pub(crate) fn write_rows(&self, basic: &Basic, rows: &mut Vec<u16>) -> Result<i64, AllocError> {
         rows.clear();
-        match basic {
+        match *basic {
             Basic::Route(route) => {
-                let set = self.routes.get(route).map_or(0, |route| route.set);
+                let set = self
+                    .routes
+                    .get(route)
+                    .map_or(CustomerSet::empty(), |route| route.set);
                 push_rows(rows, set, self.cuts.as_slice(), self.customers)?
             }
             Basic::Gone(route) => {
@@ -101,8 +105,8 @@ impl Program {
     }
 
     /// The cost of a column.
-    pub(crate) fn cost_of(&self, basic: Basic) -> i64 {
-        match basic {
+    pub(crate) fn cost_of(&self, basic: &Basic) -> i64 {
+        match *basic {
             Basic::Route(route) => self
                 .routes
                 .get(route)
@@ -116,7 +120,7 @@ impl Program {
     /// Writes a column in terms of the basis.
     pub(crate) fn write_direction(
         &self,
-        basic: Basic,
+        basic: &Basic,
         rows: &mut Vec<u16>,
         direction: &mut [i64],
     ) -> Result<(), AllocError> {

@@ -1,32 +1,33 @@
 //! The customers to branch on.
-use crate::cut::{holds, only};
-use crate::fixed_point::ONE;
+ghost use Rattle.std.specs.Prelude.{◌<◌};
+
+use crate::fixed_point::{ONE, at};
 use crate::program::Program;
-use crate::subset_rows::{PLACES, pair_sums};
+use crate::subset_rows::{pair_sums, places_of, sums_of};
 use std::alloc::AllocError;
+use vrp_customers::{CustomerSet, PLACES};
 use vrp_partition::Route;
 
 // The pair is sought whose share of common routes is nearest to this.
 const MIDDLE: i64 = ONE / 100 * 55;
 
-// Two customers, a bit for each, and the distance of their share of common routes from the middle.
+// Two customers, and the distance of their share of common routes from the middle.
 #[derive(Clone, Copy, PartialEq, Eq, PartialOrd, Ord)]
 struct RankedPair {
     far: i64,
-    set: u128,
+    set: CustomerSet,
 }
 
 impl Program {
-    /// The two customers, a bit for each, for whom the solution is least decided whether they share a route; if possible a pair by which
+    /// The two customers for whom the solution is least decided whether they share a route; if possible a pair by which
     /// both branches lose a route. No clause pins them, since they are not trusted.
-    pub fn pair(&self, pool: &[Route]) -> Result<u128, AllocError> {
+    pub fn pair(&self, pool: &[Route]) -> Result<CustomerSet, AllocError> {
         let used = self.used()?;
-        let pairs = pair_sums(self.alloc, used.as_slice())?;
+        let places = places_of(self.customers);
+        let pairs = pair_sums(self.alloc, places, used.as_slice())?;
         let mut ranked = Vec::new(self.alloc);
-        for (first, row) in pairs.chunks_exact(PLACES).enumerate() {
-            if holds(self.customers, first) {
-                self.push_pairs(first, row, &mut ranked)?;
-            }
+        for first in self.customers.iter() {
+            self.push_pairs(first, sums_of(pairs.as_slice(), places, first), &mut ranked)?;
         }
         ranked.sort_unstable();
         for pair in &ranked {
@@ -34,20 +35,23 @@ impl Program {
                 return Ok(pair.set);
             }
         }
-        Ok(ranked.first().map_or(0, |pair| pair.set))
+        Ok(ranked.first().map_or(CustomerSet::empty(), |pair| pair.set))
     }
 
     // Adds the pairs of a customer and a later one.
     fn push_pairs(
         &self,
-        first: usize,
+        first: u16,
         row: &[i64],
         ranked: &mut Vec<RankedPair>,
-    ) -> Result<(), AllocError> {
-        for (second, &sum) in row.iter().enumerate().skip(first.saturating_add(1)) {
-            if holds(self.customers, second) {
+    ) -> Result<(), AllocError>
+        requires { first < PLACES }
+    {
+        for second in self.customers.iter() {
+            if second > first {
+                let sum = at(row, usize::from(second));
                 let far = sum.wrapping_sub(MIDDLE).saturating_abs();
-                let set = only(first) | only(second);
+                let set = CustomerSet::only(first).with(second);
                 ranked.push(RankedPair { far, set })?;
             }
         }
@@ -56,10 +60,9 @@ impl Program {
 }
 
 // Whether some route has all of these customers, and some route has some of them.
-fn divides(pool: &[Route], set: u128) -> bool {
-    let has_all = pool.iter().any(|route| route.set & set == set);
-    let has_some = pool
-        .iter()
-        .any(|route| route.set & set != set && route.set & set != 0);
+fn divides(pool: &[Route], set: CustomerSet) -> bool {
+    let has_all = pool.iter().any(|route| set.is_subset(route.set));
+    let has_some = pool.iter().any(|route| !set.is_subset(route.set)
+        && !set.is_disjoint(route.set));
     has_all && has_some
 }

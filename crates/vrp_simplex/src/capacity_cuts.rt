@@ -1,10 +1,12 @@
 //! Capacity cuts: sets of customers that too few routes of the solution visit.
-use crate::cut::{Cut, CutKind, holds, only};
+ghost use Rattle.std.specs.Prelude.{◌<◌, IfSome};
+
+use crate::cut::{Cut, CutKind};
 use crate::fixed_point::{ONE, at};
 use crate::separation::{Broken, Used};
-use crate::subset_rows::PLACES;
+use crate::subset_rows::places_of;
 use std::alloc::{AllocError, Global};
-use vrp_partition::Fleet;
+use vrp_customers::{CustomerSet, FleetView, PLACES};
 
 // A solution violates a cut if it visits the set at least this much too seldom.
 const LESS: i64 = ONE / 20;
@@ -12,7 +14,7 @@ const LESS: i64 = ONE / 20;
 // A set that grows.
 #[derive(Drop)]
 struct Growing {
-    set: u128,
+    set: CustomerSet,
     load: u64,
     visits: i64,
     // By customer, the additional visits of the solution to the set with it.
@@ -22,31 +24,29 @@ struct Growing {
 /// Adds violated sets, grown from each customer by the customer that adds the fewest visits.
 pub(crate) fn push_broken(
     alloc: Global,
-    customers: u128,
+    customers: CustomerSet,
     used: &[Used],
-    fleet: &Fleet<'_>,
+    fleet: &FleetView<'_>,
     broken: &mut Vec<Broken>,
 ) -> Result<(), AllocError> {
-    let visits = all_visits(alloc, used)?;
-    for start in 0..PLACES {
-        if holds(customers, start) {
-            let mut growing = Growing {
-                set: 0,
-                load: 0,
-                visits: 0,
-                more: Vec::from_slice(alloc, visits.as_slice())?,
-            };
-            growing.take(start, used, fleet);
-            growing.visits = ONE;
-            growing.grow(customers, used, fleet, broken)?;
-        }
+    let visits = all_visits(alloc, places_of(customers), used)?;
+    for start in customers.iter() {
+        let mut growing = Growing {
+            set: CustomerSet::empty(),
+            load: 0,
+            visits: 0,
+            more: Vec::from_slice(alloc, visits.as_slice())?,
+        };
+        growing.take(start, used, fleet);
+        growing.visits = ONE;
+        growing.grow(customers, used, fleet, broken)?;
     }
     Ok(())
 }
 
 // The visits of the solution to each customer.
-fn all_visits(alloc: Global, used: &[Used]) -> Result<Vec<i64>, AllocError> {
-    let mut visits = vec![in alloc; 0; PLACES]?;
+fn all_visits(alloc: Global, places: usize, used: &[Used]) -> Result<Vec<i64>, AllocError> {
+    let mut visits = vec![in alloc; 0; places]?;
     for route in used {
         add_members(visits.as_mut_slice(), route.set, route.value);
     }
@@ -57,25 +57,31 @@ impl Growing {
     // Adds one customer after another to the set, and each violated set to the list.
     fn grow(
         &mut self,
-        customers: u128,
+        customers: CustomerSet,
         used: &[Used],
-        fleet: &Fleet<'_>,
+        fleet: &FleetView<'_>,
         broken: &mut Vec<Broken>,
     ) -> Result<(), AllocError> {
-        for _ in 1..customers.count_ones() {
-            let next = self.next(customers, fleet);
-            self.take(next, used, fleet);
-            self.push_if_broken(fleet, broken)?;
+        for _ in 1..customers.len() {
+            if let Some(next) = self.next(customers, fleet) {
+                self.take(next, used, fleet);
+                self.push_if_broken(fleet, broken)?;
+            }
         }
         Ok(())
     }
 
     // Adds a customer to the set.
-    fn take(&mut self, customer: usize, used: &[Used], fleet: &Fleet<'_>) {
-        self.visits = self.visits.wrapping_add(at(self.more.as_slice(), customer));
-        self.load = self.load.saturating_add(fleet.demand(customer));
+    fn take(&mut self, customer: u16, used: &[Used], fleet: &FleetView<'_>)
+        requires { customer < PLACES }
+    {
+        let more = at(self.more.as_slice(), usize::from(customer));
+        self.visits = self.visits.wrapping_add(more);
+        self.load = self
+            .load
+            .saturating_add(fleet.demand(usize::from(customer)));
         for route in used {
-            if holds(route.set, customer) && route.set & self.set == 0 {
+            if route.set.contains(customer) && route.set.is_disjoint(self.set) {
                 add_members(
                     self.more.as_mut_slice(),
                     route.set,
@@ -83,25 +89,21 @@ impl Growing {
                 );
             }
         }
-        self.set |= only(customer);
+        self.set = self.set.with(customer);
     }
 
     // The customer that adds the fewest visits; among several the one with the most demand.
-    fn next(&self, customers: u128, fleet: &Fleet<'_>) -> usize {
-        let mut left = customers & !self.set;
-        let mut next = 0usize;
+    fn next(&self, customers: CustomerSet, fleet: &FleetView<'_>) -> Option<u16>
+        ensures { IfSome result (λ customer. customer < PLACES) }
+    {
+        let mut next = None;
         let (mut least, mut most) = (i64::MAX, 0u64);
-        for _ in 0..128 {
-            if left == 0 {
-                break;
-            }
-            let customer = left.trailing_zeros() as usize;
-            left &= left.wrapping_sub(1);
-            let more = at(self.more.as_slice(), customer);
+        for customer in customers.difference(self.set).iter() {
+            let more = at(self.more.as_slice(), usize::from(customer));
             if more <= least {
-                let demand = fleet.demand(customer);
+                let demand = fleet.demand(usize::from(customer));
                 if more < least || demand > most {
-                    (next, least, most) = (customer, more, demand);
+                    (next, least, most) = (Some(customer), more, demand);
                 }
             }
         }
@@ -111,7 +113,7 @@ impl Growing {
     // Adds the set to the list if it is violated.
     fn push_if_broken(
         &self,
-        fleet: &Fleet<'_>,
+        fleet: &FleetView<'_>,
         broken: &mut Vec<Broken>,
     ) -> Result<(), AllocError> {
         let trucks = self.load.div_ceil(u64::from(fleet.capacity).max(1));
@@ -128,16 +130,11 @@ impl Growing {
     }
 }
 
-// Adds a value to the customers of a set.
-fn add_members(sums: &mut [i64], set: u128, value: i64) {
-    let mut left = set;
-    for _ in 0..128 {
-        if left == 0 {
-            break;
-        }
-        if let Some(sum) = sums.get_mut(left.trailing_zeros() as usize) {
+/// Adds a value to the customers of a set.
+pub(crate) fn add_members(sums: &mut [i64], set: CustomerSet, value: i64) {
+    for customer in set.iter() {
+        if let Some(sum) = sums.get_mut(usize::from(customer)) {
             *sum = sum.wrapping_add(value);
         }
-        left &= left.wrapping_sub(1);
     }
 }

@@ -4,13 +4,14 @@ use crate::fixed_point::{as_price, dot, price_of};
 use crate::program::{Column, Program};
 use crate::rows::{Quad, Table, of, push_known, push_quads, table};
 use std::alloc::AllocError;
+use vrp_customers::CustomerSet;
 use vrp_partition::Route;
 
 impl Program {
     /// Makes the column of a route, the last one. `rows` is overwritten.
     pub(crate) fn push_column(
         &mut self,
-        route: Route,
+        route: &Route,
         rows: &mut Vec<u16>,
     ) -> Result<(), AllocError> {
         rows.clear();
@@ -90,11 +91,6 @@ impl Program {
     }
 }
 
-// The row of the only customer of a set.
-fn row_of(customer: u128, customers: u128) -> usize {
-    (customers & customer.wrapping_sub(1)).count_ones() as usize
-}
-
 /// The reduced cost of a column.
 #[inline(always)]
 pub(crate) fn reduced_cost(column: &Column, quads: &[Quad], prices: &Table) -> i64 {
@@ -115,16 +111,21 @@ pub(crate) fn number(row: usize) -> u16 {
 /// Adds the rows of a route.
 pub(crate) fn push_rows(
     rows: &mut Vec<u16>,
-    set: u128,
+    set: CustomerSet,
     cuts: &[Cut],
-    customers: u128,
+    customers: CustomerSet,
 ) -> Result<(), AllocError> {
     push_customers(rows, set, customers)?;
-    push_cuts(rows, set, cuts, customers.count_ones() as usize)
+    push_cuts(rows, set, cuts, usize::from(customers.len()))
 }
 
 // Adds the rows of the cuts in which a route counts, the first of which has this number.
-fn push_cuts(rows: &mut Vec<u16>, set: u128, cuts: &[Cut], first: usize) -> Result<(), AllocError> {
+fn push_cuts(
+    rows: &mut Vec<u16>,
+    set: CustomerSet,
+    cuts: &[Cut],
+    first: usize,
+) -> Result<(), AllocError> {
     for (cut, found) in cuts.iter().enumerate() {
         if found.has(set) {
             rows.push(number(first.saturating_add(cut)))?;
@@ -134,15 +135,13 @@ fn push_cuts(rows: &mut Vec<u16>, set: u128, cuts: &[Cut], first: usize) -> Resu
 }
 
 // Adds the rows of a route's customers.
-fn push_customers(rows: &mut Vec<u16>, set: u128, customers: u128) -> Result<(), AllocError> {
-    let mut left = set;
-    for _ in 0..128 {
-        if left == 0 {
-            break;
-        }
-        let customer = left & left.wrapping_neg();
-        rows.push(number(row_of(customer, customers)))?;
-        left ^= customer;
+fn push_customers(
+    rows: &mut Vec<u16>,
+    set: CustomerSet,
+    customers: CustomerSet,
+) -> Result<(), AllocError> {
+    for customer in set.iter() {
+        rows.push(customers.rank(customer))?;
     }
     Ok(())
 }

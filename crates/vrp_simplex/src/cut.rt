@@ -1,5 +1,6 @@
 //! Cuts of the program, by the sets of their customers.
 use crate::fixed_point::ONE;
+use vrp_customers::CustomerSet;
 
 /// The kind of a cut: its statement about the routes of a choice.
 #[derive(Clone, Copy, Debug, PartialEq, Eq)]
@@ -15,18 +16,17 @@ pub(crate) enum CutKind {
 /// A cut.
 #[derive(Clone, Copy, Debug, PartialEq, Eq)]
 pub(crate) struct Cut {
-    pub(crate) set: u128,
+    pub(crate) set: CustomerSet,
     pub(crate) kind: CutKind,
 }
 
 impl Cut {
     /// Whether a route counts in the cut's row.
     #[inline(always)]
-    pub(crate) fn has(&self, route: u128) -> bool {
-        let common = route & self.set;
+    pub(crate) fn has(&self, route: CustomerSet) -> bool {
         match self.kind {
-            CutKind::SubsetRow => common & common.wrapping_sub(1) != 0,
-            CutKind::Capacity(_) => common != 0,
+            CutKind::SubsetRow => route.intersection(self.set).has_two(),
+            CutKind::Capacity(_) => !route.is_disjoint(self.set),
             CutKind::Trucks(_) => true,
         }
     }
@@ -60,16 +60,4 @@ impl Cut {
     pub(crate) fn wide_side(&self) -> i64 {
         self.side().wrapping_mul(ONE)
     }
-}
-
-/// The set of one customer.
-#[inline(always)]
-pub(crate) fn only(customer: usize) -> u128 {
-    if customer < 128 { 1 << customer } else { 0 }
-}
-
-/// Whether a set has a customer.
-#[inline(always)]
-pub(crate) fn holds(set: u128, customer: usize) -> bool {
-    set & only(customer) != 0
 }

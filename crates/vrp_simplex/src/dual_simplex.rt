@@ -5,7 +5,7 @@ use crate::program::{Basic, Program};
 use crate::rows::{Pair, Pairs, no_pairs, sums};
 use crate::shortlist::Listed;
 use std::alloc::{AllocError, Global};
-use vrp_partition::Ask;
+use vrp_model::Watch;
 
 /// How the dual simplex ended.
 #[derive(Clone, Copy, Debug, PartialEq, Eq)]
@@ -84,9 +84,9 @@ impl Program {
     /// Removes negative and forbidden columns from the basis, until there are none, the steps are spent, or the lower bound is above the
     /// limit, a price. It looks at a shortlist of the columns with the least reduced costs, and begins again with a longer one if other
     /// columns would have stopped a step. No clause pins the result, since it is not trusted.
-    pub fn dual_simplex<A: Ask>(
+    pub fn dual_simplex<W: Watch>(
         &mut self,
-        ask: &A,
+        watch: &W,
         most: u64,
         limit: i64,
         many: usize,
@@ -102,10 +102,10 @@ impl Program {
             } else {
                 None
             };
-            end = self.dual_steps_among(ask, most, limit)?;
+            end = self.dual_steps_among(watch, most, limit)?;
             self.reduce();
             match start {
-                Some(start) if self.has_strayed(end) && ask.should_continue() => {
+                Some(start) if self.has_strayed(end) && watch.should_continue() => {
                     self.put_basis_back(start);
                     many = many.saturating_mul(MORE_LISTED);
                 }
@@ -113,7 +113,7 @@ impl Program {
             }
         }
         if end == DualEnd::Feasible && self.has_negative() {
-            self.primal_simplex(ask, most)?;
+            self.primal_simplex(watch, most)?;
             self.reduce();
         }
         Ok(end)
@@ -129,9 +129,9 @@ impl Program {
     }
 
     // The same, among the columns that are looked at.
-    fn dual_steps_among<A: Ask>(
+    fn dual_steps_among<W: Watch>(
         &mut self,
-        ask: &A,
+        watch: &W,
         most: u64,
         limit: i64,
     ) -> Result<DualEnd, AllocError> {
@@ -148,7 +148,7 @@ impl Program {
                 return Ok(DualEnd::AboveLimit);
             }
             let is_asked = step % STEPS_BETWEEN == STEPS_BETWEEN - 1;
-            if step == most || is_asked && !ask.should_continue() {
+            if step == most || is_asked && !watch.should_continue() {
                 break;
             }
             if !self.dual_step(&leaving, &mut scratch)? {
@@ -178,15 +178,16 @@ impl Program {
         } = scratch;
         self.write_pairs(leaving, pairs);
         let found = self.entering(pairs);
+        let largest = found.largest;
         let Some(entering) = found.basic else {
             return Ok(false);
         };
-        self.write_direction(entering, rows, direction.as_mut_slice())?;
+        self.write_direction(&entering, rows, direction.as_mut_slice())?;
         self.dual_steps = self.dual_steps.saturating_add(1);
         let count = self.shortlist.listed.len();
         self.count_looks(count);
         let moves = at(direction.as_slice(), leaving.row);
-        let apart = moves.wrapping_mul(leaving.sign).wrapping_sub(found.largest);
+        let apart = moves.wrapping_mul(leaving.sign).wrapping_sub(largest);
         if self.exchanges > 0 && apart.saturating_abs() > MOST_APART {
             self.invert()?;
             self.make_prices()?;

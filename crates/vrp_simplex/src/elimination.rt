@@ -55,7 +55,7 @@ impl Program {
         let height = self.height();
         let mut matrix = Matrix::new(self.alloc, height)?;
         let mut rows = Vec::new(self.alloc);
-        for (column, &basic) in self.basis.iter().enumerate() {
+        for (column, basic) in self.basis.iter().enumerate() {
             let sign = self.write_rows(basic, &mut rows)?;
             for &row in rows.iter() {
                 matrix.put(usize::from(row), column, sign.wrapping_mul(ONE));

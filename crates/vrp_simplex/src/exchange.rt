@@ -25,8 +25,8 @@ impl Program {
         direction: &[i64],
         value: i64,
     ) -> Result<(), AllocError> {
-        let cost = self.cost_of(entering);
-        let reduced = self.wide_reduced_cost(entering);
+        let cost = self.cost_of(&entering);
+        let reduced = self.wide_reduced_cost(&entering);
         put(self.costs.as_mut_slice(), row, cost);
         subtract_times(self.values.as_mut_slice(), direction, value);
         put(self.values.as_mut_slice(), row, value);
@@ -67,8 +67,8 @@ impl Program {
     }
 
     // The reduced cost of a column, in the width of the prices.
-    fn wide_reduced_cost(&self, basic: Basic) -> i128 {
-        match basic {
+    fn wide_reduced_cost(&self, basic: &Basic) -> i128 {
+        match *basic {
             Basic::Route(route) => match self.columns.get(route) {
                 Some(column) => self.wide_rest(column),
                 None => 0,

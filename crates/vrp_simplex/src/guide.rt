@@ -5,30 +5,31 @@ use crate::inherited::Inherited;
 use crate::node::{MOST_IN_SIGHT, Node, Progress};
 use crate::program::Program;
 use std::alloc::{AllocError, Global};
-use vrp_partition::{Ask, Fleet, Guide, PriceOffer, Route, SCALE, Task};
+use vrp_customers::{CustomerSet, FleetView};
+use vrp_model::Watch;
+use vrp_partition::{Guide, PriceOffer, Route, SCALE, Task};
 
-/// A guide by the linear program over the routes of a node. It keeps its program from node to node; the watch `ask` may stop it.
+/// A guide by the linear program over the routes of a node. It keeps its program from node to node; a watch may stop it.
 #[derive(Debug, Drop)]
-pub struct ProgramGuide<'a, A: Ask> {
+pub struct ProgramGuide<'a, W: Watch> {
     alloc: Global,
-    fleet: Fleet<'a>,
-    ask: &'a A,
+    fleet: FleetView<'a>,
+    watch: &'a W,
     // The sets of routes that are in sight from the start.
-    known: Vec<u128>,
+    known: Vec<CustomerSet>,
     program: Option<Program>,
     // The last offer.
     last: Option<Inherited>,
     progress: Progress,
 }
 
-impl<'a, A: Ask> ProgramGuide<'a, A> {
-    /// A new guide. The routes of a known plan are in sight from the start; they are given as sets, a bit for each customer, and may be
-    /// empty.
-    pub fn new(alloc: Global, fleet: Fleet<'a>, known: Vec<u128>, ask: &'a A) -> Self {
+impl<'a, W: Watch> ProgramGuide<'a, W> {
+    /// A new guide. The routes of a known plan are in sight from the start; they are given as sets of customers, and may be empty.
+    pub fn new(alloc: Global, fleet: FleetView<'a>, known: Vec<CustomerSet>, watch: &'a W) -> Self {
         ProgramGuide {
             alloc,
             fleet,
-            ask,
+            watch,
             known,
             program: None,
             last: None,
@@ -48,9 +49,9 @@ impl<'a, A: Ask> ProgramGuide<'a, A> {
     fn node(
         &mut self,
         pool: &[Route],
-        customers: u128,
+        customers: CustomerSet,
         limit: i64,
-    ) -> Result<Node<'a, A>, AllocError> {
+    ) -> Result<Node<'a, W>, AllocError> {
         let (program, rest) = match self.program.take() {
             Some(mut program) if program.customers == customers => {
                 let rest = program.align(pool)?;
@@ -69,7 +70,7 @@ impl<'a, A: Ask> ProgramGuide<'a, A> {
         };
         Ok(Node {
             alloc: self.alloc,
-            ask: self.ask,
+            watch: self.watch,
             fleet: self.fleet,
             program,
             rest,
@@ -85,13 +86,13 @@ impl<'a, A: Ask> ProgramGuide<'a, A> {
     fn first_program(
         &self,
         pool: &[Route],
-        customers: u128,
+        customers: CustomerSet,
     ) -> Result<(Program, Vec<Route>), AllocError> {
         let every = pool.len() / (MOST_IN_SIGHT / 4) + 1;
         let mut sample = Vec::new(self.alloc);
         let mut rest = Vec::new(self.alloc);
         for (index, route) in pool.iter().enumerate() {
-            if route.set & customers == route.set && route.set != 0 {
+            if route.set.is_subset(customers) && !route.set.is_empty() {
                 if index % every == 0 || self.known.contains(&route.set) {
                     sample.push(*route)?;
                 } else {
@@ -114,9 +115,9 @@ impl<'a, A: Ask> ProgramGuide<'a, A> {
     }
 }
 
-impl<A: Ask> Guide for ProgramGuide<'_, A> {
+impl<W: Watch> Guide for ProgramGuide<'_, W> {
     fn should_continue(&self) -> bool {
-        self.ask.should_continue()
+        self.watch.should_continue()
     }
 
     fn offer(&mut self, pool: &[Route], task: &Task<'_>) -> Result<PriceOffer, AllocError> {
@@ -134,12 +135,12 @@ impl<A: Ask> Guide for ProgramGuide<'_, A> {
         self.keep(node, before, pool.len())
     }
 
-    fn group(&mut self, pool: &[Route]) -> Result<u128, AllocError> {
+    fn group(&mut self, pool: &[Route]) -> Result<CustomerSet, AllocError> {
         match &self.program {
             // With an empty group the first branch has all routes, and the second none: the rounds continue with the routes that are left.
-            Some(_) if self.progress.is_paused => Ok(0),
+            Some(_) if self.progress.is_paused => Ok(CustomerSet::empty()),
             Some(program) => program.pair(pool),
-            None => Ok(0),
+            None => Ok(CustomerSet::empty()),
         }
     }
 
@@ -155,7 +156,7 @@ impl<A: Ask> Guide for ProgramGuide<'_, A> {
         Ok(ProgramGuide {
             alloc: self.alloc,
             fleet: self.fleet,
-            ask: self.ask,
+            watch: self.watch,
             known: Vec::new(self.alloc),
             program,
             last,
@@ -164,12 +165,12 @@ impl<A: Ask> Guide for ProgramGuide<'_, A> {
     }
 }
 
-impl<'a, A: Ask> ProgramGuide<'a, A> {
+impl<'a, W: Watch> ProgramGuide<'a, W> {
     // Keeps a node's program and its prices for the next node, and offers the prices. A bound can't fall from a pool to a part of it: if the
     // program's bound did, the program is stuck, and the next node begins with a new one.
     fn keep(
         &mut self,
-        node: Node<'a, A>,
+        node: Node<'a, W>,
         before: u64,
         count: usize,
     ) -> Result<PriceOffer, AllocError> {

@@ -2,12 +2,12 @@
 use crate::cut::{Cut, CutKind};
 use crate::row_prices::RowPrices;
 use std::alloc::{AllocError, Global};
-use vrp_partition::Fleet;
+use vrp_customers::{CustomerSet, FleetView};
 
 /// Prices offered for a pool of this many routes that serve these customers, and their bound.
 #[derive(Clone, Debug, Drop)]
 pub(crate) struct Inherited {
-    pub(crate) customers: u128,
+    pub(crate) customers: CustomerSet,
     pub(crate) count: usize,
     pub(crate) bound: i64,
     pub(crate) prices: RowPrices,
@@ -15,7 +15,7 @@ pub(crate) struct Inherited {
 
 impl Inherited {
     /// Whether the bound holds for a pool of this many routes that serve these customers: a longer pool is no part of the earlier one.
-    pub(crate) fn holds_for(&self, customers: u128, count: usize) -> bool {
+    pub(crate) fn holds_for(&self, customers: CustomerSet, count: usize) -> bool {
         self.customers == customers && count <= self.count
     }
 
@@ -23,12 +23,12 @@ impl Inherited {
     pub(crate) fn cuts(
         &self,
         alloc: Global,
-        customers: u128,
-        fleet: &Fleet<'_>,
+        customers: CustomerSet,
+        fleet: &FleetView<'_>,
     ) -> Result<Vec<Cut>, AllocError> {
         let mut cuts = Vec::new(alloc);
         for found in self.prices.subset_rows() {
-            if found.set & customers == found.set {
+            if found.set.is_subset(customers) {
                 let kind = CutKind::SubsetRow;
                 cuts.push(Cut {
                     set: found.set,
@@ -37,7 +37,7 @@ impl Inherited {
             }
         }
         for found in self.prices.capacity_cuts() {
-            let set = found.set & customers;
+            let set = found.set.intersection(customers);
             let kind = CutKind::Capacity(trucks_for(set, fleet));
             let cut = Cut { set, kind };
             if cut.side() > 1 && !cuts.contains(&cut) {
@@ -49,15 +49,10 @@ impl Inherited {
 }
 
 // The number of trucks that carry the demand of a set of customers.
-fn trucks_for(set: u128, fleet: &Fleet<'_>) -> u32 {
+fn trucks_for(set: CustomerSet, fleet: &FleetView<'_>) -> u32 {
     let mut load = 0u64;
-    let mut left = set;
-    for _ in 0..128 {
-        if left == 0 {
-            break;
-        }
-        load = load.saturating_add(fleet.demand(left.trailing_zeros() as usize));
-        left &= left.wrapping_sub(1);
+    for customer in set.iter() {
+        load = load.saturating_add(fleet.demand(usize::from(customer)));
     }
     let trucks = load.div_ceil(u64::from(fleet.capacity).max(1));
     u32::try_from(trucks).unwrap_or(0)

@@ -5,7 +5,9 @@ use crate::fixed_point::UNIT;
 use crate::program::Program;
 use crate::row_prices::RowPrices;
 use std::alloc::{AllocError, Global};
-use vrp_partition::{Ask, Fleet, Route};
+use vrp_customers::FleetView;
+use vrp_model::Watch;
+use vrp_partition::Route;
 
 /// About the number of routes that the program has in sight.
 pub(crate) const MOST_IN_SIGHT: usize = 20_000;
@@ -84,10 +86,10 @@ impl Progress {
 
 /// A node: its program, and the routes of its pool that are out of sight.
 #[derive(Drop)]
-pub(crate) struct Node<'a, A: Ask> {
+pub(crate) struct Node<'a, W: Watch> {
     pub(crate) alloc: Global,
-    pub(crate) ask: &'a A,
-    pub(crate) fleet: Fleet<'a>,
+    pub(crate) watch: &'a W,
+    pub(crate) fleet: FleetView<'a>,
     pub(crate) program: Program,
     pub(crate) rest: Vec<Route>,
     // The highest cost of a choice that is sought, as a price.
@@ -100,7 +102,7 @@ pub(crate) struct Node<'a, A: Ask> {
     pub(crate) own_bound: i64,
 }
 
-impl<A: Ask> Node<'_, A> {
+impl<W: Watch> Node<'_, W> {
     /// Solves the program, and adds cuts and solves it again, until the bound is above the limit or rounds gain nothing.
     pub(crate) fn run(&mut self) -> Result<(), AllocError> {
         self.progress.is_paused = false;
@@ -111,7 +113,7 @@ impl<A: Ask> Node<'_, A> {
             }
             self.solve()?;
             let bound = self.record()?;
-            if bound > self.limit || !self.ask.should_continue() {
+            if bound > self.limit || !self.watch.should_continue() {
                 return Ok(());
             }
             self.bring_in()?;
@@ -159,7 +161,7 @@ impl<A: Ask> Node<'_, A> {
     // Solves the program over the whole pool.
     fn solve(&mut self) -> Result<(), AllocError> {
         if self.progress.is_root && self.progress.round == 0 {
-            self.program.solve_first(self.ask, MOST_FIRST_STEPS)?;
+            self.program.solve_first(self.watch, MOST_FIRST_STEPS)?;
         } else if !self.solve_anew()? {
             return Ok(());
         }
@@ -176,15 +178,15 @@ impl<A: Ask> Node<'_, A> {
         };
         let end = self
             .program
-            .dual_simplex(self.ask, MOST_DUAL_STEPS, limit, MOST_LISTED)?;
+            .dual_simplex(self.watch, MOST_DUAL_STEPS, limit, MOST_LISTED)?;
         match end {
             DualEnd::Feasible => Ok(true),
             DualEnd::AboveLimit => Ok(false),
             DualEnd::Ray | DualEnd::StepLimit => {
-                if self.record()? > self.limit || !self.ask.should_continue() {
+                if self.record()? > self.limit || !self.watch.should_continue() {
                     return Ok(false);
                 }
-                self.program.restart(self.ask, MOST_DUAL_STEPS)?;
+                self.program.restart(self.watch, MOST_DUAL_STEPS)?;
                 Ok(true)
             }
         }
@@ -195,7 +197,7 @@ impl<A: Ask> Node<'_, A> {
         self.program.make_prices()?;
         self.program.reduce();
         if self.program.has_negative() {
-            self.program.primal_simplex(self.ask, MOST_STEPS_A_PASS)?;
+            self.program.primal_simplex(self.watch, MOST_STEPS_A_PASS)?;
         }
         Ok(())
     }
@@ -203,11 +205,11 @@ impl<A: Ask> Node<'_, A> {
     // Routes of the rest with negative reduced costs come into sight, until there are none.
     fn look_through_rest(&mut self) -> Result<(), AllocError> {
         for _ in 0..MOST_PASSES {
-            if self.rest.is_empty() || !self.ask.should_continue() || !self.take_negative()? {
+            if self.rest.is_empty() || !self.watch.should_continue() || !self.take_negative()? {
                 break;
             }
             let before = self.program.primal_steps;
-            self.program.primal_simplex(self.ask, MOST_STEPS_A_PASS)?;
+            self.program.primal_simplex(self.watch, MOST_STEPS_A_PASS)?;
             if self.program.primal_steps.saturating_sub(before) >= MOST_STEPS_A_PASS {
                 self.progress.stale = 2;
                 break;

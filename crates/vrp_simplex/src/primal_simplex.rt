@@ -3,7 +3,7 @@ use crate::fixed_point::{ONE, is_quotient_at_most, quotient};
 use crate::program::{Basic, Program};
 use crate::rows::table;
 use std::alloc::AllocError;
-use vrp_partition::Ask;
+use vrp_model::Watch;
 
 // A column that may come into the basis.
 #[derive(Clone, Copy, PartialEq, Eq, PartialOrd, Ord)]
@@ -41,12 +41,12 @@ struct Leaving {
 impl Program {
     /// The best of some hundred columns enters the basis, again and again, until none has a negative reduced cost, the steps are spent, or
     /// the search is stopped. No clause pins the result, since it is not trusted.
-    pub fn primal_simplex<A: Ask>(&mut self, ask: &A, most: u64) -> Result<(), AllocError> {
+    pub fn primal_simplex<W: Watch>(&mut self, watch: &W, most: u64) -> Result<(), AllocError> {
         let last = self.primal_steps.saturating_add(most);
         for _ in 0..u64::MAX {
             self.make_prices()?;
             let mut some = self.candidates()?;
-            if some.is_empty() || self.primal_steps > last || !ask.should_continue() {
+            if some.is_empty() || self.primal_steps > last || !watch.should_continue() {
                 break;
             }
             truncate(&mut some);
@@ -95,7 +95,7 @@ impl Program {
             let entering = some
                 .get(index)
                 .map_or(Basic::Slack(0), |found| found.entering.basic());
-            self.write_direction(entering, &mut rows, direction.as_mut_slice())?;
+            self.write_direction(&entering, &mut rows, direction.as_mut_slice())?;
             if let Some(Leaving { row, value }) = self.leaving(direction.as_slice()) {
                 self.primal_steps = self.primal_steps.saturating_add(1);
                 moved = moved.saturating_add(1);

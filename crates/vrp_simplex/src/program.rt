@@ -6,6 +6,7 @@ use crate::raises::Raise;
 use crate::rows::{MOST_ROWS, Quad};
 use crate::shortlist::Shortlist;
 use std::alloc::{AllocError, Global};
+use vrp_customers::CustomerSet;
 use vrp_partition::Route;
 
 /// A column of the basis. The last two kinds have to leave it.
@@ -19,7 +20,7 @@ pub(crate) enum Basic {
 
 impl Basic {
     /// The set of the route, if it is one.
-    pub(crate) fn set(&self, routes: &[Route]) -> Option<u128> {
+    pub(crate) fn set(&self, routes: &[Route]) -> Option<CustomerSet> {
         match *self {
             Basic::Route(index) => routes.get(index).map(|route| route.set),
             Basic::Gone(route) => Some(route.set),
@@ -62,7 +63,8 @@ impl Column {
 #[derive(Clone, Debug, Drop)]
 pub struct Program {
     pub(crate) alloc: Global,
-    pub(crate) customers: u128,
+    pub(crate) customers: CustomerSet,
+    customer_count: usize,
     pub(crate) routes: Vec<Route>,
     pub(crate) columns: Vec<Column>,
     // The row numbers of the routes, four by four, column by column.
@@ -100,11 +102,11 @@ pub struct Program {
 }
 
 impl Program {
-    /// The program over the routes that serve only these customers, a bit for each, with at most this many trucks. It has no other cut, and
+    /// The program over the routes that serve only these customers with at most this many trucks. It has no other cut, and
     /// only artificial columns in its basis. No clause pins its contents, since they are not trusted.
     pub fn new(
         alloc: Global,
-        customers: u128,
+        customers: CustomerSet,
         trucks: u8,
         pool: &[Route],
     ) -> Result<Program, AllocError> {
@@ -114,13 +116,13 @@ impl Program {
     /// Adds cuts, as many as there is room for.
     pub(crate) fn with_cuts(
         alloc: Global,
-        customers: u128,
+        customers: CustomerSet,
         trucks: u8,
         cuts: &[Cut],
         pool: &[Route],
     ) -> Result<Program, AllocError> {
         let mut program = Program::empty(alloc, customers);
-        if u32::from(trucks) < customers.count_ones() {
+        if u16::from(trucks) < customers.len() {
             program.cuts.push(Cut {
                 set: customers,
                 kind: CutKind::Trucks(u32::from(trucks)),
@@ -137,10 +139,11 @@ impl Program {
     }
 
     // An empty program.
-    fn empty(alloc: Global, customers: u128) -> Program {
+    fn empty(alloc: Global, customers: CustomerSet) -> Program {
         Program {
             alloc,
             customers,
+            customer_count: usize::from(customers.len()),
             routes: Vec::new(alloc),
             columns: Vec::new(alloc),
             quads: Vec::new(alloc),
@@ -172,7 +175,7 @@ impl Program {
     pub(crate) fn add_routes(&mut self, pool: &[Route]) -> Result<(), AllocError> {
         let mut rows = Vec::new(self.alloc);
         for route in pool {
-            if route.set & self.customers == route.set && route.set != 0 {
+            if route.set.is_subset(self.customers) && !route.set.is_empty() {
                 self.add_route(*route, &mut rows)?;
             }
         }
@@ -187,8 +190,9 @@ impl Program {
     ) -> Result<(), AllocError> {
         self.dearest = self.dearest.max(i64::from(route.cost));
         self.artificial_cost = self.artificial_cost.max(self.first_artificial_cost());
+        self.push_column(&route, rows)?;
         self.routes.push(route)?;
-        self.push_column(route, rows)
+        Ok(())
     }
 
     /// Sets an entry of the inverse by column and row.
@@ -213,7 +217,7 @@ impl Program {
 
     /// The number of rows of customers.
     pub(crate) fn customer_rows(&self) -> usize {
-        self.customers.count_ones() as usize
+        self.customer_count
     }
 
     /// The number of rows.

@@ -1,16 +1,21 @@
 //! Raises of the right-hand sides, which break ties so that steps don't cycle: small parts of some routes are added, so a feasible
 //! program stays feasible.
-use crate::cut::{Cut, only};
+ghost use Rattle.std.specs.Prelude.{◌<◌};
+ghost use Rattle.vrp_customers.specs.declared.customer_set.TheConstants.{PLACES};
+
+use crate::cut::Cut;
 use crate::fixed_point::{HALF, ONE, low_half, wide_product};
 use crate::program::Program;
 use std::alloc::AllocError;
+use vrp_customers::{CustomerSet, PLACES};
 
-/// The part of a route that is added to the right-hand sides. The route serves the customer, a bit, for whom it was drawn.
+/// The part of a route that is added to the right-hand sides. The route serves the customer for whom it was drawn.
 #[derive(Clone, Copy, Debug)]
 pub(crate) struct Raise {
-    customer: u128,
+    customer: u16,
     route: usize,
     amount: i64,
+    ghost place: { customer < PLACES },
 }
 
 // The mark for no route.
@@ -20,17 +25,14 @@ impl Program {
     /// Draws a route for each customer, and computes the right-hand sides.
     pub(crate) fn draw_raises(&mut self) -> Result<(), AllocError> {
         self.raises.clear();
-        for customer in 0..128 {
-            let customer = only(customer) & self.customers;
-            if customer != 0 {
-                let route = self.draw_route(customer);
-                let amount = self.draw_amount();
-                self.raises.push(Raise {
-                    customer,
-                    route,
-                    amount,
-                })?;
-            }
+        for customer in self.customers.iter() {
+            let route = self.draw_route(customer);
+            let amount = self.draw_amount();
+            self.raises.push(Raise {
+                customer,
+                route,
+                amount,
+            })?;
         }
         self.make_sides();
         Ok(())
@@ -68,19 +70,21 @@ impl Program {
     }
 
     // A route that serves a customer, from a random one on.
-    fn draw_route(&mut self, customer: u128) -> usize {
+    fn draw_route(&mut self, customer: u16) -> usize
+        requires { customer < PLACES }
+    {
         let count = self.routes.len();
         let draw = (self.draw() >> 33) as usize;
         let start = draw.checked_rem(count).unwrap_or(0);
         let behind = self.routes.as_slice().get(start..).unwrap_or(&[]);
-        let serves = behind.iter().position(|route| route.set & customer != 0);
+        let serves = behind.iter().position(|route| route.set.contains(customer));
         if let Some(index) = serves {
             return start.saturating_add(index);
         }
         let serves = self
             .routes
             .iter()
-            .position(|route| route.set & customer != 0);
+            .position(|route| route.set.contains(customer));
         serves.unwrap_or(NO_ROUTE)
     }
 
@@ -99,12 +103,11 @@ impl Program {
     // The right-hand sides of all rows.
     fn make_sides(&mut self) {
         let rows = self.customer_rows();
-        let mut left = self.customers;
-        for row in 0..rows {
-            let customer = left & left.wrapping_neg();
-            left ^= customer;
-            let side = ONE.wrapping_add(self.raise_of(|set| set & customer != 0));
+        let mut row = 0usize;
+        for customer in self.customers.iter() {
+            let side = ONE.wrapping_add(self.raise_of(|set| set.contains(customer)));
             self.put_side(row, side);
+            row = row.saturating_add(1);
         }
         for index in 0..self.cuts.len() {
             if let Some(cut) = self.cuts.get(index).copied() {
@@ -122,8 +125,7 @@ impl Program {
 
     /// The right-hand side of a cut: its slack is raised too, by a value that looks random and is below 1/512.
     pub(crate) fn side_of(&self, cut: &Cut) -> i64 {
-        let folded = (cut.set ^ (cut.set >> 61)) & 0xffff_ffff_ffff_ffff;
-        let mixed = (folded as u64).wrapping_mul(6_364_136_223_846_793_005);
+        let mixed = cut.set.folded().wrapping_mul(6_364_136_223_846_793_005);
         let slack = (((mixed >> 40) << 7) >> self.raise_shift.min(60)) as i64;
         cut.wide_side()
             .wrapping_add(slack.wrapping_mul(cut.slack()))
@@ -131,7 +133,7 @@ impl Program {
     }
 
     // The sum of the raises over the routes that count.
-    fn raise_of<F: Fn(u128) -> bool>(&self, counts: F) -> i64
+    fn raise_of<F: Fn(CustomerSet) -> bool>(&self, counts: F) -> i64
         requires { F.IsAlwaysCallable counts }
     {
         let mut sum = 0i64;

@@ -1,7 +1,7 @@
 //! A restart of the program.
 use crate::program::{Basic, Program};
 use std::alloc::AllocError;
-use vrp_partition::Ask;
+use vrp_model::Watch;
 
 // The number of bits that the raises lose each time.
 const LESS_RAISED: u32 = 1;
@@ -14,21 +14,21 @@ const MOST_ARTIFICIAL_COST: i64 = 1 << 28;
 impl Program {
     /// Solves the program from artificial columns on, with the same routes and cuts and smaller raises. It is used if the dual simplex left
     /// an infeasible basis. No clause pins the result.
-    pub(crate) fn restart<A: Ask>(&mut self, ask: &A, most: u64) -> Result<(), AllocError> {
+    pub(crate) fn restart<W: Watch>(&mut self, watch: &W, most: u64) -> Result<(), AllocError> {
         self.raise_shift = self.raise_shift.saturating_add(LESS_RAISED);
         self.begin()?;
-        self.solve_first(ask, most)
+        self.solve_first(watch, most)
     }
 
     /// Solves the program from artificial columns on. Their cost is raised while some have a value. No clause pins the result.
-    pub(crate) fn solve_first<A: Ask>(&mut self, ask: &A, most: u64) -> Result<(), AllocError> {
-        self.primal_simplex(ask, most)?;
+    pub(crate) fn solve_first<W: Watch>(&mut self, watch: &W, most: u64) -> Result<(), AllocError> {
+        self.primal_simplex(watch, most)?;
         for _ in 0..DEARER {
-            if !self.has_artificial() || !ask.should_continue() {
+            if !self.has_artificial() || !watch.should_continue() {
                 break;
             }
             self.make_artificial_dearer();
-            self.primal_simplex(ask, most)?;
+            self.primal_simplex(watch, most)?;
         }
         self.reduce();
         Ok(())

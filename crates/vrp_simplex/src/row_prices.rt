@@ -1,8 +1,9 @@
 //! The prices of the rows by their customers and cuts, for routes that have no column.
 use crate::cut::CutKind;
-use crate::fixed_point::{at, price_of};
+use crate::fixed_point::price_of;
 use crate::program::Program;
 use std::alloc::{AllocError, Global};
+use vrp_customers::{CustomerSet, PLACES};
 use vrp_partition::{Cut, PriceOffer, Route};
 
 // The dual of a customer that no route may serve.
@@ -16,7 +17,7 @@ const MOST_CUT_PRICE: u64 = 1 << 50;
 /// The prices of a program's rows.
 #[derive(Clone, Debug, Drop)]
 pub(crate) struct RowPrices {
-    duals: [i64; 128],
+    duals: [i64; PLACES],
     truck_price: u64,
     subset_rows: Vec<Cut>,
     capacity_cuts: Vec<Cut>,
@@ -26,17 +27,13 @@ impl RowPrices {
     /// The prices of a program, with the signs that a bound needs.
     pub(crate) fn new(program: &Program) -> Result<RowPrices, AllocError> {
         let mut prices = RowPrices {
-            duals: [SHUT_OUT; 128],
+            duals: [SHUT_OUT; PLACES],
             truck_price: 0,
             subset_rows: Vec::new(program.alloc),
             capacity_cuts: Vec::new(program.alloc),
         };
-        let mut left = program.customers;
-        for row in 0..program.customer_rows() {
-            if let Some(dual) = prices.duals.get_mut(left.trailing_zeros() as usize) {
-                *dual = at(program.prices.as_slice(), row).clamp(-MOST_DUAL, MOST_DUAL);
-            }
-            left &= left.wrapping_sub(1);
+        for (customer, &price) in program.customers.iter().zip(&program.prices) {
+            prices.duals[usize::from(customer)] = price.clamp(-MOST_DUAL, MOST_DUAL);
         }
         for (index, cut) in program.cuts.iter().enumerate() {
             let price = program.cut_price(index).unsigned_abs().min(MOST_CUT_PRICE);
@@ -47,7 +44,7 @@ impl RowPrices {
         Ok(prices)
     }
 
-    fn push_cut(&mut self, set: u128, kind: CutKind, price: u64) -> Result<(), AllocError> {
+    fn push_cut(&mut self, set: CustomerSet, kind: CutKind, price: u64) -> Result<(), AllocError> {
         match kind {
             CutKind::SubsetRow => self.subset_rows.push(Cut {
                 set,
@@ -64,16 +61,11 @@ impl RowPrices {
     #[inline(always)]
     pub(crate) fn reduced_cost(&self, route: &Route, mark: i64) -> Option<i64> {
         let mut rest = price_of(route.cost).wrapping_add_unsigned(self.truck_price);
-        let mut left = route.set;
-        for _ in 0..128 {
-            if left == 0 {
-                break;
-            }
-            rest = rest.wrapping_sub(self.duals[(left.trailing_zeros() & 127) as usize]);
-            left &= left.wrapping_sub(1);
+        for customer in route.set.iter() {
+            rest = rest.wrapping_sub(self.duals[usize::from(customer)]);
         }
         for cut in &self.capacity_cuts {
-            if cut.set & route.set != 0 {
+            if !cut.set.is_disjoint(route.set) {
                 rest = rest.wrapping_sub_unsigned(cut.price);
             }
         }
@@ -81,8 +73,7 @@ impl RowPrices {
             return None;
         }
         for cut in &self.subset_rows {
-            let common = cut.set & route.set;
-            if common & common.wrapping_sub(1) != 0 {
+            if cut.set.intersection(route.set).has_two() {
                 rest = rest.wrapping_add_unsigned(cut.price);
             }
         }

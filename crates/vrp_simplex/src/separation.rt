@@ -1,14 +1,14 @@
 //! Separation: cuts that the solution violates.
-use crate::cut::{Cut, CutKind, holds};
+use crate::cut::{Cut, CutKind};
 use crate::fixed_point::{ONE, at, put};
 use crate::program::{Basic, Program};
 use std::alloc::AllocError;
-use vrp_partition::Fleet;
+use vrp_customers::{CustomerSet, FleetView, PLACES};
 
 /// A route that the solution uses, and its value.
 #[derive(Clone, Copy)]
 pub(crate) struct Used {
-    pub(crate) set: u128,
+    pub(crate) set: CustomerSet,
     pub(crate) value: i64,
 }
 
@@ -24,7 +24,7 @@ const MOST_AT_ONCE: usize = 30;
 
 const MOST_BEFORE_CAPACITY: usize = 20;
 
-const MOST_WITH_A_CUSTOMER: u64 = 5;
+const MOST_WITH_A_CUSTOMER: u8 = 5;
 
 impl Program {
     /// The routes that the solution uses.
@@ -33,7 +33,10 @@ impl Program {
         for (basic, &value) in self.basis.iter().zip(&self.values) {
             if let Basic::Route(route) = *basic {
                 if value > ONE >> 13 {
-                    let set = self.routes.get(route).map_or(0, |route| route.set);
+                    let set = self
+                        .routes
+                        .get(route)
+                        .map_or(CustomerSet::empty(), |route| route.set);
                     used.push(Used { set, value })?;
                 }
             }
@@ -42,7 +45,7 @@ impl Program {
     }
 
     /// Adds violated cuts: subset rows, and capacity cuts. Returns their number; no clause pins it.
-    pub fn add_broken_cuts(&mut self, fleet: &Fleet<'_>) -> Result<usize, AllocError> {
+    pub fn add_broken_cuts(&mut self, fleet: &FleetView<'_>) -> Result<usize, AllocError> {
         let used = self.used()?;
         let mut broken = Vec::new(self.alloc);
         crate::subset_rows::push_broken(self.alloc, self.customers, used.as_slice(), &mut broken)?;
@@ -54,7 +57,7 @@ impl Program {
             &mut broken,
         )?;
         broken.sort_by_key(|found| found.excess.saturating_neg())?;
-        let mut counts = [0u64; 128];
+        let mut counts = [0; PLACES];
         let mut added = 0usize;
         let first = self.cuts.len();
         for found in &broken {
@@ -68,7 +71,7 @@ impl Program {
     }
 
     // Whether a cut is added after this many others. If so, a subset row is counted for its customers.
-    fn is_taken(&self, cut: &Cut, counts: &mut [u64; 128], added: usize) -> bool {
+    fn is_taken(&self, cut: &Cut, counts: &mut [u8; PLACES], added: usize) -> bool {
         if !self.has_room() || self.cuts.contains(cut) {
             return false;
         }
@@ -140,16 +143,15 @@ fn sum_of(numbers: &[i64], counts: &[i64]) -> i64 {
 }
 
 // Counts a subset row for its customers, if none has too many.
-fn is_counted(set: u128, counts: &mut [u64; 128]) -> bool {
-    for (customer, count) in counts.iter().enumerate() {
-        if holds(set, customer) && *count >= MOST_WITH_A_CUSTOMER {
+fn is_counted(set: CustomerSet, counts: &mut [u8; PLACES]) -> bool {
+    for customer in set.iter() {
+        if counts[usize::from(customer)] >= MOST_WITH_A_CUSTOMER {
             return false;
         }
     }
-    for (customer, count) in counts.iter_mut().enumerate() {
-        if holds(set, customer) {
-            *count = count.saturating_add(1);
-        }
+    for customer in set.iter() {
+        let count = &mut counts[usize::from(customer)];
+        *count = count.saturating_add(1);
     }
     true
 }

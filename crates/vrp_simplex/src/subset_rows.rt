@@ -1,90 +1,98 @@
 //! Subset rows: triples of customers of which at most one route has two.
-use crate::cut::{Cut, CutKind, holds, only};
+use crate::capacity_cuts::add_members;
+use crate::cut::{Cut, CutKind};
 use crate::fixed_point::{ONE, at};
 use crate::separation::{Broken, Used};
 use std::alloc::{AllocError, Global};
-
-/// One entry for each customer of a set of 128 bits.
-pub(crate) const PLACES: usize = 128;
+use vrp_customers::{CustomerSet, PLACES};
 
 // A solution violates a cut if it exceeds one by at least this.
 const MORE: i64 = ONE + ONE / 50;
 
-/// For each two customers the total value of the routes that have both.
-pub(crate) fn pair_sums(alloc: Global, used: &[Used]) -> Result<Vec<i64>, AllocError> {
-    let mut pairs = vec![in alloc; 0; PLACES * PLACES]?;
+/// The places up to a set's highest customer: the length of a table by customer.
+pub(crate) fn places_of(customers: CustomerSet) -> usize {
+    let mut most = 0;
+    for customer in customers.iter() {
+        most = usize::from(customer);
+    }
+    most + 1
+}
+
+/// For each two customers the total value of the routes that have both, row by row; a row has this many places.
+pub(crate) fn pair_sums(
+    alloc: Global,
+    places: usize,
+    used: &[Used],
+) -> Result<Vec<i64>, AllocError> {
+    let mut pairs = vec![in alloc; 0; places.saturating_mul(places)]?;
     for route in used {
-        for (first, row) in pairs.chunks_exact_mut(PLACES).enumerate() {
-            if holds(route.set, first) {
-                add_members(row, route, first);
+        for first in route.set.iter() {
+            let start = usize::from(first).saturating_mul(places);
+            let end = start.saturating_add(places);
+            if let Some(row) = pairs.as_mut_slice().get_mut(start..end) {
+                add_members(row, route.set, route.value);
             }
         }
     }
     Ok(pairs)
 }
 
-// Adds the value of a route to its customers, except the first.
-fn add_members(row: &mut [i64], route: &Used, first: usize) {
-    for (customer, sum) in row.iter_mut().enumerate() {
-        if customer != first && holds(route.set, customer) {
-            *sum = sum.wrapping_add(route.value);
-        }
-    }
+/// The sums of a customer.
+pub(crate) fn sums_of(pairs: &[i64], places: usize, customer: u16) -> &[i64] {
+    let start = usize::from(customer).saturating_mul(places);
+    let end = start.saturating_add(places);
+    pairs.get(start..end).unwrap_or(&[])
 }
 
 /// Adds the violated triples.
 pub(crate) fn push_broken(
     alloc: Global,
-    customers: u128,
+    customers: CustomerSet,
     used: &[Used],
     broken: &mut Vec<Broken>,
 ) -> Result<(), AllocError> {
-    let pairs = pair_sums(alloc, used)?;
-    for (first, of_first) in pairs.chunks_exact(PLACES).enumerate() {
-        if holds(customers, first) {
-            push_seconds(first, of_first, pairs.as_slice(), used, broken)?;
+    let places = places_of(customers);
+    let pairs = pair_sums(alloc, places, used)?;
+    let pairs = pairs.as_slice();
+    let mut later = customers;
+    while let Some(first) = later.take_first() {
+        let of_first = sums_of(pairs, places, first);
+        for second in later.iter() {
+            let both = CustomerSet::only(first).with(second);
+            let sum = at(of_first, usize::from(second));
+            let of_second = sums_of(pairs, places, second);
+            let start = usize::from(second) + 1;
+            push_thirds(both, sum, start, of_first, of_second, used, broken)?;
         }
     }
     Ok(())
 }
 
-// Adds the triples of a customer and two later ones.
-fn push_seconds(
-    first: usize,
-    of_first: &[i64],
-    pairs: &[i64],
-    used: &[Used],
-    broken: &mut Vec<Broken>,
-) -> Result<(), AllocError> {
-    let rows = pairs.chunks_exact(PLACES).enumerate();
-    for (second, of_second) in rows.skip(first.saturating_add(1)) {
-        push_thirds(first, second, of_first, of_second, used, broken)?;
-    }
-    Ok(())
-}
-
-// Adds the triples of two customers and a later one.
+// Adds the triples of two customers, with the value of the routes that have both, and a later one, from this place on.
 fn push_thirds(
-    first: usize,
-    second: usize,
+    both: CustomerSet,
+    value: i64,
+    start: usize,
     of_first: &[i64],
     of_second: &[i64],
     used: &[Used],
     broken: &mut Vec<Broken>,
 ) -> Result<(), AllocError> {
-    let both = at(of_first, second);
     let sums = of_first.iter().zip(of_second).enumerate();
-    for (third, (&one, &other)) in sums.skip(second.saturating_add(1)) {
-        if both.wrapping_add(one).wrapping_add(other) > MORE {
-            let set = only(first) | only(second) | only(third);
-            push_if_broken(set, used, broken)?;
+    for (third, (&one, &other)) in sums.skip(start) {
+        if third < PLACES && value.wrapping_add(one).wrapping_add(other) > MORE {
+            push_if_broken(both.with(third as u16), used, broken)?;
         }
     }
     Ok(())
 }
 
 // Adds a triple if it is violated.
-fn push_if_broken(set: u128, used: &[Used], broken: &mut Vec<Broken>) -> Result<(), AllocError> {
+fn push_if_broken(
+    set: CustomerSet,
+    used: &[Used],
+    broken: &mut Vec<Broken>,
+) -> Result<(), AllocError> {
     let cut = Cut {
         set,
         kind: CutKind::SubsetRow,

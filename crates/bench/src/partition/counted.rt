@@ -1,8 +1,9 @@
 //! A guide of the choice whose nodes are counted.
-use super::Always;
 use anyhow::Result;
 use std::alloc::AllocError;
 use std::sync::atomic::{AtomicU64, Ordering};
+use vrp_customers::CustomerSet;
+use vrp_model::Unhurried;
 use vrp_partition::{Guide, PriceOffer, Route, Task};
 use vrp_simplex::ProgramGuide;
 
@@ -29,7 +30,7 @@ impl Counts {
 /// A guide whose nodes are counted.
 #[derive(Drop)]
 pub(crate) struct Counted<'a> {
-    pub(crate) guide: ProgramGuide<'a, Always>,
+    pub(crate) guide: ProgramGuide<'a, Unhurried>,
     pub(crate) counts: &'a Counts,
 }
 
@@ -54,7 +55,7 @@ impl Guide for Counted<'_> {
         Ok(offer)
     }
 
-    fn group(&mut self, pool: &[Route]) -> Result<u128, AllocError> {
+    fn group(&mut self, pool: &[Route]) -> Result<CustomerSet, AllocError> {
         self.guide.group(pool)
     }
 

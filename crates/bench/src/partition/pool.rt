@@ -2,13 +2,14 @@
 //! demand; each line after it a route's cost and its customers.
 use anyhow::{Context, Result, ensure};
 use std::alloc::Global;
-use vrp_partition::{MOST_CUSTOMERS, Route};
+use vrp_customers::{CustomerSet, PLACES};
+use vrp_partition::Route;
 
 /// A pool of routes, and what they are for.
 #[derive(Drop)]
 pub(crate) struct Pool {
-    pub(crate) demands: [u32; MOST_CUSTOMERS],
-    pub(crate) customers: u128,
+    pub(crate) demands: [u32; PLACES],
+    pub(crate) customers: CustomerSet,
     pub(crate) capacity: u32,
     pub(crate) known_cost: u64,
     pub(crate) routes: Vec<Route>,
@@ -21,8 +22,8 @@ pub(crate) fn read_pool(alloc: Global, text: &str) -> Result<Pool> {
     let capacity = words.next().context("no capacity")?.parse::<u32>()?;
     let known_cost = words.next().context("no cost")?.parse::<u64>()?;
     let mut pool = Pool {
-        demands: [0; MOST_CUSTOMERS],
-        customers: 0,
+        demands: [0; PLACES],
+        customers: CustomerSet::empty(),
         capacity,
         known_cost,
         routes: Vec::new(alloc),
@@ -32,7 +33,7 @@ pub(crate) fn read_pool(alloc: Global, text: &str) -> Result<Pool> {
     }
     for line in lines {
         let route = read_route(line)?;
-        pool.customers |= route.set;
+        pool.customers = pool.customers.union(route.set);
         pool.routes.push(route)?;
     }
     Ok(pool)
@@ -42,11 +43,11 @@ pub(crate) fn read_pool(alloc: Global, text: &str) -> Result<Pool> {
 fn read_route(line: &str) -> Result<Route> {
     let mut words = line.split_whitespace();
     let cost = words.next().context("no cost")?.parse::<u32>()?;
-    let mut set = 0u128;
+    let mut set = CustomerSet::empty();
     for word in words {
-        let customer = word.parse::<u32>()?;
-        ensure!(customer < 128, "customer {customer}");
-        set |= 1u128 << customer;
+        let customer = word.parse::<u16>()?;
+        ensure!(usize::from(customer) < PLACES, "customer {customer}");
+        set = set.with(customer);
     }
     Ok(Route { set, cost })
 }

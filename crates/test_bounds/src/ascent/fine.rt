@@ -4,7 +4,7 @@ use std::alloc::Global;
 use std::process::Abort;
 use test_fixtures::at_points;
 use vrp_bound_ascent::{FoundPrices, find_prices, find_prices_for_routes};
-use vrp_model::{Instance, NoMemory};
+use vrp_model::{Instance, NoMemory, Unhurried};
 
 // The capacity, in units of 1.
 const CAPACITY: u64 = 100;
@@ -21,12 +21,12 @@ const FEW_STEPS: u64 = 200_000_000;
 fn finer_units(rt: HostRuntime) {
     let alloc = rt.alloc();
     let instance = demanding(&rt, alloc);
-    let search = find_prices(alloc, &instance, COST, 3, FEW_STEPS, &|| true);
+    let search = find_prices(alloc, &instance, COST, 3, FEW_STEPS, &Unhurried);
     let coarse = capacity_by(&rt, search);
     assert!(&rt; 1 < coarse && coarse < CAPACITY, "{coarse}");
-    let fine = find_prices_for_routes(alloc, &instance, COST, 3, MANY_STEPS, &|| true);
+    let fine = find_prices_for_routes(alloc, &instance, COST, 3, MANY_STEPS, &Unhurried);
     assert_same(&rt, capacity_by(&rt, fine), CAPACITY, "many steps");
-    let few = find_prices_for_routes(alloc, &instance, COST, 3, FEW_STEPS, &|| true);
+    let few = find_prices_for_routes(alloc, &instance, COST, 3, FEW_STEPS, &Unhurried);
     assert_same(&rt, capacity_by(&rt, few), coarse, "few steps");
 }
 

@@ -7,10 +7,9 @@ use std::alloc::Global;
 use std::process::Abort;
 use test_fixtures::{FOUR, at_points};
 use vrp_bound::Tables;
-use vrp_bound_ascent::{FoundPrices, find_prices};
+use vrp_bound_ascent::{FoundPrices, NearLooks, Size, Walks, find_prices};
 use vrp_bound_prices::Relaxation;
-use vrp_bound_walks::{NearLooks, Size, Walks};
-use vrp_model::Instance;
+use vrp_model::{Instance, Unhurried, Watch};
 
 #[test]
 fn found_prices_bound(rt: HostRuntime) {
@@ -21,16 +20,26 @@ fn found_prices_bound(rt: HostRuntime) {
     assert_bounds(&rt, &relaxation, least);
 }
 
+// A watch that always gives this answer.
+#[derive(Drop)]
+struct Answering(bool);
+
+impl Watch for Answering {
+    fn should_continue(&self) -> bool {
+        self.0
+    }
+}
+
 // The prices and the ng-sets found for a plan of cost 46, in a million steps, or in none if it is stopped.
 fn found_prices<'a>(
     rt: &impl Abort,
     alloc: Global,
     instance: &'a Instance,
-    should_continue: bool,
+    goes_on: bool,
 ) -> FoundPrices<'a>
     ensures { result.ng_sets.places ≡ place_count instance.now }
 {
-    let found = find_prices(alloc, instance, 46, 3, 1_000_000, &|| should_continue);
+    let found = find_prices(alloc, instance, 46, 3, 1_000_000, &Answering(goes_on));
     found.expect(rt, "memory").expect(rt, "prices")
 }
 
@@ -93,6 +102,6 @@ fn none_at_the_most_nodes(rt: HostRuntime) {
     let points = vec![in rt.alloc(); (0, 0); 1_200].expect(&rt, "memory");
     let demands = vec![in rt.alloc(); 0; 1_200].expect(&rt, "memory");
     let instance = at_points(rt.alloc(), &points, &demands, 7).expect(&rt, "an instance");
-    let found = find_prices(rt.alloc(), &instance, 0, 3, 1_000_000, &|| true);
+    let found = find_prices(rt.alloc(), &instance, 0, 3, 1_000_000, &Unhurried);
     assert!(rt; found.expect(&rt, "memory").is_none());
 }

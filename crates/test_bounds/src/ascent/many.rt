@@ -8,7 +8,7 @@ use std::process::Abort;
 use test_fixtures::{at_points, with_arcs};
 use vrp_bound::NgTables;
 use vrp_bound_ascent::{FoundPrices, MOST_SEARCHED, find_prices};
-use vrp_model::Instance;
+use vrp_model::{Instance, Unhurried};
 
 // Customers around the depot, four to a truck. `radial` is half the cost of driving to each of them and back: each plan costs
 // at least as much, since a route that serves a customer costs no less than there and back. `savings` is the cost of a plan
@@ -77,7 +77,7 @@ fn prices_of<'a>(
     ensures relaxation { result.relaxation.problem ≡ instance.now }
     ensures ng_sets { result.ng_sets.places ≡ place_count instance.now }
 {
-    let found = find_prices(alloc, instance, cost, 4, steps, &|| true);
+    let found = find_prices(alloc, instance, cost, 4, steps, &Unhurried);
     found.expect(rt, "memory").expect(rt, "prices")
 }
 

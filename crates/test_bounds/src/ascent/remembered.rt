@@ -3,9 +3,8 @@ use crate::assertion::assert_same;
 use std::alloc::Global;
 use std::process::Abort;
 use test_fixtures::at_points;
-use vrp_bound_ascent::{Remembered, find_prices, is_affordable};
-use vrp_bound_walks::Size;
-use vrp_model::Instance;
+use vrp_bound_ascent::{Remembered, Size, find_prices, is_affordable};
+use vrp_model::{Instance, Unhurried};
 
 // The steps of a round, the given steps, and whether these are enough.
 const ROUNDS: &[(u64, u64, bool)] = &[
@@ -103,7 +102,7 @@ fn ng_sets_of_few_customers(rt: HostRuntime) {
 
 fn assert_ng_sets(rt: &impl Abort, alloc: Global, (customers, steps, masks): FewCustomers) {
     let instance = crowd(rt, alloc, customers);
-    let found = find_prices(alloc, &instance, 50, 3, steps, &|| true).expect(rt, "memory");
+    let found = find_prices(alloc, &instance, 50, 3, steps, &Unhurried).expect(rt, "memory");
     let found = found.map(|prices| prices.ng_sets.masks());
     assert_same(rt, found, masks, (customers, steps));
 }

@@ -8,8 +8,7 @@ use std::alloc::Global;
 use std::process::Abort;
 use test_fixtures::{at_points, one_each, with_arcs};
 use vrp_bound::{NgTables, least_ng_tours};
-use vrp_bound_ng::NgSets;
-use vrp_model::{Instance, MAX_NODES};
+use vrp_model::{Instance, MAX_NODES, NgSets};
 
 // A place, a load, a rest, and the answer.
 type Asked = (u16, u64, u64, Option<u64>);

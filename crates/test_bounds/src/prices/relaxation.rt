@@ -1,14 +1,13 @@
 //! The costs of the words of small instances in their relaxations, by hand and by trying every word.
 ghost use Rattle.std.specs.Prelude.{All};
-ghost use Rattle.vrp_bound_prices.specs.Cut.{IsCut};
+ghost use Rattle.vrp_bound_prices.specs.CapacityCut.{IsCut};
 
 use crate::assertion::assert_same;
 use std::alloc::Global;
 use std::process::Abort;
 use test_fixtures::{FOUR, LINE, at_points, with_arcs};
-use vrp_bound_ng::NgSets;
-use vrp_bound_prices::{Cut, Relaxation};
-use vrp_model::{Instance, NO_COST};
+use vrp_bound_prices::{CapacityCut, Relaxation};
+use vrp_model::{Instance, NO_COST, NgSets};
 
 // A partial plan: its last place, the customers that it serves, as bits, the number of unserved ones, and its loads and
 // costs.
@@ -94,13 +93,13 @@ fn words_by_cuts(rt: &impl Abort, alloc: Global, instance: &Instance) -> u64 {
 }
 
 // The cut of a set of customers, given as bits.
-fn cut(rt: &impl Abort, alloc: Global, instance: &Instance, set: u8, cut_price: u64) -> Cut
+fn cut(rt: &impl Abort, alloc: Global, instance: &Instance, set: u8, cut_price: u64) -> CapacityCut
     ensures { IsCut instance.now result }
 {
     let places = usize::from(instance.customers()) + 1;
     let inside = marks(rt, alloc, places, set);
     assert!(rt; inside.len() == places && cut_price <= 1_000);
-    Cut::new(instance, inside, cut_price)
+    CapacityCut::new(instance, inside, cut_price)
 }
 
 fn marks(rt: &impl Abort, alloc: Global, places: usize, set: u8) -> Vec<bool> {
@@ -186,7 +185,7 @@ fn relaxed<'a>(
     instance: &'a Instance,
     scale_and_unit: (u64, u64),
     prices: &[i64],
-    cuts: &[Cut],
+    cuts: &[CapacityCut],
 ) -> Option<Relaxation<'a>>
     requires { All (IsCut instance.now) cuts.now }
 {
@@ -422,7 +421,7 @@ fn charged<'a>(
     rt: &impl Abort,
     alloc: Global,
     instance: &'a Instance,
-    cuts: &[Cut],
+    cuts: &[CapacityCut],
 ) -> Relaxation<'a>
     requires { All (IsCut instance.now) cuts.now }
 {
@@ -443,12 +442,12 @@ fn a_cut_of_the_most_customers(rt: HostRuntime) {
 }
 
 // The cut of all customers, none of whom has a demand.
-fn cut_of_all(rt: &impl Abort, alloc: Global, instance: &Instance) -> Cut
+fn cut_of_all(rt: &impl Abort, alloc: Global, instance: &Instance) -> CapacityCut
     ensures { IsCut instance.now result }
 {
     let places = usize::from(instance.customers()) + 1;
     let inside = vec![in alloc; true; places].expect(rt, "memory");
-    let cut = Cut::new(instance, inside, 1_000);
+    let cut = CapacityCut::new(instance, inside, 1_000);
     assert_same(rt, cut.trucks(), 0, "trucks");
     cut
 }

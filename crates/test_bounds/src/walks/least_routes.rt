@@ -3,9 +3,8 @@ use crate::assertion::assert_same;
 use std::alloc::Global;
 use std::process::Abort;
 use test_fixtures::with_arcs;
-use vrp_bound_ng::NgSets;
-use vrp_bound_walks::{LeastRoutes, NearLooks, Size, UsedArc, WHOLE_TOUR, Walks};
-use vrp_model::Instance;
+use vrp_bound_ascent::{LeastRoutes, NearLooks, Size, UsedArc, WHOLE_TOUR, Walks};
+use vrp_model::{Instance, NgSets};
 
 // Three customers who demand 1 each; the capacity is 2.
 const ARCS: [u64; 16] = [0, 3, 4, 9, 3, 0, 2, 8, 4, 2, 0, 7, 9, 8, 7, 0];

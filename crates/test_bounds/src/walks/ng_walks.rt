@@ -4,9 +4,8 @@ use crate::walks::slow::Slow;
 use std::alloc::Global;
 use std::process::Abort;
 use test_fixtures::with_arcs;
-use vrp_bound_ng::NgSets;
-use vrp_bound_walks::{NearLooks, Size, Walks};
-use vrp_model::Instance;
+use vrp_bound_ascent::{NearLooks, Size, Walks};
+use vrp_model::{Instance, NgSets};
 
 // An instance, and a price for each of its places.
 #[derive(Clone, Copy)]

@@ -10,7 +10,7 @@ use std::sync::Wait;
 use std::sync::atomic::{AtomicU64, Ordering};
 use std::thread::Threads;
 use std::time::Clock;
-use vrp_command::{Event, Gate, Resources, run_words};
+use vrp_command::{Event, Gate, Resources, Stage, run_arguments};
 
 // Stops the search when routes are to be listed: prices are found by then, and each piece ends after one partial plan.
 #[derive(Drop)]
@@ -25,7 +25,7 @@ impl Gate for StopsAtRoutes {
     fn begins(&self, _worker: u32, _piece: u32) {}
 
     fn on_event(&self, news: Event) {
-        if let Event::Routes = news {
+        if let Event::Begins(Stage::Routes) = news {
             self.stopped.store(1, Ordering::SeqCst);
         }
     }
@@ -101,7 +101,7 @@ fn printed<R: Abort + Files + Threads + Wait + Clock + Eprint + Sync>(
     let mut output = Vec::new(alloc);
     let mut errors = Vec::new(alloc);
     let resources = Resources::new(rt, alloc, &gate);
-    let ended = run_words(&resources, words, &mut input, &mut output, &mut errors);
+    let ended = run_arguments(&resources, words, &mut input, &mut output, &mut errors);
     assert_same(rt, ended, 1, "the status");
     String::from_utf8(output).expect(rt, "text")
 }

@@ -6,7 +6,7 @@ use std::io;
 use std::io::{ErrorKind, Read, Write};
 use std::sync::Wait;
 use std::thread::Threads;
-use vrp_command::{NoGate, Options, Resources, RunError, Status, run, run_words};
+use vrp_command::{NoGate, Options, Resources, RunError, Status, run, run_arguments};
 use vrp_text::TextError;
 
 // Gives its bytes, this many at a time. One of its reads fails, and the next continues behind it.
@@ -243,7 +243,7 @@ fn faults_are_told(rt: HostRuntime) {
         let mut errors = Vec::new(rt.alloc());
         let words = [word];
         let resources = Resources::new(&rt, rt.alloc(), &NoGate);
-        let ended = run_words(&resources, &words, &mut input, &mut output, &mut errors);
+        let ended = run_arguments(&resources, &words, &mut input, &mut output, &mut errors);
         assert_same(&rt, ended, status, (word, told));
         assert_same(&rt, errors.as_slice(), told.as_bytes(), word);
     }
@@ -256,7 +256,7 @@ fn refused_words_read_nothing(rt: HostRuntime) {
     let mut output = takes(rt.alloc(), 70_000);
     let mut errors = Vec::new(rt.alloc());
     let resources = Resources::new(&rt, rt.alloc(), &NoGate);
-    let ended = run_words(
+    let ended = run_arguments(
         &resources,
         &["--pieces", "0"],
         &mut input,

@@ -2,10 +2,10 @@
 use std::alloc::Global;
 use std::process::Abort;
 use vrp_bound::LowerBound;
-use vrp_command::{Line, LongRun, Stage, Status};
+use vrp_command::{Line, LongRun, RunState, Stage, Status};
 
 const NOTHING: Line = Line {
-    stage: Stage::StartPlan,
+    state: RunState::At(Stage::StartPlan),
     seconds: Some(0),
     cost: None,
     bound: None,
@@ -21,7 +21,7 @@ const NOTHING: Line = Line {
 
 // The state once a choice has begun.
 const CHOSEN: Line = Line {
-    stage: Stage::Choice,
+    state: RunState::At(Stage::Choice),
     seconds: Some(5),
     cost: Some(521),
     bound: Some(LowerBound { hundredths: 52_000 }),
@@ -36,7 +36,7 @@ const LINES: &[(Line, &str)] = &[
     (NOTHING, "0 s, first plan"),
     (
         Line {
-            stage: Stage::Prices,
+            state: RunState::At(Stage::Prices),
             seconds: None,
             cost: Some(530),
             ..NOTHING
@@ -45,7 +45,7 @@ const LINES: &[(Line, &str)] = &[
     ),
     (
         Line {
-            stage: Stage::BetterPlans,
+            state: RunState::At(Stage::BetterPlans),
             seconds: Some(30),
             cost: Some(90_539),
             bound: Some(LowerBound {
@@ -57,7 +57,7 @@ const LINES: &[(Line, &str)] = &[
     ),
     (
         Line {
-            stage: Stage::Choice,
+            state: RunState::At(Stage::Choice),
             seconds: Some(5),
             cost: Some(521),
             bound: Some(LowerBound { hundredths: 51_718 }),
@@ -68,7 +68,7 @@ const LINES: &[(Line, &str)] = &[
     ),
     (
         Line {
-            stage: Stage::Routes,
+            state: RunState::At(Stage::Routes),
             cost: Some(521),
             bound: Some(LowerBound { hundredths: 51_718 }),
             ..NOTHING
@@ -77,7 +77,7 @@ const LINES: &[(Line, &str)] = &[
     ),
     (
         Line {
-            stage: Stage::Routes,
+            state: RunState::At(Stage::Routes),
             seconds: Some(4),
             cost: Some(521),
             bound: Some(LowerBound { hundredths: 51_718 }),
@@ -110,7 +110,7 @@ const LINES: &[(Line, &str)] = &[
     // After the choice its nodes are not mentioned.
     (
         Line {
-            stage: Stage::Search,
+            state: RunState::At(Stage::Pieces),
             pieces: 64,
             ..CHOSEN
         },
@@ -118,7 +118,7 @@ const LINES: &[(Line, &str)] = &[
     ),
     (
         Line {
-            stage: Stage::Ended(Status::Proven),
+            state: RunState::Ended(Status::Proven),
             bound: Some(LowerBound { hundredths: 52_100 }),
             ..CHOSEN
         },
@@ -126,7 +126,7 @@ const LINES: &[(Line, &str)] = &[
     ),
     (
         Line {
-            stage: Stage::Search,
+            state: RunState::At(Stage::Pieces),
             seconds: Some(12),
             cost: Some(521),
             bound: Some(LowerBound { hundredths: 51_718 }),
@@ -140,7 +140,7 @@ const LINES: &[(Line, &str)] = &[
     ),
     (
         Line {
-            stage: Stage::Ended(Status::Proven),
+            state: RunState::Ended(Status::Proven),
             seconds: Some(1),
             cost: Some(0),
             bound: Some(LowerBound { hundredths: 0 }),

@@ -7,7 +7,7 @@ use std::io::ErrorKind;
 use std::process::Abort;
 use vrp_command::{
     Format, LineFault, MAX_BUDGET, MAX_PIECES, MAX_SECONDS, MAX_WORKERS, Options, Request,
-    argument_fault, end_without_run, line_status, parse_request, parse_words, words_fault,
+    argument_fault, end_without_run, line_status, parse_request, parse_words, unread_line_fault,
 };
 use vrp_model::MAX_NODES;
 
@@ -394,10 +394,10 @@ fn assert_told(rt: &impl Abort, alloc: Global, fault: &LineFault, status: u8, to
 fn words_that_cannot_be_had(rt: HostRuntime) {
     let no_text =
         "error: a word on the command line is no text (not UTF-8)\n\nFor more information, try '--help'.\n";
-    let fault = words_fault(rt.alloc(), &io::Error::from(ErrorKind::InvalidData));
+    let fault = unread_line_fault(rt.alloc(), &io::Error::from(ErrorKind::InvalidData));
     assert_told(&rt, rt.alloc(), &fault, 2, no_text);
     let no_memory = "cvrp: out of memory\n";
-    let fault = words_fault(rt.alloc(), &io::Error::from(ErrorKind::OutOfMemory));
+    let fault = unread_line_fault(rt.alloc(), &io::Error::from(ErrorKind::OutOfMemory));
     assert_told(&rt, rt.alloc(), &fault, 4, no_memory);
     let fault = argument_fault(rt.alloc(), &Error::from(AllocError));
     assert_told(&rt, rt.alloc(), &fault, 4, no_memory);

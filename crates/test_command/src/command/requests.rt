@@ -140,7 +140,7 @@ const REQUESTS: &[Row] = &[
         SMALL,
         Start::Nothing,
         Ok(Status::Open),
-        "{\"best_lower_bound\":20,\"capacity\":2,\"cost\":30,\"customers\":2,\"depot\":1,\"gap\":5000,\"lower_bound\":20,\"name\":\"A\",\"options\":{\"budget\":null,\"depot\":null,\"pieces\":1,\"seconds\":null,\"trucks\":null,\"workers\":1},\"routes\":[{\"cost\":10,\"customers\":[1],\"load\":1,\"nodes\":[2]},{\"cost\":20,\"customers\":[2],\"load\":1,\"nodes\":[3]}],\"stated_cost\":null,\"verdict\":\"Open\",\"version\":\"1.0.0\"}\n",
+        "{\"best_lower_bound\":20,\"capacity\":2,\"cost\":30,\"cost_is_least\":false,\"customers\":2,\"depot\":1,\"gap\":5000,\"lower_bound\":20,\"name\":\"A\",\"options\":{\"budget\":null,\"depot\":null,\"pieces\":1,\"seconds\":null,\"trucks\":null,\"workers\":1},\"routes\":[{\"cost\":10,\"customers\":[1],\"load\":1,\"nodes\":[2]},{\"cost\":20,\"customers\":[2],\"load\":1,\"nodes\":[3]}],\"stated_cost\":null,\"verdict\":\"Open\",\"version\":\"1.0.0\"}\n",
     ),
     // no bound is known for a plan that is only checked
     (
@@ -148,7 +148,7 @@ const REQUESTS: &[Row] = &[
         SMALL,
         TWO,
         Ok(Status::Lawful),
-        "{\"best_lower_bound\":null,\"capacity\":2,\"cost\":30,\"customers\":2,\"depot\":1,\"gap\":null,\"lower_bound\":null,\"name\":\"A\",\"options\":{\"budget\":null,\"depot\":null,\"pieces\":64,\"seconds\":null,\"trucks\":null,\"workers\":1},\"routes\":[{\"cost\":10,\"customers\":[1],\"load\":1,\"nodes\":[2]},{\"cost\":20,\"customers\":[2],\"load\":1,\"nodes\":[3]}],\"stated_cost\":30,\"verdict\":\"Lawful\",\"version\":\"1.0.0\"}\n",
+        "{\"best_lower_bound\":null,\"capacity\":2,\"cost\":30,\"cost_is_least\":null,\"customers\":2,\"depot\":1,\"gap\":null,\"lower_bound\":null,\"name\":\"A\",\"options\":{\"budget\":null,\"depot\":null,\"pieces\":64,\"seconds\":null,\"trucks\":null,\"workers\":1},\"routes\":[{\"cost\":10,\"customers\":[1],\"load\":1,\"nodes\":[2]},{\"cost\":20,\"customers\":[2],\"load\":1,\"nodes\":[3]}],\"stated_cost\":30,\"verdict\":\"Lawful\",\"version\":\"1.0.0\"}\n",
     ),
     (
         CHECK,

@@ -11,7 +11,7 @@ use std::sync::Wait;
 use std::sync::atomic::{AtomicU64, Ordering};
 use std::thread::{Threads, yield_now};
 use std::time::Clock;
-use vrp_command::{Gate, NoGate, Resources, run_words};
+use vrp_command::{Gate, NoGate, Resources, run_arguments};
 
 // Two depots are listed, a customer's step apart.
 const DEPOTS: &str =
@@ -69,7 +69,7 @@ pub(crate) fn assert_run_by<R: Abort + Files + Threads + Wait + Clock + Eprint +
     let mut output = Vec::new(alloc);
     let mut errors = Vec::new(alloc);
     let resources = Resources::new(rt, alloc, &NoGate);
-    let ended = run_words(&resources, words, &mut input, &mut output, &mut errors);
+    let ended = run_arguments(&resources, words, &mut input, &mut output, &mut errors);
     assert_same(rt, ended, status, words);
     assert_same(rt, output.as_slice(), printed.as_bytes(), words);
     assert_same(rt, errors.as_slice(), told.as_bytes(), words);
@@ -380,7 +380,7 @@ fn assert_all_begin<R: Abort + Files + Threads + Wait + Clock + Eprint + Sync>(
     let mut output = Vec::new(alloc);
     let mut errors = Vec::new(alloc);
     let resources = Resources::new(rt, alloc, &gate);
-    let ended = run_words(&resources, words, &mut input, &mut output, &mut errors);
+    let ended = run_arguments(&resources, words, &mut input, &mut output, &mut errors);
     assert_same(rt, ended, 1, wanted);
     assert_same(rt, gate.let_go.load(Ordering::SeqCst), 0, wanted);
 }
@@ -412,7 +412,7 @@ fn by_seconds(rt: HostRuntime) {
     let mut output = Vec::new(rt.alloc());
     let mut errors = Vec::new(rt.alloc());
     let resources = Resources::new(&rt, rt.alloc(), &NoGate);
-    let ended = run_words(&resources, &words, &mut input, &mut output, &mut errors);
+    let ended = run_arguments(&resources, &words, &mut input, &mut output, &mut errors);
     assert_same(&rt, ended, 1, "the status");
     assert!(rt; output.starts_with(b"Route #1: ") && errors.is_empty());
 }

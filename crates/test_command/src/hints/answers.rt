@@ -1,7 +1,7 @@
 //! Answers, and the hint on each.
 use std::alloc::Global;
 use std::process::Abort;
-use vrp_command_hints::{AnswerHint, depot_hint, no_plan_hint};
+use vrp_command_streams::{AnswerHint, depot_hint, no_plan_hint};
 use vrp_text::read;
 
 // Two customers with demands of 3 and 4, and capacity 5.

@@ -1,7 +1,7 @@
 //! Refused files, and the hint on each.
 use std::alloc::Global;
 use std::process::Abort;
-use vrp_command_hints::file_hint;
+use vrp_command_streams::file_hint;
 use vrp_text::read;
 
 // A file, and the hint on it; empty if there is none.

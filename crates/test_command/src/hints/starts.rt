@@ -1,7 +1,7 @@
 //! Refused start plans, and the hint on each.
 use std::alloc::Global;
 use std::process::Abort;
-use vrp_command_hints::{start_hint, stated_cost};
+use vrp_command_streams::{start_hint, stated_cost};
 
 // A file of four nodes.
 const FILE: &str = "TYPE : CVRP\nDIMENSION : 4\n";

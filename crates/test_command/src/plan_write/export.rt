@@ -4,11 +4,10 @@ use crate::plan_write::fixture::{
     told,
 };
 use std::test::*;
+use vrp_answer::{Finding, Status};
 use vrp_command_streams::solution_text;
 use vrp_model::{MAX_NODES, Plan};
-use vrp_plan_draw::picture_text;
-use vrp_plan_write::json_text;
-use vrp_pool_answer::{Finding, Status};
+use vrp_plan_write::{json_text, picture_text};
 
 // Read as a solution, the text gives the same plan back.
 #[test]
@@ -23,10 +22,10 @@ fn solutions(rt: HostRuntime) {
 // The customers are the nodes except the depot, numbered from 1. 17 is 1 below 18, and 1 of 17 is 588.2 hundredths of a
 // percent.
 const TWO_ROUTES_JSON: &str =
-    "{\"best_lower_bound\":17,\"capacity\":10,\"cost\":18,\"customers\":3,\"depot\":2,\"gap\":589,\"lower_bound\":9,\"name\":\"four\",\"options\":{\"budget\":1000,\"depot\":2,\"pieces\":64,\"seconds\":null,\"trucks\":null,\"workers\":2},\"routes\":[{\"cost\":12,\"customers\":[1,2],\"load\":9,\"nodes\":[1,3]},{\"cost\":6,\"customers\":[3],\"load\":7,\"nodes\":[4]}],\"stated_cost\":18,\"verdict\":\"Open\",\"version\":\"1.2.3\"}\n";
+    "{\"best_lower_bound\":17,\"capacity\":10,\"cost\":18,\"cost_is_least\":false,\"customers\":3,\"depot\":2,\"gap\":589,\"lower_bound\":9,\"name\":\"four\",\"options\":{\"budget\":1000,\"depot\":2,\"pieces\":64,\"seconds\":null,\"trucks\":null,\"workers\":2},\"routes\":[{\"cost\":12,\"customers\":[1,2],\"load\":9,\"nodes\":[1,3]},{\"cost\":6,\"customers\":[3],\"load\":7,\"nodes\":[4]}],\"stated_cost\":18,\"verdict\":\"Open\",\"version\":\"1.2.3\"}\n";
 
 const NO_PLAN_JSON: &str =
-    "{\"best_lower_bound\":null,\"capacity\":10,\"cost\":null,\"customers\":3,\"depot\":2,\"gap\":null,\"lower_bound\":null,\"name\":null,\"options\":{\"budget\":null,\"depot\":null,\"pieces\":1,\"seconds\":60,\"trucks\":1,\"workers\":1},\"routes\":[],\"stated_cost\":null,\"verdict\":\"NoPlan\",\"version\":\"\"}\n";
+    "{\"best_lower_bound\":null,\"capacity\":10,\"cost\":null,\"cost_is_least\":null,\"customers\":3,\"depot\":2,\"gap\":null,\"lower_bound\":null,\"name\":null,\"options\":{\"budget\":null,\"depot\":null,\"pieces\":1,\"seconds\":60,\"trucks\":1,\"workers\":1},\"routes\":[],\"stated_cost\":null,\"verdict\":\"NoPlan\",\"version\":\"\"}\n";
 
 #[test]
 fn objects(rt: HostRuntime) {

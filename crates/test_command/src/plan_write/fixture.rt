@@ -6,11 +6,10 @@ ghost use Rattle.vrp_model.specs.Route.{IsPlanOf};
 use std::alloc::Global;
 use std::process::Abort;
 use std::test::*;
+use vrp_answer::{Finding, Status};
 use vrp_model::{Instance, Plan};
-use vrp_plan_draw::{Points, picture_text};
 use vrp_plan_read::Solution;
-use vrp_plan_write::{Context, Settings};
-use vrp_pool_answer::{Finding, Status};
+use vrp_plan_write::{Context, Points, Settings, picture_text};
 
 /// Three customers around a depot that is node 2. The capacity is ten.
 pub(crate) const FOUR: &str =

@@ -1,7 +1,7 @@
 //! A gatherer of two pieces, and the texts of errors.
 use std::process::Abort;
 use std::test::Fail;
-use vrp_pool::{Finished, GatherError, Gatherer, SolveError};
+use vrp_solver::{Finished, GatherError, Gatherer, SolveError};
 
 #[test]
 fn each_once(rt: HostRuntime) {

@@ -11,9 +11,9 @@ use std::sync::Wait;
 use std::sync::ledger::{Blank, Ledger};
 use test_fixtures::joined;
 use vrp_model::{Instance, Plan};
-use vrp_pool::{NoGate, SeatBoard};
-use vrp_pool_register::Register;
 use vrp_search::Board;
+use vrp_sharing::Register;
+use vrp_solver::{NoGate, SeatBoard};
 
 #[test]
 fn one_seat(rt: HostRuntime) {

@@ -8,10 +8,10 @@ use std::alloc::Global;
 use std::process::Abort;
 use std::sync::Wait;
 use std::thread::Threads;
-use vrp_heuristic::{Crew, Unhurried, heuristic_plan};
-use vrp_model::{Instance, Plan};
-use vrp_pool::{Answer, Gate, MAX_WORKERS, NoGate, solve};
+use vrp_heuristic::heuristic_plan;
+use vrp_model::{Crew, Instance, Plan, Unhurried};
 use vrp_search::{Cutting, MAX_PIECES};
+use vrp_solver::{Answer, Gate, MAX_WORKERS, NoGate, solve};
 
 mod by_routes;
 mod choices_with_ties;
@@ -151,11 +151,10 @@ fn start_plan_by_savings(rt: HostRuntime) {
     let crew = Crew {
         rt: &rt,
         alloc: rt.alloc(),
-        instance: &free,
         workers: 1,
         watch: &Unhurried,
     };
-    let savings = heuristic_plan(&crew, 0).expect(&rt, "memory");
+    let savings = heuristic_plan(&crew, &free, 0).expect(&rt, "memory");
     assert!(rt; savings.is_some_and(|plan| plan.cost() == 400));
     let limited = line(&rt, rt.alloc()).with_trucks(2);
     for instance in [&free, &limited] {

@@ -4,7 +4,7 @@ use crate::register::fixture::{copied, forward_and_backward, singles_and_joined}
 use std::alloc::Global;
 use std::process::Abort;
 use vrp_model::Plan;
-use vrp_pool_register::{Book, Entry};
+use vrp_sharing::{Book, Entry};
 
 // The offers that are made to a book, and the answers.
 type Offers<'a> = &'a [(&'a Plan, bool)];

@@ -1,7 +1,7 @@
 //! Registers with one thread and with several.
 ghost use Rattle.std.specs.Prelude.{◌≡◌, ◌≤◌};
 ghost use Rattle.std.specs.List.{All};
-ghost use Rattle.vrp_pool_register.specs.Caller.{IsCallerOf};
+ghost use Rattle.vrp_sharing.specs.Caller.{IsCallerOf};
 
 use crate::assertion::assert_same;
 use crate::register::fixture::{copied, singles_and_joined, there_and_back};
@@ -13,7 +13,7 @@ use std::sync::ledger::{Blank, Ledger};
 use std::thread;
 use std::thread::{Threads, join};
 use vrp_model::{NO_COST, NoMemory, Plan};
-use vrp_pool_register::{Book, Caller, Closed, Register, Reply};
+use vrp_sharing::{Book, Caller, Closed, Register, Reply};
 
 // Asserts the number of a register's offers, the plan it kept, and the least cost.
 fn assert_closed(

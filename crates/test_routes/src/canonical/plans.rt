@@ -3,12 +3,12 @@
 use crate::assertion::assert_same;
 use crate::canonical::found::{Effort, found_plan};
 use crate::five_places::{DEMANDS, LEVEL, ONE_DIRECTION};
-use crate::guides::{Among, Asks, Habit, Habitual};
+use crate::guides::{Among, Answering, Habit, Habitual};
 use std::alloc::Global;
 use std::process::Abort;
 use std::thread::Threads;
 use test_fixtures::{Canonical, FIVE, Random, SQUARE, at_points, canonical_plan, with_arcs};
-use vrp_canonical::PlanSearch;
+use vrp_canonical::RoutesOutcome;
 use vrp_model::{Instance, Plan};
 use vrp_search_tree::lawful_plan;
 
@@ -85,31 +85,25 @@ fn plans_of<R: Abort + Threads + Sync>(rt: &R, alloc: Global, instance: &Instanc
 }
 
 // The canonical plan, if it was found.
-fn canonical_of(found: Option<PlanSearch>) -> Option<Plan> {
+fn canonical_of(found: Option<RoutesOutcome>) -> Option<Plan> {
     match found {
-        Some(PlanSearch::Canonical(plan)) => Some(plan),
+        Some(RoutesOutcome::Canonical(plan)) => Some(plan),
         _ => None,
     }
 }
 
-// The cost of the plan that an unfinished search reports, if its word is one.
-fn cost_told(
-    rt: &impl Abort,
-    alloc: Global,
-    instance: &Instance,
-    found: &Option<PlanSearch>,
-) -> Option<u64> {
-    let Some(PlanSearch::Unfinished { word, .. }) = found else {
-        return None;
-    };
-    let plan = lawful_plan(alloc, instance, word.as_slice()).expect(rt, "memory");
-    plan.map(|plan| plan.cost())
+// The cost of the plan that an unfinished search reports, if it reports one.
+fn cost_told(found: &Option<RoutesOutcome>) -> Option<u64> {
+    match found {
+        Some(RoutesOutcome::Unfinished { better, .. }) => better.as_ref().map(|plan| plan.cost()),
+        _ => None,
+    }
 }
 
 // The lower bound of a search that ended unfinished.
-fn bound_told(found: &Option<PlanSearch>) -> Option<u64> {
+fn bound_told(found: &Option<RoutesOutcome>) -> Option<u64> {
     match found {
-        Some(PlanSearch::Unfinished { lower_bound, .. }) => Some(*lower_bound),
+        Some(RoutesOutcome::Unfinished { lower_bound, .. }) => Some(*lower_bound),
         _ => None,
     }
 }
@@ -136,7 +130,7 @@ fn by_guides<R: Abort + Threads + Sync>(
     for &(habit, seed) in GUIDES {
         let guide = guide(alloc, habit, seed);
         let effort = Effort {
-            ask: Asks {
+            watch: Answering {
                 should_continue: true,
             },
             budget: 1_000_000,
@@ -179,14 +173,14 @@ fn budgets_and_guides_that_stop(rt: HostRuntime) {
     for &(habit, budget, wanted, told) in LIMITS {
         let guide = guide(alloc, habit, 5);
         let effort = Effort {
-            ask: Asks {
+            watch: Answering {
                 should_continue: habit != Habit::Stopping,
             },
             budget,
         };
         let found = found_plan(rt, alloc, &instance, &known, &guide, effort);
         let found = found.expect(rt, "memory");
-        let cost = cost_told(rt, alloc, &instance, &found);
+        let cost = cost_told(&found);
         assert_same(rt, cost, told.then_some(canonical.cost), (habit, budget));
         let bound = bound_told(&found);
         let least = if told { canonical.cost } else { 0 };

@@ -2,53 +2,40 @@
 
 use crate::assertion::assert_same;
 use crate::by_hand::{FOUR, Pair, THREE, pool_of};
-use crate::guides::{Among, Asks, HABITS, Habit, Habitual};
-use crate::random::{ALL_CUSTOMERS, pool, repeated};
+use crate::guides::{Among, Answering, HABITS, Habit, Habitual};
+use crate::random::{CUSTOMERS, pool, repeated};
+use crate::sets::{every_place, set_of};
 use crate::slow::{cost_of_choice, least_cost};
 use std::alloc::{AllocError, Global};
 use std::process::Abort;
 use std::thread::Threads;
 use test_fixtures::Random;
-use vrp_partition::{
-    Chosen, Fleet, Found, MOST_CUSTOMERS, Query, Route, Task, Team, all_fit, cheapest_choice,
-    routes_within,
-};
+use vrp_customers::{CustomerSet, FleetView, PLACES};
+use vrp_model::Crew;
+use vrp_partition::{Chosen, Found, Query, Route, Task, all_fit, cheapest_choice, routes_within};
 
 const MUCH: u64 = 1 << 32;
 
 // A pool, customers, trucks, the incumbent's cost and the least cost.
-const BY_HAND: &[(&[Pair], u128, u8, u64, u64)] = &[
-    (THREE, 0b1110, 128, MUCH, 22),
-    (THREE, 0b1110, 128, 23, 22),
-    (THREE, 0b1110, 128, 22, 22),
-    (THREE, 0b1110, 128, 0, 0),
-    (THREE, 0b1100, 128, MUCH, 13),
-    (THREE, 0, 128, MUCH, 0),
-    (THREE, 0b1_1110, 128, MUCH, MUCH),
-    (FOUR, 0b11110, 128, MUCH, 9),
-    (FOUR, 0b01110, 128, MUCH, MUCH),
-    (&[], 0b0010, 128, MUCH, MUCH),
-    (&[(0b1110, 9)], 0b1110, 1, MUCH, 9),
-    (THREE, 0b1110, 2, MUCH, 22),
-    (THREE, 0b1110, 1, MUCH, 25),
-    (THREE, 0b1110, 0, MUCH, MUCH),
-    (THREE, 0, 0, MUCH, 0),
-    (FOUR, 0b11110, 2, MUCH, 9),
-    (FOUR, 0b11110, 1, MUCH, MUCH),
-    (
-        &[(u128::MAX, u32::MAX)],
-        u128::MAX,
-        u8::MAX,
-        MUCH,
-        u32::MAX as u64,
-    ),
-    (
-        &[(0b0010, 1), (0b0010, 1), (0b0100, 1)],
-        0b0110,
-        128,
-        MUCH,
-        2,
-    ),
+const BY_HAND: &[(&[Pair], &[u16], u8, u64, u64)] = &[
+    (THREE, &[1, 2, 3], 128, MUCH, 22),
+    (THREE, &[1, 2, 3], 128, 23, 22),
+    (THREE, &[1, 2, 3], 128, 22, 22),
+    (THREE, &[1, 2, 3], 128, 0, 0),
+    (THREE, &[2, 3], 128, MUCH, 13),
+    (THREE, &[], 128, MUCH, 0),
+    (THREE, &[1, 2, 3, 4], 128, MUCH, MUCH),
+    (FOUR, &[1, 2, 3, 4], 128, MUCH, 9),
+    (FOUR, &[1, 2, 3], 128, MUCH, MUCH),
+    (&[], &[1], 128, MUCH, MUCH),
+    (&[(&[1, 2, 3], 9)], &[1, 2, 3], 1, MUCH, 9),
+    (THREE, &[1, 2, 3], 2, MUCH, 22),
+    (THREE, &[1, 2, 3], 1, MUCH, 25),
+    (THREE, &[1, 2, 3], 0, MUCH, MUCH),
+    (THREE, &[], 0, MUCH, 0),
+    (FOUR, &[1, 2, 3, 4], 2, MUCH, 9),
+    (FOUR, &[1, 2, 3, 4], 1, MUCH, MUCH),
+    (&[(&[1], 1), (&[1], 1), (&[2], 1)], &[1, 2], 128, MUCH, 2),
 ];
 
 #[test]
@@ -73,13 +60,39 @@ fn choices_by_hand(rt: HostRuntime) {
     }
 }
 
+// One route with every place, at the highest cost.
+#[test]
+fn a_route_with_every_place(rt: HostRuntime) {
+    let (rt, alloc) = (&rt, rt.alloc());
+    let customers = every_place();
+    let mut pool = Vec::new(alloc);
+    let route = Route {
+        set: set_of(&customers),
+        cost: u32::MAX,
+    };
+    pool.push(route).expect(rt, "memory");
+    for &habit in HABITS {
+        let asked = Asked {
+            habit,
+            capacity: 256,
+            trucks: u8::MAX,
+            customers: &customers,
+            incumbent: MUCH,
+            budget: 100,
+        };
+        let found = choice(rt, alloc, asked, &pool).expect(rt, "a budget that suffices");
+        assert_same(rt, found.cost, u64::from(u32::MAX), habit);
+        assert_routes(rt, &found, asked);
+    }
+}
+
 // The parameters of a search. Each customer demands 1.
 #[derive(Clone, Copy, Debug)]
-struct Asked {
+struct Asked<'a> {
     habit: Habit,
     capacity: u32,
     trucks: u8,
-    customers: u128,
+    customers: &'a [u16],
     incumbent: u64,
     budget: u64,
 }
@@ -88,7 +101,7 @@ struct Asked {
 fn choice<R: Abort + Threads + Sync>(
     rt: &R,
     alloc: Global,
-    asked: Asked,
+    asked: Asked<'_>,
     pool: &[Route],
 ) -> Option<Chosen> {
     let one = found_by(rt, alloc, 1, asked, pool);
@@ -111,8 +124,8 @@ fn cheapest(found: Found) -> Option<Chosen> {
 fn found_by<R: Abort + Threads + Sync>(
     rt: &R,
     alloc: Global,
-    workers: usize,
-    asked: Asked,
+    workers: u16,
+    asked: Asked<'_>,
     pool: &[Route],
 ) -> Found {
     let mut budget = asked.budget;
@@ -138,36 +151,36 @@ fn guide(alloc: Global, habit: Habit, seed: u64) -> Habitual {
 fn searched_by<R: Abort + Threads + Sync>(
     rt: &R,
     alloc: Global,
-    workers: usize,
-    asked: Asked,
+    workers: u16,
+    asked: Asked<'_>,
     pool: &[Route],
     budget: &mut u64,
 ) -> Result<Found, AllocError> {
-    let demands = [1u32; MOST_CUSTOMERS];
+    let demands = [1u32; PLACES];
     assert!(rt; all_fit(pool, &demands, asked.capacity));
     assert!(rt; asked.incumbent <= MUCH && workers > 0);
     let guide = guide(alloc, asked.habit, asked.budget);
-    let ask = Asks {
+    let watch = Answering {
         should_continue: asked.habit != Habit::Stopping,
     };
-    let team = Team {
+    let crew = Crew {
         rt,
         alloc,
         workers,
-        ask: &ask,
+        watch: &watch,
     };
-    let fleet = Fleet {
+    let fleet = FleetView {
         demands: &demands,
         capacity: asked.capacity,
         trucks: asked.trucks,
     };
     let task = Task {
         fleet,
-        customers: asked.customers,
+        customers: set_of(asked.customers),
         incumbent: asked.incumbent,
     };
     let routes = Vec::from_slice(alloc, pool).expect(rt, "memory");
-    cheapest_choice(&team, guide, &task, routes, budget)
+    cheapest_choice(&crew, guide, &task, routes, budget)
 }
 
 // The compared part of a result.
@@ -176,7 +189,7 @@ struct Told {
     finished: bool,
     cost: u64,
     routes: usize,
-    customers: u128,
+    customers: CustomerSet,
     lower_bound: u64,
 }
 
@@ -185,7 +198,10 @@ fn told_of(found: &Found) -> Told {
         Found::Cheapest(chosen) => (true, chosen, chosen.cost),
         Found::Unfinished { best, lower_bound } => (false, best, *lower_bound),
     };
-    let customers = chosen.routes.iter().fold(0, |set, route| set | route.set);
+    let customers = chosen
+        .routes
+        .iter()
+        .fold(CustomerSet::empty(), |set, route| set.union(route.set));
     Told {
         finished,
         cost: chosen.cost,
@@ -196,9 +212,9 @@ fn told_of(found: &Found) -> Told {
 }
 
 // Below the incumbent the routes are a choice of that cost.
-fn assert_routes(rt: &impl Abort, found: &Chosen, asked: Asked) {
+fn assert_routes(rt: &impl Abort, found: &Chosen, asked: Asked<'_>) {
     if found.cost < asked.incumbent {
-        let cost = cost_of_choice(&found.routes, asked.customers, asked.trucks);
+        let cost = cost_of_choice(&found.routes, set_of(asked.customers), asked.trucks);
         assert_same(rt, cost, Some(found.cost), asked.customers);
     } else {
         assert_same(rt, found.cost, asked.incumbent, asked.customers);
@@ -218,14 +234,14 @@ fn choices_beside_every_choice(rt: HostRuntime) {
         let (count, costs) = (4 + round % 9, 4 + round % 3 * 50);
         let pool = fitting(rt, alloc, &mut random, count, costs, capacity);
         let trucks = TRUCKS[round as usize % TRUCKS.len()];
-        let least = least_cost(rt, &pool, ALL_CUSTOMERS, trucks);
+        let least = least_cost(rt, &pool, set_of(CUSTOMERS), trucks);
         for &habit in HABITS {
             for incumbent in [MUCH, 40, 3] {
                 let asked = Asked {
                     habit,
                     capacity,
                     trucks,
-                    customers: ALL_CUSTOMERS,
+                    customers: CUSTOMERS,
                     incumbent,
                     budget: 1_000,
                 };
@@ -250,11 +266,11 @@ fn fitting(
 ) -> Vec<Route> {
     let mut routes = pool(rt, alloc, random, (count, u32::MAX), costs);
     for route in &mut routes {
-        if route.set.count_ones() > capacity {
-            route.set &= route.set - 1;
+        if u32::from(route.set.len()) > capacity {
+            let _ = route.set.take_first();
         }
-        if route.set.count_ones() > capacity {
-            route.set = 1;
+        if u32::from(route.set.len()) > capacity {
+            route.set = CustomerSet::only(0);
         }
     }
     routes
@@ -264,11 +280,11 @@ fn fitting(
 const DEAR: u64 = 600;
 
 // All customers of random pools, at most three to a truck, if that costs less than costly routes do.
-const CHEAP: Asked = Asked {
+const CHEAP: Asked<'static> = Asked {
     habit: Habit::Zeros,
     capacity: 3,
     trucks: 128,
-    customers: ALL_CUSTOMERS,
+    customers: CUSTOMERS,
     incumbent: DEAR,
     budget: 1_000,
 };
@@ -280,7 +296,7 @@ fn pools_that_are_branched_on(rt: HostRuntime) {
     let mut random = Random(3);
     for round in 0..8u32 {
         let base = fitting(rt, alloc, &mut random, 8, 10, 3);
-        let least = least_cost(rt, &base, ALL_CUSTOMERS, 128).unwrap_or(DEAR);
+        let least = least_cost(rt, &base, set_of(CUSTOMERS), 128).unwrap_or(DEAR);
         let pool = repeated(rt, alloc, &base, 400, 1);
         for &habit in HABITS {
             let asked = Asked { habit, ..CHEAP };
@@ -299,7 +315,7 @@ fn pools_that_are_branched_on(rt: HostRuntime) {
 }
 
 // A search that doesn't end, without a known cost.
-fn unfinished(habit: Habit, budget: u64) -> Asked {
+fn unfinished(habit: Habit, budget: u64) -> Asked<'static> {
     Asked {
         habit,
         incumbent: MUCH,
@@ -318,7 +334,7 @@ fn memory_refused_to_a_guide(rt: HostRuntime) {
             habit: Habit::NoMemory,
             capacity: 3,
             trucks: 128,
-            customers: 0b11110,
+            customers: &[1, 2, 3, 4],
             incumbent: MUCH,
             budget: 9,
         };
@@ -398,23 +414,23 @@ fn marks(
     pool: &[Route],
     budget: &mut u64,
 ) -> Vec<bool> {
-    let demands = [1u32; MOST_CUSTOMERS];
+    let demands = [1u32; PLACES];
     assert!(rt; all_fit(pool, &demands, 3));
     let mut guide = guide(alloc, within.habit, u64::from(within.limit));
-    let fleet = Fleet {
+    let fleet = FleetView {
         demands: &demands,
         capacity: 3,
         trucks: within.trucks,
     };
-    let ask = Asks {
+    let watch = Answering {
         should_continue: true,
     };
     let query = Query {
         fleet,
-        customers: ALL_CUSTOMERS,
+        customers: set_of(CUSTOMERS),
         limit: within.limit,
     };
-    let marks = routes_within(alloc, &mut guide, &ask, &query, pool, budget);
+    let marks = routes_within(alloc, &mut guide, &watch, &query, pool, budget);
     marks.expect(rt, "memory")
 }
 
@@ -429,7 +445,7 @@ fn least_with(
     let mut others = Vec::from_slice(alloc, pool).expect(rt, "memory");
     assert!(rt; at < others.len(), "no route {at}");
     let route = others.remove(at);
-    let left = ALL_CUSTOMERS ^ route.set;
+    let left = set_of(CUSTOMERS).difference(route.set);
     let least = least_cost(rt, &others, left, trucks.saturating_sub(1))?;
     Some(least.saturating_add(u64::from(route.cost)))
 }

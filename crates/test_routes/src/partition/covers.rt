@@ -1,7 +1,8 @@
 //! The exact cover by hand, and compared with every choice of random columns.
 
 use crate::assertion::assert_same;
-use crate::random::{self, ALL_CUSTOMERS};
+use crate::random::{self, CUSTOMERS};
+use crate::sets::set_of;
 use crate::slow::{cost_of_choice, least_cost};
 use std::alloc::Global;
 use std::process::Abort;
@@ -9,54 +10,54 @@ use test_fixtures::Random;
 use vrp_partition::{Column, Cover, CoverNode, Route, cheapest_cover};
 
 // A column: its customers, its reduced cost and its cost.
-type Told = (u128, u64, u32);
+type Told = (&'static [u16], u64, u32);
 
 const THREE: &[Told] = &[
-    (0b0010, 10, 10),
-    (0b0100, 10, 10),
-    (0b1000, 10, 10),
-    (0b0110, 12, 12),
-    (0b1100, 13, 13),
-    (0b1010, 14, 14),
-    (0b1110, 25, 25),
+    (&[1], 10, 10),
+    (&[2], 10, 10),
+    (&[3], 10, 10),
+    (&[1, 2], 12, 12),
+    (&[2, 3], 13, 13),
+    (&[1, 3], 14, 14),
+    (&[1, 2, 3], 25, 25),
 ];
 
 // Of the ways to pair four customers, the reduced costs favour a different one than the costs.
 const FOUR: &[Told] = &[
-    (0b00110, 5, 5),
-    (0b11000, 5, 5),
-    (0b01010, 0, 4),
-    (0b10100, 1, 7),
-    (0b10010, 6, 3),
-    (0b01100, 6, 6),
+    (&[1, 2], 5, 5),
+    (&[3, 4], 5, 5),
+    (&[1, 3], 0, 4),
+    (&[2, 4], 1, 7),
+    (&[1, 4], 6, 3),
+    (&[2, 3], 6, 6),
 ];
 
 const MUCH: u64 = 1_000_000;
 
 // Columns, customers, trucks, the incumbent's cost, the gap and the least cost.
-const BY_HAND: &[(&[Told], u128, u8, u64, u64, u64)] = &[
-    (THREE, 0b1110, 128, MUCH, MUCH, 22),
-    (THREE, 0b1110, 128, 23, MUCH, 22),
-    (THREE, 0b1110, 128, 22, MUCH, 22),
-    (THREE, 0b1110, 128, 0, MUCH, 0),
-    (THREE, 0b1110, 128, MUCH, 22, 22),
-    (THREE, 0b1110, 128, MUCH, 21, MUCH),
-    (THREE, 0b1010, 128, MUCH, MUCH, 14),
-    (THREE, 0, 128, MUCH, 0, 0),
-    (THREE, 0b11110, 128, MUCH, MUCH, MUCH),
-    (&[], 0b0010, 128, MUCH, MUCH, MUCH),
-    (&[(0b1110, 7, 9)], 0b1110, 128, MUCH, 7, 9),
-    (FOUR, 0b11110, 128, MUCH, MUCH, 9),
-    (FOUR, 0b11110, 2, MUCH, MUCH, 9),
-    (FOUR, 0b11110, 1, MUCH, MUCH, MUCH),
-    (THREE, 0b1110, 1, MUCH, MUCH, 25),
-    (THREE, 0, 0, MUCH, MUCH, 0),
-    (FOUR, 0b11110, 128, MUCH, 11, 10),
-    (FOUR, 0b11110, 128, MUCH, 9, 11),
-    (FOUR, 0b11110, 128, MUCH, 0, MUCH),
+const BY_HAND: &[(&[Told], &[u16], u8, u64, u64, u64)] = &[
+    (THREE, &[1, 2, 3], 128, MUCH, MUCH, 22),
+    (THREE, &[1, 2, 3], 128, 23, MUCH, 22),
+    (THREE, &[1, 2, 3], 128, 22, MUCH, 22),
+    (THREE, &[1, 2, 3], 128, 0, MUCH, 0),
+    (THREE, &[1, 2, 3], 128, MUCH, 22, 22),
+    (THREE, &[1, 2, 3], 128, MUCH, 21, MUCH),
+    (THREE, &[1, 3], 128, MUCH, MUCH, 14),
+    (THREE, &[], 128, MUCH, 0, 0),
+    (THREE, &[1, 2, 3, 4], 128, MUCH, MUCH, MUCH),
+    (&[], &[1], 128, MUCH, MUCH, MUCH),
+    (&[(&[1, 2, 3], 7, 9)], &[1, 2, 3], 128, MUCH, 7, 9),
+    (FOUR, &[1, 2, 3, 4], 128, MUCH, MUCH, 9),
+    (FOUR, &[1, 2, 3, 4], 2, MUCH, MUCH, 9),
+    (FOUR, &[1, 2, 3, 4], 1, MUCH, MUCH, MUCH),
+    (THREE, &[1, 2, 3], 1, MUCH, MUCH, 25),
+    (THREE, &[], 0, MUCH, MUCH, 0),
+    (FOUR, &[1, 2, 3, 4], 128, MUCH, 11, 10),
+    (FOUR, &[1, 2, 3, 4], 128, MUCH, 9, 11),
+    (FOUR, &[1, 2, 3, 4], 128, MUCH, 0, MUCH),
     (
-        &[(1 << 127, u64::MAX, u32::MAX), (1, 0, u32::MAX)],
-        1 | 1 << 127,
+        &[(&[255], u64::MAX, u32::MAX), (&[0], 0, u32::MAX)],
+        &[0, 255],
         2,
         u64::MAX,
         u64::MAX,
@@ -69,8 +70,8 @@ fn covers_by_hand(rt: HostRuntime) {
     let (rt, alloc) = (&rt, rt.alloc());
     for &(told, customers, trucks, incumbent, gap, cost) in BY_HAND {
         let columns = columns_of(rt, alloc, told);
-        let root = CoverNode {
-            unserved: customers,
+        let root = &CoverNode {
+            unserved: set_of(customers),
             trucks,
             incumbent,
             gap,
@@ -83,9 +84,9 @@ fn covers_by_hand(rt: HostRuntime) {
 
 fn columns_of(rt: &impl Abort, alloc: Global, told: &[Told]) -> Vec<Column> {
     let mut columns = Vec::new(alloc);
-    for &(set, reduced_cost, cost) in told {
+    for &(customers, reduced_cost, cost) in told {
         let column = Column {
-            set,
+            set: set_of(customers),
             reduced_cost,
             cost,
         };
@@ -94,15 +95,15 @@ fn columns_of(rt: &impl Abort, alloc: Global, told: &[Told]) -> Vec<Column> {
     columns
 }
 
-fn cover(rt: &impl Abort, alloc: Global, columns: &[Column], root: CoverNode) -> Cover {
+fn cover(rt: &impl Abort, alloc: Global, columns: &[Column], root: &CoverNode) -> Cover {
     let mut budget = MUCH;
-    cheapest_cover(alloc, columns, root, &mut budget)
+    cheapest_cover(alloc, columns, *root, &mut budget)
         .expect(rt, "memory")
         .expect(rt, "a budget that suffices")
 }
 
 // Below the incumbent the parts are a choice of that cost; otherwise there are none.
-fn assert_parts(rt: &impl Abort, alloc: Global, found: &Cover, root: CoverNode) {
+fn assert_parts(rt: &impl Abort, alloc: Global, found: &Cover, root: &CoverNode) {
     let mut routes = Vec::new(alloc);
     for column in &found.parts {
         let route = Route {
@@ -123,9 +124,9 @@ fn assert_parts(rt: &impl Abort, alloc: Global, found: &Cover, root: CoverNode) 
 #[test]
 fn budgets_that_are_spent(rt: HostRuntime) {
     let (rt, alloc) = (&rt, rt.alloc());
-    let columns = columns_of(rt, alloc, &[(0b0010, 1, 1), (0b0100, 1, 1)]);
-    let root = CoverNode {
-        unserved: 0b0110,
+    let columns = columns_of(rt, alloc, &[(&[1], 1, 1), (&[2], 1, 1)]);
+    let root = &CoverNode {
+        unserved: set_of(&[1, 2]),
         trucks: 128,
         incumbent: MUCH,
         gap: MUCH,
@@ -138,7 +139,7 @@ fn budgets_that_are_spent(rt: HostRuntime) {
         (9, true, 6),
     ] {
         let mut nodes = budget;
-        let found = cheapest_cover(alloc, &columns, root, &mut nodes);
+        let found = cheapest_cover(alloc, &columns, *root, &mut nodes);
         let found = found.expect(rt, "memory");
         assert_same(rt, found.is_some(), suffices, budget);
         assert_same(rt, nodes, left, budget);
@@ -163,8 +164,8 @@ fn covers_beside_every_choice(rt: HostRuntime) {
             };
             columns.push(column).expect(rt, "memory");
         }
-        let root = CoverNode {
-            unserved: ALL_CUSTOMERS,
+        let root = &CoverNode {
+            unserved: set_of(CUSTOMERS),
             trucks: if round % 4 == 0 { 2 } else { 128 },
             incumbent: MUCH,
             gap: 0,

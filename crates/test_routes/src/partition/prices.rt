@@ -1,19 +1,32 @@
 //! Reduced costs and lower bounds by hand, and which prices are refused.
 
 use crate::assertion::assert_same;
+use crate::sets::{every_place, set_of};
 use std::alloc::Global;
 use std::process::Abort;
+use vrp_customers::PLACES;
 use vrp_partition::{
-    Cut, MOST_CUSTOMERS, PriceOffer, Prices, Route, SCALE, none_negative, reduced_costs, within_gap,
+    Cut, PriceOffer, Prices, Route, SCALE, none_negative, reduced_costs, within_gap,
 };
 
 // A unit of cost, in units of a price.
 const UNIT: i64 = SCALE as i64;
 
-const THREE: u128 = 0b1110;
+const THREE: &[u16] = &[1, 2, 3];
 
 // Each customer demands 1, and the capacity is 2.
 const CAPACITY: u32 = 2;
+
+// A cut: its customers, the count and the price.
+type ToldCut = (&'static [u16], u32, u64);
+
+fn cut_of((customers, count, price): ToldCut) -> Cut {
+    Cut {
+        set: set_of(customers),
+        count,
+        price,
+    }
+}
 
 fn offer(
     rt: &impl Abort,
@@ -23,7 +36,7 @@ fn offer(
     capacity_cuts: &[Cut],
 ) -> PriceOffer {
     let mut all = Vec::from_slice(alloc, duals).expect(rt, "memory");
-    for _ in duals.len()..MOST_CUSTOMERS {
+    for _ in duals.len()..PLACES {
         all.push(0).expect(rt, "memory");
     }
     PriceOffer {
@@ -37,48 +50,41 @@ fn offer(
 
 // A route, and its reduced cost in units of cost. Customers 1, 2 and 3 have prices 5, 7 and 8, their triple 2; they need two
 // trucks, at a price of 3 for each. So a choice costs at least 20 - 2 + 6 = 24.
-const REDUCED: &[(u128, u32, i64)] = &[
-    (0, 1, 2),
-    (0b0010, 10, 3),
-    (0b0100, 10, 1),
-    (0b1000, 11, 1),
-    (0b0110, 13, 1),
-    (0b1010, 14, 1),
-    (0b1100, 20, 5),
-    (0b1110, 21, 1),
-    (0b1_0000, 6, 7),
-    (0b1_0010, 9, 2),
+const REDUCED: &[(&[u16], u32, i64)] = &[
+    (&[], 1, 2),
+    (&[1], 10, 3),
+    (&[2], 10, 1),
+    (&[3], 11, 1),
+    (&[1, 2], 13, 1),
+    (&[1, 3], 14, 1),
+    (&[2, 3], 20, 5),
+    (&[1, 2, 3], 21, 1),
+    (&[4], 6, 7),
+    (&[1, 4], 9, 2),
 ];
 
-const TRIPLE: Cut = Cut {
-    set: THREE,
-    count: 0,
-    price: 2 * SCALE,
-};
+const TRIPLE: ToldCut = (THREE, 0, 2 * SCALE);
 
-const TWO_TRUCKS: Cut = Cut {
-    set: THREE,
-    count: 2,
-    price: 3 * SCALE,
-};
+const TWO_TRUCKS: ToldCut = (THREE, 2, 3 * SCALE);
 
 #[test]
 fn reduced_costs_by_hand(rt: HostRuntime) {
     let (rt, alloc) = (&rt, rt.alloc());
     let duals = [0, 5 * UNIT, 7 * UNIT, 8 * UNIT];
-    let mut offer = offer(rt, alloc, &duals, &[TRIPLE], &[TWO_TRUCKS]);
+    let mut offer = offer(rt, alloc, &duals, &[cut_of(TRIPLE)], &[cut_of(TWO_TRUCKS)]);
     offer.truck_price = SCALE;
-    let prices = Prices::admit(offer, &[1u32; MOST_CUSTOMERS], CAPACITY, THREE).expect(
+    let prices = Prices::admit(offer, &[1u32; PLACES], CAPACITY, set_of(THREE)).expect(
         rt, "prices",
     );
     assert_same(
         rt,
-        prices.lower_bound(THREE, 2),
+        prices.lower_bound(set_of(THREE), 2),
         i128::from(22 * UNIT),
         "lower bound",
     );
     let mut pool = Vec::new(alloc);
-    for &(set, cost, reduced) in REDUCED {
+    for &(customers, cost, reduced) in REDUCED {
+        let set = set_of(customers);
         assert_same(
             rt,
             prices.reduced_cost(set, cost),
@@ -102,9 +108,9 @@ struct Offered {
     dual: i64,
     subset_rows: usize,
     truck_price: u64,
-    subset_row: Cut,
+    subset_row: ToldCut,
     capacity_cuts: usize,
-    capacity_cut: Cut,
+    capacity_cut: ToldCut,
 }
 
 const HIGHEST: u64 = 1 << 50;
@@ -115,17 +121,9 @@ const GOOD: Offered = Offered {
     dual: -FARTHEST,
     subset_rows: 512,
     truck_price: 0,
-    subset_row: Cut {
-        set: THREE,
-        count: 0,
-        price: HIGHEST,
-    },
+    subset_row: (THREE, 0, HIGHEST),
     capacity_cuts: 512,
-    capacity_cut: Cut {
-        set: THREE,
-        count: 2,
-        price: HIGHEST,
-    },
+    capacity_cut: (THREE, 2, HIGHEST),
 };
 
 const ADMITTED: &[(Offered, bool)] = &[
@@ -189,22 +187,22 @@ const ADMITTED: &[(Offered, bool)] = &[
 ];
 
 // A cut of which a good offer has many: the set, the count, the price, and whether it is admitted.
-type Admitted = (u128, u32, u64, bool);
+type Admitted = (&'static [u16], u32, u64, bool);
 
 const SUBSET_ROWS: &[Admitted] = &[
     (THREE, 0, HIGHEST + 1, false),
-    (0b1111, 0, 1, false),
-    (1 << 127, u32::MAX, 1, true),
+    (&[0, 1, 2, 3], 0, 1, false),
+    (&[255], u32::MAX, 1, true),
 ];
 
 const CAPACITY_CUTS: &[Admitted] = &[
     (THREE, 2, HIGHEST + 1, false),
     (THREE, 3, 1, false),
-    (0b0110, 2, 1, false),
-    (0b0110, 1, 1, true),
-    (0b0111, 1, 1, false),
-    (0, 1, 1, false),
-    (0, 0, 1, true),
+    (&[1, 2], 2, 1, false),
+    (&[1, 2], 1, 1, true),
+    (&[0, 1, 2], 1, 1, false),
+    (&[], 1, 1, false),
+    (&[], 0, 1, true),
 ];
 
 #[test]
@@ -213,12 +211,12 @@ fn prices_that_are_refused(rt: HostRuntime) {
     for &(offered, wanted) in ADMITTED {
         assert_admitted(rt, alloc, offered, wanted);
     }
-    for &(set, count, price, wanted) in SUBSET_ROWS {
-        let subset_row = Cut { set, count, price };
+    for &(customers, count, price, wanted) in SUBSET_ROWS {
+        let subset_row = (customers, count, price);
         assert_admitted(rt, alloc, Offered { subset_row, ..GOOD }, wanted);
     }
-    for &(set, count, price, wanted) in CAPACITY_CUTS {
-        let capacity_cut = Cut { set, count, price };
+    for &(customers, count, price, wanted) in CAPACITY_CUTS {
+        let capacity_cut = (customers, count, price);
         let offered = Offered {
             capacity_cut,
             ..GOOD
@@ -226,82 +224,61 @@ fn prices_that_are_refused(rt: HostRuntime) {
         assert_admitted(rt, alloc, offered, wanted);
     }
     let short = PriceOffer {
-        duals: Vec::from_slice(alloc, &[0; 127]).expect(rt, "memory"),
+        duals: Vec::from_slice(alloc, &[0; 255]).expect(rt, "memory"),
         subset_rows: Vec::new(alloc),
         capacity_cuts: Vec::new(alloc),
         truck_price: 0,
         work: 0,
     };
-    let prices = Prices::admit(short, &[1u32; MOST_CUSTOMERS], CAPACITY, THREE);
-    assert_same(rt, prices.is_some(), false, "127 duals");
+    let prices = Prices::admit(short, &[1u32; PLACES], CAPACITY, set_of(THREE));
+    assert_same(rt, prices.is_some(), false, "255 duals");
 }
 
 fn assert_admitted(rt: &impl Abort, alloc: Global, offered: Offered, wanted: bool) {
-    let prices = admitted(rt, alloc, offered, &[1u32; MOST_CUSTOMERS], CAPACITY, THREE);
-    assert_same(rt, prices.is_some(), wanted, offered);
-}
-
-fn admitted(
-    rt: &impl Abort,
-    alloc: Global,
-    offered: Offered,
-    demands: &[u32; 128],
-    capacity: u32,
-    customers: u128,
-) -> Option<Prices> {
-    let duals = vec![in alloc; offered.dual; MOST_CUSTOMERS].expect(rt, "memory");
-    let subset_rows = vec![in alloc; offered.subset_row; offered.subset_rows].expect(rt, "memory");
-    let capacity_cuts = vec![in alloc; offered.capacity_cut; offered.capacity_cuts].expect(
-        rt, "memory",
-    );
+    let subset_row = cut_of(offered.subset_row);
+    let capacity_cut = cut_of(offered.capacity_cut);
     let offer = PriceOffer {
-        duals,
-        subset_rows,
-        capacity_cuts,
+        duals: vec![in alloc; offered.dual; PLACES].expect(rt, "memory"),
+        subset_rows: vec![in alloc; subset_row; offered.subset_rows].expect(rt, "memory"),
+        capacity_cuts: vec![in alloc; capacity_cut; offered.capacity_cuts].expect(rt, "memory"),
         truck_price: offered.truck_price,
         work: 0,
     };
-    Prices::admit(offer, demands, capacity, customers)
+    let prices = Prices::admit(offer, &[1u32; PLACES], CAPACITY, set_of(THREE));
+    assert_same(rt, prices.is_some(), wanted, offered);
 }
 
-// The price of each customer, the lower bound and the reduced cost of a route with all 128 customers that costs 2 ^ 32 - 1.
-// The cuts of each kind cost 2 ^ 59 together, and each capacity cut requires 2 ^ 32 - 1 routes.
+// The price of each place, the lower bound and the reduced cost of a route with all 256 places that costs 2 ^ 32 - 1. The cuts of each
+// kind cost 2 ^ 59 together, and each capacity cut requires 2 ^ 32 - 1 routes.
 const AT_THE_LIMITS: &[(i64, i128, i64)] = &[
-    (
-        FARTHEST,
-        (1 << 91) - (1 << 59),
-        (1 << 52) - (1 << 20) - (1 << 59),
-    ),
+    (FARTHEST, 1 << 91, (1 << 52) - (1 << 20) - (1 << 60)),
     (
         -FARTHEST,
-        (1 << 91) - (3 << 59),
-        (1 << 52) - (1 << 20) + (1 << 59),
+        (1 << 91) - (1 << 61),
+        (1 << 52) - (1 << 20) + (1 << 60),
     ),
 ];
 
 #[test]
 fn prices_at_the_limits(rt: HostRuntime) {
     let (rt, alloc) = (&rt, rt.alloc());
+    let every = set_of(&every_place());
     for &(dual, low, reduced) in AT_THE_LIMITS {
-        let offered = Offered {
-            dual,
-            capacity_cut: Cut {
-                set: u128::MAX,
-                count: u32::MAX,
-                price: HIGHEST,
-            },
-            ..GOOD
+        let subset_row = cut_of(GOOD.subset_row);
+        let capacity_cut = Cut {
+            set: every,
+            count: u32::MAX,
+            price: HIGHEST,
         };
-        let prices = admitted(
-            rt,
-            alloc,
-            offered,
-            &[u32::MAX; MOST_CUSTOMERS],
-            1,
-            u128::MAX,
-        );
-        let prices = prices.expect(rt, "prices");
-        assert_same(rt, prices.lower_bound(u128::MAX, 128), low, dual);
-        assert_same(rt, prices.reduced_cost(u128::MAX, u32::MAX), reduced, dual);
+        let offer = PriceOffer {
+            duals: vec![in alloc; dual; PLACES].expect(rt, "memory"),
+            subset_rows: vec![in alloc; subset_row; GOOD.subset_rows].expect(rt, "memory"),
+            capacity_cuts: vec![in alloc; capacity_cut; GOOD.capacity_cuts].expect(rt, "memory"),
+            truck_price: 0,
+            work: 0,
+        };
+        let prices = Prices::admit(offer, &[u32::MAX; PLACES], 1, every).expect(rt, "prices");
+        assert_same(rt, prices.lower_bound(every, 128), low, dual);
+        assert_same(rt, prices.reduced_cost(every, u32::MAX), reduced, dual);
     }
 }

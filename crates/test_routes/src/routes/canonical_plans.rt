@@ -7,6 +7,7 @@ use std::alloc::Global;
 use std::process::Abort;
 use std::thread::Threads;
 use test_fixtures::{Canonical, FIVE, SQUARE, at_points, canonical_plan, with_arcs};
+use vrp_customers::{CustomerSet, MOST_CUSTOMERS};
 use vrp_model::Instance;
 use vrp_routes::RoutePool;
 
@@ -115,12 +116,18 @@ fn assert_are_routes(rt: &impl Abort, alloc: Global, instance: &Instance, pool: 
     }
 }
 
-fn assert_is_route(rt: &impl Abort, instance: &Instance, stops: &[u16], told: (u128, u64, u64)) {
+fn assert_is_route(
+    rt: &impl Abort,
+    instance: &Instance,
+    stops: &[u16],
+    told: (CustomerSet, u64, u64),
+) {
     let last = instance.customers();
-    let (mut set, mut load, mut cost, mut at) = (0u128, 0u64, 0u64, 0u16);
+    let mut set = CustomerSet::empty();
+    let (mut load, mut cost, mut at) = (0u64, 0u64, 0u16);
     for &stop in stops {
-        assert!(rt; 1 <= stop && stop <= last && stop < 128 && set >> stop & 1 == 0);
-        set |= 1 << stop;
+        assert!(rt; 1 <= stop && stop <= last && stop <= MOST_CUSTOMERS && !set.contains(stop));
+        set = set.with(stop);
         load = load.saturating_add(instance.demand(stop));
         cost = cost.saturating_add(instance.weight(at.min(last), stop));
         at = stop;

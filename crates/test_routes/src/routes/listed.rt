@@ -1,16 +1,17 @@
 //! Routes listed with given prices.
 ghost use Rattle.std.specs.Prelude.{◌≡◌, ◌<◌, ◌≤◌};
-ghost use Rattle.vrp_bound_ng.specs.declared.ng_sets.TheConstants.{MOST_NEAR};
+ghost use Rattle.vrp_customers.specs.declared.customer_set.TheConstants.{PLACES};
+ghost use Rattle.vrp_model.specs.declared.ng_sets.TheConstants.{MOST_NEAR};
 ghost use Rattle.vrp_model.specs.Problem.{place_count};
 
 use std::alloc::Global;
 use std::process::Abort;
+use std::sync::atomic::{AtomicU64, Ordering};
 use std::thread::Threads;
 use vrp_bound::NgTables;
-use vrp_bound_ng::{MOST_NEAR, NgSets};
 use vrp_bound_prices::Relaxation;
-use vrp_model::{Instance, NO_COST, NoMemory};
-use vrp_routes::{Limit, Listed, Listers, RoutePool, can_list, list_routes};
+use vrp_model::{Crew, Instance, MOST_NEAR, NO_COST, News, NgSets, NoMemory, Watch};
+use vrp_routes::{Limit, Listed, RoutePool, can_list, list_routes};
 
 /// How an instance gets its prices, and the ng-sets of walks.
 #[derive(Clone, Copy)]
@@ -64,6 +65,34 @@ pub(crate) struct Limits {
     pub(crate) enough: u64,
 }
 
+// A watch that stops a list once it hears of this many labels.
+#[derive(Drop)]
+struct UpTo {
+    enough: u64,
+    heard: AtomicU64,
+}
+
+impl UpTo {
+    fn new(enough: u64) -> UpTo {
+        UpTo {
+            enough,
+            heard: AtomicU64::new(0),
+        }
+    }
+}
+
+impl Watch for UpTo {
+    fn should_continue(&self) -> bool {
+        self.heard.load(Ordering::SeqCst) < self.enough
+    }
+
+    fn on_news(&self, news: News) {
+        if let News::Labels(labels) = news {
+            self.heard.store(labels, Ordering::SeqCst);
+        }
+    }
+}
+
 /// The result for walks with these ng-sets, within these limits.
 pub(crate) fn by_ng_sets<R: Threads + Sync>(
     rt: &R,
@@ -74,24 +103,18 @@ pub(crate) fn by_ng_sets<R: Threads + Sync>(
     limits: Limits,
 ) -> Result<Listed, NoMemory>
     requires places { ng_sets.places ≡ place_count relaxation.now.relaxed }
-    requires few { place_count relaxation.now.problem ≤ 128 }
+    requires few { place_count relaxation.now.problem ≤ PLACES }
     requires limit { limits.cost ≤ NO_COST }
     requires workers { 0 < workers }
 {
     let tables = NgTables::new(alloc, relaxation.relaxed(), ng_sets)?;
-    let listers = Listers {
+    let crew = Crew {
         rt,
         alloc,
         workers,
-        should_continue: &|labels| labels < limits.enough,
+        watch: &UpTo::new(limits.enough),
     };
-    list_routes(
-        &listers,
-        relaxation,
-        &tables,
-        limits.cost,
-        limits.most_labels,
-    )
+    list_routes(&crew, relaxation, &tables, limits.cost, limits.most_labels)
 }
 
 /// The pool, if no limit was met.

@@ -3,17 +3,18 @@ ghost use Rattle.std.specs.Prelude.{◌≤◌};
 
 use crate::assertion::assert_same;
 use crate::routes::listed::{Limits, Setup, by_ng_sets, listed, pool_of};
+use crate::sets::set_of;
 use std::alloc::Global;
 use std::process::Abort;
 use std::thread::Threads;
 use test_fixtures::{FOUR, LINE, at_points, with_arcs};
-use vrp_bound_ng::NgSets;
 use vrp_bound_prices::Relaxation;
-use vrp_model::{Instance, NO_COST};
+use vrp_customers::CustomerSet;
+use vrp_model::{Instance, NO_COST, NgSets};
 use vrp_routes::{Limit, Listed, RoutePool, can_list};
 
-// A route: its customers, their set, its load and its cost.
-type Told<'a> = (&'a [u16], u128, u64, u64);
+// A route: its customers, its load and its cost.
+type Told<'a> = (&'a [u16], u64, u64);
 
 const NO_PRICES: Setup<'_> = Setup {
     scale: 10,
@@ -27,16 +28,8 @@ const NO_PRICES: Setup<'_> = Setup {
 // label is left; at 20 a tour to customer 2 and another to customer 1 is too costly.
 const ON_A_LINE: &[(u64, usize, &[Told<'_>])] = &[
     (19, 0, &[]),
-    (20, 4, &[(&[1], 0b010, 1, 10), (&[1, 2], 0b110, 2, 20)]),
-    (
-        1_000,
-        4,
-        &[
-            (&[1], 0b010, 1, 10),
-            (&[2], 0b100, 1, 20),
-            (&[1, 2], 0b110, 2, 20),
-        ],
-    ),
+    (20, 4, &[(&[1], 1, 10), (&[1, 2], 2, 20)]),
+    (1_000, 4, &[(&[1], 1, 10), (&[2], 1, 20), (&[1, 2], 2, 20)]),
 ];
 
 #[test]
@@ -50,12 +43,12 @@ fn three_nodes(rt: HostRuntime) {
 
 // Three labels of one customer, six of two; all three don't fit on a truck.
 const IN_A_PLANE: &[Told<'_>] = &[
-    (&[1], 0b0010, 1, 10),
-    (&[2], 0b0100, 2, 20),
-    (&[3], 0b1000, 1, 26),
-    (&[1, 2], 0b0110, 3, 20),
-    (&[1, 3], 0b1010, 2, 34),
-    (&[2, 3], 0b1100, 3, 43),
+    (&[1], 1, 10),
+    (&[2], 2, 20),
+    (&[3], 1, 26),
+    (&[1, 2], 3, 20),
+    (&[1, 3], 2, 34),
+    (&[2, 3], 3, 43),
 ];
 
 #[test]
@@ -79,25 +72,25 @@ const ROUNDS: &[(&[u64], &[Told<'_>])] = &[
     (
         LEVEL,
         &[
-            (&[1], 0b0010, 1, 2),
-            (&[2], 0b0100, 1, 2),
-            (&[3], 0b1000, 1, 2),
-            (&[1, 2], 0b0110, 2, 3),
-            (&[1, 3], 0b1010, 2, 3),
-            (&[2, 3], 0b1100, 2, 3),
-            (&[1, 2, 3], 0b1110, 3, 4),
+            (&[1], 1, 2),
+            (&[2], 1, 2),
+            (&[3], 1, 2),
+            (&[1, 2], 2, 3),
+            (&[1, 3], 2, 3),
+            (&[2, 3], 2, 3),
+            (&[1, 2, 3], 3, 4),
         ],
     ),
     (
         ONE_DIRECTION,
         &[
-            (&[1], 0b0010, 1, 11),
-            (&[2], 0b0100, 1, 14),
-            (&[3], 0b1000, 1, 13),
-            (&[1, 2], 0b0110, 2, 10),
-            (&[3, 1], 0b1010, 2, 15),
-            (&[3, 2], 0b1100, 2, 17),
-            (&[3, 1, 2], 0b1110, 3, 14),
+            (&[1], 1, 11),
+            (&[2], 1, 14),
+            (&[3], 1, 13),
+            (&[1, 2], 2, 10),
+            (&[3, 1], 2, 15),
+            (&[3, 2], 2, 17),
+            (&[3, 1, 2], 3, 14),
         ],
     ),
 ];
@@ -136,9 +129,10 @@ fn assert_pool(
     assert_same(rt, pool.labels(), labels, "labels");
     assert_same(rt, pool.len(), routes.len(), "routes");
     assert_same(rt, pool.is_empty(), routes.is_empty(), "no routes");
-    for &(stops, set, load, cost) in routes {
+    for &(stops, load, cost) in routes {
+        let set = set_of(stops);
         let at = place_of(pool, set);
-        assert!(rt; at < pool.len(), "no route of {set}");
+        assert!(rt; at < pool.len(), "no route of {stops:?}");
         let found = pool.stops(alloc, at).expect(rt, "memory");
         assert!(rt; found.as_slice() == stops, "{found:?} at {at}");
         let told = (pool.set(at), pool.load(at), pool.cost(at));
@@ -147,7 +141,7 @@ fn assert_pool(
 }
 
 // The position of the first route with this set; the end if there is none.
-fn place_of(pool: &RoutePool, set: u128) -> usize {
+fn place_of(pool: &RoutePool, set: CustomerSet) -> usize {
     for at in 0..pool.len() {
         if pool.set(at) == set {
             return at;
@@ -251,31 +245,27 @@ fn assert_same_routes(rt: &impl Abort, alloc: Global, pool: &RoutePool, other: &
     }
 }
 
-// With 127 customers a set has enough bits; with 128 there is one too many. The capacity is one customer.
+// A set can have 255 customers, and no more. The capacity is one customer.
 #[test]
 fn customers_at_the_limit(rt: HostRuntime) {
     let (rt, alloc) = (&rt, rt.alloc());
-    let last = in_a_row(rt, alloc, 128);
-    assert_same(rt, can_list(&last), true, "127 customers");
-    assert_same(
-        rt,
-        can_list(&in_a_row(rt, alloc, 129)),
-        false,
-        "128 customers",
-    );
-    let prices = vec![in alloc; 0i64; 128].expect(rt, "memory");
+    let last = in_a_row(rt, alloc, 256);
+    assert_same(rt, can_list(&last), true, "255 customers");
+    let more = in_a_row(rt, alloc, 257);
+    assert_same(rt, can_list(&more), false, "256 customers");
+    let prices = vec![in alloc; 0i64; 256].expect(rt, "memory");
     let setup = Setup {
         prices: &prices,
         near: 0,
         ..NO_PRICES
     };
     let pool = pool(rt, alloc, &last, setup, NO_COST);
-    assert!(rt; pool.len() == 127);
-    let at = place_of(&pool, 1 << 127);
-    assert!(rt; at < 127, "no route of the last customer");
-    assert_same(rt, pool.cost(at), 254, "the last customer's cost");
+    assert!(rt; pool.len() == 255);
+    let at = place_of(&pool, set_of(&[255]));
+    assert!(rt; at < 255, "no route of the last customer");
+    assert_same(rt, pool.cost(at), 510, "the last customer's cost");
     let stops = pool.stops(alloc, at).expect(rt, "memory");
-    assert!(rt; stops.as_slice() == [127].as_slice());
+    assert!(rt; stops.as_slice() == [255].as_slice());
 }
 
 // This many places on a line, 1 apart, each customer with a demand of 1.

@@ -1,16 +1,17 @@
 //! The cheapest choice with the guide, compared with every choice of random pools.
 
 use crate::assertion::assert_same;
-use crate::random::{self, ALL_CUSTOMERS, repeated};
+use crate::random::{self, CUSTOMERS, repeated};
+use crate::sets::set_of;
 use crate::slow::{cost_of_choice, least_cost};
 use std::alloc::Global;
 use std::process::Abort;
 use std::sync::atomic::{AtomicU64, Ordering};
 use std::thread::Threads;
 use test_fixtures::Random;
-use vrp_partition::{
-    Ask, Chosen, Fleet, Found, MOST_CUSTOMERS, Route, Task, Team, all_fit, cheapest_choice,
-};
+use vrp_customers::{CustomerSet, FleetView, PLACES};
+use vrp_model::{Crew, Watch};
+use vrp_partition::{Chosen, Found, Route, Task, all_fit, cheapest_choice};
 use vrp_simplex::ProgramGuide;
 
 /// The search continues until it has asked this often.
@@ -27,7 +28,7 @@ impl Until {
     }
 }
 
-impl Ask for Until {
+impl Watch for Until {
     fn should_continue(&self) -> bool {
         let left = self.left.load(Ordering::SeqCst);
         self.left.store(left.saturating_sub(1), Ordering::SeqCst);
@@ -41,10 +42,10 @@ const ENDLESS: u64 = 1 << 40;
 
 // A search with the guide. Each customer demands 1.
 #[derive(Clone, Copy, Debug)]
-struct Asked {
+struct Asked<'a> {
     capacity: u32,
     trucks: u8,
-    customers: u128,
+    customers: &'a [u16],
     incumbent: u64,
     // How often the search may ask whether to continue, and its budget.
     asks: u64,
@@ -54,33 +55,33 @@ struct Asked {
 fn choice<R: Abort + Threads + Sync>(
     rt: &R,
     alloc: Global,
-    asked: &Asked,
+    asked: &Asked<'_>,
     pool: &[Route],
 ) -> Option<Chosen> {
-    let demands = [1u32; MOST_CUSTOMERS];
+    let demands = [1u32; PLACES];
     assert!(rt; all_fit(pool, &demands, asked.capacity) && asked.incumbent <= MUCH);
-    let fleet = Fleet {
+    let fleet = FleetView {
         demands: &demands,
         capacity: asked.capacity,
         trucks: asked.trucks,
     };
     let known = known_sets(rt, alloc, pool);
-    let ask = Until::new(asked.asks);
-    let team = Team {
+    let watch = Until::new(asked.asks);
+    let crew = Crew {
         rt,
         alloc,
         workers: 2,
-        ask: &ask,
+        watch: &watch,
     };
-    let guide = ProgramGuide::new(alloc, fleet, known, &ask);
+    let guide = ProgramGuide::new(alloc, fleet, known, &watch);
     let mut budget = asked.budget;
     let routes = Vec::from_slice(alloc, pool).expect(rt, "memory");
     let task = Task {
         fleet,
-        customers: asked.customers,
+        customers: set_of(asked.customers),
         incumbent: asked.incumbent,
     };
-    let found = cheapest_choice(&team, guide, &task, routes, &mut budget);
+    let found = cheapest_choice(&crew, guide, &task, routes, &mut budget);
     match found.expect(rt, "memory") {
         Found::Cheapest(chosen) => Some(chosen),
         Found::Unfinished { .. } => None,
@@ -88,7 +89,7 @@ fn choice<R: Abort + Threads + Sync>(
 }
 
 // The customers of the first route.
-fn known_sets(rt: &impl Abort, alloc: Global, pool: &[Route]) -> Vec<u128> {
+fn known_sets(rt: &impl Abort, alloc: Global, pool: &[Route]) -> Vec<CustomerSet> {
     let mut known = Vec::new(alloc);
     for route in pool.iter().take(1) {
         known.push(route.set).expect(rt, "memory");
@@ -97,12 +98,12 @@ fn known_sets(rt: &impl Abort, alloc: Global, pool: &[Route]) -> Vec<u128> {
 }
 
 // Below the incumbent the routes are a choice of that cost.
-fn assert_found(rt: &impl Abort, asked: &Asked, found: Option<Chosen>, least: Option<u64>) {
+fn assert_found(rt: &impl Abort, asked: &Asked<'_>, found: Option<Chosen>, least: Option<u64>) {
     let found = found.expect(rt, "a budget that suffices");
     let wanted = least.map_or(asked.incumbent, |least| least.min(asked.incumbent));
     assert_same(rt, found.cost, wanted, *asked);
     if found.cost < asked.incumbent {
-        let cost = cost_of_choice(&found.routes, asked.customers, asked.trucks);
+        let cost = cost_of_choice(&found.routes, set_of(asked.customers), asked.trucks);
         assert_same(rt, cost, Some(found.cost), *asked);
     }
 }
@@ -122,8 +123,7 @@ fn choices_beside_every_choice(rt: HostRuntime) {
             (4 + round % 9, capacity),
             4 + round % 3 * 50,
         );
-        let customers = [ALL_CUSTOMERS, ALL_CUSTOMERS & !1];
-        for customers in customers {
+        for customers in [CUSTOMERS, &CUSTOMERS[1..]] {
             for (trucks, incumbent) in [(128, MUCH), (3, MUCH), (2, 40), (128, 3)] {
                 let asked = Asked {
                     capacity,
@@ -133,7 +133,7 @@ fn choices_beside_every_choice(rt: HostRuntime) {
                     asks: ENDLESS,
                     budget: ENDLESS,
                 };
-                let least = least_cost(rt, &pool, customers, trucks);
+                let least = least_cost(rt, &pool, set_of(customers), trucks);
                 let found = choice(rt, alloc, &asked, &pool);
                 assert_found(rt, &asked, found, least);
             }
@@ -155,12 +155,12 @@ fn pools_that_are_branched_on(rt: HostRuntime) {
         let asked = Asked {
             capacity: 3,
             trucks: 4,
-            customers: ALL_CUSTOMERS,
+            customers: CUSTOMERS,
             incumbent: DEAR,
             asks: ENDLESS,
             budget: ENDLESS,
         };
-        let least = least_cost(rt, &base, ALL_CUSTOMERS, 4);
+        let least = least_cost(rt, &base, set_of(CUSTOMERS), 4);
         let found = choice(rt, alloc, &asked, &pool);
         assert_found(rt, &asked, found, least);
         for (asks, budget) in [(0, ENDLESS), (1, 1), (0, 0)] {

@@ -5,9 +5,8 @@ use std::alloc::Global;
 use std::process::Abort;
 use std::sync::atomic::{AtomicU64, Ordering};
 use std::thread::Threads;
-use vrp_heuristic::{Crew, Unhurried, Watch, improved_plan};
-use vrp_heuristic_savings::savings_plan;
-use vrp_model::{Instance, Plan};
+use vrp_heuristic::{improved_plan, savings_plan};
+use vrp_model::{Crew, Instance, News, Plan, Unhurried, Watch};
 
 // A watch with time for this many moves.
 #[derive(Drop)]
@@ -33,8 +32,10 @@ impl Watch for Moves {
         self.made.fetch_add(1, Ordering::Relaxed) < self.most
     }
 
-    fn on_cost(&self, cost: u64) {
-        self.heard.fetch_min(cost, Ordering::Relaxed);
+    fn on_news(&self, news: News) {
+        if let News::Cheaper(cost) = news {
+            self.heard.fetch_min(cost, Ordering::Relaxed);
+        }
     }
 
     fn milliseconds_left(&self) -> Option<u64> {
@@ -60,11 +61,10 @@ fn improved<R: Threads + Abort + Sync>(
     let crew = Crew {
         rt,
         alloc,
-        instance,
         workers,
         watch: &watch,
     };
-    let better = improved_plan(&crew, plan).expect(rt, "memory");
+    let better = improved_plan(&crew, instance, plan).expect(rt, "memory");
     assert!(rt; better.cost() == plan.cost().min(watch.heard.load(Ordering::Relaxed)));
     better.cost()
 }
@@ -123,10 +123,9 @@ fn without_a_time(rt: HostRuntime) {
     let crew = Crew {
         rt: &rt,
         alloc: rt.alloc(),
-        instance: &instance,
         workers: 2,
         watch: &Unhurried,
     };
-    let same = improved_plan(&crew, &singles).expect(&rt, "memory");
+    let same = improved_plan(&crew, &instance, &singles).expect(&rt, "memory");
     assert_same(&rt, same.word(), singles.word(), "the word");
 }

@@ -4,9 +4,8 @@ use crate::heuristic::fixture::{Told, by_matrix, scattered};
 use std::alloc::Global;
 use std::process::Abort;
 use std::thread::Threads;
-use vrp_heuristic::{Crew, Unhurried, Watch, heuristic_plan};
-use vrp_heuristic_savings::savings_plan;
-use vrp_model::{Instance, Plan};
+use vrp_heuristic::{heuristic_plan, savings_plan};
+use vrp_model::{Crew, Instance, Plan, Unhurried, Watch};
 
 const LINE: &[u64] = &[0, 1, 2, 1, 0, 1, 2, 1, 0];
 
@@ -57,11 +56,10 @@ fn planned<R: Threads + Abort + Sync, W: Watch + Sync>(
     let crew = Crew {
         rt,
         alloc,
-        instance,
         workers,
         watch,
     };
-    heuristic_plan(&crew, moves).expect(rt, "memory")
+    heuristic_plan(&crew, instance, moves).expect(rt, "memory")
 }
 
 fn assert_small<R: Threads + Abort + Sync>(rt: &R, alloc: Global, small: Small<'_>, workers: u16) {

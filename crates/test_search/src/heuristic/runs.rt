@@ -6,7 +6,7 @@ use crate::assertion::assert_same;
 use crate::heuristic::fixture::scattered;
 use std::alloc::Global;
 use std::process::Abort;
-use vrp_heuristic_recreate::{Random, Routes, Setting, States, Taken};
+use vrp_heuristic::{Random, Routes, States, Surroundings, Taken};
 use vrp_model::{Instance, Plan};
 use vrp_search_tree::lawful_plan;
 
@@ -26,7 +26,7 @@ fn assert_told(rt: &impl Abort, alloc: Global, instance: &Instance, routes: &Rou
 
 // Checks the routes after each of several thousand moves, starting with nobody served.
 fn assert_moves(rt: &impl Abort, alloc: Global, instance: &Instance) {
-    let setting = Setting::new(alloc, instance).expect(rt, "memory");
+    let setting = Surroundings::new(alloc, instance).expect(rt, "memory");
     let mut random = Random::new(1);
     let mut taken = Taken::new(alloc, instance).expect(rt, "memory");
     let mut states = States::new(alloc, &setting, &[]).expect(rt, "memory");

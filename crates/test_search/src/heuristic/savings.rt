@@ -6,7 +6,7 @@ use crate::heuristic::fixture::{Told, by_matrix, by_points, scattered};
 use std::alloc::Global;
 use std::process::Abort;
 use test_fixtures::E_N22_K4_POINTS;
-use vrp_heuristic_savings::{Routes, savings_plan};
+use vrp_heuristic::{JoinedRoutes, savings_plan};
 use vrp_model::{Instance, MAX_CAPACITY, Metric, Plan};
 
 const E_N22_K4: Told<'_> = Told {
@@ -246,7 +246,7 @@ fn assert_room(rt: &impl Abort, alloc: Global, customers: usize) {
         trucks: 0,
     };
     let instance = by_points(rt, alloc, Metric::Man2d, &points[..customers + 1], told);
-    let routes = Routes::one_each(alloc, &instance).expect(rt, "memory");
+    let routes = JoinedRoutes::one_each(alloc, &instance).expect(rt, "memory");
     let word = routes.word(alloc, &instance).expect(rt, "memory");
     let room = 2 * customers;
     assert_same(rt, (word.len(), word.capacity()), (room, room), customers);

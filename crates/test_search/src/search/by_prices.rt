@@ -12,10 +12,9 @@ use crate::search::fixture::{
 use std::alloc::Global;
 use std::process::Abort;
 use vrp_bound::Tables;
-use vrp_bound_ng::NgSets;
 use vrp_bound_prices::Relaxation;
-use vrp_model::{Instance, MAX_NODES, NoMemory, Plan};
-use vrp_search::{Board, Cutting, Ended, Local, Lookups, Piece, Prices, search_by_prices};
+use vrp_model::{Instance, MAX_NODES, NgSets, NoMemory, Plan};
+use vrp_search::{Board, Cutting, Ended, Local, Lookups, Piece, PriceTables, search_by_prices};
 
 // The capacity, the prices, the budget, and how the search ends.
 const TWO_CUSTOMERS: &[(u64, [i64; 3], u64, End<'_>)] = &[
@@ -51,7 +50,7 @@ fn bounds_of_two_customers(rt: HostRuntime) {
         let instance = three_on_a_line(&rt, rt.alloc(), capacity);
         let relaxation = relaxed(&rt, rt.alloc(), &instance, &prices);
         let ng_sets = NgSets::nearest(rt.alloc(), &instance, 2).expect(&rt, "memory");
-        let prices = Prices::new(rt.alloc(), &relaxation, ng_sets).expect(&rt, "memory");
+        let prices = PriceTables::new(rt.alloc(), &relaxation, ng_sets).expect(&rt, "memory");
         assert!(&rt; prices.has_tables() && prices.has_completion_table());
         assert_same(&rt, prices.lower_bound().hundredths, hundredths, capacity);
     }
@@ -184,7 +183,7 @@ fn search_piece(
 {
     let tables = Tables::over_all(alloc, instance)?;
     let ng_sets = NgSets::nearest(alloc, instance, 2)?;
-    let prices = Prices::new(alloc, relaxation, ng_sets)?;
+    let prices = PriceTables::new(alloc, relaxation, ng_sets)?;
     let lookups = Lookups {
         tables: &tables,
         prices: &prices,

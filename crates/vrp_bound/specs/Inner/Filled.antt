@@ -3,16 +3,16 @@ use Rattle.std.specs.Prelude.{◌≡◌, ℕ, Option, MatchOption, IfSome, List}
 use Rattle.std.specs.List.{All, Contains}
 use Rattle.std.specs.List.Sorted.{IsStrictlyIncreasing}
 use Rattle.vrp_model.specs.Problem.{Problem, customers}
-use Rattle.vrp_bound.specs.declared.completions.Cells.{Cells}
+use Rattle.vrp_bound.specs.declared.completions.CompletionCells.{CompletionCells}
 use Rattle.vrp_bound.specs.declared.completions.Completions.{Completions}
 use Rattle.vrp_bound.specs.declared.scope.Scope.{Scope}
-use Rattle.vrp_bound.specs.Inner.Cells.{IsCompletionTable, AreTours, AreWalks, HasRelaxed, IsLeastCell}
+use Rattle.vrp_bound.specs.Inner.CompletionCells.{IsCompletionTable, AreTours, AreWalks, HasRelaxed, IsLeastCell}
 use Rattle.vrp_bound.specs.Inner.Scope.{IsScope}
 use Rattle.vrp_bound.specs.Inner.Units.{IsUnit, in_units}
 use Rattle.vrp_bound.specs.NgWalks.{IsNgBound}
 use Rattle.vrp_bound.specs.Tables.{AreMade, TablesOf, room_of, tables_over}
 
-pub record AreCells (p : Problem) (near : ℕ → List ℕ) (among : List ℕ) (cells : Cells) : Type 0 where
+pub record AreCells (p : Problem) (near : ℕ → List ℕ) (among : List ℕ) (cells : CompletionCells) : Type 0 where
   pub scope : IsScope p among
   pub unit : IsUnit p among cells.unit
   pub counted : cells.quotients.unit ≡ cells.unit
@@ -23,12 +23,12 @@ pub record AreCells (p : Problem) (near : ℕ → List ℕ) (among : List ℕ) (
   pub completion_table : IfSome cells.completion_table (λ completion_table. IsCompletionTable (in_units cells.unit p) near among completion_table.items)
 
 -- cells of tables that are made
-pub record AreCellsMade (p : Problem) (near : ℕ → List ℕ) (among : List ℕ) (cells : Cells) : Type 0 where
+pub record AreCellsMade (p : Problem) (near : ℕ → List ℕ) (among : List ℕ) (cells : CompletionCells) : Type 0 where
   pub made : AreMade p among
   pub are_cells : AreCells p near among cells
 
 -- the cells over the customers of a scope
-abbrev pub AreCellsOver : Scope → (ℕ → List ℕ) → Cells → Type 0
+abbrev pub AreCellsOver : Scope → (ℕ → List ℕ) → CompletionCells → Type 0
 AreCellsOver scope near cells = AreCells scope.instance.now near scope.customers.now cells
 
 -- the least cost of carrying the rest, over the customers of a scope
@@ -36,7 +36,7 @@ abbrev pub IsLeastOver : Scope → (ℕ → List ℕ) → ℕ → ℕ → ℕ �
 IsLeastOver scope near at load rest cell =
     IsLeastCell (HasRelaxed scope.instance.now near scope.customers.now at load rest) cell
 
-pub record AreFilled (p : Problem) (near : ℕ → List ℕ) (among : List ℕ) (cells : Option Cells) : Type 0 where
+pub record AreFilled (p : Problem) (near : ℕ → List ℕ) (among : List ℕ) (cells : Option CompletionCells) : Type 0 where
   pub rising : IsStrictlyIncreasing among
   pub known : All (Contains (customers p)) among
   -- there are cells exactly if tables are made

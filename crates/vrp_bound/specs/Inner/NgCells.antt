@@ -2,9 +2,9 @@
 use Rattle.std.specs.Prelude.{◌≡◌, ◌⊎◌, ℕ, ◌+◌, ◌*◌, ◌/◌, ◌%◌, ◌≤◌, ◌<◌, List, length, slice_index}
 use Rattle.vrp_model.specs.Problem.{Problem, place_count}
 use Rattle.vrp_model.specs.Route.{load_of}
-use Rattle.vrp_bound.specs.Inner.Cells.{IsLeastCell, mark}
+use Rattle.vrp_bound.specs.Inner.CompletionCells.{IsLeastCell, mark}
 use Rattle.vrp_bound.specs.Tables.{room_of}
-use Rattle.vrp_bound_ng.specs.NgSets.{ng_set_of}
+use Rattle.vrp_model.specs.NgSets.{ng_set_of}
 use Rattle.vrp_bound.specs.NgWalks.{IsNgWalk}
 use Rattle.vrp_bound.specs.Walk.{walk_cost}
 

@@ -1,9 +1,9 @@
 -- The cells of the ng-walks over the customers of a scope.
 use Rattle.std.specs.Prelude.{ℕ, ◌*◌, ◌<◌, List, slice_index}
-use Rattle.vrp_bound_ng.specs.Near.{near_in}
+use Rattle.vrp_model.specs.Near.{near_in}
 use Rattle.vrp_model.specs.Problem.{place_count}
 use Rattle.vrp_bound.specs.declared.ng_scope.NgScope.{NgScope}
-use Rattle.vrp_bound.specs.Inner.Cells.{AreWalks, IsLeastCell}
+use Rattle.vrp_bound.specs.Inner.CompletionCells.{AreWalks, IsLeastCell}
 use Rattle.vrp_bound.specs.Inner.NgCells.{AreNgWalks, AreNgWalksSoFar, HasNgWalk}
 use Rattle.vrp_bound.specs.Inner.Scaled.{scaled}
 

@@ -2,10 +2,10 @@
 use Rattle.std.specs.Prelude.{◌≡◌, ℕ, ◌-◌, List, Option, None, Some}
 use Rattle.std.specs.Borrow.{Bor}
 use Rattle.std.specs.Option.{ForSome, option_map}
-use Rattle.vrp_bound_ng.specs.Near.{NearOf, near_in}
+use Rattle.vrp_model.specs.Near.{NearOf, near_in}
 use Rattle.vrp_model.specs.Problem.{Problem}
 use Rattle.vrp_bound.specs.declared.units.UnitScope.{UnitScope}
-use Rattle.vrp_bound.specs.Inner.Cells.{IsCompletionTable, IsCompletionTableSoFar, AreTours, AreToursSoFar, AreWalks, AreWalksSoFar, HasRelaxed, HasTours, HasWalk, IsLeastCell}
+use Rattle.vrp_bound.specs.Inner.CompletionCells.{IsCompletionTable, IsCompletionTableSoFar, AreTours, AreToursSoFar, AreWalks, AreWalksSoFar, HasRelaxed, HasTours, HasWalk, IsLeastCell}
 use Rattle.vrp_bound.specs.Inner.Units.{in_units}
 use Rattle.vrp_bound.specs.NgWalks.{nothing_near}
 use Rattle.vrp_bound.specs.Tables.{room_of}

@@ -1,6 +1,6 @@
 -- The finding that is printed for a request's result.
 use Rattle.std.specs.Prelude.{ℕ, Option}
-use Rattle.vrp_pool_answer.specs.Finding.{FindingOf, lawful_finding}
+use Rattle.vrp_answer.specs.Finding.{FindingOf, lawful_finding}
 use Rattle.vrp_command.specs.Found.{told_of}
 use Rattle.vrp_command.specs.declared.found.Found.{Found}
 use Rattle.vrp_command.specs.declared.found.Found.TheVariants as found

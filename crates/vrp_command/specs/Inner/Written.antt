@@ -1,6 +1,6 @@
 -- The text written once a problem is read.
 use Rattle.std.specs.Prelude.{◌≡◌, ◌⊎◌, ℕ, Bool, Option, List}
-use Rattle.vrp_pool_answer.specs.declared.status.Status.{Status}
+use Rattle.vrp_answer.specs.declared.status.Status.{Status}
 use Rattle.vrp_command.specs.Found.{WritesFound, WritesFoundPart}
 use Rattle.vrp_command.specs.Program.{BeginsWith, OnRefusedStart, start_cost}
 use Rattle.vrp_command.specs.Text.{context_of}

@@ -11,13 +11,13 @@ use Rattle.vrp_plan_read.specs.declared.line.LineError.{LineError}
 use Rattle.vrp_plan_read.specs.declared.line.LineError.TheVariants as bad
 use Rattle.vrp_plan_read.specs.declared.line.StatedCost.{StatedCost}
 use Rattle.vrp_plan_read.specs.declared.line.StatedCost.TheVariants.{Whole, Fraction}
-use Rattle.vrp_plan_read.specs.declared.listing.Listing.{Listing}
-use Rattle.vrp_plan_read.specs.declared.route.Route.{Route}
+use Rattle.vrp_plan_read.specs.declared.listing.ListedPlan.{ListedPlan}
+use Rattle.vrp_plan_read.specs.declared.route.NonemptyRoute.{NonemptyRoute}
 
-abbrev pub given_route : Route → GivenRoute
+abbrev pub given_route : NonemptyRoute → GivenRoute
 given_route route = record { number = route.number; stops = route.stops.items }
 
-abbrev pub given_routes : List Route → List GivenRoute
+abbrev pub given_routes : List NonemptyRoute → List GivenRoute
 given_routes routes = map given_route routes
 
 -- the line of the stated cost, if there is one
@@ -32,7 +32,7 @@ kept_cost (Some (Whole cost)) = Some cost
 kept_cost (Some Fraction) = None
 
 -- no line is at fault, and this is what the lines list
-pub record Keeps (p : Problem) (lines : List Line) (listing : Listing) : Type 0 where
+pub record Keeps (p : Problem) (lines : List Line) (listing : ListedPlan) : Type 0 where
   pub said : All IsSaid lines
   pub costs : filter is_cost lines ≡ cost_lines listing.cost
   pub given : List GivenRoute
@@ -47,13 +47,13 @@ IsStopFault p line route stops fault =
     ⊎ ((stop : ℤ) × (fault ≡ error.NotACustomer route stop) × FollowsCustomers p stops (Ok stop) × ((customer : ℕ) → Contains (customers p) customer → stop ≢ pos customer))
 
 -- a cost is stated for the first time
-pub record IsCostAdded (cost : StatedCost) (old new : Listing) : Type 0 where
+pub record IsCostAdded (cost : StatedCost) (old new : ListedPlan) : Type 0 where
   pub first : old.cost ≡ None
   pub stated : new.cost ≡ Some cost
   pub routes : new.routes ≡ old.routes
 
 -- a route is listed; a route without stops is ignored
-pub record IsRouteAdded (number : ℕ) (stops : List ℕ) (old new : Listing) : Type 0 where
+pub record IsRouteAdded (number : ℕ) (stops : List ℕ) (old new : ListedPlan) : Type 0 where
   pub cost : new.cost ≡ old.cost
   pub routes : given_routes new.routes.items ≡ given_routes old.routes.items ++ with_stops (record { number = number; stops = stops } ∷ [])
 

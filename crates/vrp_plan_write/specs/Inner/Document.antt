@@ -2,8 +2,8 @@
 use Rattle.std.specs.Prelude.{ℕ, ◌-◌, Option, List, codes}
 use Rattle.serde_json.specs.Data.{Data, Members, array, member, no_members, number, object, put, string, unsigned}
 use Rattle.serde_json.specs.View.{items_of}
-use Rattle.vrp_pool_answer.specs.Finding.{FindingOf, status_text}
-use Rattle.vrp_plan_write.specs.Json.{ContextOf, cost_told, number_or_null, options_told, text_or_null}
+use Rattle.vrp_answer.specs.Finding.{FindingOf, status_text}
+use Rattle.vrp_plan_write.specs.Json.{ContextOf, cost_told, least_told, number_or_null, options_told, text_or_null}
 use Rattle.vrp_plan_write.specs.declared.json.Settings.{Settings}
 use Rattle.vrp_model.specs.Problem.{Problem, node_of, place_count}
 
@@ -11,10 +11,10 @@ use Rattle.vrp_model.specs.Problem.{Problem, node_of, place_count}
 abbrev pub document_of : Problem → FindingOf → ContextOf → Option ℕ → List Data → Data
 document_of p finding context gap routes =
     object (member (codes "best_lower_bound") (number_or_null finding.best_lower_bound)
-    (member (codes "capacity") (number (unsigned p.capacity)) (member (codes "cost") (number_or_null (cost_told finding)) (member (codes "customers") (number (unsigned (place_count p - 1)))
+    (member (codes "capacity") (number (unsigned p.capacity)) (member (codes "cost") (number_or_null (cost_told finding)) (member (codes "cost_is_least") (least_told (cost_told finding) finding.best_lower_bound) (member (codes "customers") (number (unsigned (place_count p - 1)))
     (member (codes "depot") (number (unsigned (node_of p 0))) (member (codes "gap") (number_or_null gap) (member (codes "lower_bound") (number_or_null finding.lower_bound) (member (codes "name") (text_or_null context.name)
     (member (codes "options") (options_told context.asked) (member (codes "routes") (array (items_of routes)) (member (codes "stated_cost") (number_or_null context.stated_cost)
-    (member (codes "verdict") (string (status_text finding.status)) (member (codes "version") (string context.version) no_members)))))))))))))
+    (member (codes "verdict") (string (status_text finding.status)) (member (codes "version") (string context.version) no_members))))))))))))))
 
 -- these members, and what is known of the run
 abbrev pub with_run : ContextOf → Members → Members
@@ -25,7 +25,8 @@ with_run context members =
 abbrev pub with_answer : FindingOf → ContextOf → Option ℕ → Members → Members
 with_answer finding context gap members =
     put (codes "gap") (number_or_null gap) (put (codes "best_lower_bound") (number_or_null finding.best_lower_bound) (put (codes "lower_bound") (number_or_null finding.lower_bound)
-    (put (codes "stated_cost") (number_or_null context.stated_cost) (put (codes "cost") (number_or_null (cost_told finding)) (put (codes "verdict") (string (status_text finding.status)) members)))))
+    (put (codes "stated_cost") (number_or_null context.stated_cost) (put (codes "cost_is_least") (least_told (cost_told finding) finding.best_lower_bound) (put (codes "cost") (number_or_null (cost_told finding))
+    (put (codes "verdict") (string (status_text finding.status)) members))))))
 
 -- these members, and what is known of the problem
 abbrev pub with_problem : Problem → Members → Members

@@ -4,7 +4,7 @@ ghost use Rattle.std.specs.Prelude.{true};
 use super::*;
 use crate::pool::fixture::{four_trucks, grid, ten_nodes};
 use std::sync::atomic::{AtomicU64, Ordering};
-use vrp_pool::Event;
+use vrp_solver::Event;
 
 // The stage up to which a gate continues.
 #[derive(Clone, Copy, PartialEq)]
@@ -53,7 +53,7 @@ impl Gate for ContinuesLater {
 
     fn on_event(&self, news: Event) {
         match news {
-            Event::Choice(routes) => {
+            Event::UsefulRoutes(routes) => {
                 self.routes.fetch_max(routes, Ordering::SeqCst);
             }
             Event::Done | Event::LeftOpen => {

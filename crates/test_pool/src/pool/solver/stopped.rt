@@ -4,7 +4,7 @@ ghost use Rattle.std.specs.Prelude.{true};
 use super::*;
 use crate::pool::fixture::four_trucks;
 use std::sync::atomic::{AtomicU64, Ordering};
-use vrp_pool::Event;
+use vrp_solver::Event;
 
 // Continues while the number of questions asked before is at least the first number and below the second.
 #[derive(Drop)]
@@ -58,11 +58,11 @@ impl Gate for Continues {
             Event::Bound(bound) => {
                 self.bound.fetch_max(bound.rounded_up(), Ordering::SeqCst);
             }
-            Event::Choice(routes) => {
+            Event::UsefulRoutes(routes) => {
                 self.routes.fetch_max(routes, Ordering::SeqCst);
             }
-            Event::StartPlan | Event::Prices | Event::Routes | Event::BetterPlans => {}
-            Event::Pieces(_) | Event::Labels(_) | Event::Nodes { .. } | Event::Cheaper(_) => {}
+            Event::Begins(_) | Event::PieceCount(_) | Event::Labels(_) => {}
+            Event::Nodes { .. } | Event::Cheaper(_) => {}
         }
     }
 

@@ -4,7 +4,7 @@ ghost use Rattle.std.specs.Prelude.{true};
 use super::*;
 use crate::pool::fixture::varied;
 use std::sync::atomic::{AtomicU64, Ordering};
-use vrp_pool::Event;
+use vrp_solver::{Event, Stage};
 
 // In each stage the time jumps at this question.
 const QUESTIONS: u64 = 6;
@@ -75,6 +75,18 @@ impl Clock {
     }
 }
 
+// The digit of a stage.
+fn digit_of(stage: Stage) -> u64 {
+    match stage {
+        Stage::StartPlan => START_PLAN,
+        Stage::Prices | Stage::PiecePrices => PRICES,
+        Stage::Routes => ROUTES,
+        Stage::BetterPlans => BETTER_PLANS,
+        Stage::Pieces => PIECES,
+        Stage::FirstLook | Stage::Choice => END,
+    }
+}
+
 // Adds a decimal digit; a larger number counts as 9.
 fn push_digit(digits: &AtomicU64, digit: u64) {
     let before = digits.load(Ordering::SeqCst);
@@ -89,11 +101,7 @@ impl Gate for Clock {
 
     fn on_event(&self, news: Event) {
         match news {
-            Event::StartPlan => self.begin(START_PLAN),
-            Event::Prices => self.begin(PRICES),
-            Event::Routes => self.begin(ROUTES),
-            Event::BetterPlans => self.begin(BETTER_PLANS),
-            Event::Pieces(_) => self.begin(PIECES),
+            Event::Begins(stage) => self.begin(digit_of(stage)),
             Event::Bound(bound) => {
                 self.bound.fetch_max(bound.rounded_up(), Ordering::SeqCst);
             }

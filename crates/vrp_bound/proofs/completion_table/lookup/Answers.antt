@@ -1,5 +1,5 @@
 use Rattle.std.proofs.Common.{◌+◌, ◌*◌, ◌-◌, length, get_or, subst, sym, arith}
-use Rattle.vrp_bound.specs.Inner.Cells.{HasRelaxed, IsLeastCell}
+use Rattle.vrp_bound.specs.Inner.CompletionCells.{HasRelaxed, IsLeastCell}
 use Rattle.vrp_bound.specs.Inner.Scaled.{near_by}
 use Rattle.vrp_bound.specs.Inner.Units.{in_units}
 use Rattle.vrp_bound.proofs.CompletionTables.{cell_none, cell_some, completion_cell, look_up}

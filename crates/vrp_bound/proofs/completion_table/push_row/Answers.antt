@@ -2,7 +2,7 @@ use Rattle.std.proofs.Common.{◌≡◌, ◌+◌, ◌-◌, ◌*◌, ◌<◌, ◌
 use Rattle.std.proofs.lemmas.Nat.{mul-le}
 use Rattle.vrp_model.specs.Problem.{place_count}
 use Rattle.vrp_model.specs.Route.{load_of}
-use Rattle.vrp_bound.specs.Inner.Cells.{IsCompletionTableSoFar, HasCompletion, IsLeastCell, IsSmallLeastCell, mark, small_mark}
+use Rattle.vrp_bound.specs.Inner.CompletionCells.{IsCompletionTableSoFar, HasCompletion, IsLeastCell, IsSmallLeastCell, mark, small_mark}
 use Rattle.vrp_bound.specs.Tables.{room_of}
 use Rattle.vrp_bound.specs.Inner.Scaled.{near_by}
 use Rattle.vrp_bound.specs.Inner.Units.{in_units}

@@ -1,6 +1,6 @@
 use Rattle.std.proofs.Common.{◌≡◌, ◌+◌, length}
 use Rattle.std.specs.Vec.{vec_capacity}
-use Rattle.vrp_bound.specs.Inner.Cells.{IsCompletionTableSoFar}
+use Rattle.vrp_bound.specs.Inner.CompletionCells.{IsCompletionTableSoFar}
 use Rattle.vrp_bound.specs.Inner.Scaled.{near_by}
 use Rattle.vrp_bound.specs.Inner.Units.{in_units}
 use Rattle.vrp_bound.proofs.completion_table.push_row.Given as goal

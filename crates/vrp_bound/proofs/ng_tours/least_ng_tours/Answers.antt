@@ -5,7 +5,7 @@ use Rattle.std.proofs.lemmas.List.Elements.{All-contains_itself}
 use Rattle.vrp_model.specs.Problem.{customers}
 use Rattle.vrp_model.specs.Route.{load_of}
 use Rattle.vrp_model.proofs.DistinctLists.{customers_rise}
-use Rattle.vrp_bound_ng.specs.Near.{near_in}
+use Rattle.vrp_model.specs.Near.{near_in}
 use Rattle.vrp_bound.specs.Inner.Scope.{IsScope}
 use Rattle.vrp_bound.specs.NgWalks.{IsLeastNgRelaxed, NoneNgRelaxed}
 use Rattle.vrp_bound.proofs.CellAnswers.{least_same_list}

@@ -1,11 +1,11 @@
 use Rattle.std.proofs.Common.{◌≡◌, ℕ, ◌+◌, ◌-◌, ◌*◌, ◌<◌, ◌≤◌, List, length, get_or, subst, sym, ap, ◌∙◌, arith}
 use Rattle.std.proofs.lemmas.Nat.{mul-le}
 use Rattle.vrp_model.specs.Problem.{demand_of, place_count}
-use Rattle.vrp_bound.specs.Inner.Cells.{IsLeastCell, mark}
+use Rattle.vrp_bound.specs.Inner.CompletionCells.{IsLeastCell, mark}
 use Rattle.vrp_bound.proofs.LeastOfCosts.{IsCostBelow}
 use Rattle.vrp_bound.specs.Inner.NgCells.{ArePulled}
-use Rattle.vrp_bound_ng.specs.NgSets.{ng_set_before}
-use Rattle.vrp_bound_ng.specs.Near.{near_in}
+use Rattle.vrp_model.specs.NgSets.{ng_set_before}
+use Rattle.vrp_model.specs.Near.{near_in}
 use Rattle.vrp_bound.proofs.FilledRows.{behind_is_so_far, cleared_small, few_near, row_at_once, row_at_once_small, row_of_cells}
 use Rattle.vrp_bound.proofs.NgSteps.{IsNgStep, no_steps, step_pulled, step_skipped, steps_looked}
 use Rattle.vrp_bound.specs.Inner.Scaled.{scaled}

@@ -1,7 +1,7 @@
 use Rattle.std.proofs.Common.{◌≡◌, ℕ, ◌<◌, ◌≤◌, length, get_or}
-use Rattle.vrp_bound.specs.Inner.Cells.{IsLeastCell, mark}
+use Rattle.vrp_bound.specs.Inner.CompletionCells.{IsLeastCell, mark}
 use Rattle.vrp_bound.proofs.LeastOfCosts.{IsCostBelow}
-use Rattle.vrp_bound_ng.specs.Near.{near_in}
+use Rattle.vrp_model.specs.Near.{near_in}
 use Rattle.vrp_bound.proofs.NgSteps.{IsNgStep}
 use Rattle.vrp_bound.specs.Inner.Scaled.{scaled}
 use Rattle.vrp_bound.proofs.ng_walks.fill_row.Given as goal

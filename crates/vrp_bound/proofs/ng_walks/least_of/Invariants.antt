@@ -1,5 +1,5 @@
 use Rattle.std.proofs.Common.{◌≡◌, ℕ, ◌<◌, ◌≤◌, get_or}
-use Rattle.vrp_bound.specs.Inner.Cells.{mark}
+use Rattle.vrp_bound.specs.Inner.CompletionCells.{mark}
 use Rattle.vrp_bound.proofs.ng_walks.least_of.Given as goal
 
 abbrev pub invariant-loop-cell : goal.invariant-loop-cell

@@ -1,12 +1,12 @@
 use Rattle.std.proofs.Common.{ℕ, ◌+◌, ◌*◌, ◌/◌, ◌%◌, ◌<◌, ◌≤◌, List, length, slice_index, subst, sym, ap, arith}
 use Rattle.vrp_model.specs.Problem.{place_count}
 use Rattle.vrp_model.proofs.BoundedLists.{bounded_push}
-use Rattle.vrp_bound.specs.Inner.Cells.{IsLeastCell, mark}
+use Rattle.vrp_bound.specs.Inner.CompletionCells.{IsLeastCell, mark}
 use Rattle.vrp_bound.specs.Tables.{room_of}
-use Rattle.vrp_bound_ng.proofs.PushedCells.{each_push}
+use Rattle.vrp_model.proofs.PushedCells.{each_push}
 use Rattle.vrp_bound.proofs.ArcsLookedAt.{row_before}
-use Rattle.vrp_bound.specs.Inner.Cells.{HasWalk}
-use Rattle.vrp_bound_ng.specs.Near.{near_in}
+use Rattle.vrp_bound.specs.Inner.CompletionCells.{HasWalk}
+use Rattle.vrp_model.specs.Near.{near_in}
 use Rattle.vrp_bound.proofs.FilledRows.{count_rows, few_near, least_of_row}
 use Rattle.vrp_bound.specs.Inner.Scaled.{scaled}
 use Rattle.vrp_bound.proofs.ng_walks.least_walks.Goals as goal

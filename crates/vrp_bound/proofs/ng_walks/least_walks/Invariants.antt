@@ -1,9 +1,9 @@
 use Rattle.std.proofs.Common.{◌≡◌, ℕ, ◌<◌, ◌≤◌, ◌/◌, ◌%◌, length, slice_index}
 use Rattle.std.specs.Vec.{vec_capacity}
 use Rattle.vrp_model.specs.Problem.{place_count}
-use Rattle.vrp_bound.specs.Inner.Cells.{IsLeastCell, mark}
-use Rattle.vrp_bound.specs.Inner.Cells.{HasWalk}
-use Rattle.vrp_bound_ng.specs.Near.{near_in}
+use Rattle.vrp_bound.specs.Inner.CompletionCells.{IsLeastCell, mark}
+use Rattle.vrp_bound.specs.Inner.CompletionCells.{HasWalk}
+use Rattle.vrp_model.specs.Near.{near_in}
 use Rattle.vrp_bound.specs.Inner.Scaled.{scaled}
 use Rattle.vrp_bound.proofs.ng_walks.least_walks.Given as goal
 

@@ -2,7 +2,7 @@ use Rattle.std.proofs.Common.{◌≡◌, ◌+◌, ◌*◌, ◌<◌, length, subs
 use Rattle.vrp_model.specs.Problem.{place_count}
 use Rattle.vrp_bound.proofs.ArcsLookedAt.{row_before}
 use Rattle.vrp_bound.specs.Inner.NgCells.{AreNgWalksSoFar}
-use Rattle.vrp_bound_ng.specs.Near.{near_in}
+use Rattle.vrp_model.specs.Near.{near_in}
 use Rattle.vrp_bound.proofs.FilledRows.{more_cells}
 use Rattle.vrp_bound.specs.Inner.Scaled.{scaled}
 use Rattle.vrp_bound.proofs.ng_walks.push_load.Goals as goal

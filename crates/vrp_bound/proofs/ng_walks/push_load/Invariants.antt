@@ -1,7 +1,7 @@
 use Rattle.std.proofs.Common.{◌≡◌, ◌+◌, ◌*◌, length}
 use Rattle.std.specs.Vec.{vec_capacity}
 use Rattle.vrp_bound.specs.Inner.NgCells.{AreNgWalksSoFar}
-use Rattle.vrp_bound_ng.specs.Near.{near_in}
+use Rattle.vrp_model.specs.Near.{near_in}
 use Rattle.vrp_bound.specs.Inner.Scaled.{scaled}
 use Rattle.vrp_bound.proofs.ng_walks.push_load.Given as goal
 

@@ -1,5 +1,5 @@
 use Rattle.std.proofs.Common.{◌≡◌, ℕ, List, length, get_or, subst, sym, ap, arith}
-use Rattle.vrp_bound.specs.Inner.Cells.{AreToursSoFar, HasTours, IsLeastCell}
+use Rattle.vrp_bound.specs.Inner.CompletionCells.{AreToursSoFar, HasTours, IsLeastCell}
 use Rattle.vrp_bound.specs.Inner.Scaled.{near_by}
 use Rattle.vrp_bound.specs.Inner.Units.{in_units}
 use Rattle.vrp_bound.proofs.FilledTables.{more_tours}

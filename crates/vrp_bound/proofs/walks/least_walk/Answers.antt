@@ -1,6 +1,6 @@
 use Rattle.std.proofs.Common.{◌≡◌, ℕ, ◌+◌, ◌-◌, ◌*◌, ◌<◌, ◌≤◌, List, length, get_or, subst, sym, ap, ◌∙◌, arith}
 use Rattle.vrp_model.specs.Problem.{Problem, demand_of, place_count}
-use Rattle.vrp_bound.specs.Inner.Cells.{HasWalk, IsLeastCell}
+use Rattle.vrp_bound.specs.Inner.CompletionCells.{HasWalk, IsLeastCell}
 use Rattle.vrp_bound.specs.Inner.Scope.{IsScope}
 use Rattle.vrp_bound.specs.Inner.Units.{in_units}
 use Rattle.vrp_bound.specs.NgWalks.{nothing_near}

@@ -1,6 +1,6 @@
 use Rattle.std.proofs.Common.{◌≡◌, ◌+◌, ◌*◌, length, subst, sym, arith}
 use Rattle.vrp_model.specs.Problem.{place_count}
-use Rattle.vrp_bound.specs.Inner.Cells.{AreWalksSoFar}
+use Rattle.vrp_bound.specs.Inner.CompletionCells.{AreWalksSoFar}
 use Rattle.vrp_bound.specs.Inner.Units.{in_units}
 use Rattle.vrp_bound.specs.NgWalks.{nothing_near}
 use Rattle.vrp_bound.proofs.FilledTables.{more_walks}

@@ -1,6 +1,6 @@
 use Rattle.std.proofs.Common.{◌≡◌, ◌+◌, length}
 use Rattle.std.specs.Vec.{vec_capacity}
-use Rattle.vrp_bound.specs.Inner.Cells.{AreWalksSoFar}
+use Rattle.vrp_bound.specs.Inner.CompletionCells.{AreWalksSoFar}
 use Rattle.vrp_bound.specs.Inner.Units.{in_units}
 use Rattle.vrp_bound.specs.NgWalks.{nothing_near}
 use Rattle.vrp_bound.proofs.walks.push_row.Given as goal

@@ -2,7 +2,7 @@ use Rattle.std.proofs.Common.{◌≡◌, ◌≤◌, ◌+◌, ◌*◌, true, fals
 use Rattle.vrp_model.specs.Problem.{demand_of}
 use Rattle.vrp_model.specs.Route.{load_of}
 use Rattle.vrp_bound.specs.Capacity.{IsTrucks}
-use Rattle.vrp_bound_prices.specs.Cut.{marked}
+use Rattle.vrp_bound_prices.specs.CapacityCut.{marked}
 use Rattle.vrp_bound_prices.proofs.CustomerSums.{sum_all, sum_more}
 use Rattle.vrp_bound_prices.proofs.MarkedCustomers.{is_marked, load_marked, marked_carried, marked_demand}
 use Rattle.vrp_bound_prices.proofs.cut.trucks_for.Goals as goal

@@ -13,17 +13,17 @@ of_word-requires g c =
     let p = c.args.instance.now in
     let stops = map stops_of c.args.ordered.now in
     let places = c.in-Some.places in
-    let task : IsTask p c.args.whole.most stops c.as_slice.result.now c.args.whole = subst (λ (pool : List Route). IsTask p c.args.whole.most stops pool c.args.whole) (sym (c.as_slice.ensures.value ∙ c.in_ok-routes.ensures)) c.requires in
-    let canonical : IsCanonical p (plan_at stops places.items c.args.whole.most) = told c.in_ok-places.field-0 places (λ (v : Vec ℕ Global). GivesCanonical c.as_slice.result.now c.args.whole v.items) c.in-Some.is c.in_ok-places.ensures.canonical p c.args.whole.most stops task in
+    let task : IsTask p c.args.whole.now.most stops c.as_slice.result.now c.args.whole.now = subst (λ (pool : List Route). IsTask p c.args.whole.now.most stops pool c.args.whole.now) (sym (c.as_slice.ensures.value ∙ c.in_ok-routes.ensures)) c.requires in
+    let canonical : IsCanonical p (plan_at stops places.items c.args.whole.now.most) = told c.in_ok-places.field-0 places (λ (v : Vec ℕ Global). GivesCanonical c.as_slice.result.now c.args.whole.now v.items) c.in-Some.is c.in_ok-places.ensures.canonical p c.args.whole.now.most stops task in
     let is : c.as_slice-3.result.now ≡ word_of (routes_at stops places.items) = c.as_slice-3.ensures.value ∙ c.in_ok-word.ensures ∙ ap (λ (xs : List ℕ). word_of (routes_at stops xs)) c.as_slice-2.ensures.value in
-    subst (IsLawfulWord p) (sym is) (canonical_has_word p (plan_at stops places.items c.args.whole.most) canonical)
+    subst (IsLawfulWord p) (sym is) (canonical_has_word p (plan_at stops places.items c.args.whole.now.most) canonical)
 
 pub returns : goal.returns
 returns g c =
     let p = c.args.instance.now in
     let stops = map stops_of c.args.ordered.now in
     let places = c.in-Some.places in
-    let task : IsTask p c.args.whole.most stops c.as_slice.result.now c.args.whole = subst (λ (pool : List Route). IsTask p c.args.whole.most stops pool c.args.whole) (sym (c.as_slice.ensures.value ∙ c.in_ok-routes.ensures)) c.requires in
-    let canonical : IsCanonical p (plan_at stops places.items c.args.whole.most) = told c.in_ok-places.field-0 places (λ (v : Vec ℕ Global). GivesCanonical c.as_slice.result.now c.args.whole v.items) c.in-Some.is c.in_ok-places.ensures.canonical p c.args.whole.most stops task in
+    let task : IsTask p c.args.whole.now.most stops c.as_slice.result.now c.args.whole.now = subst (λ (pool : List Route). IsTask p c.args.whole.now.most stops pool c.args.whole.now) (sym (c.as_slice.ensures.value ∙ c.in_ok-routes.ensures)) c.requires in
+    let canonical : IsCanonical p (plan_at stops places.items c.args.whole.now.most) = told c.in_ok-places.field-0 places (λ (v : Vec ℕ Global). GivesCanonical c.as_slice.result.now c.args.whole.now v.items) c.in-Some.is c.in_ok-places.ensures.canonical p c.args.whole.now.most stops task in
     let is : c.as_slice-3.result.now ≡ word_of (routes_at stops places.items) = c.as_slice-3.ensures.value ∙ c.in_ok-word.ensures ∙ ap (λ (xs : List ℕ). word_of (routes_at stops xs)) c.as_slice-2.ensures.value in
-    canonical_by_word p (plan_at stops places.items c.args.whole.most) c.in_ok-plan.plan canonical c.in_ok-plan.ensures.lawful (c.in_ok-plan.ensures.word ∙ is)
+    canonical_by_word p (plan_at stops places.items c.args.whole.now.most) c.in_ok-plan.plan canonical c.in_ok-plan.ensures.lawful (c.in_ok-plan.ensures.word ∙ is)

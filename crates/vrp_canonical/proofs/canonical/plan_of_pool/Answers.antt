@@ -1,6 +1,6 @@
 use Rattle.std.proofs.Common.{◌≡◌, ◌+◌, ◌≤◌, ◌∙◌, ℕ, Some, List, Vec, Global, ap, map, min, subst, arith}
 use Rattle.vrp_canonical.specs.Ordering.{AreOrdered, route_of}
-use Rattle.vrp_canonical.specs.Reaching.{IsFleet}
+use Rattle.vrp_customers.specs.Fleet.{IsFleet}
 use Rattle.vrp_canonical.specs.declared.ordered.ListedRoute.{ListedRoute}
 use Rattle.vrp_canonical.proofs.CanonicalPlans.{bound_follows, narrowed_bound, told}
 use Rattle.vrp_model.specs.Cheapest.{NoneCheaper}
@@ -8,7 +8,7 @@ use Rattle.vrp_model.specs.Problem.{Problem, customers}
 use Rattle.vrp_partition.specs.Branching.{IsBestSoFar, IsFound}
 use Rattle.vrp_partition.specs.Choice.{NoneBelow}
 use Rattle.vrp_partition.specs.declared.search.Found.TheVariants.{Unfinished}
-use Rattle.vrp_routes.specs.Label.{set_of}
+use Rattle.vrp_customers.specs.CustomerSet.{set_of}
 use Rattle.vrp_routes.specs.Pool.{IsPool}
 use Rattle.vrp_canonical.proofs.canonical.plan_of_pool.Goals as goal
 

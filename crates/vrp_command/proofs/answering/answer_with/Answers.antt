@@ -1,5 +1,5 @@
 use Rattle.std.specs.Option.{option_map}
-use Rattle.vrp_pool_answer.specs.Finding.{told_by}
+use Rattle.vrp_answer.specs.Finding.{told_by}
 use Rattle.vrp_command.specs.Inner.Told.{told_found}
 use Rattle.vrp_command.proofs.Requests.{found_told, plan_told, writes_found, writes_found_part}
 use Rattle.vrp_command.proofs.answering.answer_with.Goals as goal

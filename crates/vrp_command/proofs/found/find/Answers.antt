@@ -1,6 +1,6 @@
 use Rattle.std.proofs.Common.{◌∙◌, refl}
 use Rattle.std.specs.Option.{option_map}
-use Rattle.vrp_pool_answer.specs.Finding.{lawful_finding}
+use Rattle.vrp_answer.specs.Finding.{lawful_finding}
 use Rattle.vrp_command.specs.Found.{told_of}
 use Rattle.vrp_command.proofs.LawfulAnswers.{told_of_lawful}
 use Rattle.vrp_command.proofs.Requests.{is_checked, is_searched}

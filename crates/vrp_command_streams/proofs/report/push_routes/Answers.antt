@@ -1,5 +1,5 @@
 use Rattle.std.proofs.Common.{◌+◌}
-use Rattle.vrp_command_streams.specs.Numbering.{number_in}
+use Rattle.vrp_command_streams.specs.StopNumbers.{number_in}
 use Rattle.vrp_command_streams.proofs.ReportLemmas.{route_lines-drop, line_written}
 use Rattle.vrp_command_streams.proofs.report.push_routes.Goals as goal
 

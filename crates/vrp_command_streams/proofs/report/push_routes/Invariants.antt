@@ -1,6 +1,6 @@
 use Rattle.std.proofs.Common.{◌≡◌, ◌+◌, ◌++◌, drop}
 use Rattle.std.specs.String.{string_bytes}
-use Rattle.vrp_command_streams.specs.Numbering.{number_in}
+use Rattle.vrp_command_streams.specs.StopNumbers.{number_in}
 use Rattle.vrp_command_streams.specs.Report.{route_lines}
 use Rattle.vrp_command_streams.proofs.report.push_routes.Given as goal
 

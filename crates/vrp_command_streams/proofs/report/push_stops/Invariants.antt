@@ -1,6 +1,6 @@
 use Rattle.std.proofs.Common.{◌≡◌, ◌++◌, take}
 use Rattle.std.specs.String.{string_bytes}
-use Rattle.vrp_command_streams.specs.Numbering.{number_in}
+use Rattle.vrp_command_streams.specs.StopNumbers.{number_in}
 use Rattle.vrp_command_streams.specs.Report.{stops_text}
 use Rattle.vrp_command_streams.proofs.report.push_stops.Given as goal
 

@@ -6,4 +6,4 @@ abbrev pub invariant-loop-run : goal.invariant-loop-run
 invariant-loop-run g l =
     (goal.iterator-loop-run g).can_next l.run-iterator ×
     (goal.iterator-loop-run g).is_finite l.run-iterator ×
-    IfSome l.best (IsPlanOf l.crew.instance.now)
+    IfSome l.best (IsPlanOf l.instance)

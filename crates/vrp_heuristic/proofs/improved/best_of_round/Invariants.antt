@@ -6,5 +6,5 @@ abbrev pub invariant-loop-run : goal.invariant-loop-run
 invariant-loop-run g l =
     (goal.iterator-loop-run g).can_next l.run-iterator ×
     (goal.iterator-loop-run g).is_finite l.run-iterator ×
-    IsPlanOf l.crew.instance.now l.best ×
+    IsPlanOf l.instance l.best ×
     (l.best.cost ≤ l.fn.plan.cost)

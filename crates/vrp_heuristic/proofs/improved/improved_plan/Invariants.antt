@@ -4,5 +4,5 @@ use Rattle.vrp_heuristic.proofs.improved.improved_plan.Given as goal
 
 abbrev pub invariant-loop : goal.invariant-loop
 invariant-loop g l =
-    IsPlanOf l.crew.instance.now l.best ×
+    IsPlanOf l.instance l.best ×
     (l.best.cost ≤ l.fn.plan.cost)

@@ -1,5 +1,5 @@
-use Rattle.std.proofs.Common.{◌≡◌, ◌∙◌, ◌+◌, ◌<◌, ℕ, List, get_or, length, map, ap, sym, subst, arith}
-use Rattle.std.proofs.lemmas.List.{length_push}
+use Rattle.std.proofs.Common.{◌≡◌, ◌∙◌, ◌+◌, ◌++◌, ◌∷◌, [], ◌<◌, ℕ, List, get_or, length, map, ap, sym, subst, arith}
+use Rattle.std.proofs.lemmas.List.{get_or_default, length_push}
 use Rattle.vrp_partition.specs.Narrowing.{route_at}
 use Rattle.vrp_partition.specs.declared.route.Route.{Route}
 use Rattle.vrp_partition.proofs.NarrowedRoutes.{all_places, more_at, more_routes}
@@ -19,7 +19,8 @@ pub loop-place-preserved : goal.loop-place-preserved
 loop-place-preserved c =
     let place = c.loop-place.place in
     let places = c.in_ok-push.ensures.items in
-    let routes = c.in_ok-push-2.ensures.items in
+    let route : c.index-pool-place.result ≡ get_or c.args.pool.now place none = c.index-pool-place.is ∙ get_or_default c.args.pool.now place c.index-pool-place.result none c.loop-place-test.true in
+    let routes = c.in_ok-push-2.ensures.items ∙ ap (λ (r : Route). c.loop-place.routes.items ++ r ∷ []) route in
     record {
       long = ap length places ∙ (length_push c.loop-place.places.items place ∙ ap (λ n. n + 1) c.loop-place.invariant.long);
       each = subst (λ (ks : List ℕ). (at : ℕ) → at < length ks → get_or ks at 0 ≡ at) (sym places) (more_at (λ at k. k ≡ at) c.loop-place.places.items place c.loop-place.invariant.each (sym c.loop-place.invariant.long));

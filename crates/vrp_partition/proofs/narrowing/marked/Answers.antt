@@ -1,6 +1,7 @@
 use Rattle.std.proofs.Common.{◌≡◌, ◌∙◌, ◌<◌, ◌++◌, ◌∷◌, [], ℕ, List, Vec, Global, false, inl, inr, get_or, length, map, sym, ap, subst, arith}
 use Rattle.std.specs.List.{Contains}
 use Rattle.std.proofs.lemmas.Bool.{cases_lt, true≢false}
+use Rattle.std.proofs.lemmas.List.{get_or_default}
 use Rattle.std.proofs.lemmas.List.Elements.{Contains-push}
 use Rattle.vrp_partition.specs.Narrowing.{route_at}
 use Rattle.vrp_partition.specs.declared.route.Route.{Route}
@@ -26,7 +27,8 @@ loop-at-preserved c =
     elim c.if-marks-at.branch [
       | then-marks-at+in_ok-push+in_ok-push-2 w ↦
           let kept : c.if-marks-at.kept.items ≡ c.loop-at.kept.items ++ place ∷ [] = ap (λ (v : Vec ℕ Global). v.items) w.kept-is ∙ w.in_ok-push.ensures.items in
-          let routes : c.if-marks-at.routes.items ≡ c.loop-at.routes.items ++ get_or pool place none ∷ [] = ap (λ (v : Vec Route Global). v.items) w.routes-is ∙ w.in_ok-push-2.ensures.items in
+          let route : w.index-pool-places.result ≡ get_or pool place none = w.index-pool-places.is ∙ get_or_default pool place w.index-pool-places.result none there in
+          let routes : c.if-marks-at.routes.items ≡ c.loop-at.routes.items ++ get_or pool place none ∷ [] = ap (λ (v : Vec Route Global). v.items) w.routes-is ∙ (w.in_ok-push-2.ensures.items ∙ ap (λ (r : Route). c.loop-at.routes.items ++ r ∷ []) route) in
           record {
             inside = subst (λ (ks : List ℕ). (i : ℕ) → i < length ks → get_or ks i 0 < length pool) (sym kept) (more_at (λ i k. k < length pool) c.loop-at.kept.items place c.loop-at.invariant.inside there);
             are = routes ∙ (more_routes pool c.loop-at.routes.items c.loop-at.kept.items place none there c.loop-at.invariant.are ∙ sym (ap (map (route_at pool)) kept));

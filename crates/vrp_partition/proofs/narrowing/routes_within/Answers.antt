@@ -6,7 +6,7 @@ use Rattle.vrp_partition.specs.Pricing.{MarksWithin}
 use Rattle.vrp_partition.specs.declared.narrowing.Kept.{Kept}
 use Rattle.vrp_partition.proofs.NarrowedRoutes.{unmarked_rest}
 use Rattle.vrp_partition.proofs.narrowing.routes_within.Goals as goal
-use Rattle.vrp_partition.proofs.narrowing.routes_within.Goals.{else-loop-test, then-loop-test+then-budget-eq0, then-loop-test+else-budget-eq0+in_ok-round+in_ok-group+then-branch-ne0}
+use Rattle.vrp_partition.proofs.narrowing.routes_within.Goals.{else-loop-test, then-loop-test+then-budget-eq0, then-loop-test+else-budget-eq0+in_ok-round+in_ok-group+then-not-is_empty}
 
 pub loop-init : goal.loop-init
 loop-init g c = record { most = omega arith; narrowed = c.in_ok-kept.ensures c.args.query.now.customers c.args.query.now.fleet.trucks c.args.query.now.limit }
@@ -27,7 +27,7 @@ marks_of-requires g c =
     let narrowed : is c.loop-test.kept = elim c.loop-test.branch [
       | else-loop-test w ↦ subst is (sym w.kept-is) c.loop.invariant.narrowed
       | then-loop-test+then-budget-eq0 w ↦ subst is (sym w.kept-is) c.loop.invariant.narrowed
-      | then-loop-test+else-budget-eq0+in_ok-round+in_ok-group+then-branch-ne0 w ↦ subst is (sym w.kept-is) w.in_ok-round.ensures
+      | then-loop-test+else-budget-eq0+in_ok-round+in_ok-group+then-not-is_empty w ↦ subst is (sym w.kept-is) w.in_ok-round.ensures
     ] in
     record { inside = λ at lt. omega (arith, narrowed.inside at (omega (arith, lt, ap length c.as_slice-2.ensures.value)), ap (λ ks. get_or ks at 0) c.as_slice-2.ensures.value) }
 
@@ -39,7 +39,7 @@ returns-clause-marks g c =
     let narrowed : is c.loop-test.kept = elim c.loop-test.branch [
       | else-loop-test w ↦ subst is (sym w.kept-is) c.loop.invariant.narrowed
       | then-loop-test+then-budget-eq0 w ↦ subst is (sym w.kept-is) c.loop.invariant.narrowed
-      | then-loop-test+else-budget-eq0+in_ok-round+in_ok-group+then-branch-ne0 w ↦ subst is (sym w.kept-is) w.in_ok-round.ensures
+      | then-loop-test+else-budget-eq0+in_ok-round+in_ok-group+then-not-is_empty w ↦ subst is (sym w.kept-is) w.in_ok-round.ensures
     ] in
     IfOk-weaker c.marks_of.result
     (λ marks. (length marks.items ≡ length pool) × ((k : ℕ) → k < length pool → get_or marks.items k false ≡ false → Contains c.as_slice-2.result.now k → ⊥))

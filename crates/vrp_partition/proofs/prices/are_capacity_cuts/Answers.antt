@@ -1,4 +1,5 @@
-use Rattle.std.proofs.Common.{◌≡◌, ◌<◌, ◌+◌, ◌*◌, ℕ, All, arith, sym, ◌∙◌, subst, get_or}
+use Rattle.std.proofs.Common.{◌≡◌, ◌<◌, ◌+◌, ◌*◌, ℕ, All, arith, sym, ◌∙◌, subst, bit_and}
+use Rattle.std.proofs.lemmas.Bool.{eqb-true}
 use Rattle.std.proofs.lemmas.List.{take_all}
 use Rattle.std.proofs.lemmas.List.Elements.{All-more}
 use Rattle.vrp_partition.specs.Prices.{IsCapacityCut, load_of}
@@ -10,17 +11,16 @@ carry count capacity load n c0 c1 l lt a b c d = rw (← a, ← d) (subst (λ x.
 
 pub loop-cut-preserved : goal.loop-cut-preserved
 loop-cut-preserved c =
-    let none : Cut = record { set = 0; count = 0; price = 0 } in
-    let cut = get_or c.args.cuts.now c.loop-cut.cut-index none in
+    let cut : Cut = c.cut-item.result in
     let here : IsCapacityCut c.args.demands.now c.args.capacity c.args.customers cut = record {
       moderate = omega (arith, c.if-cut-gt-MOST_CUT_PRICE.false);
       needed = record {
-        within = c.if-cut-customers.false;
+        within = eqb-true (bit_and cut.set c.args.customers) cut.set (sym c.is_subset.ensures ∙ c.if-not-is_subset.false);
         carry = carry cut.count c.args.capacity (load_of c.args.demands.now cut.set) c.from.result c.from-in-loop-cut.result c.from-in-loop-cut-2.result c.demand_of-load.result
             c.if-from-load.false c.from.ensures c.from-in-loop-cut.ensures c.from-in-loop-cut-2.ensures c.demand_of-load.ensures.value;
       };
     } in
-    All-more (IsCapacityCut c.args.demands.now c.args.capacity c.args.customers) c.args.cuts.now c.loop-cut.cut-index none c.loop-cut-test.true c.loop-cut.invariant here
+    All-more (IsCapacityCut c.args.demands.now c.args.capacity c.args.customers) c.args.cuts.now c.loop-cut.cut-index cut c.loop-cut-test.true c.loop-cut.invariant (subst (IsCapacityCut c.args.demands.now c.args.capacity c.args.customers) c.cut-item.is here)
 
 pub returns : goal.returns
 returns c = λ yes. subst (λ cuts. All (IsCapacityCut c.args.demands.now c.args.capacity c.args.customers) cuts) (take_all c.loop-cut.cut-index c.args.cuts.now c.loop-cut-test.false) c.loop-cut.invariant

@@ -2,7 +2,7 @@ use Rattle.std.proofs.Common.{get_or, take, subst, sym, arith}
 use Rattle.std.specs.List.{concat}
 use Rattle.vrp_model.proofs.CustomerPlaces.{customer_below}
 use Rattle.vrp_plan_read.specs.Solution.{AreCustomers}
-use Rattle.vrp_plan_read.specs.declared.route.Route.{Route}
+use Rattle.vrp_plan_read.specs.declared.route.NonemptyRoute.{NonemptyRoute}
 use Rattle.vrp_plan_read.proofs.FaultyRoutes.{different_stops, one_more_served, overloaded, served_twice, stops_in}
 use Rattle.vrp_plan_read.proofs.lawful.faulty_route.Goals as goal
 
@@ -10,7 +10,7 @@ pub served_before-requires : goal.served_before-requires
 served_before-requires c = λ k d within.
     let p = c.args.instance.now in
     let i = c.loop-route.route-index in
-    let known = subst (λ (r : Route). AreCustomers p r.stops.items) (sym c.route-item.is) (c.requires.customers i c.route-item.result c.loop-route-test.true) in
+    let known = subst (λ (r : NonemptyRoute). AreCustomers p r.stops.items) (sym c.route-item.is) (c.requires.customers i c.route-item.result c.loop-route-test.true) in
     let here = subst (AreCustomers p) (sym c.deref.ensures.value) known in
     omega (arith, customer_below p (get_or c.deref.result.now k d) (here k d within), c.loop-route.invariant.places)
 
@@ -22,7 +22,7 @@ returns-in-Some c =
 
 pub load-load-requires-clause-customers : goal.load-load-requires-clause-customers
 load-load-requires-clause-customers c =
-    subst (λ (r : Route). AreCustomers c.args.instance.now r.stops.items) (sym c.route-item.is) (c.requires.customers c.loop-route.route-index c.route-item.result c.loop-route-test.true)
+    subst (λ (r : NonemptyRoute). AreCustomers c.args.instance.now r.stops.items) (sym c.route-item.is) (c.requires.customers c.loop-route.route-index c.route-item.result c.loop-route-test.true)
 
 pub load-load-requires-clause-once : goal.load-load-requires-clause-once
 load-load-requires-clause-once c =

@@ -1,17 +1,17 @@
 use Rattle.std.proofs.Common.{◌≡◌, true, List, ℕ, ◌+◌, ◌<◌, [], drop, length, get_or, sym, subst, arith}
-use Rattle.vrp_routes.specs.Candidates.{no_label}
-use Rattle.vrp_routes.specs.Closed.{HasPlaces, is_closed_in}
-use Rattle.vrp_routes.specs.Label.{set_of}
+use Rattle.vrp_customers.specs.CustomerSet.{set_of}
+use Rattle.vrp_routes.specs.ClosedLevel.{HasPlaces, is_closed_in}
 use Rattle.vrp_routes.specs.Useful.{IsUseful}
-use Rattle.vrp_routes.specs.declared.closed.Closed.{Closed}
+use Rattle.vrp_routes.specs.declared.closed.ClosedLevel.{ClosedLevel}
 use Rattle.vrp_routes.specs.declared.closed.ClosedRoute.{ClosedRoute}
 use Rattle.vrp_routes.proofs.ClosedSteps.{ClosesSome, closes_all, closes_none, closes_not, closes_one, label_stops, no_places, route_of_label, some_stops}
+use Rattle.vrp_routes.proofs.Labels.{read_label}
 use Rattle.vrp_routes.proofs.closed.close_share.Goals as goal
 use Rattle.vrp_routes.proofs.closed.close_share.Goals.{in-Some+in_ok-offer, in_default}
 
 pub loop-at-init : goal.loop-at-init
 loop-at-init c =
-    let closed : Closed = record { routes = c.new.result; by_set = c.new-2.result } in
+    let closed : ClosedLevel = record { routes = c.new.result; by_set = c.new-2.result } in
     record {
       places = no_places closed c.new-2.ensures.empty;
       closes = λ k stops some is. closes_none c.args.setting.now (is_closed_in c.args.share) c.args.start stops closed c.new.ensures.items;
@@ -23,7 +23,7 @@ cost_in_share-requires c =
     let stops_here = drop c.args.start stops in
     let at = c.loop-at.at in
     let lt : at < length stops_here = omega (arith, is.are.long, c.loop-at-test.true) in
-    record { label = (get_or stops_here at [], is.are.each at no_label lt, some_stops k (get_or stops_here at []) (is.are.size at [] lt) some) }
+    record { label = (get_or stops_here at [], read_label c.args.setting.now k stops_here c.args.labels.now at c.index-labels-at.result is lt c.index-labels-at.is, some_stops k (get_or stops_here at []) (is.are.size at [] lt) some) }
 
 pub loop-at-preserved : goal.loop-at-preserved
 loop-at-preserved c =
@@ -32,7 +32,7 @@ loop-at-preserved c =
     let start = c.args.start in
     let at = c.loop-at.at in
     let old = c.loop-at.closed in
-    let label = get_or labels at no_label in
+    let label = c.index-labels-at.result in
     let mine = is_closed_in c.args.share in
     elim c.match-cost_in_share.branch [
       | in-Some+in_ok-offer w ↦ record {
@@ -40,7 +40,7 @@ loop-at-preserved c =
         closes = λ k stops some is.
             let stops_here = drop start stops in
             let lt : at < length stops_here = omega (arith, is.are.long, c.loop-at-test.true) in
-            let is_label = is.are.each at no_label lt in
+            let is_label = read_label s k stops_here labels at label is lt c.index-labels-at.is in
             let route : ClosedRoute = record { set = label.set; cost = w.in-Some.cost; load = label.load; label = start + at } in
             subst (ClosesSome s mine start stops (at + 1)) (sym w.closed-is)
             (closes_one s mine start stops at old w.offer.new.self route (c.loop-at.invariant.closes k stops some is) c.loop-at.invariant.places
@@ -54,7 +54,7 @@ loop-at-preserved c =
             let lt : at < length stops_here = omega (arith, is.are.long, c.loop-at-test.true) in
             subst (ClosesSome s mine start stops (at + 1)) (sym w.closed-is)
             (closes_not s mine start stops at old (c.loop-at.invariant.closes k stops some is) (λ own useful.
-            w.in_default.ensures.none (get_or stops_here at []) (is.are.each at no_label lt) (subst (λ (xs : List ℕ). mine (set_of xs) ≡ true) (sym (label_stops start stops at)) own) (subst (IsUseful s.relaxation.problem s.limit) (sym (label_stops start stops at)) useful)));
+            w.in_default.ensures.none (get_or stops_here at []) (read_label s k stops_here labels at label is lt c.index-labels-at.is) (subst (λ (xs : List ℕ). mine (set_of xs) ≡ true) (sym (label_stops start stops at)) own) (subst (IsUseful s.relaxation.problem s.limit) (sym (label_stops start stops at)) useful)));
       }
     ]
 

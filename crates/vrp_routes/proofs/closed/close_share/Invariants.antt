@@ -1,5 +1,5 @@
 use Rattle.std.proofs.Common.{◌≤◌, ℕ, List, drop}
-use Rattle.vrp_routes.specs.Closed.{HasPlaces, is_closed_in}
+use Rattle.vrp_routes.specs.ClosedLevel.{HasPlaces, is_closed_in}
 use Rattle.vrp_routes.specs.Level.{IsLevel}
 use Rattle.vrp_routes.proofs.ClosedSteps.{ClosesSome}
 use Rattle.vrp_routes.proofs.closed.close_share.Given as goal

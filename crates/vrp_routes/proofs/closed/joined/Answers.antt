@@ -1,5 +1,5 @@
 use Rattle.std.proofs.Common.{◌≡◌, ◌∙◌, ◌+◌, Global, Vec, List, [], ◌∷◌, ◌++◌, length, length-append, append_assoc, ap, subst, sym, arith}
-use Rattle.vrp_routes.specs.Closed.{AreClosedIn}
+use Rattle.vrp_routes.specs.ClosedLevel.{AreClosedIn}
 use Rattle.vrp_routes.specs.declared.closed.ClosedRoute.{ClosedRoute}
 use Rattle.vrp_routes.proofs.ClosingShares.{all_shares_closed, is_closed_before, no_shares_closed, one_share_more, share_at}
 use Rattle.vrp_routes.proofs.closed.joined.Goals as goal

@@ -1,5 +1,5 @@
 use Rattle.std.proofs.Common.{◌≡◌, ◌++◌, ℕ, List, length}
-use Rattle.vrp_routes.specs.Closed.{AreClosedIn, AreClosedParts}
+use Rattle.vrp_routes.specs.ClosedLevel.{AreClosedIn, AreClosedParts}
 use Rattle.vrp_routes.specs.Label.{SettingOf}
 use Rattle.vrp_routes.proofs.ClosingShares.{is_closed_before}
 use Rattle.vrp_routes.proofs.closed.joined.Given as goal

@@ -1,4 +1,5 @@
-use Rattle.std.proofs.Common.{◌+◌, get_or, sym, subst, refl, arith}
+use Rattle.std.proofs.Common.{◌+◌, sym, subst, refl, arith}
+use Rattle.std.proofs.lemmas.List.{get_or_read}
 use Rattle.vrp_routes.specs.Candidates.{no_label}
 use Rattle.vrp_routes.proofs.MergeSteps.{MergesSome, merges_all, merges_left, merges_none, merges_right}
 use Rattle.vrp_routes.proofs.merge.merged.Goals as goal
@@ -27,7 +28,7 @@ loop-at-preserved c =
       | then-takes_left+in_ok-push w ↦
           let (lt, first) = c.takes_left.ensures.yes w.if-takes_left.true in
           let new = w.push.new.self.items in
-          let some = merges_left left right i j old new (get_or left i no_label) known.some refl lt first w.in_ok-push.ensures.items in
+          let some = merges_left left right i j old new w.index-left-i.result known.some (get_or_read left i w.index-left-i.result lt w.index-left-i.is no_label) lt first w.in_ok-push.ensures.items in
           record {
             count = omega (arith, w.i-is, w.j-is, known.count);
             left = omega (arith, w.i-is, lt);
@@ -38,7 +39,7 @@ loop-at-preserved c =
       | else-takes_left+in_ok-push-2 w ↦
           let (lt, not_first) = c.takes_left.ensures.no w.if-takes_left.false in
           let new = w.push-else-takes_left.new.self.items in
-          let some = merges_right left right i j old new (get_or right j no_label) known.some refl lt not_first w.in_ok-push-2.ensures.items in
+          let some = merges_right left right i j old new w.index-right-j.result known.some (get_or_read right j w.index-right-j.result lt w.index-right-j.is no_label) lt not_first w.in_ok-push-2.ensures.items in
           record {
             count = omega (arith, w.i-is, w.j-is, known.count);
             left = omega (arith, w.i-is, known.left);

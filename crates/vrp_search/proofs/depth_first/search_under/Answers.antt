@@ -3,7 +3,7 @@ use Rattle.vrp_model.specs.Problem.{Problem}
 use Rattle.vrp_model.specs.declared.limits.TheConstants.{NO_COST}
 use Rattle.vrp_model.specs.Word.{BeginsWith, TreeHasAtLeast, word_cost}
 use Rattle.vrp_search_tree.specs.Child.{IsNextChild, NoChildFrom}
-use Rattle.vrp_search.specs.Inner.Found.{IsLastOffer}
+use Rattle.vrp_search.specs.Inner.LastOffer.{IsLastOffer}
 use Rattle.vrp_search_tree.specs.Pruned.{NoneOfUse}
 use Rattle.vrp_search_tree.specs.Partial.{PartialPlan}
 use Rattle.vrp_search.specs.Search.{IsFinished}

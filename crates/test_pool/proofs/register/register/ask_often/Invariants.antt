@@ -1,4 +1,4 @@
-use Rattle.vrp_pool_register.specs.Caller.{IsCallerOf}
+use Rattle.vrp_sharing.specs.Caller.{IsCallerOf}
 use Rattle.test_pool.proofs.register.register.ask_often.Given as goal
 
 abbrev pub invariant-loop : goal.invariant-loop

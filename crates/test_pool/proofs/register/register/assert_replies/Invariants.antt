@@ -1,4 +1,4 @@
-use Rattle.vrp_pool_register.specs.Caller.{IsCallerOf}
+use Rattle.vrp_sharing.specs.Caller.{IsCallerOf}
 use Rattle.test_pool.proofs.register.register.assert_replies.Given as goal
 
 abbrev pub invariant-loop-plan : goal.invariant-loop-plan

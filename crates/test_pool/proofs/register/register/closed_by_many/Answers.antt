@@ -1,6 +1,6 @@
 use Rattle.std.proofs.Common.{◌≡◌, ap, length, sym, ◌∙◌}
 use Rattle.vrp_model.specs.declared.limits.TheConstants.{NO_COST}
-use Rattle.vrp_pool_register.proofs.Newcomers.{length-newcomers, newcomers_are_callers, written_back}
+use Rattle.vrp_sharing.proofs.Newcomers.{length-newcomers, newcomers_are_callers, written_back}
 use Rattle.test_pool.proofs.register.register.closed_by_many.Goals as goal
 
 pub offer_in_threads-requires-clause-callers : goal.offer_in_threads-requires-clause-callers

@@ -2,7 +2,7 @@ use Rattle.std.proofs.Common.{MatchOption, Option, List, ℕ, sym, ◌∙◌, su
 use Rattle.std.specs.List.{All, Contains}
 use Rattle.std.specs.List.Sorted.{IsStrictlyIncreasing}
 use Rattle.vrp_model.specs.Problem.{Problem, customers}
-use Rattle.vrp_bound.specs.declared.completions.Cells.{Cells}
+use Rattle.vrp_bound.specs.declared.completions.CompletionCells.{CompletionCells}
 use Rattle.vrp_bound.specs.Inner.Filled.{AreCellsMade}
 use Rattle.vrp_bound.specs.Inner.Scaled.{near_with}
 use Rattle.vrp_bound.specs.Tables.{AreMade}
@@ -30,8 +30,8 @@ returns-clause-held c =
     filled_same p q near c.in_ok-from_slice.field-0.items others c.if-are_made.cells same (listed ∙ sym c.in_ok-from_slice.ensures.items) rising known
     (elim c.if-are_made.branch [
       | then-are_made+in_ok-fill w ↦
-          subst (λ (o : Option Cells). MatchOption o (AreMade q others → ⊥) (AreCellsMade q near others)) (sym w.cells-is) (record { made = c.are_made.ensures.0 w.if-are_made.true; are_cells = w.in_ok-fill.ensures })
+          subst (λ (o : Option CompletionCells). MatchOption o (AreMade q others → ⊥) (AreCellsMade q near others)) (sym w.cells-is) (record { made = c.are_made.ensures.0 w.if-are_made.true; are_cells = w.in_ok-fill.ensures })
       | else-are_made w ↦
-          subst (λ (o : Option Cells). MatchOption o (AreMade q others → ⊥) (AreCellsMade q near others)) (sym w.cells-is)
+          subst (λ (o : Option CompletionCells). MatchOption o (AreMade q others → ⊥) (AreCellsMade q near others)) (sym w.cells-is)
           (λ made. absurd (let yes = c.are_made.ensures.1 made in cc (yes, w.if-are_made.false)))
     ])

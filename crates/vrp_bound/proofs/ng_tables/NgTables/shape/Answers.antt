@@ -1,5 +1,5 @@
 use Rattle.std.proofs.Common.{ap, subst, MatchOption, List, ℕ}
-use Rattle.vrp_bound_ng.specs.Near.{near_in}
+use Rattle.vrp_model.specs.Near.{near_in}
 use Rattle.vrp_model.specs.Problem.{Problem, customers}
 use Rattle.vrp_bound.specs.Tables.{AreMade, NgTablesOf}
 use Rattle.vrp_bound.proofs.CellAnswers.{shape_made}

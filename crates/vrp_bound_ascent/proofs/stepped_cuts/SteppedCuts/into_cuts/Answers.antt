@@ -1,6 +1,6 @@
 use Rattle.std.proofs.Common.{[], ◌∷◌, ◌++◌, arith}
 use Rattle.std.proofs.lemmas.List.Elements.{All-nil, All-push, All-same}
-use Rattle.vrp_bound_prices.specs.Cut.{IsCut}
+use Rattle.vrp_bound_prices.specs.CapacityCut.{IsCut}
 use Rattle.vrp_bound_ascent.proofs.stepped_cuts.SteppedCuts.into_cuts.Goals as goal
 
 pub loop-cut-init : goal.loop-cut-init

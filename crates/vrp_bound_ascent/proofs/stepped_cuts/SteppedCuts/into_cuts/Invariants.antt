@@ -1,6 +1,6 @@
 use Rattle.std.proofs.Common.{◌≤◌, vec_len}
 use Rattle.std.specs.List.{All}
-use Rattle.vrp_bound_prices.specs.Cut.{IsCut}
+use Rattle.vrp_bound_prices.specs.CapacityCut.{IsCut}
 use Rattle.vrp_bound_prices.specs.declared.limits.TheConstants.{MAX_CUTS}
 use Rattle.vrp_bound_ascent.proofs.stepped_cuts.SteppedCuts.into_cuts.Given as goal
 

@@ -4,9 +4,8 @@ use Rattle.vrp_canonical.proofs.narrowed.Narrowing.marks_within.Goals as goal
 
 pub returns-clause-marks : goal.returns-clause-marks
 returns-clause-marks g c =
-    let whole = c.args.whole in
+    let whole = c.args.whole.now in
     let most : c.in-Ok.limit ≡ whole.most = omega (arith, c.in-Ok.ensures) in
     let routes = c.args.routes.now in
     let marks = c.in_ok-marks.marks.items in
-    subst (λ n. MarksWithin routes whole.unserved whole.trucks n marks) most
-    (subst (λ n. MarksWithin routes whole.unserved n c.in-Ok.limit marks) c.fleet-fleet.ensures.trucks c.in_ok-marks.ensures.marks)
+    subst (λ n. MarksWithin routes whole.unserved whole.trucks n marks) most c.in_ok-marks.ensures.marks

@@ -3,7 +3,7 @@ use Rattle.std.specs.List.{AllPairs}
 use Rattle.std.specs.List.Sorted.{IsPermutation}
 use Rattle.std.proofs.lemmas.List.{length-map}
 use Rattle.vrp_canonical.specs.Ordering.{AreMarked, AreOrdered, route_of, stops_of}
-use Rattle.vrp_canonical.specs.Reaching.{IsFleet}
+use Rattle.vrp_customers.specs.Fleet.{IsFleet}
 use Rattle.vrp_canonical.specs.declared.ordered.ListedRoute.{ListedRoute}
 use Rattle.vrp_canonical.proofs.CanonicalPlans.{both_told, told}
 use Rattle.vrp_canonical.proofs.OrderedPools.{narrowed_pool}
@@ -11,12 +11,12 @@ use Rattle.vrp_model.specs.Order.{IsEarlier}
 use Rattle.vrp_model.specs.Problem.{Problem, customers}
 use Rattle.vrp_partition.specs.Pricing.{MarksWithin}
 use Rattle.vrp_partition.specs.declared.route.Route.{Route}
-use Rattle.vrp_routes.specs.Label.{set_of}
+use Rattle.vrp_customers.specs.CustomerSet.{set_of}
 use Rattle.vrp_canonical.proofs.narrowed.Narrowing.narrowed_again.Goals as goal
 
 pub returns-then-whole-before-clause-ordered : goal.returns-then-whole-before-clause-ordered
 returns-then-whole-before-clause-ordered g c = λ p are fleet unserved within.
-    let same : c.args.before.most ≡ c.args.whole.most = omega (arith, c.if-whole-before.true) in
+    let same : c.args.before.now.most ≡ c.args.whole.now.most = omega (arith, c.if-whole-before.true) in
     subst (λ n. AreOrdered p n c.args.ordered.items) same are
 
 pub returns-clause-ordered : goal.returns-clause-ordered
@@ -24,8 +24,8 @@ returns-clause-ordered g c =
     let ordered = c.args.ordered.items in
     let stops = map stops_of ordered in
     let routes = map route_of ordered in
-    let before = c.args.before in
-    let whole = c.args.whole in
+    let before = c.args.before.now in
+    let whole = c.args.whole.now in
     let marks = c.in-Some.marks in
     let kept = c.in_ok-kept.kept in
     let are : AreMarked stops routes marks.items (length ordered) kept.items =

@@ -3,14 +3,15 @@ use Rattle.std.specs.List.{AllPairs}
 use Rattle.std.specs.List.Sorted.{IsPermutation}
 use Rattle.std.proofs.lemmas.List.{length-map}
 use Rattle.vrp_canonical.specs.Ordering.{AreMarked, AreOrdered, stops_in, stops_of}
-use Rattle.vrp_canonical.specs.Reaching.{IsFleet, IsPoolOf}
+use Rattle.vrp_canonical.specs.Reaching.{IsPoolOf}
+use Rattle.vrp_customers.specs.Fleet.{IsFleet}
 use Rattle.vrp_canonical.specs.declared.ordered.ListedRoute.{ListedRoute}
 use Rattle.vrp_canonical.proofs.CanonicalPlans.{both_told, told}
 use Rattle.vrp_canonical.proofs.OrderedPools.{narrowed_pool, whole_pool}
 use Rattle.vrp_model.specs.Order.{IsEarlier}
 use Rattle.vrp_model.specs.Problem.{Problem, customers}
 use Rattle.vrp_partition.specs.Pricing.{MarksWithin}
-use Rattle.vrp_routes.specs.Label.{set_of}
+use Rattle.vrp_customers.specs.CustomerSet.{set_of}
 use Rattle.vrp_routes.specs.Pool.{IsPool}
 use Rattle.vrp_canonical.proofs.narrowed.Narrowing.narrowed_routes.Goals as goal
 
@@ -18,7 +19,7 @@ pub returns-clause-ordered : goal.returns-clause-ordered
 returns-clause-ordered g c =
     let pool = c.args.pool.now in
     let routes = c.args.routes.now in
-    let whole = c.args.whole in
+    let whole = c.args.whole.now in
     let marks = c.in-Some.marks in
     let listed = c.in_ok-listed.listed in
     let are : AreMarked (map stops_in pool) routes marks.items (length pool) listed.items =

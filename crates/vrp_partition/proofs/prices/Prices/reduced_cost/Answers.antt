@@ -4,7 +4,7 @@ use Rattle.vrp_partition.specs.Prices.{Prices, dual_sum, charges, rewards, reduc
 use Rattle.vrp_partition.specs.declared.prices.TheConstants.{SCALE}
 use Rattle.vrp_partition.proofs.prices.Prices.reduced_cost.Goals as goal
 
-computed : (n p t r : ℕ) (e : ℤ) → n < 2 ^ 32 → p ≤ 2 ^ 59 → t ≤ 2 ^ 50 → r ≤ 2 ^ 59 → unsigned_abs e ≤ 2 ^ 59
+computed : (n p t r : ℕ) (e : ℤ) → n < 2 ^ 32 → p ≤ 2 ^ 59 → t ≤ 2 ^ 50 → r ≤ 2 ^ 59 → unsigned_abs e ≤ 2 ^ 60
     → to_z w64 (of_z w64 (to_z w64 (of_z w64 (to_z w64 (of_z w64 (to_z w64 (of_z w64 (to_z w64 (1048576 * n) +ℤ to_z w64 p)) +ℤ to_z w64 t)) -ℤ to_z w64 (of_z w64 e))) -ℤ to_z w64 r)) ≡ pos (1048576 * n + p + t) -ℤ e -ℤ pos r
 computed n p t r e cost few truck rare small = omega (arith, ints)
 

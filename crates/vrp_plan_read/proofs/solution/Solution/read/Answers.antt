@@ -2,7 +2,7 @@ use Rattle.std.proofs.Common.{◌∙◌, List, subst}
 use Rattle.vrp_plan_read.specs.Line.{lines_of}
 use Rattle.vrp_plan_read.specs.Inner.Listing.{given_routes}
 use Rattle.vrp_plan_read.specs.Inner.Served.{AreFaulty}
-use Rattle.vrp_plan_read.specs.declared.route.Route.{Route}
+use Rattle.vrp_plan_read.specs.declared.route.NonemptyRoute.{NonemptyRoute}
 use Rattle.vrp_plan_read.proofs.FaultyRoutes.{lines_are_faulty}
 use Rattle.vrp_plan_read.proofs.ReadSolutions.{customers_kept, gives_plan, kept_is_stated, states_other, stops_kept}
 use Rattle.vrp_plan_read.proofs.solution.Solution.read.Goals as goal
@@ -34,4 +34,4 @@ pub returns-clause-refused : goal.returns-clause-refused
 returns-clause-refused c = λ differs.
     let p = c.args.instance.now in
     lines_are_faulty p (lines_of c.args.text.now) c.in_ok-listing.listing c.in_ok-refusal_of-in-None.field-0 c.in_ok-listing.ensures.listed
-    (subst (λ (l : List Route). AreFaulty p (given_routes l) c.in_ok-refusal_of-in-None.field-0) c.deref-in-None.ensures.value c.in_ok-refusal_of-in-None.ensures)
+    (subst (λ (l : List NonemptyRoute). AreFaulty p (given_routes l) c.in_ok-refusal_of-in-None.field-0) c.deref-in-None.ensures.value c.in_ok-refusal_of-in-None.ensures)

@@ -1,12 +1,14 @@
 use Rattle.std.proofs.Common.{◌≡◌, ◌∙◌, ◌<◌, [], length, get_or, subst, arith}
-use Rattle.vrp_routes.specs.Candidates.{HasExtensions, no_label}
+use Rattle.vrp_routes.specs.Candidates.{HasExtensions}
+use Rattle.vrp_routes.proofs.Labels.{read_label}
 use Rattle.vrp_routes.proofs.candidates.Candidates.extended.Goals as goal
 
 pub offer_extensions-requires-clause-label : goal.offer_extensions-requires-clause-label
 offer_extensions-requires-clause-label c =
     let (k, stops, is) = c.requires.level in
     let i = c.loop-parent.parent in
-    (get_or stops i [], is.are.each i no_label (omega (arith, is.are.long, c.loop-parent-test.true, c.requires.to)))
+    let lt : i < length stops = omega (arith, is.are.long, c.loop-parent-test.true, c.requires.to) in
+    (get_or stops i [], read_label c.args.setting.now k stops c.args.labels.now i c.index-labels-parent.result is lt c.index-labels-parent.is)
 
 pub loop-parent-preserved : goal.loop-parent-preserved
 loop-parent-preserved c = record {
@@ -15,7 +17,7 @@ loop-parent-preserved c = record {
   extensions = λ k stops is has.
       let i = c.loop-parent.parent in
       let lt : i < length stops = omega (arith, is.are.long, c.loop-parent-test.true, c.requires.to) in
-      c.in_ok-offer_extensions.ensures.extensions k stops lt (is.are.each i no_label lt) (c.loop-parent.invariant.extensions k stops is has);
+      c.in_ok-offer_extensions.ensures.extensions k stops lt (read_label c.args.setting.now k stops c.args.labels.now i c.index-labels-parent.result is lt c.index-labels-parent.is) (c.loop-parent.invariant.extensions k stops is has);
 }
 
 pub returns : goal.returns

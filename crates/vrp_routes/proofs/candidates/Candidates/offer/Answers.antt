@@ -1,26 +1,23 @@
-use Rattle.std.proofs.Common.{◌≡◌, ◌∙◌, ℕ, length, if◌then◌else◌, ◌<◌, ◌≤◌, ◌++◌, ◌∷◌, [], inl, inr, None, Some, ap, sym, subst, refl, arith}
-use Rattle.std.proofs.lemmas.List.{get_or_default}
-use Rattle.vrp_routes.specs.Candidates.{IsOffered, key_of, kept_for, label_at, same_key}
+use Rattle.std.proofs.Common.{◌≡◌, ◌∙◌, ℕ, length, if◌then◌else◌, ◌<◌, ◌++◌, ◌∷◌, [], inl, inr, None, Some, ap, sym, subst, refl, arith}
+use Rattle.std.specs.Option.{option_map}
+use Rattle.vrp_routes.specs.Candidates.{IsOffered, key_of, kept_for, kept_in, label_at, same_key}
 use Rattle.vrp_routes.specs.declared.label.Label.{Label}
 use Rattle.vrp_routes.specs.declared.candidates.Candidates.{Candidates}
-use Rattle.vrp_routes.proofs.Extensions.{keyed_offered, some_same}
+use Rattle.vrp_routes.specs.declared.candidates.KeptLabel.{KeptLabel}
+use Rattle.vrp_routes.proofs.Extensions.{keyed_offered, place_of_kept, some_same}
 use Rattle.vrp_routes.proofs.candidates.Candidates.offer.Goals as goal
-use Rattle.vrp_routes.proofs.candidates.Candidates.offer.Goals.{in-Some+else-index-label, in_default}
+use Rattle.vrp_routes.proofs.candidates.Candidates.offer.Goals.{in-Some+else-kept-label, in_default}
 
-pub index-requires : goal.index-requires
-index-requires c = let lt = (c.requires.keyed (key_of c.args.label) c.in-Some.at.now (sym c.in-Some.ensures.value)).0 in omega (arith, lt, c.args.self.now.labels.ok)
-
-pub returns-then-index-label-clause-offered : goal.returns-then-index-label-clause-offered
-returns-then-index-label-clause-offered c =
+pub returns-then-kept-label-clause-offered : goal.returns-then-kept-label-clause-offered
+returns-then-kept-label-clause-offered c =
     let old = c.args.self.now in
-    let at = c.in-Some.at.now in
-    let kept : kept_for old (key_of c.args.label) ≡ Some at = sym c.in-Some.ensures.value in
-    let read : label_at old at ≡ c.index.result.now = get_or_default old.labels.items at _ _ (c.requires.keyed (key_of c.args.label) at kept).0 ∙ sym c.index.ensures in
+    let kept = c.in-Some.kept.now in
+    let there : kept_in old (key_of c.args.label) ≡ Some kept = sym c.in-Some.ensures.value in
     inl (record {
       same = refl;
-      at = at;
-      kept = kept;
-      no_costlier = subst (λ (l : Label). l.cost ≤ c.args.label.cost) (sym read) c.if-index-label.true;
+      at = kept.at;
+      kept = place_of_kept old (key_of c.args.label) kept there;
+      no_costlier = omega (arith, c.if-kept-label.true, c.requires.keyed.costs (key_of c.args.label) kept there);
     })
 
 pub returns-clause-offered : goal.returns-clause-offered
@@ -33,15 +30,15 @@ returns-clause-offered c =
       share = ap (λ (l : Candidates). l.share) same;
       longer = c.in_ok-push.ensures.items ∙ ap (λ (l : Candidates). l.labels.items ++ label ∷ []) same;
       cheaper = cheaper;
-      kept = λ key. c.in_ok-insert.ensures.updates.0 key ∙ ap (λ n. if same_key (key_of label) key then Some n else kept_for c.match-get.self key) (count same) ∙ ap (λ (l : Candidates). if same_key (key_of label) key then Some (length old.labels.items) else kept_for l key) same;
+      kept = λ key. c.in_ok-insert.ensures.updates.0 key ∙ ap (λ n. if same_key (key_of label) key then Some (record { at = n; cost = label.cost }) else kept_in c.match-get.self key) (count same) ∙ ap (λ (l : Candidates). if same_key (key_of label) key then Some (record { at = length old.labels.items; cost = label.cost }) else kept_in l key) same;
     }) in
     elim c.match-get.branch [
-      | in-Some+else-index-label w ↦ taken w.self-is (λ at is.
-          let there : kept_for old (key_of label) ≡ Some w.in-Some.at.now = sym w.in-Some.ensures.value in
-          let same : w.in-Some.at.now ≡ at = some_same w.in-Some.at.now at (sym there ∙ is) in
-          let read : label_at old w.in-Some.at.now ≡ w.index.result.now = get_or_default old.labels.items w.in-Some.at.now _ _ (c.requires.keyed (key_of label) w.in-Some.at.now there).0 ∙ sym w.index.ensures in
-          subst (λ n. label.cost < (label_at old n).cost) same (subst (λ (l : Label). label.cost < l.cost) (sym read) w.if-index-label.false))
-      | in_default w ↦ taken w.self-is (λ at is. absurd (let never : None ≡ Some at = w.in_default.ensures.value ∙ is in cc))
+      | in-Some+else-kept-label w ↦ taken w.self-is (λ at is.
+          let kept = w.in-Some.kept.now in
+          let there : kept_in old (key_of label) ≡ Some kept = sym w.in-Some.ensures.value in
+          let same : kept.at ≡ at = some_same kept.at at (sym (place_of_kept old (key_of label) kept there) ∙ is) in
+          subst (λ n. label.cost < (label_at old n).cost) same (omega (arith, w.if-kept-label.false, c.requires.keyed.costs (key_of label) kept there)))
+      | in_default w ↦ taken w.self-is (λ at is. absurd (let never : None ≡ Some at = ap (option_map (λ (kept : KeptLabel). kept.at)) w.in_default.ensures.value ∙ is in cc))
     ]
 
 pub returns-clause-keyed : goal.returns-clause-keyed

@@ -1,6 +1,5 @@
-use Rattle.std.proofs.Common.{◌∙◌, ℕ, [], ◌∷◌, ◌++◌, List, append-nil, append_assoc, drop, length, take, get_or, ap, sym, arith}
+use Rattle.std.proofs.Common.{◌∙◌, ℕ, ◌<◌, [], ◌∷◌, ◌++◌, List, append-nil, append_assoc, drop, length, take, ap, sym, subst, arith}
 use Rattle.std.proofs.lemmas.List.{length-append, length-drop, map_more, take_all}
-use Rattle.vrp_routes.specs.Candidates.{no_label}
 use Rattle.vrp_routes.specs.Level.{sequences, stops_of}
 use Rattle.vrp_routes.specs.declared.label.Label.{Label}
 use Rattle.vrp_routes.proofs.SequenceSteps.{level_step}
@@ -13,7 +12,8 @@ pub push-requires : goal.push-requires
 push-requires c =
     let old = c.args.self.now in
     let more = sequences (drop c.args.start old) (take c.loop-label.label-index c.args.labels.now) in
-    let parent = c.requires.parents c.loop-label.label-index no_label c.loop-label-test.true in
+    let label = c.label-item.result in
+    let parent : label.parent < length (drop c.args.start old) = subst (λ (l : Label). l.parent < length (drop c.args.start old)) (sym c.label-item.is) (c.requires.parents c.loop-label.label-index label c.loop-label-test.true) in
     let long = ap length c.loop-label.invariant in
     omega (arith, parent, length-drop c.args.start old, long, length-append old more)
 
@@ -24,13 +24,13 @@ loop-label-preserved c =
     let i = c.loop-label.label-index in
     let before = drop c.args.start old in
     let more = sequences before (take i labels) in
-    let label = get_or labels i no_label in
-    let parent = c.requires.parents i no_label c.loop-label-test.true in
+    let label = c.label-item.result in
+    let parent : label.parent < length before = subst (λ (l : Label). l.parent < length before) (sym c.label-item.is) (c.requires.parents i label c.loop-label-test.true) in
     c.in_ok-push.ensures
     ∙ ap (λ (xs : List ℕ). c.loop-label.self ++ xs ∷ []) (level_step old c.loop-label.self more c.args.start label c.loop-label.invariant parent)
     ∙ ap (λ (xs : List (List ℕ)). xs ++ stops_of before label ∷ []) c.loop-label.invariant
     ∙ append_assoc old more (stops_of before label ∷ [])
-    ∙ ap (λ (xs : List (List ℕ)). old ++ xs) (sym (map_more (stops_of before) labels i no_label c.loop-label-test.true))
+    ∙ ap (λ (xs : List (List ℕ)). old ++ xs) (ap (λ (l : Label). more ++ stops_of before l ∷ []) c.label-item.is ∙ sym (map_more (stops_of before) labels i label c.loop-label-test.true))
 
 pub returns : goal.returns
 returns c =

@@ -1,4 +1,0 @@
-pub mod PlacePairs
-pub mod PushedCells
-pub mod Recalled
-pub mod RememberedStops

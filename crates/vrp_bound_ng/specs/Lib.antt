@@ -1,4 +1,0 @@
-pub mod Inner
-pub mod NgSets
-pub mod Near
-pub mod NgWalks

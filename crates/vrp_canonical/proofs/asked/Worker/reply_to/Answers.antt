@@ -1,6 +1,0 @@
-use Rattle.std.proofs.Common.{arith}
-use Rattle.std.proofs.lemmas.Grind.{pieces}
-use Rattle.vrp_canonical.proofs.asked.Worker.reply_to.Goals as goal
-
-pub returns : goal.returns
-returns g c = search (pieces, arith) depth 5 fits 300

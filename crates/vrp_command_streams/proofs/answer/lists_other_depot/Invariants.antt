@@ -1,0 +1,5 @@
+use Rattle.std.proofs.Common.{length}
+use Rattle.vrp_command_streams.proofs.answer.lists_other_depot.Given as goal
+
+abbrev pub decreases-loop-line : goal.decreases-loop-line
+decreases-loop-line l = length l.lines.lines

@@ -1,0 +1,3 @@
+pub mod Fleets
+pub mod Sets
+pub mod TwoWords

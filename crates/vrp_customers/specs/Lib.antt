@@ -1,0 +1,3 @@
+pub mod CustomerSet
+pub mod Fleet
+pub mod Words

@@ -1,0 +1,5 @@
+use Rattle.std.proofs.Common.{◌<◌}
+use Rattle.vrp_heuristic.proofs.routes.Routes.far_end.Given as goal
+
+abbrev pub invariant-loop : goal.invariant-loop
+invariant-loop l = l.walk.at < l.self

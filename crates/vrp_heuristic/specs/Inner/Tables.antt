@@ -1,0 +1,17 @@
+-- Tables of whole rows, and what their cells name.
+use Rattle.std.specs.Prelude.{◌≡◌, ℕ, ◌*◌, ◌<◌, ◌≤◌}
+use Rattle.vrp_heuristic.specs.declared.near.NearArc.{NearArc}
+use Rattle.vrp_model.specs.declared.limits.TheConstants.{MAX_NODES}
+
+-- this many cells are a row of this many for each of this many places
+pub record IsSquare (places cells : ℕ) : Type 0 where
+  pub few : places ≤ MAX_NODES
+  pub square : cells ≡ places * places
+
+-- a number names one of this many places
+pub record IsPlace (places place : ℕ) : Type 0 where
+  pub within : place < places
+
+-- an arc leads to one of this many places
+pub record LeadsTo (places : ℕ) (arc : NearArc) : Type 0 where
+  pub within : arc.to < places

@@ -1,5 +1,0 @@
-use Rattle.std.proofs.Common.{◌<◌}
-use Rattle.vrp_heuristic_recreate.proofs.routes.Routes.far_end.Given as goal
-
-abbrev pub invariant-loop : goal.invariant-loop
-invariant-loop l = l.walk.at < l.self

@@ -1,7 +1,0 @@
-use Rattle.std.specs.List.{All}
-use Rattle.vrp_model.specs.Problem.{place_count}
-use Rattle.vrp_heuristic_savings.specs.Inner.Joints.{IsBetween}
-use Rattle.vrp_heuristic_savings.proofs.joint.push_joints.Given as goal
-
-abbrev pub invariant-loop-to : goal.invariant-loop-to
-invariant-loop-to l = All (IsBetween (place_count l.instance)) l.joints.items

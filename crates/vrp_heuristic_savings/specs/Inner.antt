@@ -1,2 +1,0 @@
-pub mod Joints
-pub mod Stops

@@ -1,0 +1,6 @@
+use Rattle.std.proofs.Common.{◌≡◌, ◌*◌, ◌≤◌, take}
+use Rattle.vrp_model.specs.Route.{load_of}
+use Rattle.vrp_model.proofs.plan.route_load.Given as goal
+
+abbrev pub invariant-loop-stop : goal.invariant-loop-stop
+invariant-loop-stop l = (l.load ≡ load_of l.instance (take l.stop-index l.stops)) × (l.load ≤ 1000000000 * l.stop-index)

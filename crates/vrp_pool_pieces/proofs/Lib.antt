@@ -1,7 +1,0 @@
-mod Answered
-mod Closings
-mod Floors
-mod KeptOutcomes
-mod NewCallers
-mod Teams
-mod Works

@@ -1,4 +1,0 @@
-pub mod NewPiles
-pub mod PileSteps
-pub mod SamePieces
-pub mod SharedPieces

@@ -1,7 +1,0 @@
-use Rattle.std.proofs.Common.{ap}
-use Rattle.vrp_pool_pile.specs.declared.draws.Draws.{Draws}
-use Rattle.vrp_pool_pile.proofs.PileSteps.{puts}
-use Rattle.vrp_pool_pile.proofs.owner.Owner.of_pieces.Goals as goal
-
-pub push_as-requires-clause-pushes : goal.push_as-requires-clause-pushes
-push_as-requires-clause-pushes c = puts _ _ _ (ap (λ (v : Draws). v.parts) c.loop-piece.invariant.known)

@@ -1,3 +1,0 @@
-pub mod Drawn
-pub mod Inner
-pub mod Pile

@@ -1,5 +1,0 @@
-use Rattle.vrp_pool_register.proofs.CostSteps.{opens}
-use Rattle.vrp_pool_register.proofs.cost_word.CostWord.new.Goals as goal
-
-pub of_words-requires : goal.of_words-requires
-of_words-requires c = opens c.args.opening c.args.count

@@ -1,8 +1,0 @@
-use Rattle.vrp_pool_register.proofs.LeastCosts.{least_of_all, least_stands}
-use Rattle.vrp_pool_register.proofs.law.least_is_least.Goals as goal
-
-pub returns-clause-one : goal.returns-clause-one
-returns-clause-one c = least_stands
-
-pub returns-clause-none_less : goal.returns-clause-none_less
-returns-clause-none_less c = least_of_all

@@ -1,5 +1,0 @@
-use Rattle.std.proofs.Common.{rules}
-use Rattle.vrp_pool_register.proofs.register.Register.offer.Goals as goal
-
-pub returns-clause-offered : goal.returns-clause-offered
-returns-clause-offered g c = search rules

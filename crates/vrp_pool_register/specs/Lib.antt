@@ -1,4 +1,0 @@
-pub mod Caller
-pub mod Costs
-pub mod History
-pub mod Inner

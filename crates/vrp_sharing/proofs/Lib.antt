@@ -1,0 +1,9 @@
+pub mod NewPiles
+pub mod PileSteps
+pub mod SamePieces
+pub mod SharedPieces
+pub mod CostHistory
+pub mod CostSteps
+pub mod KeptPlans
+pub mod LeastCosts
+pub mod Newcomers

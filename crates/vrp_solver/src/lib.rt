@@ -1,0 +1,26 @@
+//! Answers an instance cut into pieces: by useful routes if there are few, else by several workers who search the pieces.
+#![tactic(auto)]
+
+mod better_plan;
+mod choice;
+mod draws;
+mod look;
+mod pieces;
+mod preparation;
+mod price_bound;
+mod seat_board;
+mod solver;
+mod stage_watch;
+mod stages;
+mod team;
+mod worker;
+
+pub use look::LEAST_PREPARED_BUDGET;
+pub use pieces::MAX_WORKERS;
+pub use seat_board::SeatBoard;
+pub use solver::{solve, solve_from};
+pub use vrp_answer::{
+    Answer, Event, Finished, Gate, GatherError, Gatherer, NoGate, Resources, SolveError, Solved,
+    Stage,
+};
+pub use vrp_sharing::{Drawn, Owner, Pile, Thief, settle};

@@ -1,0 +1,252 @@
+//! The search of an instance by several workers.
+ghost use Rattle.std.specs.Prelude.{◌≡◌, ◌*◌, ◌≤◌, IfOk, IfSome, length};
+ghost use Rattle.std.specs.Option.{ForSome, option_map};
+ghost use Rattle.vrp_model.specs.Cheapest.{NoneCheaper, cost_of};
+ghost use Rattle.vrp_model.specs.Problem.{place_count};
+ghost use Rattle.vrp_model.specs.Route.{IsPlanOf};
+ghost use Rattle.vrp_search_tree.specs.Cutting.{IsCutting};
+ghost use Rattle.vrp_search_tree.specs.declared.cutting.TheConstants.{MAX_REFINED};
+ghost use Rattle.vrp_solver.specs.Inner.Solving.{IsSolved};
+ghost use Rattle.vrp_answer.specs.Answer.{IsAnswer, known_plan};
+ghost use Rattle.vrp_solver.specs.Inner.Pieces.{CanSolve, IsAnswered};
+ghost use Rattle.vrp_solver.specs.declared.pieces.TheConstants.{MAX_WORKERS};
+
+use crate::better_plan::better_plan;
+use crate::choice::{copied_ng_sets, plan_by_routes};
+use crate::look::looked_at;
+use crate::pieces::{answer_by_pieces, report_plan};
+use crate::preparation::{heuristic_plan, prices_for_pieces, prices_found};
+use crate::price_bound::bound_by_prices;
+use std::alloc::Global;
+use std::sync::Wait;
+use std::thread::Threads;
+use vrp_answer::{Answer, Event, Gate, Resources, Shared, SolveError, Solved};
+use vrp_bound::Tables;
+use vrp_bound_ascent::FoundPrices;
+use vrp_bound_prices::Relaxation;
+use vrp_canonical::RoutesOutcome;
+use vrp_model::{Instance, NgSets, NoMemory, Plan, plans_have_words};
+use vrp_search_tree::{Cutting, PriceTables};
+
+/// Searches all pieces of a cutting, each with this budget, by this many workers: `solve_from` without a start plan.
+pub fn solve<'a, R: Threads + Wait + Sync, G: Gate + Sync>(
+    rt: &'a R,
+    alloc: Global,
+    instance: &'a Instance,
+    cutting: Cutting,
+    workers: u32,
+    budget: u64,
+    gate: &'a G,
+) -> Result<Answer, SolveError>
+    requires cutting { IsCutting instance.now cutting }
+    requires few { length cutting ≤ 2 * MAX_REFINED }
+    requires some_worker { 1 ≤ workers }
+    requires few_workers { workers ≤ MAX_WORKERS }
+    requires budget { 1 ≤ budget }
+    ensures { IfOk result (IsAnswer instance.now cutting budget (G.may_stop gate.now)) }
+{
+    let solved = solve_from(rt, alloc, instance, None, cutting, workers, budget, gate)?;
+    Ok(solved.answer)
+}
+
+/// Searches all pieces of a cutting, each with this budget, by this many workers, each in a thread of its own if one can be made.
+/// They draw the pieces from one pile and offer their plans to one register, which opens with the plan of one truck for each
+/// customer, if there are that many trucks. The search bounds by tables over all customers. At the end an unfinished piece may be
+/// bounded once more, by tables over its unserved customers; if each plan under it then costs more than the best one, it counts as
+/// finished. A gate hears before each piece, and of each event, and is asked now and then whether to go on. The cutting is consumed.
+///
+/// Budgets below 1,000 skip the following steps. First one worker looks at the whole tree, at no more than 20,000 partial plans and
+/// no more than the budget; if that suffices, nothing else is done, and the gate hears only of the plan. Otherwise a heuristic plan is
+/// sought: by savings, and also by ruin and recreate if all pieces together may look at 100,000 partial plans or more. Then prices are
+/// sought, if there is a plan; the search of a piece prunes by them.
+///
+/// With prices and at most 255 customers, the routes that may be in the canonical plan are listed next, and that plan is chosen among
+/// them. If this ends, no piece is searched. If it doesn't, the pieces begin with the better plan that it found, if any. If the gate
+/// has a time, better plans are sought first, for most of the remaining time.
+///
+/// Before the pieces are searched, the start plan is offered, if one is given, or the heuristic plan if that is before it. The
+/// answer's plan costs no more than the start plan. No feasible plan costs less than the lower bound, which is the higher of the
+/// bounds by prices and by the choice among routes.
+pub fn solve_from<'a, R: Threads + Wait + Sync, G: Gate + Sync>(
+    rt: &'a R,
+    alloc: Global,
+    instance: &'a Instance,
+    start: Option<&'a Plan>,
+    cutting: Cutting,
+    workers: u32,
+    budget: u64,
+    gate: &'a G,
+) -> Result<Solved, SolveError>
+    requires start { ForSome (option_map (λ plan. plan.now) start) (IsPlanOf instance.now) }
+    requires cutting { IsCutting instance.now cutting }
+    requires few { length cutting ≤ 2 * MAX_REFINED }
+    requires some_worker { 1 ≤ workers }
+    requires few_workers { workers ≤ MAX_WORKERS }
+    requires budget { 1 ≤ budget }
+    ensures answer { IfOk result (λ solved. IsAnswer instance.now cutting budget (G.may_stop gate.now) solved.answer) }
+    ensures no_costlier { IfOk result (λ solved. cost_of (known_plan solved.answer)
+        ≤ cost_of (option_map (λ plan. plan.now) start.entry)) }
+    ensures bound { IfOk result (λ solved. NoneCheaper instance.now solved.lower_bound) }
+{
+    let tables = Tables::over_all(alloc, instance)?;
+    let pieces = cutting.pieces().len() as u32;
+    let resources = Resources::new(rt, alloc, gate);
+    let shared = Shared::new(&resources, instance, &tables, start, pieces, budget);
+    let solved = solve_shared(&shared, cutting, workers);
+    // Dropped by a call, here and below: an implicit drop happens on each way out, and each of these would be proved.
+    drop(tables);
+    Ok(solved?)
+}
+
+// Answers by a look at the whole tree if that is enough, else by a heuristic plan and prices, or by the pieces alone if no prices are
+// found.
+fn solve_shared<R: Threads + Wait + Sync, G: Gate + Sync>(
+    shared: &Shared<'_, R, G>,
+    cutting: Cutting,
+    workers: u32,
+) -> Result<Solved, NoMemory>
+    requires { CanSolve shared.now cutting workers }
+    ensures { IfOk result (IsSolved shared.now cutting) }
+{
+    report_plan(shared.gate, shared.start_plan);
+    if let Some(answer) = looked_at(shared)? {
+        report_plan(shared.gate, answer.plan());
+        return Ok(Solved {
+            answer,
+            lower_bound: 0,
+        });
+    }
+    let made = heuristic_plan(shared, workers)?;
+    let begun = shared.with_plan(made.as_ref());
+    let solved = match prices_found(&begun)? {
+        Some(
+            FoundPrices {
+                relaxation,
+                ng_sets,
+            },
+        ) => {
+            let solved = solve_by_prices(&begun, &relaxation, ng_sets, cutting, workers);
+            drop(relaxation);
+            solved?
+        }
+        None => Solved {
+            answer: solve_pieces(&begun, cutting, workers)?,
+            lower_bound: 0,
+        },
+    };
+    drop(made);
+    Ok(solved)
+}
+
+// Answers by the useful routes if there are few of them, else by the pieces.
+fn solve_by_prices<R: Threads + Wait + Sync, G: Gate + Sync>(
+    shared: &Shared<'_, R, G>,
+    relaxation: &Relaxation<'_>,
+    ng_sets: NgSets,
+    cutting: Cutting,
+    workers: u32,
+) -> Result<Solved, NoMemory>
+    requires problem { relaxation.now.problem ≡ shared.now.problem }
+    requires places { ng_sets.places ≡ place_count shared.now.problem }
+    requires can { CanSolve shared.now cutting workers }
+    ensures { IfOk result (IsSolved shared.now cutting) }
+{
+    let copy = copied_ng_sets(shared.alloc, shared.instance, &ng_sets)?;
+    let prices = PriceTables::new(shared.alloc, relaxation, ng_sets)?;
+    // A bound on all words is a bound on all plans.
+    plans_have_words();
+    let bound = bound_by_prices(shared.alloc, relaxation, &prices, copy.as_ref())?;
+    shared.gate.on_event(Event::Bound(bound));
+    let by_prices = bound.rounded_up();
+    let solved = match plan_by_routes(shared, relaxation, copy, workers)? {
+        RoutesOutcome::Canonical(plan) => {
+            report_plan(shared.gate, Some(&plan));
+            Solved {
+                answer: Answer::Proven(plan),
+                lower_bound: by_prices,
+            }
+        }
+        RoutesOutcome::Unfinished {
+            better,
+            lower_bound,
+        } => Solved {
+            answer: answer_after_routes(shared, better, &prices, cutting, workers)?,
+            lower_bound: lower_bound.max(by_prices),
+        },
+    };
+    drop(prices);
+    Ok(solved)
+}
+
+// Answers by the pieces, beginning with a better plan, if there is one; the search prunes by prices if they have a completion table.
+fn answer_after_routes<R: Threads + Wait + Sync, G: Gate + Sync>(
+    shared: &Shared<'_, R, G>,
+    better: Option<Plan>,
+    prices: &PriceTables<'_>,
+    cutting: Cutting,
+    workers: u32,
+) -> Result<Answer, NoMemory>
+    requires problem { prices.now.problem ≡ shared.now.problem }
+    requires better { IfSome better (IsPlanOf shared.now.problem) }
+    requires can { CanSolve shared.now cutting workers }
+    ensures { IfOk result (IsAnswered shared.now cutting) }
+{
+    let begun = shared.with_plan(better.as_ref());
+    // Without a completion table each look-up would take long.
+    let answer = if prices.has_completion_table() {
+        solve_pieces(&begun.by_prices(prices), cutting, workers)?
+    } else {
+        let coarse = prices_for_pieces(shared)?;
+        solve_by_coarse_prices(&begun, coarse, cutting, workers)?
+    };
+    drop(better);
+    Ok(answer)
+}
+
+// Answers by the pieces, and by these prices if they have a completion table.
+fn solve_by_coarse_prices<R: Threads + Wait + Sync, G: Gate + Sync>(
+    shared: &Shared<'_, R, G>,
+    found: Option<FoundPrices<'_>>,
+    cutting: Cutting,
+    workers: u32,
+) -> Result<Answer, NoMemory>
+    requires relaxation { IfSome found (λ prices. prices.relaxation.problem ≡ shared.now.problem) }
+    requires ng_sets { IfSome found (λ prices. prices.ng_sets.places ≡ place_count shared.now.problem) }
+    requires can { CanSolve shared.now cutting workers }
+    ensures { IfOk result (IsAnswered shared.now cutting) }
+{
+    let Some(
+        FoundPrices {
+            relaxation,
+            ng_sets,
+        },
+    ) = found
+    else {
+        return solve_pieces(shared, cutting, workers);
+    };
+    let prices = PriceTables::new(shared.alloc, &relaxation, ng_sets)?;
+    let answer = if prices.has_completion_table() {
+        solve_pieces(&shared.by_prices(&prices), cutting, workers)
+    } else {
+        solve_pieces(shared, cutting, workers)
+    };
+    drop(prices);
+    drop(relaxation);
+    answer
+}
+
+// Searches all pieces of a cutting by this many workers. If a time is set, they look for better plans first.
+fn solve_pieces<R: Threads + Wait + Sync, G: Gate + Sync>(
+    shared: &Shared<'_, R, G>,
+    cutting: Cutting,
+    workers: u32,
+) -> Result<Answer, NoMemory>
+    requires { CanSolve shared.now cutting workers }
+    ensures { IfOk result (IsAnswered shared.now cutting) }
+{
+    let better = better_plan(shared, workers)?;
+    let begun = shared.with_plan(better.as_ref());
+    let answer = answer_by_pieces(&begun, cutting, workers);
+    drop(better);
+    answer
+}

@@ -1,0 +1,85 @@
+//! The plan of stages: which part of the time and of the budget each stage of a run may use.
+ghost use Rattle.std.specs.Prelude.{◌≡◌, ◌*◌, ◌-◌, ◌^◌, ◌≤◌, min};
+
+use crate::look::LEAST_PREPARED_BUDGET;
+use vrp_answer::Stage;
+
+// Time is divided into twelfths.
+const PARTS: u64 = 12;
+
+/// From this many customers on, a run with a time looks for better plans in a stage of its own, prices have less time, and only files
+/// with few useful routes are listed.
+pub(crate) const MANY_CUSTOMERS: u16 = 126;
+
+// From this many customers on there are enough useful routes that better prices pay.
+const MANY_FOR_ROUTES: u16 = 60;
+
+/// What a stage may use.
+#[derive(Clone, Copy, Debug, PartialEq, Eq)]
+pub(crate) struct Share {
+    /// Twelfths of the time that is left when the stage begins, if a time is set. The rest is reserved for later stages.
+    pub(crate) twelfths: u64,
+    /// The least budget with which the stage is worth its time.
+    pub(crate) least: u64,
+    /// The units of its work for each partial plan of the budget.
+    pub(crate) work: u64,
+    /// The most units of its work.
+    pub(crate) most: u64,
+    ghost some_work: { 1 ≤ work },
+    ghost some_most: { 1 ≤ most },
+}
+
+/// What a stage may use in a run with this many customers: the one place that says so. Work is counted in partial plans, in steps of
+/// ascent for prices, in labels for routes, and in reduced costs for the choice. No clause pins the rows.
+pub(crate) fn share_of(stage: Stage, customers: u16) -> Share {
+    let few = customers < MANY_FOR_ROUTES;
+    let many = customers >= MANY_CUSTOMERS;
+    match stage {
+        // Small trees end there.
+        Stage::FirstLook => row(12, LEAST_PREPARED_BUDGET, 1, 20_000),
+        // With less, ruin and recreate would take longer than the search; then the plan comes from savings alone.
+        Stage::StartPlan => row(12, 100_000, 1, u64::MAX),
+        // Steps beyond these are not worth their time, however large the budget.
+        Stage::Prices if few => row(6, LEAST_PREPARED_BUDGET, 1, 640_000_000),
+        Stage::Prices if many => row(4, LEAST_PREPARED_BUDGET, 5, u64::MAX),
+        Stage::Prices => row(6, LEAST_PREPARED_BUDGET, 5, u64::MAX),
+        // The labels take less than three gigabytes.
+        Stage::Routes if many => row(2, LEAST_PREPARED_BUDGET, 1, 10_000_000),
+        Stage::Routes => row(6, LEAST_PREPARED_BUDGET, 1, 40_000_000),
+        Stage::Choice => row(12, LEAST_PREPARED_BUDGET, 1, u64::MAX),
+        Stage::PiecePrices if few => row(6, LEAST_PREPARED_BUDGET, 1, 640_000_000),
+        Stage::PiecePrices => row(6, LEAST_PREPARED_BUDGET, 5, u64::MAX),
+        Stage::BetterPlans => row(9, LEAST_PREPARED_BUDGET, 1, u64::MAX),
+        Stage::Pieces => row(12, 1, 1, u64::MAX),
+    }
+}
+
+// A row of the plan.
+fn row(twelfths: u64, least: u64, work: u64, most: u64) -> Share
+    requires work { 1 ≤ work }
+    requires most { 1 ≤ most }
+{
+    Share {
+        twelfths,
+        least,
+        work,
+        most,
+    }
+}
+
+impl Share {
+    /// The milliseconds that are reserved for later stages when this many are left.
+    pub(crate) fn reserved(self, left: u64) -> u64
+        ensures { result ≤ left }
+    {
+        left.saturating_sub(left.saturating_mul(self.twelfths) / PARTS)
+    }
+
+    /// The units of work that a budget allows.
+    pub(crate) fn work_for(self, budget: u64) -> u64
+        ensures some { 1 ≤ budget → 1 ≤ result }
+        ensures value { result ≡ min (min (budget * self.work) (2 ^ 64 - 1)) self.most }
+    {
+        budget.saturating_mul(self.work).min(self.most)
+    }
+}
