@@ -17,4 +17,4 @@ returns-clause-no_costlier g c =
     let plan_of = subst (λ (s : Search). IsPlanOf s.problem known) c.shared.view_is (c.shared.invariant.2 known (ap (option_map (λ plan. plan.now)) c.in-Some.is)) in
     let cost : cost_of c.args.shared.now.start_plan ≡ known.cost = ap (λ (s : Search). cost_of s.start_plan) (sym c.shared.view_is) ∙ ap (λ start. cost_of (option_map (λ plan. plan.now) start)) c.in-Some.is in
     canonical_no_costlier p (cost_of c.args.shared.now.start_plan) c.plan_from.result (λ plan canonical. (let cheapest : NoneCheaper p plan.cost = c.canonical_is_cheapest.ensures p plan canonical in
-      omega (arith, cost, plan_of.priced, cheapest known.routes plan_of.lawful))) c.plan_from.ensures.canonical
+    omega (arith, cost, plan_of.priced, cheapest known.routes plan_of.lawful))) c.plan_from.ensures.canonical

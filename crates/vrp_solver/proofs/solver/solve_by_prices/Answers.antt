@@ -20,7 +20,7 @@ returns g c =
       | in-Canonical w ↦ subst (IsSolved s c.args.cutting) (sym w.solved-is)
           (solved_by_routes s c.args.cutting c.in_ok-plan.field-0 w.in-Canonical.plan rounded c.in_ok-plan.ensures.canonical c.in_ok-plan.ensures.no_costlier by_prices w.in-Canonical.is)
       | in-Unfinished+in_ok-answer_after_routes-in-Unfinished w ↦ subst (IsSolved s c.args.cutting) (sym w.solved-is) (record {
-          answered = w.in_ok-answer_after_routes-in-Unfinished.ensures;
-          bound = higher_bound p w.in-Unfinished.lower_bound rounded w.max.result (subst (IfBound (NoneCheaper p)) w.in-Unfinished.is c.in_ok-plan.ensures.bound) by_prices w.max.ensures;
-        })
+        answered = w.in_ok-answer_after_routes-in-Unfinished.ensures;
+        bound = higher_bound p w.in-Unfinished.lower_bound rounded w.max.result (subst (IfBound (NoneCheaper p)) w.in-Unfinished.is c.in_ok-plan.ensures.bound) by_prices w.max.ensures;
+      })
     ]
