@@ -13,8 +13,8 @@ const CUTTINGS: [u32; 3] = [1, 2, 64];
 // A budget for each piece so small that the larger instances end soon.
 const LITTLE: u64 = 100;
 
-// The least total budget with which the heuristic plan comes from ruin and recreate.
-const ENOUGH_FOR_MOVES: u64 = 100_000;
+// The least budget with which the heuristic plan is made with all effort.
+const ENOUGH_FOR_PLANS: u64 = 1_000;
 
 // What a report says about the cost of a cheapest plan.
 #[derive(Clone, Copy)]
@@ -40,9 +40,9 @@ pub(crate) fn print_ranges<R: Files + Print + AllocGlobal + Threads + Wait + Syn
         };
         println!(rt; "{name}, {pieces} pieces: {optimum} {lies} between the bound and the cost")?;
     }
-    let range = range_of(rt, &file, 1, ENOUGH_FOR_MOVES)?;
+    let range = range_of(rt, &file, 1, ENOUGH_FOR_PLANS)?;
     println!(rt;
-        "{name}, a budget of {ENOUGH_FOR_MOVES}: Cost {}",
+        "{name}, a budget of {ENOUGH_FOR_PLANS}: Cost {}",
         range.cost
     )?;
     Ok(())
@@ -57,7 +57,7 @@ fn range_of<R: AllocGlobal + Threads + Wait + Sync>(
 ) -> Result<Range> {
     ensure!(1 <= pieces && pieces <= MAX_PIECES, "{pieces} pieces");
     ensure!(
-        1 <= budget && budget <= ENOUGH_FOR_MOVES,
+        1 <= budget && budget <= ENOUGH_FOR_PLANS,
         "a budget of {budget}"
     );
     let options = Options {

@@ -1,5 +1,5 @@
 -- What is found of a problem and written, said of the request and of the bytes that were read.
-use Rattle.std.proofs.Common.{◌≡◌, ◌∙◌, ◌≤◌, inl, inr, ℕ, Bool, None, Option, Some, List, Result, Ok, Err, IsTrue, OnOk, IfOk, IfErr, ap, refl, subst, sym}
+use Rattle.std.proofs.Common.{◌≡◌, ◌⊎◌, ◌∙◌, ◌≤◌, inl, inr, ℕ, Bool, None, Option, Some, List, Result, Ok, Err, IsTrue, OnOk, IfOk, IfErr, ap, refl, subst, sym}
 use Rattle.std.specs.Option.{ForSome, option_and_then, option_map}
 use Rattle.vrp_answer.specs.Answer.{known_plan}
 use Rattle.vrp_answer.specs.Finding.{FindingOf, lawful_finding}
@@ -10,8 +10,11 @@ use Rattle.vrp_command.specs.Answer.{IsAnswerTo}
 use Rattle.vrp_command.specs.Form.{IsFormIn, IsTextAs, WritesPart, WritesText}
 use Rattle.vrp_command.specs.Found.{IsFoundBy, WritesFound, WritesFoundPart, told_of}
 use Rattle.vrp_command.specs.Inner.Named.{ReadsNamed}
+use Rattle.std.specs.Prelude.{string_bytes}
+use Rattle.vrp_command.specs.Inner.Ready.{IsReady, context_for, plan_in}
 use Rattle.vrp_command.specs.Inner.Starts.{BeginsStated}
-use Rattle.vrp_command.specs.Inner.Written.{OnFault, WritesOn, WritesPartOn}
+use Rattle.vrp_command.specs.Inner.Written.{IsWritten, OnFault, WritesOn, WritesPartOn}
+use Rattle.vrp_command.specs.declared.solving.ReadyAnswer.{ReadyAnswer}
 use Rattle.vrp_command.specs.Program.{AnswersRequest, BeginsWith, GivesStart, OnRefusal, PrintsPartOfRequest, PrintsRequest, start_cost}
 use Rattle.vrp_command.specs.Run.{OnRefusedFile}
 use Rattle.vrp_command.specs.Text.{IsTextIn, context_of}
@@ -179,7 +182,37 @@ writes_part_on request name may_stop p unread file written_old written_new solut
       written = subst (λ (c : Option ℕ). WritesFoundPart request (context_of request name c) may_stop p start written_old written_new) (kept ∙ stated.stated) written;
     }
 
+-- ---- of an answer that is ready to be written
+
+-- what was written of it answers the request
+pub prints_ready : {S : Type 0} (request : Request) (may_stop : Bool) (unread : S → Option (List ℕ)) (file : Option (StartFile S)) (unread_old unread_new written_old written_new : Option (List ℕ)) (ready : ReadyAnswer)
+    → IsReady request may_stop unread file unread_old unread_new ready → (ended : Status) → WritesFound request (context_for request ready) may_stop ready.problem.instance (plan_in ready.start) written_old written_new ended
+    → IsWritten request may_stop unread file unread_old unread_new written_old written_new (record { status = ended; ready = ready })
+unfolding prints_request writes_on begins_so
+prints_ready request may_stop unread file unread_old unread_new written_old written_new ready is ended written =
+    let name = option_map string_bytes ready.problem.beside.name in
+    let cost = option_and_then (λ (s : Solution). s.stated_cost) ready.start in
+    record {
+      prints = prints_request request may_stop unread file unread_old unread_new written_old written_new ready.problem.instance name is.read ended
+          (writes_on request name may_stop ready.problem.instance unread file written_old written_new ready.start (plan_in ready.start) cost is.on.begins refl refl ended written);
+      other = is.on.begins.other;
+    }
+
+pub prints_part_of_ready : {S : Type 0} (request : Request) (may_stop : Bool) (unread : S → Option (List ℕ)) (file : Option (StartFile S)) (unread_old unread_new written_old written_new : Option (List ℕ)) (ready : ReadyAnswer)
+    → IsReady request may_stop unread file unread_old unread_new ready → WritesFoundPart request (context_for request ready) may_stop ready.problem.instance (plan_in ready.start) written_old written_new
+    → PrintsPartOfRequest request may_stop unread file unread_old unread_new written_old written_new
+prints_part_of_ready request may_stop unread file unread_old unread_new written_old written_new ready is written =
+    let name = option_map string_bytes ready.problem.beside.name in
+    let cost = option_and_then (λ (s : Solution). s.stated_cost) ready.start in
+    prints_part_of_request request may_stop unread file unread_old unread_new written_old written_new ready.problem.instance name is.read
+    (writes_part_on request name may_stop ready.problem.instance unread file written_old written_new ready.start (plan_in ready.start) cost is.on.begins refl refl written)
+
 -- ---- faults
+
+-- a fault of writing is no refusal
+pub on_write_fault : (File : TextError → Type 0) (Starts : StartError → Type 0) (Picture : Type 0) (error : RunError) → (error ≡ fault.OutOfMemory) ⊎ (error ≡ fault.Write) → OnRefusal (reason.Run error) File Starts Picture
+on_write_fault File Starts Picture error (inl is) = subst (λ (e : RunError). OnRefusedFile e File) (sym is) tt
+on_write_fault File Starts Picture error (inr is) = subst (λ (e : RunError). OnRefusedFile e File) (sym is) tt
 
 -- what holds of a value holds of the one that is answered
 pub on_ok : {T E : Type 0} {P Q : T → Type 0} → (r : Result T E) → ((value : T) → P value → Q value) → IfOk r P → IfOk r Q

@@ -19,6 +19,9 @@ const MANY_FOR_MOVES: u16 = 50;
 
 const MORE_MOVES: u32 = 3 * ENOUGH_MOVES;
 
+// With a smaller budget in all, ruin and recreate would take longer than the search; then the plan comes from savings alone.
+const WORTH_MOVES: u64 = 100_000;
+
 // The most customers near each place: with more, a round takes longer than it gains.
 const MOST_REMEMBERED: usize = 3;
 
@@ -30,7 +33,7 @@ const MORE_REMEMBERED: usize = 4;
 // About the most steps that a processor does in a millisecond. They set the size of a round; the watch ends the time.
 const STEPS_A_MILLISECOND: u64 = 2_000_000;
 
-/// A near-optimal plan, if one is found: by savings, and by all workers with ruin and recreate if the budget in all is large enough.
+/// A near-optimal plan, if one is found: by savings, and by all workers with ruin and recreate if the budget is worth it.
 pub(crate) fn heuristic_plan<R: Threads + Sync, G: Gate + Sync>(
     shared: &Shared<'_, R, G>,
     workers: u32,
@@ -59,7 +62,7 @@ fn moves_for<R, G: Gate>(shared: &Shared<'_, R, G>) -> u32 {
     let customers = shared.instance.customers();
     // With many customers and a time, all workers look for better plans later.
     let continues_later = customers >= MANY_CUSTOMERS && shared.gate.milliseconds_left().is_some();
-    if shared.budget_in_all() < share_of(Stage::StartPlan, customers).least {
+    if share_of(Stage::StartPlan, customers).work_for(shared.budget_in_all()) < WORTH_MOVES {
         0
     } else if customers < MANY_FOR_MOVES || continues_later {
         ENOUGH_MOVES
@@ -109,8 +112,7 @@ fn prices_in_time<'a, R, G: Gate>(
     )
 }
 
-// The prices found in as many steps as the budget allows: a step takes a tenth of the time of a partial plan, so there are as many
-// steps as partial plans, or a few times as many.
+// The prices found in as many steps as the budget allows.
 fn prices_by_budget<'a, R, G: Gate>(
     shared: &Shared<'a, R, G>,
     cost: u64,

@@ -57,8 +57,9 @@ pub fn solve<'a, R: Threads + Wait + Sync, G: Gate + Sync>(
 ///
 /// Budgets below 1,000 skip the following steps. First one worker looks at the whole tree, at no more than 20,000 partial plans and
 /// no more than the budget; if that suffices, nothing else is done, and the gate hears only of the plan. Otherwise a heuristic plan is
-/// sought: by savings, and also by ruin and recreate if all pieces together may look at 100,000 partial plans or more. Then prices are
-/// sought, if there is a plan; the search of a piece prunes by them.
+/// sought: by savings, and also by ruin and recreate if there are at most 255 customers, or all pieces together may look at 100,000
+/// partial plans or more. Then prices are sought, if there is a plan; the search of a piece prunes by them. With at most 255 customers a
+/// budget below the default one is saved on the pieces alone.
 ///
 /// With prices and at most 255 customers, the routes that may be in the canonical plan are listed next, and that plan is chosen among
 /// them. If this ends, no piece is searched. If it doesn't, the pieces begin with the better plan that it found, if any. If the gate

@@ -1,8 +1,8 @@
 //! The plan of stages: which part of the time and of the budget each stage of a run may use.
-ghost use Rattle.std.specs.Prelude.{◌≡◌, ◌*◌, ◌-◌, ◌^◌, ◌≤◌, min};
+ghost use Rattle.std.specs.Prelude.{◌≡◌, ◌*◌, ◌-◌, ◌^◌, ◌≤◌, max, min};
 
-use crate::look::LEAST_PREPARED_BUDGET;
 use vrp_answer::Stage;
+use vrp_customers::MOST_CUSTOMERS;
 
 // Time is divided into twelfths.
 const PARTS: u64 = 12;
@@ -14,15 +14,18 @@ pub(crate) const MANY_CUSTOMERS: u16 = 126;
 // From this many customers on there are enough useful routes that better prices pay.
 const MANY_FOR_ROUTES: u16 = 60;
 
+// What the default budget comes to: 64 pieces of 10,000,000 partial plans.
+const USUAL: u64 = 640_000_000;
+
 /// What a stage may use.
 #[derive(Clone, Copy, Debug, PartialEq, Eq)]
 pub(crate) struct Share {
     /// Twelfths of the time that is left when the stage begins, if a time is set. The rest is reserved for later stages.
     pub(crate) twelfths: u64,
-    /// The least budget with which the stage is worth its time.
-    pub(crate) least: u64,
     /// The units of its work for each partial plan of the budget.
     pub(crate) work: u64,
+    /// The units of its work that it gets from any budget: with less it would prove nothing, and the pieces would take longer.
+    pub(crate) least: u64,
     /// The most units of its work.
     pub(crate) most: u64,
     ghost some_work: { 1 ≤ work },
@@ -30,39 +33,45 @@ pub(crate) struct Share {
 }
 
 /// What a stage may use in a run with this many customers: the one place that says so. Work is counted in partial plans, in steps of
-/// ascent for prices, in labels for routes, and in reduced costs for the choice. No clause pins the rows.
+/// ascent for prices, in labels for routes, and in reduced costs for the choice. A partial plan takes the time of some twenty steps. So
+/// where routes can be listed, a small budget is saved on the pieces: what comes before them gets as much work as by default. No clause
+/// pins the rows.
 pub(crate) fn share_of(stage: Stage, customers: u16) -> Share {
     let few = customers < MANY_FOR_ROUTES;
     let many = customers >= MANY_CUSTOMERS;
+    let usual = if customers <= MOST_CUSTOMERS {
+        USUAL
+    } else {
+        0
+    };
     match stage {
         // Small trees end there.
-        Stage::FirstLook => row(12, LEAST_PREPARED_BUDGET, 1, 20_000),
-        // With less, ruin and recreate would take longer than the search; then the plan comes from savings alone.
-        Stage::StartPlan => row(12, 100_000, 1, u64::MAX),
+        Stage::FirstLook => row(12, 1, 0, 20_000),
+        Stage::StartPlan => row(12, 1, usual, u64::MAX),
         // Steps beyond these are not worth their time, however large the budget.
-        Stage::Prices if few => row(6, LEAST_PREPARED_BUDGET, 1, 640_000_000),
-        Stage::Prices if many => row(4, LEAST_PREPARED_BUDGET, 5, u64::MAX),
-        Stage::Prices => row(6, LEAST_PREPARED_BUDGET, 5, u64::MAX),
+        Stage::Prices if few => row(6, 1, usual, USUAL),
+        Stage::Prices if many => row(4, 5, 5 * usual, u64::MAX),
+        Stage::Prices => row(6, 5, 5 * usual, u64::MAX),
         // The labels take less than three gigabytes.
-        Stage::Routes if many => row(2, LEAST_PREPARED_BUDGET, 1, 10_000_000),
-        Stage::Routes => row(6, LEAST_PREPARED_BUDGET, 1, 40_000_000),
-        Stage::Choice => row(12, LEAST_PREPARED_BUDGET, 1, u64::MAX),
-        Stage::PiecePrices if few => row(6, LEAST_PREPARED_BUDGET, 1, 640_000_000),
-        Stage::PiecePrices => row(6, LEAST_PREPARED_BUDGET, 5, u64::MAX),
-        Stage::BetterPlans => row(9, LEAST_PREPARED_BUDGET, 1, u64::MAX),
-        Stage::Pieces => row(12, 1, 1, u64::MAX),
+        Stage::Routes if many => row(2, 1, 10_000_000, 10_000_000),
+        Stage::Routes => row(6, 1, 40_000_000, 40_000_000),
+        Stage::Choice => row(12, 1, usual, u64::MAX),
+        Stage::PiecePrices if few => row(6, 1, usual, USUAL),
+        Stage::PiecePrices => row(6, 5, 5 * usual, u64::MAX),
+        Stage::BetterPlans => row(9, 1, 0, u64::MAX),
+        Stage::Pieces => row(12, 1, 0, u64::MAX),
     }
 }
 
 // A row of the plan.
-fn row(twelfths: u64, least: u64, work: u64, most: u64) -> Share
+fn row(twelfths: u64, work: u64, least: u64, most: u64) -> Share
     requires work { 1 ≤ work }
     requires most { 1 ≤ most }
 {
     Share {
         twelfths,
-        least,
         work,
+        least,
         most,
     }
 }
@@ -78,8 +87,11 @@ impl Share {
     /// The units of work that a budget allows.
     pub(crate) fn work_for(self, budget: u64) -> u64
         ensures some { 1 ≤ budget → 1 ≤ result }
-        ensures value { result ≡ min (min (budget * self.work) (2 ^ 64 - 1)) self.most }
+        ensures value { result ≡ min (max (min (budget * self.work) (2 ^ 64 - 1)) self.least) self.most }
     {
-        budget.saturating_mul(self.work).min(self.most)
+        budget
+            .saturating_mul(self.work)
+            .max(self.least)
+            .min(self.most)
     }
 }

@@ -1,9 +1,12 @@
 -- The text written once a problem is read.
-use Rattle.std.specs.Prelude.{◌≡◌, ◌⊎◌, ℕ, Bool, Option, List}
+use Rattle.std.specs.Prelude.{◌≡◌, ◌↔◌, ◌⊎◌, ◌&&◌, if◌then◌else◌, ℕ, Bool, false, true, IsSomeAnd, IsTrue, Option, None, Some, List, Ok}
 use Rattle.vrp_answer.specs.declared.status.Status.{Status}
+use Rattle.vrp_answer.specs.declared.status.Status.TheVariants as status
 use Rattle.vrp_command.specs.Found.{WritesFound, WritesFoundPart}
-use Rattle.vrp_command.specs.Program.{BeginsWith, OnRefusedStart, start_cost}
+use Rattle.vrp_command.specs.Program.{BeginsWith, OnRefusedStart, PrintsRequest, start_cost}
+use Rattle.vrp_command.specs.Strict.{cost_code}
 use Rattle.vrp_command.specs.Text.{context_of}
+use Rattle.vrp_command.specs.declared.answering.WrittenAnswer.{WrittenAnswer}
 use Rattle.vrp_command.specs.declared.fault.RequestError.{RequestError}
 use Rattle.vrp_command.specs.declared.fault.RequestError.TheVariants as reason
 use Rattle.vrp_command.specs.declared.start.StartError.{StartError}
@@ -11,7 +14,10 @@ use Rattle.vrp_command.specs.declared.start.StartFile.{StartFile}
 use Rattle.vrp_model.specs.Problem.{Problem}
 use Rattle.vrp_model.specs.Route.{PricedPlan}
 use Rattle.vrp_command_request.specs.declared.options.Request.{Request}
+use Rattle.vrp_command_streams.specs.Fault.{exit_code}
 use Rattle.vrp_command_streams.specs.declared.fault.RunError.TheVariants as fault
+use Rattle.vrp_plan_read.specs.Solution.{StatesOtherCost}
+use Rattle.vrp_plan_read.specs.declared.solution.Solution.{Solution}
 
 -- the request's finding, for the problem of this name and the start plan from its file, was written, and nothing else
 pub record WritesOn {S : Type 0} (request : Request) (name : Option (List ℕ)) (may_stop : Bool) (p : Problem) (unread : S → Option (List ℕ)) (file : Option (StartFile S)) (written_old written_new : Option (List ℕ)) (ended : Status) : Type 0 where
@@ -30,3 +36,26 @@ abbrev pub OnFault : (StartError → Type 0) → Type 0 → RequestError → Typ
 OnFault Start Picture (reason.Run error) = (error ≡ fault.OutOfMemory) ⊎ (error ≡ fault.Write)
 OnFault Start Picture (reason.Start error) = OnRefusedStart error Start
 OnFault Start Picture reason.NoPoints = Picture
+
+-- The answer to a request was written, and nothing else; if there is a start plan, it is known whether its file states a wrong
+-- cost.
+pub record IsWritten {S : Type 0} (request : Request) (may_stop : Bool) (unread_start : S → Option (List ℕ)) (start : Option (StartFile S))
+    (unread_old unread_new written_old written_new : Option (List ℕ)) (written : WrittenAnswer) : Type 0 where
+  pub prints : PrintsRequest request may_stop unread_start start unread_old unread_new written_old written_new written.status
+  pub other : (solution : Solution) → written.ready.start ≡ Some solution
+      → IsSomeAnd prints.start_text (λ text. IsTrue solution.states_other_cost ↔ StatesOtherCost text solution.plan.cost)
+
+abbrev pub is_lawful : Status → Bool
+is_lawful status.Proven = false
+is_lawful status.Open = false
+is_lawful status.NoPlan = false
+is_lawful status.Lawful = true
+
+-- the exit status of a plan that was checked
+abbrev pub status_checked : Option Solution → ℕ
+status_checked None = 0
+status_checked (Some solution) = cost_code solution.states_other_cost
+
+-- the exit status of an answer that was written: with `--strict` a wrong stated cost of a checked plan changes it
+abbrev pub status_after : Request → WrittenAnswer → ℕ
+status_after request written = if request.strict && is_lawful written.status then status_checked written.ready.start else exit_code (Ok written.status)

@@ -38,7 +38,7 @@ fn as_by_trying_all_plans(rt: HostRuntime) {
         let canonical = canonical_plan(rt.alloc(), &instance).expect(&rt, "memory");
         let canonical = canonical.expect(&rt, "a plan");
         let (cost, word) = (canonical.cost, canonical.word.as_slice());
-        assert_canonical_by_all(&rt, rt.alloc(), &instance, NO_MOVES, cost, word);
+        assert_canonical_by_all(&rt, rt.alloc(), &instance, ALL_MOVES, cost, word);
     }
 }
 
@@ -150,9 +150,8 @@ fn by_chance(
 // The budget of a piece. The first look has as many partial plans of the whole tree, which are not enough.
 const BUDGET: u64 = 1_000;
 
-// The least number of pieces, the budget of each, and the question from which on the gate continues. With so few pieces there
-// is no ruin and recreate.
-const NO_MOVES: ((u32, u64), u64) = ((64, BUDGET), 0);
+// The least number of pieces, the budget of each, and the question from which on the gate continues. Here nothing is stopped.
+const ALL_MOVES: ((u32, u64), u64) = ((64, BUDGET), 0);
 
 // Four questions come from the four runs of ruin and recreate. These are stopped, so the heuristic plan comes from savings
 // alone.

@@ -8,7 +8,7 @@ use vrp_solver::Event;
 
 // Continues while the number of questions asked before is at least the first number and below the second.
 #[derive(Drop)]
-struct Continues {
+pub(super) struct Continues {
     from: u64,
     below: u64,
     asked: AtomicU64,
@@ -25,7 +25,7 @@ struct Continues {
 }
 
 impl Continues {
-    fn between(from: u64, below: u64) -> Continues {
+    pub(super) fn between(from: u64, below: u64) -> Continues {
         Continues {
             from,
             below,
@@ -74,8 +74,8 @@ impl Gate for Continues {
 
 // The numbers between which the gate continues, and how many partial plans are looked at in all. With a budget of 999 nothing
 // precedes the pieces, and each takes more. With a larger one the gate is asked once in each of four runs of ruin and
-// recreate, which it stops, once before the rounds for prices, and once before useful routes are listed, unless the budget is
-// too small for these two. A list that is begun and stopped leaves everything to the pieces.
+// recreate, which it stops, once before the rounds for prices, and once before useful routes are listed. A list that is begun and
+// stopped leaves everything to the pieces.
 const STOPPED: &[(Asked, (u64, u64), u64)] = &[
     ((1, 21, 999), (0, 0), 21),
     ((2, 21, 999), (0, 0), 21),
@@ -88,7 +88,7 @@ const STOPPED: &[(Asked, (u64, u64), u64)] = &[
     ((1, 1, 100_000_000), (6, 6), 1),
     ((1, 1, 100_000_000), (6, 7), 65_536),
     ((1, 1, 100_000_000), (6, 8), 131_072),
-    ((1, 1, 120_000), (4, 6), 120_000),
+    ((1, 1, 120_000), (6, 8), 120_000),
 ];
 
 #[test]

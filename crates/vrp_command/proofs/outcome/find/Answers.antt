@@ -4,7 +4,7 @@ use Rattle.vrp_answer.specs.Finding.{lawful_finding}
 use Rattle.vrp_command.specs.Found.{told_of}
 use Rattle.vrp_command.proofs.LawfulAnswers.{told_of_lawful}
 use Rattle.vrp_command.proofs.Requests.{is_checked, is_searched}
-use Rattle.vrp_command.proofs.found.find.Goals as goal
+use Rattle.vrp_command.proofs.outcome.find.Goals as goal
 
 pub returns-in-Some-clause-found : goal.returns-in-Some-clause-found
 returns-in-Some-clause-found g c =
