@@ -1,11 +1,11 @@
 -- The extensions of a level's labels, as they are offered one by one.
-use Rattle.std.proofs.Common.{◌≡◌, ℕ, zero, suc, ◌+◌, ◌%◌, ◌<◌, ◌≤◌, ◌==◌, ◌&&◌, append_assoc, Bool, true, false, if◌then◌else◌, inl, inr, None, Some, List, [], ◌∷◌, ◌++◌, length, length-append, get_or, refl, sym, ap, subst, ◌∙◌, arith}
+use Rattle.std.proofs.Common.{◌≡◌, ◌≢◌, ◌↔◌, ℕ, zero, suc, ◌+◌, ◌%◌, ◌<◌, ◌≤◌, ◌==◌, ◌&&◌, append_assoc, Bool, true, false, if◌then◌else◌, inl, inr, None, Some, Option, List, [], ◌∷◌, ◌++◌, length, length-append, get_or, set, refl, sym, ap, subst, ◌∙◌, arith}
 use Rattle.std.specs.Option.{option_map}
 use Rattle.std.specs.List.{All, AllPairs, Contains}
 use Rattle.std.specs.Map.{lookup}
-use Rattle.std.proofs.lemmas.Bool.{cases_Bool, cases_lt, eqb-true, false≢true}
+use Rattle.std.proofs.lemmas.Bool.{cases_Bool, cases_eq, cases_lt, eqb-true, false≢true}
 use Rattle.std.proofs.lemmas.Bool.Decides.{nat_tests}
-use Rattle.std.proofs.lemmas.List.{get_or_append_left, get_or_default, nil_from_length}
+use Rattle.std.proofs.lemmas.List.{get_or-set_other, get_or-set_same, get_or_append_left, get_or_default, length-set, nil_from_length}
 use Rattle.std.proofs.lemmas.List.Elements.{All-cons, All-nil, All-push}
 use Rattle.std.proofs.lemmas.List.Quantifiers.{all_pairs_push}
 use Rattle.vrp_model.specs.Order.{ComesBefore, IsEarlier}
@@ -15,7 +15,7 @@ use Rattle.vrp_model.proofs.CustomerPlaces.{customer_below, customer_is_some}
 use Rattle.vrp_model.proofs.LastRoute.{last_symbol_with}
 use Rattle.vrp_model.proofs.Ordered.{earlier_behind}
 use Rattle.vrp_routes.specs.Label.{IsLabel, SettingOf}
-use Rattle.vrp_routes.specs.Candidates.{HasExtensions, IsBefore, IsGrown, IsKept, IsKeyed, IsOffered, IsRefused, IsTaken, kept_for, kept_in, key_of, label_at, no_label, same_key}
+use Rattle.vrp_routes.specs.Candidates.{HasExtensions, IsBefore, IsGrown, IsKept, IsKeyed, IsOffered, IsRefused, IsTaken, is_superseded, kept_at, kept_for, kept_in, key_of, label_at, no_label, same_key}
 use Rattle.vrp_routes.specs.Level.{AreExtensions, ComesFirst, IsLevel, IsShare, sequences, stops_of}
 use Rattle.vrp_routes.specs.Share.{is_in}
 use Rattle.vrp_routes.specs.Useful.{BeginsUseful, IsUseful}
@@ -71,6 +71,25 @@ at_end (y ∷ xs) x d = at_end xs x d
 pub label_last : (old new : Candidates) (label : Label) → new.labels.items ≡ old.labels.items ++ label ∷ [] → label_at new (length old.labels.items) ≡ label
 label_last old new label longer = ap (λ (ls : List Label). get_or ls (length old.labels.items) no_label) longer ∙ at_end old.labels.items label _
 
+-- the flag of a label that was there, where none is superseded
+pub no_flag_set : (olds news : List Bool) (place : Option ℕ) (at : ℕ) → news ≡ olds ++ false ∷ [] → place ≡ None → at < length olds → (get_or news at true ≡ false) ↔ ((get_or olds at true ≡ false) × (place ≢ Some at))
+no_flag_set olds news place at longer none lt =
+    let same : get_or news at true ≡ get_or olds at true = ap (λ (flags : List Bool). get_or flags at true) longer ∙ get_or_append_left olds (false ∷ []) true at lt in
+    (λ no. (sym same ∙ no, λ is. (let never : None ≡ Some at = sym none ∙ is in cc)), λ both. same ∙ both.0)
+
+-- and where one is
+pub one_flag_set : (olds news : List Bool) (place : Option ℕ) (one at : ℕ) → news ≡ set olds one true ++ false ∷ [] → place ≡ Some one → at < length olds → (get_or news at true ≡ false) ↔ ((get_or olds at true ≡ false) × (place ≢ Some at))
+one_flag_set olds news place one at longer is lt =
+    let first : get_or news at true ≡ get_or (set olds one true) at true = ap (λ (flags : List Bool). get_or flags at true) longer ∙ get_or_append_left (set olds one true) (false ∷ []) true at (omega (arith, lt, length-set olds one true)) in
+    elim (cases_eq one at) [
+      | inl same ↦
+          let yes : get_or news at true ≡ true = first ∙ subst (λ n. get_or (set olds n true) at true ≡ true) (sym same) (get_or-set_same olds at true true lt) in
+          (λ no. absurd (false≢true (sym no ∙ yes)), λ both. absurd (both.1 (is ∙ ap Some same)))
+      | inr other ↦
+          let same : get_or news at true ≡ get_or olds at true = first ∙ get_or-set_other olds one at true true (λ also. other (sym also)) in
+          (λ no. (sym same ∙ no, λ also. other (some_same one at (sym is ∙ also))), λ both. same ∙ both.0)
+    ]
+
 -- what is kept for a key once the label is taken
 kept_own : (old new : Candidates) (label : Label) (key : ℕ × ℕ) → IsTaken old label new → same_key (key_of label) key ≡ true → kept_in new key ≡ Some (record { at = length old.labels.items; cost = label.cost })
 kept_own old new label key taken same = taken.kept key ∙ ap (λ b. if b then Some (record { at = length old.labels.items; cost = label.cost }) else kept_in old key) same
@@ -115,8 +134,42 @@ keyed_costs old new label keyed taken key kept is =
           keyed.costs key kept before ∙ sym (ap (λ (l : Label). l.cost) (label_first old new label kept.at taken.longer within))
     ]
 
+-- the flag of a label that was there
+first_flags : (old new : Candidates) (label : Label) → IsKeyed old → IsTaken old label new → (at : ℕ) → at < length old.labels.items → (is_superseded new at ≡ false) ↔ (kept_at new at ≡ Some at)
+first_flags old new label keyed taken at below =
+    let key = key_of (label_at old at) in
+    let there : kept_at new at ≡ kept_for new key = ap (λ (l : Label). kept_for new (key_of l)) (label_first old new label at taken.longer below) in
+    let (stays, back) = taken.first_flags at (omega (arith, below, keyed.one_flag_each)) in
+    let (kept, flag) = keyed.flags at below in
+    elim (cases_Bool (same_key (key_of label) key)) [
+      | inl same ↦ (
+        λ no. absurd ((stays no).1 (ap (kept_for old) (keys_same (key_of label) key same) ∙ kept (stays no).0)),
+        λ is. absurd (let last : length old.labels.items ≡ at = some_same (length old.labels.items) at (sym (kept_if old new label key taken same) ∙ sym there ∙ is) in omega (arith, last, below)),
+      )
+      | inr other ↦ (
+        λ no. there ∙ kept_else old new label key taken other ∙ kept (stays no).0,
+        λ is. back (flag (sym (kept_else old new label key taken other) ∙ sym there ∙ is), λ own. false≢true (sym other ∙ ap (same_key (key_of label)) (keyed.places (key_of label) at own).1 ∙ key_itself (key_of label))),
+      )
+    ]
+
+keyed_flags : (old new : Candidates) (label : Label) → IsKeyed old → IsTaken old label new → (at : ℕ) → at < length new.labels.items → (is_superseded new at ≡ false) ↔ (kept_at new at ≡ Some at)
+keyed_flags old new label keyed taken at lt =
+    let count = length old.labels.items in
+    elim (cases_lt at count) [
+      | inl below ↦ first_flags old new label keyed taken at below
+      | inr above ↦
+          let here : count ≡ at = omega (arith, above, lt, ap length taken.longer, length-append old.labels.items (label ∷ [])) in
+          let kept : kept_at new count ≡ Some count = ap (λ (l : Label). kept_for new (key_of l)) (label_last old new label taken.longer) ∙ kept_if old new label (key_of label) taken (key_itself (key_of label)) in
+          (λ _. subst (λ n. kept_at new n ≡ Some n) here kept, λ _. subst (λ n. is_superseded new n ≡ false) (keyed.one_flag_each ∙ here) taken.last_flag)
+    ]
+
 pub keyed_taken : (old new : Candidates) (label : Label) → IsKeyed old → IsTaken old label new → IsKeyed new
-keyed_taken old new label keyed taken = record { places = keyed_places old new label keyed taken; costs = keyed_costs old new label keyed taken }
+keyed_taken old new label keyed taken = record {
+  places = keyed_places old new label keyed taken;
+  costs = keyed_costs old new label keyed taken;
+  one_flag_each = omega (arith, taken.one_flag_more, keyed.one_flag_each, ap length taken.longer, length-append old.labels.items (label ∷ []));
+  flags = keyed_flags old new label keyed taken;
+}
 
 pub keyed_offered : (old new : Candidates) (label : Label) → IsKeyed old → IsOffered old label new → IsKeyed new
 keyed_offered old new label keyed (inl refused) = subst IsKeyed (sym refused.same) keyed
@@ -393,10 +446,12 @@ whole_level s k mine stops before labels is every share = record {
 none_kept : (level : Candidates) (key : ℕ × ℕ) → level.kept.entries ≡ [] → kept_in level key ≡ None
 none_kept level key empty = ap (lookup (same_key key)) empty
 
-pub empty_is_keyed : (level : Candidates) → level.kept.entries ≡ [] → IsKeyed level
-empty_is_keyed level empty = record {
+pub empty_is_keyed : (level : Candidates) → level.kept.entries ≡ [] → level.labels.items ≡ [] → level.superseded.items ≡ [] → IsKeyed level
+empty_is_keyed level empty none no_flags = record {
   places = λ key at is. absurd (let never : None ≡ Some at = sym (ap (option_map (λ (kept : KeptLabel). kept.at)) (none_kept level key empty)) ∙ is in cc);
   costs = λ key kept is. absurd (let never : None ≡ Some kept = sym (none_kept level key empty) ∙ is in cc);
+  one_flag_each = ap length no_flags ∙ sym (ap length none);
+  flags = λ at lt. absurd (omega (arith, lt, ap length none));
 }
 
 -- ---- the level of no stops

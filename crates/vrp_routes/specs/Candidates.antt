@@ -1,5 +1,5 @@
 -- The labels of one length as they are found: which of two with the same customers and the same last one is kept.
-use Rattle.std.specs.Prelude.{◌≡◌, ◌⊎◌, ℕ, ◌<◌, ◌≤◌, ◌==◌, ◌&&◌, if◌then◌else◌, Bool, true, Option, Some, List, [], ◌∷◌, ◌++◌, length, slice_index_or}
+use Rattle.std.specs.Prelude.{◌≡◌, ◌≢◌, ◌⊎◌, ◌↔◌, ℕ, ◌+◌, ◌<◌, ◌≤◌, ◌==◌, ◌&&◌, if◌then◌else◌, Bool, true, false, Option, Some, List, [], ◌∷◌, ◌++◌, length, slice_index_or}
 use Rattle.std.specs.HashMap.{get}
 use Rattle.std.specs.List.{All, AllPairs}
 use Rattle.std.specs.Option.{option_map}
@@ -38,10 +38,16 @@ label_at found at = slice_index_or found.labels.items at no_label
 abbrev pub kept_at : Candidates → ℕ → Option ℕ
 kept_at found at = kept_for found (key_of (label_at found at))
 
--- what is kept for a key is a label with that key, and its cost
+-- whether a later label has taken the place of this one
+abbrev pub is_superseded : Candidates → ℕ → Bool
+is_superseded found at = slice_index_or found.superseded.items at true
+
+-- what is kept for a key is a label with that key, and its cost; the labels that are kept are those that no other has taken the place of
 pub record IsKeyed (found : Candidates) : Type 0 where
   pub places : (key : ℕ × ℕ) (at : ℕ) → kept_for found key ≡ Some at → (at < length found.labels.items) × (key_of (label_at found at) ≡ key)
   pub costs : (key : ℕ × ℕ) (kept : KeptLabel) → kept_in found key ≡ Some kept → kept.cost ≡ (label_at found kept.at).cost
+  pub one_flag_each : length found.superseded.items ≡ length found.labels.items
+  pub flags : (at : ℕ) → at < length found.labels.items → (is_superseded found at ≡ false) ↔ (kept_at found at ≡ Some at)
 
 -- a label was offered: refused where one is kept for its key that costs no more, and else kept in its stead
 pub record IsRefused (old : Candidates) (label : Label) (new : Candidates) : Type 0 where
@@ -55,6 +61,9 @@ pub record IsTaken (old : Candidates) (label : Label) (new : Candidates) : Type 
   pub longer : new.labels.items ≡ old.labels.items ++ label ∷ []
   pub cheaper : (at : ℕ) → kept_for old (key_of label) ≡ Some at → label.cost < (label_at old at).cost
   pub kept : (key : ℕ × ℕ) → kept_in new key ≡ (if same_key (key_of label) key then Some (record { at = length old.labels.items; cost = label.cost }) else kept_in old key)
+  pub one_flag_more : length new.superseded.items ≡ length old.superseded.items + 1
+  pub first_flags : (at : ℕ) → at < length old.superseded.items → (is_superseded new at ≡ false) ↔ ((is_superseded old at ≡ false) × (kept_for old (key_of label) ≢ Some at))
+  pub last_flag : is_superseded new (length old.superseded.items) ≡ false
 
 abbrev pub IsOffered : Candidates → Label → Candidates → Type 0
 IsOffered old label new = IsRefused old label new ⊎ IsTaken old label new

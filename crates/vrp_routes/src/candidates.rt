@@ -20,6 +20,8 @@ use vrp_model::NoMemory;
 pub struct Candidates {
     share: Share,
     labels: Vec<Label>,
+    // Whether a later label has taken its place, label by label.
+    superseded: Vec<bool>,
     // The label that is kept, by set and last customer.
     kept: HashMap<(CustomerSet, u16), KeptLabel>,
 }
@@ -41,6 +43,7 @@ impl Candidates {
         Candidates {
             share,
             labels: Vec::new(alloc),
+            superseded: Vec::new(alloc),
             kept: HashMap::new(alloc),
         }
     }
@@ -103,6 +106,7 @@ impl Candidates {
 
     /// The labels that are kept, in their order.
     pub fn undominated(&self, alloc: Global) -> Result<Vec<Label>, NoMemory>
+        requires keyed { IsKeyed self.now }
         ensures { IfOk result (IsPart self.now) }
     {
         let mut labels = Vec::new(alloc);
@@ -115,15 +119,13 @@ impl Candidates {
     }
 
     // Whether a label is kept.
+    #[inline(always)]
     fn keeps(&self, at: usize) -> bool
-        requires { at < length self.now.labels.items }
+        requires keyed { IsKeyed self.now }
+        requires within { at < length self.now.labels.items }
         ensures { IsTrue result ↔ (kept_at self.now at ≡ Some at) }
     {
-        let label = self.labels[at];
-        match self.kept.get(&(label.set, label.last)) {
-            Some(kept) => kept.at == at,
-            None => false,
-        }
+        !self.superseded[at]
     }
 
     // Adds a label, unless one with the same customers and the same last one costs no more.
@@ -137,6 +139,7 @@ impl Candidates {
             if kept.cost <= label.cost {
                 return Ok(());
             }
+            self.superseded[kept.at] = true;
         }
         let kept = KeptLabel {
             at: self.labels.len(),
@@ -144,6 +147,7 @@ impl Candidates {
         };
         self.kept.insert(key, kept)?;
         self.labels.push(label)?;
+        self.superseded.push(false)?;
         Ok(())
     }
 }

@@ -33,6 +33,9 @@ loop-from-preserved g c =
       finding = λ k stops is i d lt. (let within : i < length c.loop-from.found.items = omega (arith, lt, further.count) in (further.each i d d within).extensions k stops is (known.finding k stops is i d within));
     }
 
+pub kept_by_all-requires-clause-keyed : goal.kept_by_all-requires-clause-keyed
+kept_by_all-requires-clause-keyed g c = λ _ _ i found lt is. subst IsKeyed (sym is) (c.loop-from.invariant.shares.keyed i found lt)
+
 pub returns-clause-count : goal.returns-clause-count
 returns-clause-count g c = omega (arith, c.in_ok-parts.ensures.count, c.loop-from.invariant.count, c.loop-from.found.ok)
 
