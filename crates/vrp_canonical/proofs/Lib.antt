@@ -1,6 +1,7 @@
 pub mod Answered
 pub mod Begun
 pub mod CanonicalPlans
+pub mod ChosenWords
 pub mod Counted
 pub mod KnownChoices
 pub mod Marked

@@ -2,10 +2,11 @@
 use Rattle.std.specs.Prelude.{◌≡◌, ℕ, ◌<◌, Bool, true, false, List, [], length, map, slice_index_or}
 use Rattle.std.specs.List.{All, AllPairs, Contains}
 use Rattle.vrp_canonical.specs.Passing.{route_in}
-use Rattle.vrp_canonical.specs.Reaching.{IsPoolOf}
+use Rattle.vrp_canonical.specs.Reaching.{IsPoolOf, routes_at}
 use Rattle.vrp_canonical.specs.declared.ordered.ListedRoute.{ListedRoute}
 use Rattle.vrp_model.specs.Order.{IsEarlier}
 use Rattle.vrp_model.specs.Problem.{Problem}
+use Rattle.vrp_model.specs.Word.{word_of}
 use Rattle.vrp_partition.specs.declared.route.Route.{Route}
 use Rattle.vrp_routes.specs.Pool.{RouteOf}
 
@@ -40,3 +41,11 @@ pub record AreMarked (stops : List (List ℕ)) (pool : List Route) (marks : List
 pub record AreOrdered (p : Problem) (limit : ℕ) (ordered : List ListedRoute) : Type 0 where
   pub pool_of : IsPoolOf p limit (map stops_of ordered) (map route_of ordered)
   pub rising : AllPairs IsEarlier (map stops_of ordered)
+
+-- the word of chosen routes, by the stops of the pool's routes: the pool has each chosen route at a place, and these places' stops make
+-- up the word
+pub record IsWordOf (stops : List (List ℕ)) (pool choice : List Route) (word : List ℕ) : Type 0 where
+  pub places : List ℕ
+  pub within : All (λ at. at < length pool) places
+  pub chosen : map (route_in pool) places ≡ choice
+  pub is : word ≡ word_of (routes_at stops places)

@@ -1,8 +1,9 @@
 //! Routes in the order of their stops.
-ghost use Rattle.std.specs.Prelude.{◌≡◌, ◌↔◌, ◌<◌, IfOk, IfSome, IsTrue, length, map};
-ghost use Rattle.std.specs.List.{All, AllPairs};
+ghost use Rattle.std.specs.Prelude.{◌≡◌, ◌↔◌, ◌<◌, IfNone, IfOk, IfSome, IsTrue, length, map};
+ghost use Rattle.std.specs.List.{All, AllPairs, Contains};
 ghost use Rattle.std.specs.List.Sorted.{IsPermutation};
-ghost use Rattle.vrp_canonical.specs.Ordering.{AreMarked, chosen_of, route_of, stops_in, stops_of};
+ghost use Rattle.vrp_canonical.specs.Ordering.{AreMarked, IsWordOf, chosen_of, route_of, stops_in, stops_of};
+ghost use Rattle.vrp_canonical.specs.Passing.{route_in};
 ghost use Rattle.vrp_canonical.specs.Reaching.{routes_at};
 ghost use Rattle.vrp_model.specs.Order.{IsEarlier};
 ghost use Rattle.vrp_model.specs.Word.{word_of};
@@ -149,7 +150,7 @@ pub fn word_at(
 }
 
 /// The word of a choice of a pool's routes: the stops of each, followed by 0. `routes` are those of the pool, as a choice sees them. The
-/// word is not trusted, and the contract leaves open that each route is found.
+/// contract leaves open what the word is where a chosen route is none of these.
 pub fn word_of_choice(
     alloc: Global,
     pool: &RoutePool,
@@ -157,6 +158,8 @@ pub fn word_of_choice(
     choice: &[Route],
 ) -> Result<Vec<u16>, NoMemory>
     requires { length routes.now ≡ length pool.now }
+    ensures { IfOk result (λ word. All (Contains routes.now) choice.now
+        → IsWordOf (map stops_in pool.now) routes.now choice.now word.items) }
 {
     let mut word = Vec::new(alloc);
     for chosen in choice {
@@ -171,7 +174,9 @@ pub fn word_of_choice(
 
 // The first place of a route with the same customers and the same cost.
 fn place_of(routes: &[Route], route: Route) -> Option<usize>
-    ensures { IfSome result (λ at. at < length routes.now) }
+    ensures within { IfSome result (λ at. at < length routes.now) }
+    ensures is { IfSome result (λ at. route_in routes.now at ≡ route) }
+    ensures none { IfNone result (Contains routes.now route → ⊥) }
 {
     for at in 0..routes.len() {
         if routes[at].set == route.set && routes[at].cost == route.cost {

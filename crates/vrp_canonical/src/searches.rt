@@ -1,8 +1,9 @@
 //! Answers by searches over parts of the pool.
-ghost use Rattle.std.specs.Prelude.{◌≡◌, ◌+◌, ◌<◌, ◌≤◌, ◌↔◌, IfOk, IfSome, IsTrue, OnOk};
+ghost use Rattle.std.specs.Prelude.{◌≡◌, ◌+◌, ◌^◌, ◌<◌, ◌≤◌, ◌↔◌, IfNone, IfOk, IfSome, IsTrue, OnOk};
 ghost use Rattle.vrp_canonical.specs.Reaching.{Reaches};
 ghost use Rattle.vrp_customers.specs.declared.customer_set.TheConstants.{PLACES};
 ghost use Rattle.vrp_partition.specs.Branching.{IsFound};
+ghost use Rattle.vrp_partition.specs.Prices.{AllFit};
 
 use crate::known::{is_choice, routes_inside};
 use crate::residual::Residual;
@@ -92,7 +93,7 @@ impl<R: Threads + Sync, P: Guide + Send, W: Watch + Sync> Searches<'_, R, P, W> 
 }
 
 /// The result of a search for a residual problem: the cheapest choice of routes, if it is within the cost limit; otherwise a cost of one
-/// more than the limit. `None` if amounts are too great for a search; no clause says when.
+/// more than the limit. `None` if a route doesn't fit a truck or the limit doesn't fit 32 bits.
 pub fn search_within<R: Threads + Sync, P: Guide + Send, W: Watch>(
     crew: &Crew<'_, R, W>,
     guide: &P,
@@ -102,6 +103,8 @@ pub fn search_within<R: Threads + Sync, P: Guide + Send, W: Watch>(
     budget: &mut u64,
 ) -> Result<Option<Found>, AllocError>
     ensures found { IfOk result (λ answer. IfSome answer (IsFound routes.now rest.now.unserved rest.now.trucks (rest.now.most + 1))) }
+    ensures none { IfOk result (λ answer. IfNone answer (rest.now.most < 2 ^ 32
+        → AllFit fleet.now.demands.items fleet.now.capacity routes.now → ⊥)) }
     ensures budget { budget.new ≤ budget.old }
 {
     let fleet = FleetView {

@@ -4,6 +4,7 @@ use Rattle.std.specs.List.{All, sum_by}
 use Rattle.vrp_customers.specs.declared.customer_set.TheConstants.{PLACES}
 use Rattle.vrp_partition.specs.Choice.{IsChoice, set_of}
 use Rattle.vrp_partition.specs.declared.prices.Cut.{Cut}
+use Rattle.vrp_partition.specs.declared.prices.PriceOffer.{PriceOffer}
 use Rattle.vrp_partition.specs.declared.route.Route.{Route}
 
 pub record Prices : Type 0 where
@@ -25,6 +26,10 @@ pub record AreModerate (prices : Prices) : Type 0 where
   pub capacity_cuts : length prices.capacity_cuts ≤ 512
   pub capacity_cut : All (λ (cut : Cut). cut.price ≤ 2 ^ 50) prices.capacity_cuts
   pub truck : prices.truck_price ≤ 2 ^ 50
+
+-- the prices that are offered
+abbrev pub prices_of : PriceOffer → Prices
+prices_of offer = record { duals = offer.duals.items; subset_rows = offer.subset_rows.items; capacity_cuts = offer.capacity_cuts.items; truck_price = offer.truck_price }
 
 -- the sum over a list of numbers with a sign
 abbrev pub total : {X : Type 0} → (X → ℤ) → List X → ℤ
@@ -116,3 +121,10 @@ pub record IsSubsetRow (cut : Cut) : Type 0 where
 pub record IsCapacityCut (demands : List ℕ) (capacity customers : ℕ) (cut : Cut) : Type 0 where
   pub moderate : cut.price ≤ 2 ^ 50
   pub needed : IsNeeded demands capacity customers cut
+
+-- prices that are admitted: few and of moderate size, each subset-row cut with three customers at most, and each capacity cut with a
+-- set that needs as many routes as the cut asks for
+pub record IsAdmissible (demands : List ℕ) (capacity customers : ℕ) (prices : Prices) : Type 0 where
+  pub moderate : AreModerate prices
+  pub three : All (λ (cut : Cut). count_ones cut.set ≤ 3) prices.subset_rows
+  pub needed : All (IsNeeded demands capacity customers) prices.capacity_cuts

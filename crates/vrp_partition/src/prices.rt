@@ -1,7 +1,7 @@
 //! Prices of the rows of the set partitioning (customers, two kinds of cuts, trucks), with reduced costs and the lower bound.
-ghost use Rattle.std.specs.Prelude.{◌≡◌, ◌≤◌, ◌≤ℤ◌, ◌+ℤ◌, ◌*◌, ◌^◌, [], List, pos, length, unsigned_abs, IfOk, IfSome, IsTrue};
+ghost use Rattle.std.specs.Prelude.{◌≡◌, ◌≤◌, ◌≤ℤ◌, ◌+ℤ◌, ◌*◌, ◌^◌, [], List, pos, length, unsigned_abs, ◌↔◌, IfNone, IfOk, IfSome, IsTrue};
 ghost use Rattle.std.specs.List.{All};
-ghost use Rattle.vrp_partition.specs.Prices.{AllFit, AreModerate, AreValid, IsSubsetRow, IsCapacityCut, load_of, charges, dual_sum, lower_bound_of, reduced_cost_of, rewards};
+ghost use Rattle.vrp_partition.specs.Prices.{AllFit, AreModerate, AreValid, IsAdmissible, IsSubsetRow, IsCapacityCut, load_of, charges, dual_sum, lower_bound_of, prices_of, reduced_cost_of, rewards};
 ghost use Rattle.vrp_partition.specs.declared.prices.Cut.{Cut};
 ghost use Rattle.vrp_partition.specs.declared.route.Route.{Route};
 ghost use Rattle.vrp_partition.specs.declared.prices.TheConstants.{SCALE};
@@ -83,9 +83,9 @@ impl PriceOffer {
 }
 
 impl Prices {
-    /// The offered prices, if they bound: at most 512 cuts of each kind, prices of moderate size, no subset-row cut of more than three
-    /// customers, and no capacity cut that asks for more routes than its customers' demand does; otherwise `None`. No clause says that
-    /// such prices are admitted. The demands are those of all places.
+    /// The offered prices, if they are admissible: a dual for each place, at most 512 cuts of each kind, prices of moderate size,
+    /// subset-row cuts of at most three customers, and capacity cuts over some of these customers that ask for no more routes than their
+    /// demand does. Otherwise `None`. The demands are those of all places.
     pub fn admit(
         offer: PriceOffer,
         demands: &[u32],
@@ -93,8 +93,10 @@ impl Prices {
         customers: CustomerSet,
     ) -> Option<Prices>
         requires { length demands.now ≡ PLACES }
-        ensures { IfSome result (λ prices. (pool : List Route)
+        ensures valid { IfSome result (λ prices. (pool : List Route)
             → AllFit demands.now capacity pool → AreValid prices pool customers) }
+        ensures same { IfSome result (λ prices. prices ≡ prices_of offer) }
+        ensures none { IfNone result (IsAdmissible demands.now capacity customers (prices_of offer) → ⊥) }
     {
         let PriceOffer {
             duals,
@@ -212,14 +214,14 @@ fn fleet_price(trucks: u8, price: u64) -> u64
 
 // Whether no price is too far from 0.
 fn are_moderate(prices: &[i64]) -> bool
-    ensures { IsTrue result → All (λ price. unsigned_abs price ≤ 2 ^ 52) prices.now }
+    ensures { IsTrue result ↔ All (λ price. unsigned_abs price ≤ 2 ^ 52) prices.now }
 {
     prices.iter().all(|price| price.unsigned_abs() <= MOST_DUAL)
 }
 
 // Whether each cut has three customers at most, and a price that is not too high.
 fn are_subset_rows(cuts: &[Cut]) -> bool
-    ensures { IsTrue result → All IsSubsetRow cuts.now }
+    ensures { IsTrue result ↔ All IsSubsetRow cuts.now }
 {
     cuts.iter()
         .all(|cut| cut.price <= MOST_CUT_PRICE && cut.set.len() <= 3)
@@ -228,7 +230,7 @@ fn are_subset_rows(cuts: &[Cut]) -> bool
 // Whether each cut is within the customers, asks for no more routes than its demand does, and has a price that is not too high.
 fn are_capacity_cuts(cuts: &[Cut], demands: &[u32], capacity: u32, customers: CustomerSet) -> bool
     requires { length demands.now ≡ PLACES }
-    ensures { IsTrue result → All (IsCapacityCut demands.now capacity customers) cuts.now }
+    ensures { IsTrue result ↔ All (IsCapacityCut demands.now capacity customers) cuts.now }
 {
     for cut in cuts {
         if cut.price > MOST_CUT_PRICE || !cut.set.is_subset(customers) {

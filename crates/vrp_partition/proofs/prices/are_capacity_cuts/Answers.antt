@@ -1,6 +1,5 @@
-use Rattle.std.proofs.Common.{◌≡◌, ◌<◌, ◌+◌, ◌*◌, ℕ, All, arith, sym, ◌∙◌, subst, bit_and}
+use Rattle.std.proofs.Common.{◌≡◌, ◌<◌, ◌+◌, ◌*◌, ℕ, arith, sym, ◌∙◌, subst, bit_and}
 use Rattle.std.proofs.lemmas.Bool.{eqb-true}
-use Rattle.std.proofs.lemmas.List.{take_all}
 use Rattle.std.proofs.lemmas.List.Elements.{All-more}
 use Rattle.vrp_partition.specs.Prices.{IsCapacityCut, load_of}
 use Rattle.vrp_partition.specs.declared.prices.Cut.{Cut}
@@ -21,6 +20,3 @@ loop-cut-preserved c =
       };
     } in
     All-more (IsCapacityCut c.args.demands.now c.args.capacity c.args.customers) c.args.cuts.now c.loop-cut.cut-index cut c.loop-cut-test.true c.loop-cut.invariant (subst (IsCapacityCut c.args.demands.now c.args.capacity c.args.customers) c.cut-item.is here)
-
-pub returns : goal.returns
-returns c = λ yes. subst (λ cuts. All (IsCapacityCut c.args.demands.now c.args.capacity c.args.customers) cuts) (take_all c.loop-cut.cut-index c.args.cuts.now c.loop-cut-test.false) c.loop-cut.invariant
