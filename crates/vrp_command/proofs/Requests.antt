@@ -226,8 +226,7 @@ on_err (Err error) step known = step error known
 
 -- no fault that comes once a problem is read is a refusal of its file
 pub on_refusal_of : (File : TextError → Type 0) (Start Starts : StartError → Type 0) (Picture : Type 0) → ((error : StartError) → Start error → Starts error) → (error : RequestError) → OnFault Start Picture error → OnRefusal error File Starts Picture
-on_refusal_of File Start Starts Picture step (reason.Run error) (inl is) = subst (λ (e : RunError). OnRefusedFile e File) (sym is) tt
-on_refusal_of File Start Starts Picture step (reason.Run error) (inr is) = subst (λ (e : RunError). OnRefusedFile e File) (sym is) tt
+on_refusal_of File Start Starts Picture step (reason.Run error) is = subst (λ (e : RunError). OnRefusedFile e File) (sym is) tt
 on_refusal_of File Start Starts Picture step (reason.Start (start_fault.Refused refusal)) known = step (start_fault.Refused refusal) known
 on_refusal_of File Start Starts Picture step (reason.Start start_fault.TooLong) known = step start_fault.TooLong known
 on_refusal_of File Start Starts Picture step (reason.Start start_fault.Read) known = tt
@@ -236,10 +235,15 @@ on_refusal_of File Start Starts Picture step reason.NoPoints known = known
 
 -- and none is a read that failed
 pub no_read_fault : (Start : StartError → Type 0) (Picture : Type 0) (error : RequestError) → OnFault Start Picture error → error ≡ reason.Run fault.Read → ⊥
-no_read_fault Start Picture (reason.Run error) (inl is) same = let never : reason.Run fault.OutOfMemory ≡ reason.Run fault.Read = subst (λ (e : RunError). reason.Run e ≡ reason.Run fault.Read) is same in cc
-no_read_fault Start Picture (reason.Run error) (inr is) same = let never : reason.Run fault.Write ≡ reason.Run fault.Read = subst (λ (e : RunError). reason.Run e ≡ reason.Run fault.Read) is same in cc
+no_read_fault Start Picture (reason.Run error) is same = let never : reason.Run fault.OutOfMemory ≡ reason.Run fault.Read = subst (λ (e : RunError). reason.Run e ≡ reason.Run fault.Read) is same in cc
 no_read_fault Start Picture (reason.Start error) known same = cc
 no_read_fault Start Picture reason.NoPoints known same = cc
+
+-- or a write
+pub no_write_fault : (Start : StartError → Type 0) (Picture : Type 0) (error : RequestError) → OnFault Start Picture error → error ≡ reason.Run fault.Write → ⊥
+no_write_fault Start Picture (reason.Run error) is same = let never : reason.Run fault.OutOfMemory ≡ reason.Run fault.Write = subst (λ (e : RunError). reason.Run e ≡ reason.Run fault.Write) is same in cc
+no_write_fault Start Picture (reason.Start error) known same = cc
+no_write_fault Start Picture reason.NoPoints known same = cc
 
 -- ---- the plan to begin with
 

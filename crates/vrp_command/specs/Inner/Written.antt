@@ -31,9 +31,9 @@ pub record WritesPartOn {S : Type 0} (request : Request) (name : Option (List �
   pub begins : BeginsWith p unread file start
   pub written : WritesFoundPart request (context_of request name (start_cost begins.text)) may_stop p start written_old written_new
 
--- states a fact for each fault that may come once the problem is read; none is a fault of the problem
+-- states a fact for each fault that may come once the problem is read, and before anything is written; none is a fault of the problem
 abbrev pub OnFault : (StartError → Type 0) → Type 0 → RequestError → Type 0
-OnFault Start Picture (reason.Run error) = (error ≡ fault.OutOfMemory) ⊎ (error ≡ fault.Write)
+OnFault Start Picture (reason.Run error) = error ≡ fault.OutOfMemory
 OnFault Start Picture (reason.Start error) = OnRefusedStart error Start
 OnFault Start Picture reason.NoPoints = Picture
 
