@@ -2,6 +2,7 @@
 #![tactic(auto)]
 
 mod arguments;
+mod given;
 mod grammar;
 mod hint;
 mod limits;
