@@ -1,7 +1,10 @@
 //! A run that keeps its input: afterwards it writes hints and compares a stated cost with the true one.
-ghost use Rattle.std.specs.Prelude.{◌≡◌};
+ghost use Rattle.std.specs.Io.KnownBytes.{Keeps};
+ghost use Rattle.std.specs.Prelude.{◌≡◌, IfOk, is_some};
 ghost use Rattle.vrp_command_request.specs.Options.{AreInRange};
 ghost use Rattle.vrp_command.specs.Inner.Written.{status_after};
+ghost use Rattle.vrp_command.specs.Line.{AnswersLine, IsRefusing, IsTelling};
+ghost use Rattle.vrp_command_streams.specs.Input.{IsInput};
 
 use crate::answering::{WrittenAnswer, answer_timed};
 use crate::fault::{RequestError, end};
@@ -44,7 +47,10 @@ impl Kept {
         alloc: Global,
         request: &Request<'_>,
         input: &mut R,
-    ) -> Result<Kept, RequestError> {
+    ) -> Result<Kept, RequestError>
+        ensures input { IfOk result (λ kept. IsInput (R.remaining input.old) (R.remaining input.new) kept.input.items) }
+        ensures start { IfOk result (λ kept. is_some kept.start ≡ is_some request.now.start) }
+    {
         let input = match read_input(alloc, input) {
             Ok(input) => input,
             Err(fault) => return Err(RequestError::Run(fault)),
@@ -65,7 +71,9 @@ impl Kept {
     }
 
     // The start plan's file, to be read again.
-    fn start_file(&self) -> Option<StartFile<&[u8]>> {
+    fn start_file(&self) -> Option<StartFile<&[u8]>>
+        ensures { is_some result ≡ is_some self.now.start }
+    {
         match &self.start {
             Some(StartText::Read(text)) => Some(StartFile::Opened(text.as_slice())),
             Some(_) => Some(StartFile::Unopened),
@@ -88,7 +96,7 @@ fn read_start<T: Files>(rt: &T, alloc: Global, path: &str) -> Result<StartText, 
 }
 
 /// Answers a request as `run_request` does, and answers the exit status. Then it writes hints, if they are requested, and
-/// checks the stated cost. It promises nothing itself.
+/// checks the stated cost. What was printed keeps its status, whatever comes after it.
 pub(crate) fn run_kept<
     T: Threads + Wait + Clock + Eprint + Files + Sync,
     R: Read,
@@ -103,6 +111,9 @@ pub(crate) fn run_kept<
     errors: &mut E,
 ) -> u8
     requires { AreInRange request.options }
+    ensures told { IsTelling result → AnswersLine request.entry (G.may_stop resources.now.gate.now)
+        (R.remaining input.old) (R.remaining input.new) (W.contents output.old) (W.contents output.new) result }
+    ensures silent { IsRefusing result → Keeps (W.contents output.old) (W.contents output.new) }
 {
     let alloc = resources.alloc;
     let kept = match Kept::read(resources.rt, alloc, &request, input) {

@@ -2,8 +2,8 @@
 ghost use Rattle.std.specs.Prelude.{◌≤◌, IfOk, IfSome};
 ghost use Rattle.vrp_model.specs.Route.{IsPlanOf};
 
+use crate::look::LEAST_PREPARED_BUDGET;
 use crate::stage_watch::{StageWatch, crew_of};
-use crate::stages::share_of;
 use std::thread::Threads;
 use vrp_answer::{Event, Gate, Shared, Stage};
 use vrp_heuristic::improved_plan;
@@ -22,8 +22,7 @@ pub(crate) fn better_plan<R: Threads + Sync, G: Gate + Sync>(
     let Some(known) = shared.start_plan else {
         return Ok(None);
     };
-    let share = share_of(Stage::BetterPlans, shared.instance.customers());
-    if shared.gate.milliseconds_left().is_none() || shared.budget < share.least {
+    if shared.gate.milliseconds_left().is_none() || shared.budget < LEAST_PREPARED_BUDGET {
         return Ok(None);
     }
     shared.gate.on_event(Event::Begins(Stage::BetterPlans));

@@ -101,7 +101,7 @@ fn listed<R: Threads + Sync, G: Gate + Sync>(
 {
     shared.gate.on_event(Event::Begins(Stage::Routes));
     let tables = NgTables::new(shared.alloc, relaxation.relaxed(), ng_sets)?;
-    let share = share_of(Stage::Routes, shared.instance.customers());
+    let share = share_of(Stage::Routes, shared.instance.customers(), shared.budget);
     let most_labels = u32::try_from(share.work_for(shared.budget_in_all())).unwrap_or(u32::MAX);
     let watch = StageWatch::of_stage(shared, Stage::Routes);
     let crew = crew_of(shared, workers, &watch);
@@ -126,7 +126,7 @@ fn chosen_plan<R: Threads + Sync, G: Gate + Sync>(
 {
     shared.gate.on_event(Event::UsefulRoutes(pool.len() as u64));
     shared.gate.on_event(Event::Begins(Stage::Choice));
-    let share = share_of(Stage::Choice, shared.instance.customers());
+    let share = share_of(Stage::Choice, shared.instance.customers(), shared.budget);
     // The labels were taken from the same budget.
     let left = shared.budget_in_all().saturating_sub(pool.labels() as u64);
     let mut budget = share.work_for(left);

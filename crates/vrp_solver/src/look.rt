@@ -32,7 +32,9 @@ pub(crate) fn looked_at<R: Threads + Wait + Sync, G: Gate>(
         shared.tables,
         shared.start_plan,
         whole.pieces().len() as u32,
-        share_of(Stage::FirstLook, shared.instance.customers()).work_for(shared.budget),
+        share_of(Stage::FirstLook, shared.instance.customers(), shared.budget).work_for(
+            shared.budget,
+        ),
     );
     match answer_by_pieces(&look, whole, 1)? {
         Answer::Proven(plan) => Ok(Some(Answer::Proven(plan))),

@@ -62,7 +62,9 @@ fn moves_for<R, G: Gate>(shared: &Shared<'_, R, G>) -> u32 {
     let customers = shared.instance.customers();
     // With many customers and a time, all workers look for better plans later.
     let continues_later = customers >= MANY_CUSTOMERS && shared.gate.milliseconds_left().is_some();
-    if share_of(Stage::StartPlan, customers).work_for(shared.budget_in_all()) < WORTH_MOVES {
+    if share_of(Stage::StartPlan, customers, shared.budget).work_for(shared.budget_in_all())
+        < WORTH_MOVES
+    {
         0
     } else if customers < MANY_FOR_MOVES || continues_later {
         ENOUGH_MOVES
@@ -122,7 +124,9 @@ fn prices_by_budget<'a, R, G: Gate>(
 {
     let instance = shared.instance;
     let near = most_remembered(instance.customers());
-    let steps = share_of(Stage::Prices, instance.customers()).work_for(shared.budget_in_all());
+    let steps = share_of(Stage::Prices, instance.customers(), shared.budget).work_for(
+        shared.budget_in_all(),
+    );
     let watch = StageWatch::of_stage(shared, Stage::Prices);
     if instance.customers() > MOST_SEARCHED {
         find_prices(shared.alloc, instance, cost, near, steps, &watch)
@@ -148,7 +152,9 @@ pub(crate) fn prices_for_pieces<'a, R, G: Gate>(
     }
     shared.gate.on_event(Event::Begins(Stage::PiecePrices));
     let near = most_remembered(instance.customers());
-    let steps = share_of(Stage::PiecePrices, instance.customers()).work_for(shared.budget_in_all());
+    let steps = share_of(Stage::PiecePrices, instance.customers(), shared.budget).work_for(
+        shared.budget_in_all(),
+    );
     let watch = StageWatch::of_stage(shared, Stage::PiecePrices);
     find_prices(shared.alloc, instance, plan.cost(), near, steps, &watch)
 }

@@ -22,7 +22,7 @@ impl<'a, G: Gate> StageWatch<'a, G> {
         let left = shared.gate.milliseconds_left().unwrap_or(0);
         StageWatch {
             gate: shared.gate,
-            reserved: share_of(stage, shared.instance.customers()).reserved(left),
+            reserved: share_of(stage, shared.instance.customers(), shared.budget).reserved(left),
             known: shared.start_plan.map_or(NO_COST, |plan| plan.cost()),
         }
     }

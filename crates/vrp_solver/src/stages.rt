@@ -1,6 +1,7 @@
 //! The plan of stages: which part of the time and of the budget each stage of a run may use.
 ghost use Rattle.std.specs.Prelude.{◌≡◌, ◌*◌, ◌-◌, ◌^◌, ◌≤◌, max, min};
 
+use crate::look::LEAST_PREPARED_BUDGET;
 use vrp_answer::Stage;
 use vrp_customers::MOST_CUSTOMERS;
 
@@ -32,18 +33,14 @@ pub(crate) struct Share {
     ghost some_most: { 1 ≤ most },
 }
 
-/// What a stage may use in a run with this many customers: the one place that says so. Work is counted in partial plans, in steps of
-/// ascent for prices, in labels for routes, and in reduced costs for the choice. A partial plan takes the time of some twenty steps. So
-/// where routes can be listed, a small budget is saved on the pieces: what comes before them gets as much work as by default. No clause
-/// pins the rows.
-pub(crate) fn share_of(stage: Stage, customers: u16) -> Share {
+/// What a stage may use in a run with this many customers and this budget for each piece: the one place that says so. Work is counted in
+/// partial plans, in steps of ascent for prices, in labels for routes, and in reduced costs for the choice. A partial plan takes the time
+/// of some twenty steps. So where routes can be listed, a small budget is saved on the pieces: what comes before them gets as much work as
+/// by default. No clause pins the rows.
+pub(crate) fn share_of(stage: Stage, customers: u16, budget: u64) -> Share {
     let few = customers < MANY_FOR_ROUTES;
     let many = customers >= MANY_CUSTOMERS;
-    let usual = if customers <= MOST_CUSTOMERS {
-        USUAL
-    } else {
-        0
-    };
+    let usual = usual_work(customers, budget);
     match stage {
         // Small trees end there.
         Stage::FirstLook => row(12, 1, 0, 20_000),
@@ -53,13 +50,24 @@ pub(crate) fn share_of(stage: Stage, customers: u16) -> Share {
         Stage::Prices if many => row(4, 5, 5 * usual, u64::MAX),
         Stage::Prices => row(6, 5, 5 * usual, u64::MAX),
         // The labels take less than three gigabytes.
-        Stage::Routes if many => row(2, 1, 10_000_000, 10_000_000),
-        Stage::Routes => row(6, 1, 40_000_000, 40_000_000),
+        Stage::Routes if many => row(2, 1, usual.min(10_000_000), 10_000_000),
+        Stage::Routes => row(6, 1, usual.min(40_000_000), 40_000_000),
         Stage::Choice => row(12, 1, usual, u64::MAX),
         Stage::PiecePrices if few => row(6, 1, usual, USUAL),
         Stage::PiecePrices => row(6, 5, 5 * usual, u64::MAX),
         Stage::BetterPlans => row(9, 1, 0, u64::MAX),
         Stage::Pieces => row(12, 1, 0, u64::MAX),
+    }
+}
+
+// The work that a stage gets from any budget that prepares the search, where routes can be listed.
+fn usual_work(customers: u16, budget: u64) -> u64
+    ensures { result ≤ USUAL }
+{
+    if customers <= MOST_CUSTOMERS && budget >= LEAST_PREPARED_BUDGET {
+        USUAL
+    } else {
+        0
     }
 }
 

@@ -393,7 +393,7 @@ fn assert_told(rt: &impl Abort, alloc: Global, fault: &LineFault, status: u8, to
 #[test]
 fn words_that_cannot_be_had(rt: HostRuntime) {
     let no_text =
-        "error: a word on the command line is no text (not UTF-8)\n\nFor more information, try '--help'.\n";
+        "error: an argument on the command line is no text (not UTF-8)\n\nFor more information, try '--help'.\n";
     let fault = unread_line_fault(rt.alloc(), &io::Error::from(ErrorKind::InvalidData));
     assert_told(&rt, rt.alloc(), &fault, 2, no_text);
     let no_memory = "cvrp: out of memory\n";

@@ -1,4 +1,5 @@
 -- The text written once a problem is read.
+use Rattle.std.specs.Option.{option_map}
 use Rattle.std.specs.Prelude.{◌≡◌, ◌↔◌, ◌⊎◌, ◌&&◌, if◌then◌else◌, ℕ, Bool, false, true, IsSomeAnd, IsTrue, Option, None, Some, List, Ok}
 use Rattle.vrp_answer.specs.declared.status.Status.{Status}
 use Rattle.vrp_answer.specs.declared.status.Status.TheVariants as status
@@ -37,13 +38,18 @@ OnFault Start Picture (reason.Run error) = error ≡ fault.OutOfMemory
 OnFault Start Picture (reason.Start error) = OnRefusedStart error Start
 OnFault Start Picture reason.NoPoints = Picture
 
--- The answer to a request was written, and nothing else; if there is a start plan, it is known whether its file states a wrong
--- cost.
+-- it is known whether the text of a start plan's file states a wrong cost
+abbrev pub IsStated : Option (List ℕ) → Solution → Type 0
+IsStated start_text solution = IsSomeAnd start_text (λ text. IsTrue solution.states_other_cost ↔ StatesOtherCost text solution.plan.cost)
+
+-- The answer to a request was written, and nothing else. If the plan was only checked, it is the start plan. Without a start plan there
+-- is no text of its file; with one it is known whether that text states a wrong cost.
 pub record IsWritten {S : Type 0} (request : Request) (may_stop : Bool) (unread_start : S → Option (List ℕ)) (start : Option (StartFile S))
     (unread_old unread_new written_old written_new : Option (List ℕ)) (written : WrittenAnswer) : Type 0 where
   pub prints : PrintsRequest request may_stop unread_start start unread_old unread_new written_old written_new written.status
-  pub other : (solution : Solution) → written.ready.start ≡ Some solution
-      → IsSomeAnd prints.start_text (λ text. IsTrue solution.states_other_cost ↔ StatesOtherCost text solution.plan.cost)
+  pub plan : prints.finding.status ≡ status.Lawful → option_map (λ solution. solution.plan) written.ready.start ≡ prints.finding.plan
+  pub none : written.ready.start ≡ None → prints.start_text ≡ None
+  pub other : (solution : Solution) → written.ready.start ≡ Some solution → IsStated prints.start_text solution
 
 abbrev pub is_lawful : Status → Bool
 is_lawful status.Proven = false
