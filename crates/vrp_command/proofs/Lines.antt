@@ -17,6 +17,10 @@ use Rattle.vrp_command.specs.declared.fault.RequestError.TheVariants as reason
 use Rattle.vrp_command.specs.declared.start.StartError.TheVariants as start_fault
 use Rattle.vrp_command.specs.declared.start.StartFile.{StartFile}
 use Rattle.vrp_command.specs.declared.start.StartFile.TheVariants.{Opened, Unopened}
+use Rattle.std.proofs.KnownBytes.{Keeps-refl}
+use Rattle.vrp_command_request.specs.Arguments.{line_code}
+use Rattle.vrp_command_request.specs.declared.arguments.LineFault.{LineFault}
+use Rattle.vrp_command_request.specs.declared.arguments.LineFault.TheVariants as line
 use Rattle.vrp_command_request.specs.declared.options.Request.{Request}
 use Rattle.vrp_command_streams.specs.Fault.{exit_code}
 use Rattle.vrp_command_streams.specs.Input.{IsInput}
@@ -227,3 +231,17 @@ opened_tells request gate unread file unread_old unread_new written_old written_
 pub opened_refuses : (written_old written_new : Option (List ℕ)) (outcome : Result Status RequestError) (code : ℕ) → code ≡ request_code outcome → IfErr outcome (λ error. error ≢ reason.Run fault.Write → Keeps written_old written_new) → IsRefusing code → Keeps written_old written_new
 opened_refuses written_old written_new (Ok verdict) code is known refusing = absurd (answer_refuses_nothing verdict code is refusing)
 opened_refuses written_old written_new (Err error) code is known refusing = known (refusal_is_no_write error code is refusing)
+
+-- ---- a run whose arguments give no request
+
+-- with 0 the help is told, and nothing is read
+pub line_tells : (given : LineFault) (code : ℕ) (unread : Option (List ℕ)) → code ≡ line_code given → IsTelling code → (code ≡ 0) × Keeps unread unread
+line_tells (line.Help text) code unread is telling = (is, Keeps-refl unread)
+line_tells (line.Refused text) code unread is telling = absurd (refusal_tells_nothing code (omega (arith, is)) (omega (arith, is)) telling)
+line_tells line.OutOfMemory code unread is telling = absurd (refusal_tells_nothing code (omega (arith, is)) (omega (arith, is)) telling)
+
+-- a refusing status is at least 2
+pub refusing_from_two : (code : ℕ) → IsRefusing code → 2 ≤ code
+refusing_from_two code (inl is) = omega (arith, is)
+refusing_from_two code (inr (inl is)) = omega (arith, is)
+refusing_from_two code (inr (inr is)) = omega (arith, is)

@@ -93,7 +93,8 @@ fn refuse<W: Write, E: Write>(
     output: &mut W,
     errors: &mut E,
 ) -> u8
-    ensures { result ≡ line_code fault.now }
+    ensures status { result ≡ line_code fault.now }
+    ensures silent { 2 ≤ result → Keeps (W.contents output.old) (W.contents output.new) }
 {
     let status = end_without_run(fault, output, errors);
     if let LineFault::Refused(_) = fault {
