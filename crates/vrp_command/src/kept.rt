@@ -1,12 +1,10 @@
 //! A run that keeps its input: afterwards it writes hints and compares a stated cost with the true one.
-ghost use Rattle.std.specs.Prelude.{◌≡◌, IfOk, is_some};
 ghost use Rattle.vrp_command_request.specs.Options.{AreInRange};
-ghost use Rattle.vrp_command.specs.Inner.Written.{status_after};
-ghost use Rattle.vrp_command_streams.specs.Input.{IsInput};
 
-use crate::answering::{WrittenAnswer, answer_timed};
+use crate::command::run_request;
 use crate::fault::{RequestError, end};
 use crate::hints::{tell_answer, tell_refusal};
+use crate::problem::limited;
 use crate::start::{StartError, StartFile};
 use crate::strict::cost_status;
 use std::alloc::Global;
@@ -17,8 +15,10 @@ use std::sync::Wait;
 use std::thread::Threads;
 use std::time::Clock;
 use vrp_command_request::Request;
-use vrp_command_streams::{RunError, Status, exit_status, read_input};
+use vrp_command_streams::{RunError, Status, read_input};
+use vrp_model::Instance;
 use vrp_solver::{Gate, Resources};
+use vrp_text::TextError;
 
 /// The input of a run.
 #[derive(Drop)]
@@ -45,10 +45,7 @@ impl Kept {
         alloc: Global,
         request: &Request<'_>,
         input: &mut R,
-    ) -> Result<Kept, RequestError>
-        ensures input { IfOk result (λ kept. IsInput (R.remaining input.old) (R.remaining input.new) kept.input.items) }
-        ensures start { IfOk result (λ kept. is_some kept.start ≡ is_some request.now.start) }
-    {
+    ) -> Result<Kept, RequestError> {
         let input = match read_input(alloc, input) {
             Ok(input) => input,
             Err(fault) => return Err(RequestError::Run(fault)),
@@ -60,18 +57,8 @@ impl Kept {
         Ok(Kept { input, start })
     }
 
-    // The text of the start plan's file; empty if there is none.
-    fn start_text(&self) -> &[u8] {
-        match &self.start {
-            Some(StartText::Read(text)) => text.as_slice(),
-            _ => &[],
-        }
-    }
-
     // The start plan's file, to be read again.
-    fn start_file(&self) -> Option<StartFile<&[u8]>>
-        ensures { is_some result ≡ is_some self.now.start }
-    {
+    fn start_file(&self) -> Option<StartFile<&[u8]>> {
         match &self.start {
             Some(StartText::Read(text)) => Some(StartFile::Opened(text.as_slice())),
             Some(_) => Some(StartFile::Unopened),
@@ -94,7 +81,7 @@ fn read_start<T: Files>(rt: &T, alloc: Global, path: &str) -> Result<StartText, 
 }
 
 /// Answers a request as `run_request` does, and answers the exit status. Then it writes hints, if they are requested, and
-/// checks the stated cost. What was printed keeps its status, whatever comes after it.
+/// checks the stated cost. It promises nothing itself.
 pub(crate) fn run_kept<
     T: Threads + Wait + Clock + Eprint + Files + Sync,
     R: Read,
@@ -115,7 +102,7 @@ pub(crate) fn run_kept<
         Ok(kept) => kept,
         Err(error) => return end(alloc, &Err(error), errors),
     };
-    let outcome = answer_timed(
+    let outcome = run_request(
         resources,
         request,
         kept.start_file(),
@@ -123,10 +110,10 @@ pub(crate) fn run_kept<
         output,
         errors,
     );
+    let status = end(alloc, &outcome, errors);
     match outcome {
-        Ok(written) => end_answered(&request, &kept, &written, errors),
+        Ok(verdict) => end_answered(alloc, &request, &kept, verdict, status, errors),
         Err(error) => {
-            let status = end(alloc, &Err(error), errors);
             if request.explain {
                 tell_refusal(&request, &kept, &error, errors);
             }
@@ -135,23 +122,40 @@ pub(crate) fn run_kept<
     }
 }
 
-// The exit status of an answered request: that of its verdict, whatever comes after it, unless a wrong stated cost is to change it.
+// The exit status of an answered request, where this is the usual one. Reads the instance again.
 fn end_answered<E: Write>(
+    alloc: Global,
     request: &Request<'_>,
     kept: &Kept,
-    written: &WrittenAnswer,
+    verdict: Status,
+    status: u8,
     errors: &mut E,
 ) -> u8
-    ensures { result ≡ status_after request.now written.now }
+    requires { AreInRange request.now.options }
 {
+    let Ok(instance) = problem_of(alloc, request, kept) else {
+        // The file was readable before, so this is lack of memory.
+        return end(
+            alloc,
+            &Err(RequestError::Run(RunError::OutOfMemory)),
+            errors,
+        );
+    };
     if request.explain {
-        let instance = &written.ready.problem.instance;
-        tell_answer(request, kept, instance, written.status, errors);
+        tell_answer(request, kept, &instance, verdict, errors);
     }
-    match &written.ready.start {
-        Some(solution) if request.strict && written.status == Status::Lawful => {
-            cost_status(solution, kept.start_text(), errors)
+    match &kept.start {
+        Some(StartText::Read(text)) if request.strict && verdict == Status::Lawful => {
+            cost_status(alloc, &instance, text, errors)
         }
-        _ => exit_status(&Ok(written.status)),
+        _ => status,
     }
+}
+
+// The problem of a request.
+fn problem_of(alloc: Global, request: &Request<'_>, kept: &Kept) -> Result<Instance, TextError>
+    requires { AreInRange request.now.options }
+{
+    let instance = vrp_text::read(alloc, &kept.input, request.options.depot)?;
+    Ok(limited(instance, request.options.trucks))
 }

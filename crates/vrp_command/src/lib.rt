@@ -7,16 +7,15 @@ mod command;
 mod deadline;
 mod fault;
 mod form;
+mod found;
 mod hints;
 mod kept;
 mod law;
-mod outcome;
 mod problem;
 mod program;
-mod solving;
 mod start;
 mod strict;
-mod writing;
+mod task;
 
 pub use command::{run, run_request};
 pub use deadline::Deadline;

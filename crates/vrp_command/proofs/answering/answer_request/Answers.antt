@@ -1,35 +1,39 @@
+use Rattle.std.specs.Option.{option_map}
+use Rattle.std.specs.Prelude.{string_bytes}
 use Rattle.vrp_command.specs.declared.start.StartError.{StartError}
-use Rattle.vrp_command.specs.Inner.Ready.{plan_in}
-use Rattle.vrp_command.specs.Program.{RefusesStart}
+use Rattle.vrp_command.specs.Program.{RefusesStart, RefusesStartFile}
 use Rattle.vrp_command.specs.Run.{RefusesInput}
-use Rattle.vrp_command.proofs.Requests.{on_write_fault, prints_part_of_ready, prints_ready, write_is_no_read}
+use Rattle.vrp_command.proofs.Requests.{no_read_fault, on_err, on_ok, on_refusal_of, prints_part_of_request, prints_request}
 use Rattle.vrp_command.proofs.answering.answer_request.Goals as goal
 
-pub returns-in-Ok-in-Ok-clause-printed : goal.returns-in-Ok-in-Ok-clause-printed
-returns-in-Ok-in-Ok-clause-printed g c =
+pub returns-in-Ok-clause-printed : goal.returns-in-Ok-clause-printed
+returns-in-Ok-clause-printed g c =
     let left = g.R.Read.remaining in
     let held = g.W.Write.contents in
     let may_stop = g.G.Gate.may_stop c.args.resources.now.gate.now in
-    let ready = c.in-Ok.ready in
-    let is = c.in-Ok.ensures.ready in
-    prints_ready c.args.request may_stop (λ file. g.S.Read.remaining file) c.args.start (left c.args.input.now) (left c.solve_request.new.input) (held c.args.output.now) (held c.write_answer-written.new.output) ready is c.in-Ok-in-Ok.status
-    (c.in-Ok-in-Ok.ensures.printed may_stop (plan_in ready.start) is.on.found)
+    let prints =
+    prints_request c.args.request may_stop (λ file. g.S.Read.remaining file) c.args.start (left c.args.input.now) (left c.read_problem.new.input) (held c.args.output.now) (held c.answer_on-outcome.new.output)
+    c.in-Ok.problem.instance (option_map string_bytes c.in-Ok.problem.beside.name) c.in-Ok.ensures.read in
+    on_ok c.answer_on-outcome.result prints c.answer_on-outcome.ensures.printed
 
-pub returns-in-Ok-in-Err-clause-begun : goal.returns-in-Ok-in-Err-clause-begun
-returns-in-Ok-in-Err-clause-begun g c = λ failed.
+pub returns-in-Ok-clause-begun : goal.returns-in-Ok-clause-begun
+returns-in-Ok-clause-begun g c =
     let left = g.R.Read.remaining in
     let held = g.W.Write.contents in
     let may_stop = g.G.Gate.may_stop c.args.resources.now.gate.now in
-    let ready = c.in-Ok.ready in
-    let is = c.in-Ok.ensures.ready in
-    prints_part_of_ready c.args.request may_stop (λ file. g.S.Read.remaining file) c.args.start (left c.args.input.now) (left c.solve_request.new.input) (held c.args.output.now) (held c.write_answer-written.new.output) ready is
-    (c.in-Ok-in-Err.ensures.begun may_stop (plan_in ready.start) is.on.found (cc))
+    let part =
+    prints_part_of_request c.args.request may_stop (λ file. g.S.Read.remaining file) c.args.start (left c.args.input.now) (left c.read_problem.new.input) (held c.args.output.now) (held c.answer_on-outcome.new.output)
+    c.in-Ok.problem.instance (option_map string_bytes c.in-Ok.problem.beside.name) c.in-Ok.ensures.read in
+    on_err c.answer_on-outcome.result (λ error known is. part (known is)) c.answer_on-outcome.ensures.begun
 
-pub returns-in-Ok-in-Err-clause-refused : goal.returns-in-Ok-in-Err-clause-refused
-returns-in-Ok-in-Err-clause-refused g c =
+pub returns-in-Ok-clause-refused : goal.returns-in-Ok-clause-refused
+returns-in-Ok-clause-refused g c =
     let left = g.R.Read.remaining in
-    let Starts : StartError → Type 0 = RefusesStart c.args.request (λ file. g.S.Read.remaining file) c.args.start (left c.args.input.now) (left c.solve_request.new.input) in
-    on_write_fault (RefusesInput c.args.request.options.depot (left c.args.input.now) (left c.solve_request.new.input)) Starts _ c.in-Ok-in-Err.fault c.in-Ok-in-Err.ensures.faults
+    let p = c.in-Ok.problem.instance in
+    let Start : StartError → Type 0 = RefusesStartFile p (λ file. g.S.Read.remaining file) c.args.start in
+    let Starts : StartError → Type 0 = RefusesStart c.args.request (λ file. g.S.Read.remaining file) c.args.start (left c.args.input.now) (left c.read_problem.new.input) in
+    let step : (error : StartError) → Start error → Starts error = λ error refused. record { problem = p; read = c.in-Ok.ensures.read.read; refused = refused } in
+    on_err c.answer_on-outcome.result (on_refusal_of (RefusesInput c.args.request.options.depot (left c.args.input.now) (left c.read_problem.new.input)) Start Starts _ step) c.answer_on-outcome.ensures.refused
 
-pub returns-in-Ok-in-Err-clause-failed : goal.returns-in-Ok-in-Err-clause-failed
-returns-in-Ok-in-Err-clause-failed g c = λ is. absurd (write_is_no_read c.in-Ok-in-Err.fault c.in-Ok-in-Err.ensures.faults is)
+pub returns-in-Ok-clause-failed : goal.returns-in-Ok-clause-failed
+returns-in-Ok-clause-failed g c = on_err c.answer_on-outcome.result (λ error known is. absurd (no_read_fault _ _ error known is)) c.answer_on-outcome.ensures.refused

@@ -1,5 +1,5 @@
 use Rattle.std.proofs.Common.{rules}
-use Rattle.vrp_command.proofs.outcome.told.Goals as goal
+use Rattle.vrp_command.proofs.found.told.Goals as goal
 
 pub returns-in-None : goal.returns-in-None
 returns-in-None c = search rules

@@ -5,7 +5,7 @@ ghost use Rattle.vrp_answer.specs.Finding.{told_by};
 ghost use Rattle.vrp_model.specs.Route.{IsPlanOf};
 ghost use Rattle.vrp_command_request.specs.Options.{AreInRange};
 ghost use Rattle.vrp_command.specs.Found.{IsFoundBy, told_of};
-ghost use Rattle.vrp_command.specs.Inner.Told.{told_outcome};
+ghost use Rattle.vrp_command.specs.Inner.Told.{told_found};
 
 use crate::answer::cut_and_solve;
 use std::sync::Wait;
@@ -17,21 +17,21 @@ use vrp_solver::{Gate, Resources, SolveError, Solved};
 
 /// The result of a request for an instance.
 #[derive(Drop)]
-pub(crate) enum RequestOutcome {
-    /// This start plan is feasible, and was only to be checked.
-    Checked(Plan),
+pub(crate) enum Found<'a> {
+    /// The start plan is feasible, and was only to be checked.
+    Checked(&'a Plan),
     /// The result of a search.
     Searched(Solved),
 }
 
-impl RequestOutcome {
+impl Found<'_> {
     /// The finding to print; with a time limit, with the best bound alone.
     pub(crate) fn finding(&self, seconds: Option<u32>) -> Finding<'_>
-        ensures { told_by result ≡ told_outcome seconds self.entry.now }
+        ensures { told_by result ≡ told_found seconds self.entry.now }
     {
         match self {
-            RequestOutcome::Checked(plan) => Finding::lawful(plan),
-            RequestOutcome::Searched(solved) => told(solved, seconds),
+            Found::Checked(plan) => Finding::lawful(plan),
+            Found::Searched(solved) => told(solved, seconds),
         }
     }
 }
@@ -49,23 +49,23 @@ fn told<'a>(solved: &'a Solved, seconds: Option<u32>) -> Finding<'a>
 
 /// Finds the result of a request for an instance: that the start plan is feasible, if it is only to be checked, and otherwise
 /// the result of a search that begins with it.
-pub(crate) fn find<T: Threads + Wait + Sync, G: Gate + Sync>(
+pub(crate) fn find<'a, T: Threads + Wait + Sync, G: Gate + Sync>(
     resources: &Resources<'_, T, G>,
     instance: &Instance,
-    start: Option<&Plan>,
+    start: Option<&'a Plan>,
     request: &Request<'_>,
-) -> Result<RequestOutcome, SolveError>
+) -> Result<Found<'a>, SolveError>
     requires options { AreInRange request.now.options }
     requires start { ForSome (option_map (λ plan. plan.now) start) (IsPlanOf instance.now) }
-    ensures found { IfOk result (λ outcome. IsFoundBy request.now (G.may_stop resources.now.gate.now) instance.now
-        (option_map (λ plan. plan.now) start.entry) (told_outcome request.now.seconds outcome)) }
-    ensures plan { IfOk result (λ outcome. ForSome (told_outcome request.now.seconds outcome).plan (IsPlanOf instance.now)) }
+    ensures found { IfOk result (λ found. IsFoundBy request.now (G.may_stop resources.now.gate.now) instance.now
+        (option_map (λ plan. plan.now) start.entry) (told_found request.now.seconds found)) }
+    ensures plan { IfOk result (λ found. ForSome (told_found request.now.seconds found).plan (IsPlanOf instance.now)) }
 {
     match to_be_checked(request, start) {
-        Some(plan) => Ok(RequestOutcome::Checked(plan.copy(resources.alloc)?)),
+        Some(plan) => Ok(Found::Checked(plan)),
         None => {
             let solved = cut_and_solve(resources, instance, start, request.options)?;
-            Ok(RequestOutcome::Searched(solved))
+            Ok(Found::Searched(solved))
         }
     }
 }
