@@ -202,11 +202,7 @@ fn start_plan_comes_before_the_search(rt: HostRuntime) {
 #[test]
 fn budget_of_a_piece(rt: HostRuntime) {
     let (ring, line) = (ring(&rt, rt.alloc()), line(&rt, rt.alloc()));
-    for (instance, budget, ends) in [
-        (&ring, 620, false),
-        (&ring, 621, true),
-        (&line, 999, false),
-    ] {
+    for (instance, budget, ends) in [(&ring, 620, false), (&ring, 621, true), (&line, 999, false)] {
         let answer = answer_behind(&rt, rt.alloc(), instance, (1, 1, budget), &NoGate);
         assert!(rt; matches!(answer, Answer::Proven(_)) == ends, "{budget}");
     }
