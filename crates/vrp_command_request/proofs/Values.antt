@@ -5,7 +5,7 @@ use Rattle.std.specs.Io.{StartsWith}
 use Rattle.std.specs.List.{HoldsAt}
 use Rattle.std.specs.Option.{ForSome}
 use Rattle.vrp_command_request.specs.Arguments.{HasArgumentFrom}
-use Rattle.vrp_command_request.specs.Given.{GivesAt, GivesEither, GivesValue, IsBehind, IsGiven, IsGivenForm, IsGivenNumber, IsNamedBy, IsNumberOr, IsReadFrom}
+use Rattle.vrp_command_request.specs.Given.{GivesAt, GivesEither, GivesNext, GivesValue, IsBehind, IsGiven, IsGivenForm, IsGivenNumber, IsNamedBy, IsNumberOr, IsReadFrom}
 use Rattle.vrp_command_request.specs.declared.options.Format.{Format}
 
 -- what is known where there is no value
@@ -19,13 +19,13 @@ none_longer name value is = absurd (omega (arith, ap length is, length-append {A
 
 -- the argument behind one of this name is the value that it gives
 pub from_next : (arguments : List (Bor (List ℕ))) (name : List ℕ) (at : ℕ) → HoldsAt (λ given. given.now ≡ name) arguments at → (next : Option (Bor (List ℕ)))
-    → MatchOption next (length arguments ≤ at + 1) (λ value. (at + 1 < length arguments) × HoldsAt (λ given. given.now ≡ value.now) arguments (at + 1))
+    → MatchOption next (length arguments ≤ at + 1) (λ value. GivesNext arguments at value.now)
     → IsGiven (GivesAt arguments name at) next
 from_next arguments name at named None last = λ value gives. elim gives [
-  | inl next ↦ (let more = next.0 in absurd (omega (arith, last, more)))
+  | inl next ↦ (let more = next.1.0 in absurd (omega (arith, last, more)))
   | inr within ↦ none_longer name value (sym (named (record { ref_ptr = (0, 0); now = [] })) ∙ within (record { ref_ptr = (0, 0); now = [] }))
 ]
-from_next arguments name at named (Some value) known = inl (known.0, named, known.1)
+from_next arguments name at named (Some value) known = inl (named, known)
 
 -- the number in a value that is given is given
 pub given_number : (gives : List ℕ → Type 0) (value : Option (Bor (List ℕ))) (number : Option ℕ) → IsGiven gives value → IsReadFrom value number → IsGivenNumber gives number
@@ -63,7 +63,7 @@ by_alias arguments name alias (Some text) none given = inr given
 
 -- an argument begins with the name of the option that it gives a value to
 begins : (arguments : List (Bor (List ℕ))) (name : List ℕ) (at : ℕ) (value : List ℕ) → GivesAt arguments name at value → HoldsAt (λ given. StartsWith given.now name) arguments at
-begins arguments name at value (inl next) = λ d. ap (take (length name)) (next.1 d) ∙ take_all (length name) name (omega arith)
+begins arguments name at value (inl next) = λ d. ap (take (length name)) (next.0 d) ∙ take_all (length name) name (omega arith)
 begins arguments name at value (inr within) = λ d. ap (take (length name)) (within d) ∙ take_at name (61 ∷ value) (length name) refl
 
 pub given_from : (arguments : List (Bor (List ℕ))) (name value : List ℕ) → GivesValue arguments name value → HasArgumentFrom arguments name

@@ -10,9 +10,13 @@ use Rattle.vrp_command_request.specs.declared.options.Format.TheVariants as form
 abbrev pub IsBehind : List ℕ → List ℕ → List ℕ → Type 0
 IsBehind argument name value = argument ≡ name ++ 61 ∷ value
 
+-- there is a next argument, and it is the value
+abbrev pub GivesNext : List (Bor (List ℕ)) → ℕ → List ℕ → Type 0
+GivesNext arguments at value = (at + 1 < length arguments) × HoldsAt (λ given. given.now ≡ value) arguments (at + 1)
+
 -- the argument at this place is the name and the next one the value, or it is the name, '=' and the value
 abbrev pub GivesAt : List (Bor (List ℕ)) → List ℕ → ℕ → List ℕ → Type 0
-GivesAt arguments name at value = ((at + 1 < length arguments) × HoldsAt (λ given. given.now ≡ name) arguments at × HoldsAt (λ given. given.now ≡ value) arguments (at + 1))
+GivesAt arguments name at value = (HoldsAt (λ given. given.now ≡ name) arguments at × GivesNext arguments at value)
     ⊎ HoldsAt (λ given. IsBehind given.now name value) arguments at
 
 -- the arguments give this value to the option of this name

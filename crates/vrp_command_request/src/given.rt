@@ -1,10 +1,9 @@
 //! The values that the arguments of a command line give to its options.
 ghost use Rattle.std.specs.Prelude.{◌≡◌, ◌+◌, ◌<◌, ◌≤◌, ◌↔◌, IfOk, IsTrue, MatchOption, length};
-ghost use Rattle.std.specs.List.{HoldsAt};
 ghost use Rattle.std.specs.Option.{ForSome};
 ghost use Rattle.vrp_model.specs.declared.limits.TheConstants.{MAX_NODES};
 ghost use Rattle.vrp_command_request.specs.Arguments.{HasArgument};
-ghost use Rattle.vrp_command_request.specs.Given.{GivesAt, GivesEither, GivesValue, IsBehind, IsGiven, IsNamedBy, IsReadFrom};
+ghost use Rattle.vrp_command_request.specs.Given.{GivesAt, GivesEither, GivesNext, GivesValue, IsBehind, IsGiven, IsNamedBy, IsReadFrom};
 ghost use Rattle.vrp_command_request.specs.declared.limits.TheConstants.{MAX_BUDGET};
 
 use crate::limits::MAX_BUDGET;
@@ -64,7 +63,7 @@ fn value_at<'a>(arguments: &'a [&'a str], at: usize, name: &str) -> Option<&'a s
 // The argument behind this one, if there is one.
 fn next_one<'a>(arguments: &'a [&'a str], at: usize) -> Option<&'a str>
     requires { at < length arguments.now }
-    ensures { MatchOption result (length arguments.now ≤ at + 1) (λ value. (at + 1 < length arguments.now) × HoldsAt (λ given. given.now ≡ value.now) arguments.now (at + 1)) }
+    ensures { MatchOption result (length arguments.now ≤ at + 1) (λ value. GivesNext arguments.now at value.now) }
 {
     if at + 1 < arguments.len() {
         Some(arguments[at + 1])
