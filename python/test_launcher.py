@@ -26,17 +26,23 @@ cvrp: upper
 upper: left right
 """
 
-# Sleeps a bit; fails in the crate that the file `fail` names, and dawdles in the one that `slow` names. `rt run` makes a program, if
+# As rt does, keeps others out of all crates at hand as long as it works; tells if it is kept out itself. What it proves is in the folder
+# `out`. Sleeps a bit; fails in the crate that the file `fail` names, and dawdles in the one that `slow` names. `rt run` makes a program, if
 # the crate doesn't fail, and ends with the status of that program's run on empty input.
 FAKE_RT = """\
 #!/usr/bin/env bash
 crate=$(basename "$PWD")
 echo "begin $1 $crate" >> "$ROOM/log"
+for folder in ../*/; do
+    exec {lock}< "$folder"
+    ! command -v flock > /dev/null || flock -n "$lock" || echo "kept out of $folder" >> "$ROOM/log"
+    [ "$1" = run ] || [ "$folder" = "../$crate/" ] || [ -e "$folder/out/rlib/proved" ] || echo "no proof in $folder" >> "$ROOM/log"
+done
 [ "$crate" != "$(cat "$ROOM/slow" 2> /dev/null)" ] || { echo $$ > "$ROOM/pid"; sleep 30; }
 sleep 0.05
 echo "end $1 $crate" >> "$ROOM/log"
 [ "$crate" != "$(cat "$ROOM/fail" 2> /dev/null)" ] || { echo "no proof of $crate"; exit 1; }
-[ "$1" = run ] || exit 0
+[ "$1" = run ] || { mkdir -p out/rlib; touch out/rlib/proved; exit 0; }
 mkdir -p out
 [ ! -e "$ROOM/half" ] || { echo half > out/cvrp; chmod +x out/cvrp; echo "half $crate" >> "$ROOM/log"; sleep 30; }
 printf '#!/bin/sh\\necho "program %s: $*"\\nexit 3\\n' "$(cat src/main.rt)" > out/cvrp
@@ -103,6 +109,7 @@ class Launcher(unittest.TestCase):
 
     def assert_clean(self):
         self.assertFalse((self.top / "out/cvrp").exists(), "the old program still waits")
+        self.assertEqual(list((self.top / "out/proofs").glob("*")), [], "folders of proofs are left")
 
     def test_fresh_clone(self):
         status, output, errors = self.launch("--workers", "a b")
@@ -114,6 +121,9 @@ class Launcher(unittest.TestCase):
             self.assertLess(asked.index(f"end lib {used}"), asked.index(f"begin lib {crate}"))
         self.assertLess(asked.index("end lib upper"), asked.index("begin run cvrp"))
         self.assertLess(asked.index("begin lib right"), asked.index("end lib left"), "not side by side")
+        self.assertEqual([line for line in asked if line.split()[0] not in ("begin", "end")], [])
+        for crate in ["base", "left", "right", "upper"]:
+            self.assertTrue((self.top / "crates" / crate / "out/rlib/proved").exists(), crate)
         told = re.findall(r"^cvrp: proving (\w+), (\d+)% done$", errors, re.M)
         self.assertEqual((told[0], told[-1][0]), (("base", "0"), "cvrp"))
         shares = [int(share) for _, share in told]
