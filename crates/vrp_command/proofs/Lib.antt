@@ -1,4 +1,5 @@
 pub mod LawfulAnswers
+pub mod Lines
 pub mod OneReport
 pub mod ReadProblems
 pub mod RefusalLemmas

@@ -1,17 +1,25 @@
 -- What is found of a problem and written, said of the request and of the bytes that were read.
-use Rattle.std.proofs.Common.{◌≡◌, ◌∙◌, ◌≤◌, inl, inr, ℕ, Bool, None, Option, Some, List, Result, Ok, Err, IsTrue, OnOk, IfOk, IfErr, ap, refl, subst, sym}
+use Rattle.std.proofs.Common.{◌≡◌, ◌⊎◌, ◌∙◌, ◌≤◌, inl, inr, ℕ, Bool, None, Option, Some, List, Result, Ok, Err, IsTrue, OnOk, IfOk, IfErr, ap, refl, subst, sym}
 use Rattle.std.specs.Option.{ForSome, option_and_then, option_map}
 use Rattle.vrp_answer.specs.Answer.{known_plan}
 use Rattle.vrp_answer.specs.Finding.{FindingOf, lawful_finding}
 use Rattle.vrp_answer.specs.declared.answers.Answer.{Answer}
+use Rattle.vrp_answer.specs.declared.answers.Answer.TheVariants as answer
 use Rattle.vrp_answer.specs.declared.status.Status.{Status}
+use Rattle.vrp_answer.specs.declared.status.Status.TheVariants as verdict
 use Rattle.vrp_command.proofs.LawfulAnswers.{best_none_cheaper}
 use Rattle.vrp_command.specs.Answer.{IsAnswerTo}
 use Rattle.vrp_command.specs.Form.{IsFormIn, IsTextAs, WritesPart, WritesText}
 use Rattle.vrp_command.specs.Found.{IsFoundBy, WritesFound, WritesFoundPart, told_of}
 use Rattle.vrp_command.specs.Inner.Named.{ReadsNamed}
+use Rattle.std.specs.Prelude.{string_bytes}
+use Rattle.vrp_command.specs.Inner.Points.{HasPoints}
+use Rattle.vrp_command.specs.Inner.Ready.{IsReady, IsReadyAlone, IsReadyOn, context_for, plan_in}
+use Rattle.vrp_command.specs.Inner.Told.{told_outcome}
+use Rattle.vrp_command.specs.declared.problem.Problem.{Problem as Read}
 use Rattle.vrp_command.specs.Inner.Starts.{BeginsStated}
-use Rattle.vrp_command.specs.Inner.Written.{OnFault, WritesOn, WritesPartOn}
+use Rattle.vrp_command.specs.Inner.Written.{IsWritten, OnFault, WritesOn, WritesPartOn}
+use Rattle.vrp_command.specs.declared.solving.ReadyAnswer.{ReadyAnswer}
 use Rattle.vrp_command.specs.Program.{AnswersRequest, BeginsWith, GivesStart, OnRefusal, PrintsPartOfRequest, PrintsRequest, start_cost}
 use Rattle.vrp_command.specs.Run.{OnRefusedFile}
 use Rattle.vrp_command.specs.Text.{IsTextIn, context_of}
@@ -179,7 +187,103 @@ writes_part_on request name may_stop p unread file written_old written_new solut
       written = subst (λ (c : Option ℕ). WritesFoundPart request (context_of request name c) may_stop p start written_old written_new) (kept ∙ stated.stated) written;
     }
 
+-- ---- of an answer that is ready to be written
+
+-- it is of the start plan that was kept
+pub is_ready_on : {S : Type 0} (request : Request) (may_stop : Bool) (problem : Read) (unread : S → Option (List ℕ)) (file : Option (StartFile S)) (start : Option Solution) (ready : ReadyAnswer) → ready.problem ≡ problem
+    → ready.start ≡ start → BeginsStated problem.instance unread file start → IsFoundBy request may_stop problem.instance (plan_in start) (told_outcome request.seconds ready.outcome)
+    → ForSome (told_outcome request.seconds ready.outcome).plan (IsPlanOf problem.instance) → HasPoints request.format problem → IsReadyOn request may_stop problem unread file ready
+is_ready_on request may_stop problem unread file start ready of_problem of_start begins found plan points =
+    record {
+      of_problem = of_problem;
+      begins = subst (λ (s : Option Solution). BeginsStated problem.instance unread file s) (sym of_start) begins;
+      found = subst (λ (s : Option Solution). IsFoundBy request may_stop problem.instance (plan_in s) (told_outcome request.seconds ready.outcome)) (sym of_start) found;
+      plan = plan;
+      points = points;
+    }
+
+-- it is of the problem that was read
+pub is_ready : {S : Type 0} (request : Request) (may_stop : Bool) (problem : Read) (unread : S → Option (List ℕ)) (file : Option (StartFile S)) (unread_old unread_new : Option (List ℕ)) (ready : ReadyAnswer)
+    → ReadsNamed request.options request.format unread_old unread_new problem.instance (option_map string_bytes problem.beside.name) → IsReadyOn request may_stop problem unread file ready
+    → IsReady request may_stop unread file unread_old unread_new ready
+is_ready request may_stop problem unread file unread_old unread_new ready read on =
+    record {
+      read = subst (λ (q : Read). ReadsNamed request.options request.format unread_old unread_new q.instance (option_map string_bytes q.beside.name)) (sym on.of_problem) read;
+      on = subst (λ (q : Read). IsReadyOn request may_stop q unread file ready) (sym on.of_problem) on;
+    }
+
+-- without a start plan too
+pub is_ready_alone : (request : Request) (may_stop : Bool) (problem : Read) (unread_old unread_new : Option (List ℕ)) → ReadsNamed request.options request.format unread_old unread_new problem.instance (option_map string_bytes problem.beside.name)
+    → {E : Type 0} (r : Result ReadyAnswer E) → IfOk r (λ ready. ready.problem ≡ problem) → IfOk r (λ ready. IsFoundBy request may_stop problem.instance None (told_outcome request.seconds ready.outcome))
+    → IfOk r (λ ready. ForSome (told_outcome request.seconds ready.outcome).plan (IsPlanOf problem.instance)) → IfOk r (IsReadyAlone request may_stop unread_old unread_new)
+is_ready_alone request may_stop problem unread_old unread_new read (Ok ready) of_problem found plan =
+    record {
+      read = subst (λ (q : Read). ReadsNamed request.options request.format unread_old unread_new q.instance (option_map string_bytes q.beside.name)) (sym of_problem) read;
+      found = subst (λ (q : Read). IsFoundBy request may_stop q.instance None (told_outcome request.seconds ready.outcome)) (sym of_problem) found;
+      plan = subst (λ (q : Read). ForSome (told_outcome request.seconds ready.outcome).plan (IsPlanOf q.instance)) (sym of_problem) plan;
+    }
+is_ready_alone request may_stop problem unread_old unread_new read (Err error) of_problem found plan = tt
+
+-- the finding of a search is not that of a check
+told_unchecked : (seconds : Option ℕ) (found : Answer) (bound : ℕ) → (told_of seconds found bound).status ≡ verdict.Lawful → ⊥
+told_unchecked None (answer.Proven plan) bound is = cc
+told_unchecked None (answer.Open plan low lowest) bound is = cc
+told_unchecked None answer.NoPlan bound is = cc
+told_unchecked (Some seconds) (answer.Proven plan) bound is = cc
+told_unchecked (Some seconds) (answer.Open plan low lowest) bound is = cc
+told_unchecked (Some seconds) answer.NoPlan bound is = cc
+
+-- the plan that was only checked is the start plan
+checked_plan : (request : Request) (may_stop : Bool) (p : Problem) (start : Option PricedPlan) (finding : FindingOf) → IsFoundBy request may_stop p start finding → finding.status ≡ verdict.Lawful → start ≡ finding.plan
+checked_plan request may_stop p start finding (inl checked) lawful = checked.given ∙ sym (ap (λ (f : FindingOf). f.plan) checked.told)
+checked_plan request may_stop p start finding (inr searched) lawful = absurd (told_unchecked request.seconds searched.answer searched.bound (ap (λ (f : FindingOf). f.status) (sym searched.told) ∙ lawful))
+
+-- without a start plan there is no text of its file
+none_text : (p : Problem) (text : Option (List ℕ)) (start : Option PricedPlan) → start ≡ None → GivesStart p text start → text ≡ None
+none_text p None start nobody gives = refl
+none_text p (Some text) None nobody gives = absurd gives
+none_text p (Some text) (Some plan) nobody gives = absurd (let never : Some plan ≡ None = nobody in cc)
+
+-- what was written of it answers the request
+pub prints_ready : {S : Type 0} (request : Request) (may_stop : Bool) (unread : S → Option (List ℕ)) (file : Option (StartFile S)) (unread_old unread_new written_old written_new : Option (List ℕ)) (ready : ReadyAnswer)
+    → IsReady request may_stop unread file unread_old unread_new ready → (ended : Status) → WritesFound request (context_for request ready) may_stop ready.problem.instance (plan_in ready.start) written_old written_new ended
+    → IsWritten request may_stop unread file unread_old unread_new written_old written_new (record { status = ended; ready = ready })
+unfolding prints_request writes_on begins_so
+prints_ready request may_stop unread file unread_old unread_new written_old written_new ready is ended written =
+    let name = option_map string_bytes ready.problem.beside.name in
+    let cost = option_and_then (λ (s : Solution). s.stated_cost) ready.start in
+    let on = writes_on request name may_stop ready.problem.instance unread file written_old written_new ready.start (plan_in ready.start) cost is.on.begins refl refl ended written in
+    record {
+      prints = prints_request request may_stop unread file unread_old unread_new written_old written_new ready.problem.instance name is.read ended on;
+      plan = λ lawful. checked_plan request may_stop ready.problem.instance (plan_in ready.start) on.written.finding on.written.found lawful;
+      none = λ nobody. none_text ready.problem.instance is.on.begins.begins.text (plan_in ready.start) (ap plan_in nobody) is.on.begins.begins.gives;
+      other = is.on.begins.other;
+    }
+
+pub prints_part_of_ready : {S : Type 0} (request : Request) (may_stop : Bool) (unread : S → Option (List ℕ)) (file : Option (StartFile S)) (unread_old unread_new written_old written_new : Option (List ℕ)) (ready : ReadyAnswer)
+    → IsReady request may_stop unread file unread_old unread_new ready → WritesFoundPart request (context_for request ready) may_stop ready.problem.instance (plan_in ready.start) written_old written_new
+    → PrintsPartOfRequest request may_stop unread file unread_old unread_new written_old written_new
+prints_part_of_ready request may_stop unread file unread_old unread_new written_old written_new ready is written =
+    let name = option_map string_bytes ready.problem.beside.name in
+    let cost = option_and_then (λ (s : Solution). s.stated_cost) ready.start in
+    prints_part_of_request request may_stop unread file unread_old unread_new written_old written_new ready.problem.instance name is.read
+    (writes_part_on request name may_stop ready.problem.instance unread file written_old written_new ready.start (plan_in ready.start) cost is.on.begins refl refl written)
+
 -- ---- faults
+
+-- a fault of writing is no refusal
+pub on_write_fault : (File : TextError → Type 0) (Starts : StartError → Type 0) (Picture : Type 0) (error : RunError) → (error ≡ fault.OutOfMemory) ⊎ (error ≡ fault.Write) → OnRefusal (reason.Run error) File Starts Picture
+on_write_fault File Starts Picture error (inl is) = subst (λ (e : RunError). OnRefusedFile e File) (sym is) tt
+on_write_fault File Starts Picture error (inr is) = subst (λ (e : RunError). OnRefusedFile e File) (sym is) tt
+
+-- a fault of writing is no failed read
+pub write_is_no_read : (error : RunError) → (error ≡ fault.OutOfMemory) ⊎ (error ≡ fault.Write) → reason.Run error ≡ reason.Run fault.Read → ⊥
+write_is_no_read error (inl is) same = let never : reason.Run fault.OutOfMemory ≡ reason.Run fault.Read = subst (λ (e : RunError). reason.Run e ≡ reason.Run fault.Read) is same in cc
+write_is_no_read error (inr is) same = let never : reason.Run fault.Write ≡ reason.Run fault.Read = subst (λ (e : RunError). reason.Run e ≡ reason.Run fault.Read) is same in cc
+
+-- a fault of a run is the same as that of the request
+pub fault_same : {error other : RunError} → reason.Run error ≡ reason.Run other → error ≡ other
+fault_same same = cc
 
 -- what holds of a value holds of the one that is answered
 pub on_ok : {T E : Type 0} {P Q : T → Type 0} → (r : Result T E) → ((value : T) → P value → Q value) → IfOk r P → IfOk r Q
@@ -193,8 +297,7 @@ on_err (Err error) step known = step error known
 
 -- no fault that comes once a problem is read is a refusal of its file
 pub on_refusal_of : (File : TextError → Type 0) (Start Starts : StartError → Type 0) (Picture : Type 0) → ((error : StartError) → Start error → Starts error) → (error : RequestError) → OnFault Start Picture error → OnRefusal error File Starts Picture
-on_refusal_of File Start Starts Picture step (reason.Run error) (inl is) = subst (λ (e : RunError). OnRefusedFile e File) (sym is) tt
-on_refusal_of File Start Starts Picture step (reason.Run error) (inr is) = subst (λ (e : RunError). OnRefusedFile e File) (sym is) tt
+on_refusal_of File Start Starts Picture step (reason.Run error) is = subst (λ (e : RunError). OnRefusedFile e File) (sym is) tt
 on_refusal_of File Start Starts Picture step (reason.Start (start_fault.Refused refusal)) known = step (start_fault.Refused refusal) known
 on_refusal_of File Start Starts Picture step (reason.Start start_fault.TooLong) known = step start_fault.TooLong known
 on_refusal_of File Start Starts Picture step (reason.Start start_fault.Read) known = tt
@@ -203,10 +306,15 @@ on_refusal_of File Start Starts Picture step reason.NoPoints known = known
 
 -- and none is a read that failed
 pub no_read_fault : (Start : StartError → Type 0) (Picture : Type 0) (error : RequestError) → OnFault Start Picture error → error ≡ reason.Run fault.Read → ⊥
-no_read_fault Start Picture (reason.Run error) (inl is) same = let never : reason.Run fault.OutOfMemory ≡ reason.Run fault.Read = subst (λ (e : RunError). reason.Run e ≡ reason.Run fault.Read) is same in cc
-no_read_fault Start Picture (reason.Run error) (inr is) same = let never : reason.Run fault.Write ≡ reason.Run fault.Read = subst (λ (e : RunError). reason.Run e ≡ reason.Run fault.Read) is same in cc
+no_read_fault Start Picture (reason.Run error) is same = let never : reason.Run fault.OutOfMemory ≡ reason.Run fault.Read = subst (λ (e : RunError). reason.Run e ≡ reason.Run fault.Read) is same in cc
 no_read_fault Start Picture (reason.Start error) known same = cc
 no_read_fault Start Picture reason.NoPoints known same = cc
+
+-- or a write
+pub no_write_fault : (Start : StartError → Type 0) (Picture : Type 0) (error : RequestError) → OnFault Start Picture error → error ≡ reason.Run fault.Write → ⊥
+no_write_fault Start Picture (reason.Run error) is same = let never : reason.Run fault.OutOfMemory ≡ reason.Run fault.Write = subst (λ (e : RunError). reason.Run e ≡ reason.Run fault.Write) is same in cc
+no_write_fault Start Picture (reason.Start error) known same = cc
+no_write_fault Start Picture reason.NoPoints known same = cc
 
 -- ---- the plan to begin with
 

@@ -1,5 +1,5 @@
 -- The plan to begin with, step by step.
-use Rattle.std.proofs.Common.{◌≡◌, ℕ, Option, None, Some, List, Bor, ap, refl, subst, sym}
+use Rattle.std.proofs.Common.{◌≡◌, ◌↔◌, ℕ, IsTrue, Option, None, Some, List, Bor, ap, refl, subst, sym}
 use Rattle.std.specs.Option.{option_and_then, option_copied, option_map}
 use Rattle.vrp_command.specs.Inner.Starts.{BeginsStated, GivesFilePlan, IsTooLongOrUnread, refused_for}
 use Rattle.vrp_command.specs.Program.{IsFile, OnRefusedStart, RefusesFile}
@@ -8,7 +8,7 @@ use Rattle.vrp_command.specs.declared.start.StartError.TheVariants as start_faul
 use Rattle.vrp_command.specs.declared.start.StartFile.{StartFile}
 use Rattle.vrp_command.specs.declared.start.StartFile.TheVariants.{Opened}
 use Rattle.vrp_model.specs.Problem.{Problem}
-use Rattle.vrp_plan_read.specs.Solution.{IsRefusedFor}
+use Rattle.vrp_plan_read.specs.Solution.{IsRefusedFor, StatesOtherCost}
 use Rattle.vrp_plan_read.specs.declared.solution.Solution.{Solution}
 use Rattle.vrp_plan_read.specs.declared.error.SolutionError.{SolutionError}
 use Rattle.vrp_plan_read.specs.declared.error.SolutionError.TheVariants as solution
@@ -16,12 +16,18 @@ use Rattle.vrp_plan_read.specs.declared.error.SolutionError.TheVariants as solut
 -- a file that was opened and read gives the plan, and states its cost
 pub begins_stated : {S : Type 0} (p : Problem) (unread : S → Option (List ℕ)) (start : Option (StartFile S)) (file : S) (solution : Solution) → start ≡ Some (Opened file) → GivesFilePlan p (unread file) solution → BeginsStated p unread start (Some solution)
 begins_stated {S} p unread start file solution is gives =
-    subst (λ (begin : Option (StartFile S)). BeginsStated p unread begin (Some solution)) (sym is) (record { begins = record { text = Some gives.text; read = gives.file; gives = gives.gives }; stated = gives.stated })
+    subst (λ (begin : Option (StartFile S)). BeginsStated p unread begin (Some solution)) (sym is)
+    (record {
+      begins = record { text = Some gives.text; read = gives.file; gives = gives.gives };
+      stated = gives.stated;
+      other = λ same is_same. (let one : solution ≡ same = cc in subst (λ (s : Solution). IsTrue s.states_other_cost ↔ StatesOtherCost gives.text s.plan.cost) one gives.other);
+    })
 
 -- without a file there is no plan, and no cost is stated
 pub begins_without : {S : Type 0} (p : Problem) (unread : S → Option (List ℕ)) (start : Option (StartFile S)) → start ≡ None → BeginsStated p unread start None
 begins_without {S} p unread start is =
-    subst (λ (begin : Option (StartFile S)). BeginsStated p unread begin None) (sym is) (record { begins = record { text = None; read = refl; gives = refl }; stated = refl })
+    subst (λ (begin : Option (StartFile S)). BeginsStated p unread begin None) (sym is)
+    (record { begins = record { text = None; read = refl; gives = refl }; stated = refl; other = λ same never. absurd (let clash : None ≡ Some same = never in cc) })
 
 -- the plan of a solution that is lent, and the cost that it states
 pub plan_lent : (lent : Option (Bor Solution)) (solution : Option Solution) → option_copied lent ≡ solution → option_map (λ s. s.now.plan) lent ≡ option_map (λ s. s.plan) solution

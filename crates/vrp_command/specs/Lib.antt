@@ -2,6 +2,7 @@ pub mod Answer
 pub mod Form
 pub mod Found
 pub mod Inner
+pub mod Line
 pub mod Program
 pub mod Run
 pub mod Same

@@ -1,7 +1,7 @@
 -- The answer to a request.
 use Rattle.std.specs.Io.KnownBytes.{Appends}
 use Rattle.std.specs.Option.{option_and_then}
-use Rattle.std.specs.Prelude.{◌≡◌, ◌≢◌, ℕ, ◌<◌, ◌≤◌, Bool, true, IsSomeAnd, Option, Some, None, Result, Ok, Err, List, length, ⊤}
+use Rattle.std.specs.Prelude.{◌≡◌, ◌≢◌, ℕ, ◌<◌, ◌≤◌, Bool, true, IsSome, IsSomeAnd, Option, Some, None, Result, Ok, Err, List, length, ⊤}
 use Rattle.vrp_answer.specs.Finding.{FindingOf}
 use Rattle.vrp_answer.specs.declared.status.Status.{Status}
 use Rattle.vrp_command.specs.Found.{IsFoundBy}
@@ -124,6 +124,12 @@ abbrev pub RefusesStartFile : {S : Type 0} → Problem → (S → Option (List �
 RefusesStartFile p unread None error = ⊥
 RefusesStartFile p unread (Some Unopened) error = ⊥
 RefusesStartFile p unread (Some (Opened file)) error = RefusesFile p (unread file) error
+
+-- a fault of a start plan comes only if there is a file for one
+abbrev pub OnStartFault : {S : Type 0} → Option (StartFile S) → RequestError → Type 0
+OnStartFault file (reason.Run fault) = ⊤
+OnStartFault file (reason.Start error) = IsSome file
+OnStartFault file reason.NoPoints = ⊤
 
 -- the bytes read mean a problem, and the start plan is refused for this reason
 pub record RefusesStart {S : Type 0} (request : Request) (unread_start : S → Option (List ℕ)) (start : Option (StartFile S)) (unread_old unread_new : Option (List ℕ)) (error : StartError) : Type 0 where

@@ -2,23 +2,23 @@
 ghost use Rattle.std.specs.Prelude.{◌≡◌, ◌≢◌, ◌+◌, false, IfOk, IfErr};
 ghost use Rattle.std.specs.Io.KnownBytes.{Keeps};
 ghost use Rattle.vrp_command_request.specs.Options.{AreInRange};
-ghost use Rattle.vrp_command.specs.Program.{OnRefusal, PrintsRequest, PrintsPartOfRequest, RefusesStart, may_stop_by};
+ghost use Rattle.vrp_command.specs.Program.{OnRefusal, OnStartFault, PrintsRequest, PrintsPartOfRequest, RefusesStart, may_stop_by};
 ghost use Rattle.vrp_command.specs.Run.{PrintsAnswer, PrintsPart, RefusesInput, OnRefusedFile};
 ghost use Rattle.vrp_command_streams.specs.Input.{TakesAtMost};
 
-use crate::answering::{answer_request, answer_with};
-use crate::deadline::Deadline;
+use crate::answering::answer_timed;
 use crate::fault::RequestError;
-use crate::problem::read_problem;
+use crate::form::Form;
+use crate::solving::solve_alone;
 use crate::start::StartFile;
-use crate::task::RequestTask;
+use crate::writing::print_ready;
 use std::alloc::Global;
 use std::io::{self, Eprint, Read, Write};
 use std::sync::Wait;
 use std::thread::Threads;
 use std::time::Clock;
 use vrp_command_request::{Format, Options, Request};
-use vrp_command_streams::{Progress, RunError, Status};
+use vrp_command_streams::{RunError, Status};
 use vrp_solver::{Gate, NoGate, Resources};
 use vrp_text::MAX_BYTES;
 
@@ -46,12 +46,11 @@ pub fn run<T: Threads + Wait + Sync, R: Read, W: Write>(
     ensures silent { IfErr result (λ fault. fault ≢ RunError.Write → Keeps
         (W.contents output.old) (W.contents output.new)) }
 {
-    let problem = read_problem(alloc, options, Format::Report, input)?;
     let resources = Resources::new(rt, alloc, &NoGate);
-    let task = RequestTask::report(&problem, options);
+    let ready = solve_alone(&resources, Request::report(options), input)?;
     // Only a report is printed, so `errors` gets nothing.
-    let printed = answer_with(&resources, &task, None, output, &mut io::sink());
-    drop(problem);
+    let printed = print_ready(alloc, None, &ready, Form::Report, output, &mut io::sink());
+    drop(ready);
     printed
 }
 
@@ -86,6 +85,7 @@ pub fn run_request<
         (RefusesInput request.entry.options.depot (R.remaining input.old) (R.remaining input.new))
         (RefusesStart request.entry (λ file. S.remaining file) start (R.remaining input.old) (R.remaining input.new))
         (request.entry.format ≡ Format.Picture)) }
+    ensures asked { IfErr result (OnStartFault start) }
     ensures begun { IfErr result (λ error. error ≡ RequestError.Run RunError.Write →
         PrintsPartOfRequest request.entry (may_stop_by request.entry.seconds (G.may_stop resources.now.gate.now))
         (λ file. S.remaining file) start
@@ -96,11 +96,12 @@ pub fn run_request<
     ensures silent { IfErr result (λ error. error ≢ RequestError.Run RunError.Write → Keeps
         (W.contents output.old) (W.contents output.new)) }
 {
-    let rt = resources.rt;
-    let deadline = Deadline::new(rt, request.seconds, resources.gate);
-    let progress = Progress::new(rt, request.progress, &deadline);
-    let told = Resources::new(rt, resources.alloc, &progress);
-    let outcome = answer_request(&told, request, start, input, output, errors);
-    progress.tell_end(&outcome, errors);
-    outcome
+    match answer_timed(resources, request, start, input, output, errors) {
+        Ok(written) => {
+            let status = written.status;
+            drop(written);
+            Ok(status)
+        }
+        Err(error) => Err(error),
+    }
 }

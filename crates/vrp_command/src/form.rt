@@ -1,9 +1,10 @@
 //! The output form of a finding.
 ghost use Rattle.std.specs.Io.KnownBytes.{Keeps};
 ghost use Rattle.std.specs.Option.{ForSome, option_map};
-ghost use Rattle.std.specs.Prelude.{◌≡◌, ◌≢◌, ◌⊎◌, ℕ, Option, None, IfOk, IfErr, List, OnErr, OnOk, string_bytes};
+ghost use Rattle.std.specs.Prelude.{◌≡◌, ◌≢◌, ◌⊎◌, ℕ, Option, None, IfOk, IfErr, List, OnOk, string_bytes};
 ghost use Rattle.vrp_answer.specs.Finding.{told_by};
 ghost use Rattle.vrp_command.specs.Form.{IsFormIn, IsTextAs, WritesPart, WritesText};
+ghost use Rattle.vrp_command.specs.Inner.Points.{HasPoints};
 ghost use Rattle.vrp_command.specs.Text.{context_of, settings_of};
 ghost use Rattle.vrp_plan_write.specs.Json.{context_by};
 ghost use Rattle.vrp_model.specs.Route.{IsPlanOf};
@@ -27,10 +28,6 @@ pub(crate) enum Form<'a> {
     Picture(&'a Points),
 }
 
-/// A picture was requested, and the file has no coordinates to draw.
-#[derive(Drop)]
-pub(crate) struct NoPoints;
-
 impl<'a> Form<'a> {
     /// The form with this stated cost of the start plan, or with none.
     pub(crate) fn stating(self, cost: Option<u64>) -> Form<'a>
@@ -49,17 +46,17 @@ impl<'a> Form<'a> {
 }
 
 /// The form that a request asks for, for this problem. There is no stated cost yet.
-pub(crate) fn form_of<'a>(request: &Request<'_>, problem: &'a Problem) -> Result<Form<'a>, NoPoints>
-    ensures form { IfOk result (IsFormIn request.now.format
-        (context_of request.now (option_map string_bytes problem.now.beside.name) None)) }
-    ensures picture { OnErr result (request.now.format ≡ Format.Picture) }
+pub(crate) fn form_of<'a>(request: &Request<'_>, problem: &'a Problem) -> Form<'a>
+    requires { HasPoints request.now.format problem.now }
+    ensures { IsFormIn request.now.format
+        (context_of request.now (option_map string_bytes problem.now.beside.name) None) result }
 {
     match (request.format, &problem.beside.points) {
-        (Format::Report, _) => Ok(Form::Report),
-        (Format::Solution, _) => Ok(Form::Solution),
-        (Format::Json, _) => Ok(Form::Json(context(request, &problem.beside))),
-        (Format::Picture, Some(points)) => Ok(Form::Picture(points)),
-        (Format::Picture, None) => Err(NoPoints),
+        (Format::Report, _) => Form::Report,
+        (Format::Solution, _) => Form::Solution,
+        (Format::Json, _) => Form::Json(context(request, &problem.beside)),
+        (Format::Picture, Some(points)) => Form::Picture(points),
+        (Format::Picture, None) => unreachable!(),
     }
 }
 

@@ -1,10 +1,14 @@
 //! A run that keeps its input: afterwards it writes hints and compares a stated cost with the true one.
+ghost use Rattle.std.specs.Io.KnownBytes.{Keeps};
+ghost use Rattle.std.specs.Prelude.{◌≡◌, IfOk, is_some};
 ghost use Rattle.vrp_command_request.specs.Options.{AreInRange};
+ghost use Rattle.vrp_command.specs.Inner.Written.{status_after};
+ghost use Rattle.vrp_command.specs.Line.{AnswersLine, IsRefusing, IsTelling};
+ghost use Rattle.vrp_command_streams.specs.Input.{IsInput};
 
-use crate::command::run_request;
+use crate::answering::{WrittenAnswer, answer_timed};
 use crate::fault::{RequestError, end};
 use crate::hints::{tell_answer, tell_refusal};
-use crate::problem::limited;
 use crate::start::{StartError, StartFile};
 use crate::strict::cost_status;
 use std::alloc::Global;
@@ -15,10 +19,8 @@ use std::sync::Wait;
 use std::thread::Threads;
 use std::time::Clock;
 use vrp_command_request::Request;
-use vrp_command_streams::{RunError, Status, read_input};
-use vrp_model::Instance;
+use vrp_command_streams::{RunError, Status, exit_status, read_input};
 use vrp_solver::{Gate, Resources};
-use vrp_text::TextError;
 
 /// The input of a run.
 #[derive(Drop)]
@@ -45,7 +47,10 @@ impl Kept {
         alloc: Global,
         request: &Request<'_>,
         input: &mut R,
-    ) -> Result<Kept, RequestError> {
+    ) -> Result<Kept, RequestError>
+        ensures input { IfOk result (λ kept. IsInput (R.remaining input.old) (R.remaining input.new) kept.input.items) }
+        ensures start { IfOk result (λ kept. is_some kept.start ≡ is_some request.now.start) }
+    {
         let input = match read_input(alloc, input) {
             Ok(input) => input,
             Err(fault) => return Err(RequestError::Run(fault)),
@@ -57,8 +62,18 @@ impl Kept {
         Ok(Kept { input, start })
     }
 
+    // The text of the start plan's file; empty if there is none.
+    fn start_text(&self) -> &[u8] {
+        match &self.start {
+            Some(StartText::Read(text)) => text.as_slice(),
+            _ => &[],
+        }
+    }
+
     // The start plan's file, to be read again.
-    fn start_file(&self) -> Option<StartFile<&[u8]>> {
+    fn start_file(&self) -> Option<StartFile<&[u8]>>
+        ensures { is_some result ≡ is_some self.now.start }
+    {
         match &self.start {
             Some(StartText::Read(text)) => Some(StartFile::Opened(text.as_slice())),
             Some(_) => Some(StartFile::Unopened),
@@ -81,7 +96,7 @@ fn read_start<T: Files>(rt: &T, alloc: Global, path: &str) -> Result<StartText, 
 }
 
 /// Answers a request as `run_request` does, and answers the exit status. Then it writes hints, if they are requested, and
-/// checks the stated cost. It promises nothing itself.
+/// checks the stated cost. What was printed keeps its status, whatever comes after it.
 pub(crate) fn run_kept<
     T: Threads + Wait + Clock + Eprint + Files + Sync,
     R: Read,
@@ -96,13 +111,16 @@ pub(crate) fn run_kept<
     errors: &mut E,
 ) -> u8
     requires { AreInRange request.options }
+    ensures told { IsTelling result → AnswersLine request.entry (G.may_stop resources.now.gate.now)
+        (R.remaining input.old) (R.remaining input.new) (W.contents output.old) (W.contents output.new) result }
+    ensures silent { IsRefusing result → Keeps (W.contents output.old) (W.contents output.new) }
 {
     let alloc = resources.alloc;
     let kept = match Kept::read(resources.rt, alloc, &request, input) {
         Ok(kept) => kept,
         Err(error) => return end(alloc, &Err(error), errors),
     };
-    let outcome = run_request(
+    let outcome = answer_timed(
         resources,
         request,
         kept.start_file(),
@@ -110,10 +128,10 @@ pub(crate) fn run_kept<
         output,
         errors,
     );
-    let status = end(alloc, &outcome, errors);
     match outcome {
-        Ok(verdict) => end_answered(alloc, &request, &kept, verdict, status, errors),
+        Ok(written) => end_answered(&request, &kept, &written, errors),
         Err(error) => {
+            let status = end(alloc, &Err(error), errors);
             if request.explain {
                 tell_refusal(&request, &kept, &error, errors);
             }
@@ -122,40 +140,23 @@ pub(crate) fn run_kept<
     }
 }
 
-// The exit status of an answered request, where this is the usual one. Reads the instance again.
+// The exit status of an answered request: that of its verdict, whatever comes after it, unless a wrong stated cost is to change it.
 fn end_answered<E: Write>(
-    alloc: Global,
     request: &Request<'_>,
     kept: &Kept,
-    verdict: Status,
-    status: u8,
+    written: &WrittenAnswer,
     errors: &mut E,
 ) -> u8
-    requires { AreInRange request.now.options }
+    ensures { result ≡ status_after request.now written.now }
 {
-    let Ok(instance) = problem_of(alloc, request, kept) else {
-        // The file was readable before, so this is lack of memory.
-        return end(
-            alloc,
-            &Err(RequestError::Run(RunError::OutOfMemory)),
-            errors,
-        );
-    };
     if request.explain {
-        tell_answer(request, kept, &instance, verdict, errors);
+        let instance = &written.ready.problem.instance;
+        tell_answer(request, kept, instance, written.status, errors);
     }
-    match &kept.start {
-        Some(StartText::Read(text)) if request.strict && verdict == Status::Lawful => {
-            cost_status(alloc, &instance, text, errors)
+    match &written.ready.start {
+        Some(solution) if request.strict && written.status == Status::Lawful => {
+            cost_status(solution, kept.start_text(), errors)
         }
-        _ => status,
+        _ => exit_status(&Ok(written.status)),
     }
-}
-
-// The problem of a request.
-fn problem_of(alloc: Global, request: &Request<'_>, kept: &Kept) -> Result<Instance, TextError>
-    requires { AreInRange request.now.options }
-{
-    let instance = vrp_text::read(alloc, &kept.input, request.options.depot)?;
-    Ok(limited(instance, request.options.trucks))
 }

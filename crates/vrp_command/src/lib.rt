@@ -7,15 +7,16 @@ mod command;
 mod deadline;
 mod fault;
 mod form;
-mod found;
 mod hints;
 mod kept;
 mod law;
+mod outcome;
 mod problem;
 mod program;
+mod solving;
 mod start;
 mod strict;
-mod task;
+mod writing;
 
 pub use command::{run, run_request};
 pub use deadline::Deadline;

@@ -1,9 +1,10 @@
 //! The problem of a run, from the bytes of its input, and the other data that a form needs from them.
-ghost use Rattle.std.specs.Prelude.{◌≡◌, ◌≢◌, ◌+◌, ◌≤◌, IfOk, IfErr, string_bytes};
+ghost use Rattle.std.specs.Prelude.{◌≡◌, ◌≢◌, ◌+◌, ◌≤◌, false, IfOk, IfErr, IsTrue, string_bytes};
 ghost use Rattle.std.specs.Option.{ForSome, option_map};
 ghost use Rattle.vrp_command_streams.specs.Input.{TakesAtMost};
 ghost use Rattle.vrp_command_request.specs.Options.{AreInRange};
 ghost use Rattle.vrp_command.specs.Inner.Named.{ReadsNamed};
+ghost use Rattle.vrp_command.specs.Inner.Points.{HasPoints};
 ghost use Rattle.vrp_command.specs.Run.{OnRefusedFile, RefusesInput, limited};
 ghost use Rattle.vrp_plan_write.specs.Name.{name_of};
 ghost use Rattle.vrp_model.specs.declared.limits.TheConstants.{MAX_NODES};
@@ -30,6 +31,19 @@ pub(crate) struct Beside {
     pub(crate) points: Option<Points>,
     /// The file's name for itself, if JSON is requested and the file has one.
     pub(crate) name: Option<String>,
+}
+
+impl Problem {
+    /// Whether a picture is requested, and the file has no coordinates to draw.
+    pub(crate) fn lacks_points(&self, format: Format) -> bool
+        ensures yes { IsTrue result → format ≡ Format.Picture }
+        ensures no { result ≡ false → HasPoints format self.now }
+    {
+        match format {
+            Format::Picture => self.beside.points.is_none(),
+            Format::Report | Format::Solution | Format::Json => false,
+        }
+    }
 }
 
 impl Beside {

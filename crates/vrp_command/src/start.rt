@@ -1,6 +1,6 @@
 //! The start plan, from a file.
 ghost use Rattle.std.specs.Option.{option_and_then, option_map};
-ghost use Rattle.std.specs.Prelude.{◌≡◌, IfErr, IfOk};
+ghost use Rattle.std.specs.Prelude.{◌≡◌, IfErr, IfOk, IsSome, OnErr};
 ghost use Rattle.vrp_command.specs.Inner.Starts.{BeginsStated, GivesFilePlan, IsTooLongOrUnread, refused_for};
 ghost use Rattle.vrp_command.specs.Program.{IsFile, OnRefusedStart, RefusesFile, RefusesStartFile};
 
@@ -48,20 +48,20 @@ pub enum StartError {
 }
 
 /// The start plan, if there is a file for it: the feasible plan that its text gives, with its stated cost.
-pub(crate) fn start_plan<S: Read + Drop, E: Write>(
+pub(crate) fn start_plan<S: Read + Drop>(
     alloc: Global,
     instance: &Instance,
     start: Option<StartFile<S>>,
-    errors: &mut E,
 ) -> Result<Option<Solution>, StartError>
     ensures begins { IfOk result (BeginsStated instance.now (λ file. S.remaining file) start) }
     ensures refused { IfErr result (λ error. OnRefusedStart error
         (RefusesStartFile instance.now (λ file. S.remaining file) start)) }
+    ensures asked { OnErr result (IsSome start) }
 {
     match start {
         None => Ok(None),
         Some(StartFile::Unopened) => Err(StartError::Read),
-        Some(StartFile::Opened(file)) => Ok(Some(plan_in(alloc, instance, file, errors)?)),
+        Some(StartFile::Opened(file)) => Ok(Some(plan_in(alloc, instance, file)?)),
     }
 }
 
@@ -85,29 +85,33 @@ pub(crate) fn stated_cost_of(solution: Option<&Solution>) -> Option<u64>
     }
 }
 
-// The feasible plan that a file gives in CVRPLIB's format. If the stated cost is wrong, a message goes to `errors`.
-fn plan_in<S: Read + Drop, E: Write>(
+/// Writes to `errors` if the file of a start plan states a wrong cost. If that fails, nobody is told. The contract leaves the
+/// message open.
+pub(crate) fn tell_stated_cost<E: Write>(solution: Option<&Solution>, errors: &mut E) {
+    let Some(solution) = solution else {
+        return;
+    };
+    if solution.states_other_cost {
+        let cost = solution.plan.cost();
+        let _ = writeln!(
+            errors,
+            "cvrp: start plan: it states another cost than its true one, {cost}"
+        );
+    }
+}
+
+// The feasible plan that a file gives in CVRPLIB's format.
+fn plan_in<S: Read + Drop>(
     alloc: Global,
     instance: &Instance,
     file: S,
-    errors: &mut E,
 ) -> Result<Solution, StartError>
     ensures gives { IfOk result (GivesFilePlan instance.now (S.remaining file)) }
     ensures refused { IfErr result (λ error. OnRefusedStart error (RefusesFile instance.now (S.remaining file))) }
 {
     let text = read_file(alloc, file)?;
     match Solution::read(alloc, &text, instance) {
-        Ok(solution) => {
-            let cost = solution.plan.cost();
-            if solution.states_other_cost {
-                // If writing fails, nobody is told.
-                let _ = writeln!(
-                    errors,
-                    "cvrp: start plan: it states another cost than its true one, {cost}"
-                );
-            }
-            Ok(solution)
-        }
+        Ok(solution) => Ok(solution),
         Err(refusal) => Err(refused(refusal)),
     }
 }

@@ -2,7 +2,7 @@
 use Rattle.std.specs.Borrow.{Bor}
 use Rattle.std.specs.Io.{StartsWith}
 use Rattle.std.specs.List.{HoldsAt}
-use Rattle.std.specs.Prelude.{◌≡◌, ◌<◌, ◌↔◌, ℕ, IsTrue, List, Option, None, Some, codes, length}
+use Rattle.std.specs.Prelude.{◌≡◌, ◌⊎◌, ◌<◌, ◌↔◌, ℕ, IsTrue, List, Option, None, Some, codes, length}
 use Rattle.vrp_command_request.specs.declared.arguments.LineFault.{LineFault}
 use Rattle.vrp_command_request.specs.declared.arguments.LineFault.TheVariants as line
 use Rattle.vrp_command_request.specs.declared.limits.TheConstants.{MAX_BUDGET}
@@ -17,6 +17,11 @@ HasArgument arguments argument = (k : ℕ) × (k < length arguments) × HoldsAt 
 -- one of the arguments begins with this
 abbrev pub HasArgumentFrom : List (Bor (List ℕ)) → List ℕ → Type 0
 HasArgumentFrom arguments start = (k : ℕ) × (k < length arguments) × HoldsAt (λ given. StartsWith given.now start) arguments k
+
+-- one of the arguments begins with a flag of the help or of the version
+abbrev pub AsksForHelp : List (Bor (List ℕ)) → Type 0
+AsksForHelp arguments = (HasArgumentFrom arguments (codes "-h") ⊎ HasArgumentFrom arguments (codes "--help"))
+    ⊎ (HasArgumentFrom arguments (codes "-V") ⊎ HasArgumentFrom arguments (codes "--version"))
 
 abbrev pub line_code : LineFault → ℕ
 line_code (line.Help text) = 0

@@ -1,11 +1,13 @@
 //! Reads the arguments of a command line: the request for a run.
-ghost use Rattle.std.specs.Prelude.{◌≡◌, ◌≢◌, ◌≤◌, IfOk, IsTrue, codes};
+ghost use Rattle.std.specs.Prelude.{◌≡◌, ◌≢◌, ◌≤◌, IfErr, IfOk, IsTrue, codes};
 ghost use Rattle.clap.specs.Words.{kind_of};
 ghost use Rattle.vrp_command_request.specs.Options.{AreInRange, HasDepotFromOne, HasDepotWithin, IsOtherFormat};
-ghost use Rattle.vrp_command_request.specs.Arguments.{AreAskedBy, AreAskedUnderLimit, HasArgument, HasArgumentFrom, IsAskedBy, budget_within, line_code};
+ghost use Rattle.vrp_command_request.specs.Arguments.{AreAskedBy, AreAskedUnderLimit, AsksForHelp, HasArgument, HasArgumentFrom, IsAskedBy, budget_within, line_code};
 ghost use Rattle.vrp_command_request.specs.declared.limits.TheConstants.{MAX_BUDGET};
 
-use crate::given::{BadValue, budget, count, form, has_argument, node, value_of, value_of_either};
+use crate::given::{
+    BadValue, budget, count, form, has_argument, has_argument_from, node, value_of, value_of_either,
+};
 use crate::grammar::command_line;
 use crate::limits::{MAX_BUDGET, MAX_SECONDS};
 use crate::options::{Options, Request};
@@ -44,6 +46,7 @@ impl From<AllocError> for LineFault {
 /// budget is the largest. No clause says which arguments are refused; that is for `clap` to say.
 pub fn parse_request<'a>(alloc: Global, arguments: &'a [&'a str]) -> Result<Request<'a>, LineFault>
     ensures asked { IfOk result (IsAskedBy arguments.now) }
+    ensures help { IfErr result (λ fault. line_code fault ≡ 0 → AsksForHelp arguments.now) }
     ensures in_range { IfOk result (λ request. AreInRange request.options) }
     ensures some_depot { IfOk result (λ request. HasDepotFromOne request.options) }
     ensures few_depot { IfOk result (λ request. HasDepotWithin request.options) }
@@ -54,7 +57,7 @@ pub fn parse_request<'a>(alloc: Global, arguments: &'a [&'a str]) -> Result<Requ
     ensures format { IfOk result (λ request. IsOtherFormat request.format → HasArgumentFrom arguments.now (codes "--format")) }
 {
     if let Err(error) = accept(alloc, arguments) {
-        return Err(argument_fault(alloc, &error));
+        return Err(line_fault(alloc, arguments, &error));
     }
     match request(arguments) {
         Ok(request) => Ok(request),
@@ -109,6 +112,26 @@ pub fn line_status(fault: &LineFault) -> u8
 fn accept(alloc: Global, arguments: &[&str]) -> Result<(), Error> {
     let _accepted = command_line(alloc)?.try_get_matches_from(arguments)?;
     Ok(())
+}
+
+// The fault of arguments that `clap` doesn't accept: the help or the version only where they are asked for.
+fn line_fault(alloc: Global, arguments: &[&str], error: &Error) -> LineFault
+    ensures { line_code result ≡ 0 → AsksForHelp arguments.now }
+{
+    match argument_fault(alloc, error) {
+        LineFault::Help(text) if !asks_for_help(arguments) => LineFault::Refused(text),
+        fault => fault,
+    }
+}
+
+// Whether the arguments ask for the help or the version.
+fn asks_for_help(arguments: &[&str]) -> bool
+    ensures { IsTrue result → AsksForHelp arguments.now }
+{
+    has_argument_from(arguments, "-h")
+        || has_argument_from(arguments, "--help")
+        || has_argument_from(arguments, "-V")
+        || has_argument_from(arguments, "--version")
 }
 
 /// The fault of arguments that `clap` refuses: its help or version, or its error message. No clause says which of these.

@@ -2,7 +2,7 @@
 ghost use Rattle.std.specs.Prelude.{◌≡◌, ◌+◌, ◌<◌, ◌≤◌, ◌↔◌, IfOk, IsTrue, MatchOption, length};
 ghost use Rattle.std.specs.Option.{ForSome};
 ghost use Rattle.vrp_model.specs.declared.limits.TheConstants.{MAX_NODES};
-ghost use Rattle.vrp_command_request.specs.Arguments.{HasArgument};
+ghost use Rattle.vrp_command_request.specs.Arguments.{HasArgument, HasArgumentFrom};
 ghost use Rattle.vrp_command_request.specs.Given.{GivesAt, GivesEither, GivesNext, GivesValue, IsBehind, IsGiven, IsNamedBy, IsReadFrom};
 ghost use Rattle.vrp_command_request.specs.declared.limits.TheConstants.{MAX_BUDGET};
 
@@ -19,6 +19,18 @@ pub(crate) fn has_argument(arguments: &[&str], argument: &str) -> bool
     ensures { IsTrue result ↔ HasArgument arguments.now argument.now }
 {
     arguments.contains(&argument)
+}
+
+// Whether one of the arguments begins with this flag.
+pub(crate) fn has_argument_from(arguments: &[&str], flag: &str) -> bool
+    ensures { IsTrue result → HasArgumentFrom arguments.now flag.now }
+{
+    for at in 0..arguments.len() {
+        if arguments[at].starts_with(flag) {
+            return true;
+        }
+    }
+    false
 }
 
 // The value that the arguments give to an option: the first one, if there are several.

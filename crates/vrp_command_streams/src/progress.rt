@@ -74,19 +74,19 @@ impl<'a, T: Clock + Eprint, G: Gate> Progress<'a, T, G> {
 
     /// Prints the last line to `errors`, if the search has a verdict and lines are printed. A proven plan is its own lower bound. No clause
     /// says what the line says.
-    pub fn tell_end<F, E: Write>(&self, outcome: &Result<Status, F>, errors: &mut E) {
-        let Ok(status) = outcome else {
+    pub fn tell_end<E: Write>(&self, verdict: Option<Status>, errors: &mut E) {
+        let Some(status) = verdict else {
             return;
         };
-        if !self.tells || *status == Status::Lawful {
+        if !self.tells || status == Status::Lawful {
             return;
         }
-        if *status == Status::Proven {
+        if status == Status::Proven {
             let bound = LowerBound::of_cost(self.cost.load(Ordering::Relaxed));
             self.bound.store(bound.hundredths, Ordering::Relaxed);
         }
         // If it can't be written, nobody is told.
-        let _ = writeln!(errors, "{}", self.line(RunState::Ended(*status)));
+        let _ = writeln!(errors, "{}", self.line(RunState::Ended(status)));
     }
 
     // The seconds since the start, if the clock works.

@@ -1,8 +1,8 @@
 -- Facts about the start plan's file, step by step.
 use Rattle.std.specs.Option.{option_and_then, option_map}
-use Rattle.std.specs.Prelude.{◌≡◌, ℕ, ◌<◌, Option, List, length, ⊤}
+use Rattle.std.specs.Prelude.{◌≡◌, ◌↔◌, ℕ, ◌<◌, IsSomeAnd, IsTrue, Option, Some, List, length, ⊤}
 use Rattle.vrp_command.specs.Program.{BeginsWith, IsFile, start_cost}
-use Rattle.vrp_plan_read.specs.Solution.{GivesPlan, stated_cost}
+use Rattle.vrp_plan_read.specs.Solution.{GivesPlan, StatesOtherCost, stated_cost}
 use Rattle.vrp_plan_read.specs.declared.solution.Solution.{Solution}
 use Rattle.vrp_command.specs.declared.start.StartError.{StartError}
 use Rattle.vrp_command.specs.declared.start.StartError.TheVariants as start_fault
@@ -19,11 +19,14 @@ pub record GivesFilePlan (p : Problem) (unread : Option (List ℕ)) (solution : 
   pub file : IsFile unread text
   pub gives : GivesPlan p text solution.plan
   pub stated : solution.stated_cost ≡ stated_cost text
+  pub other : IsTrue solution.states_other_cost ↔ StatesOtherCost text solution.plan.cost
 
--- the start plan, if one is given, is the one that its file's text gives, and its stated cost is the one in that text
+-- the start plan, if one is given, is the one that its file's text gives, its stated cost is the one in that text, and it is known
+-- whether that is a wrong one
 pub record BeginsStated {S : Type 0} (p : Problem) (unread : S → Option (List ℕ)) (file : Option (StartFile S)) (start : Option Solution) : Type 0 where
   pub begins : BeginsWith p unread file (option_map (λ solution. solution.plan) start)
   pub stated : option_and_then (λ solution. solution.stated_cost) start ≡ start_cost begins.text
+  pub other : (solution : Solution) → start ≡ Some solution → IsSomeAnd begins.text (λ text. IsTrue solution.states_other_cost ↔ StatesOtherCost text solution.plan.cost)
 
 -- more bytes of a file were read than it may have
 pub record IsTooLong (unread : Option (List ℕ)) : Type 0 where
