@@ -1,0 +1,11 @@
+pub mod AllInSet
+pub mod ArcSteps
+pub mod FoldedCosts
+pub mod FoldedRows
+pub mod FullCounts
+pub mod ListSums
+pub mod NeededRows
+pub mod PricedPlans
+pub mod Pushed
+pub mod RowBits
+pub mod Weighed

@@ -1,0 +1,4 @@
+pub mod Checked
+pub mod Duals
+pub mod Fault
+pub mod Folding
