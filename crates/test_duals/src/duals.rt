@@ -1,7 +1,7 @@
 //! Dual prices, and the costs of routes by them.
 
 mod by_hand;
-mod fixture;
+pub(crate) mod fixture;
 mod folded;
 mod limits;
 mod slow;

@@ -1,8 +1,10 @@
-//! Tests of `vrp_duals`: by hand, compared with a plain slow program that reads routes forward, and at the limits. They are a separate
-//! crate, since a crate with tests is proved twice.
+//! Tests of `vrp_duals` and `vrp_labels`: by hand, compared with plain slow programs, and at the limits. They are a separate crate, since a
+//! crate with tests is proved twice.
 #![tactic(auto)]
 
 #[cfg(test)]
 mod assertion;
 #[cfg(test)]
 mod duals;
+#[cfg(test)]
+mod labels;

@@ -7,7 +7,7 @@ use vrp_duals::{Duals, FoldedDuals, RowSet};
 use vrp_model::Instance;
 
 /// These places.
-pub(super) fn set_of(places: &[u16]) -> CustomerSet {
+pub(crate) fn set_of(places: &[u16]) -> CustomerSet {
     let mut set = CustomerSet::empty();
     for &place in places {
         if usize::from(place) < PLACES {
@@ -18,7 +18,7 @@ pub(super) fn set_of(places: &[u16]) -> CustomerSet {
 }
 
 /// The prices of an instance folded, and the same with each row remembered everywhere.
-pub(super) fn folded(
+pub(crate) fn folded(
     rt: &impl Abort,
     alloc: Global,
     duals: &Duals,
@@ -29,7 +29,7 @@ pub(super) fn folded(
 }
 
 /// The same with each row remembered everywhere.
-pub(super) fn folded_in_full(
+pub(crate) fn folded_in_full(
     rt: &impl Abort,
     alloc: Global,
     duals: &Duals,
@@ -42,7 +42,7 @@ pub(super) fn folded_in_full(
 }
 
 /// What a route costs in folded prices: read from its last stop, as labels do.
-pub(super) fn route_cost(rt: &impl Abort, folded: &FoldedDuals, route: &[u16]) -> i64 {
+pub(crate) fn route_cost(rt: &impl Abort, folded: &FoldedDuals, route: &[u16]) -> i64 {
     let mut rows = RowSet::empty();
     let mut next = 0;
     let mut cost = 0i64;

@@ -1,0 +1,15 @@
+pub mod AlikeGraphs
+pub mod CheapPlans
+pub mod ClosingSteps
+pub mod EitherEnd
+pub mod Endings
+pub mod Graphs
+pub mod Joins
+pub mod Meetings
+pub mod OnwardTable
+pub mod PileSteps
+pub mod PlaceSets
+pub mod RowExcess
+pub mod SignedSums
+pub mod SortedPiles
+pub mod Wider

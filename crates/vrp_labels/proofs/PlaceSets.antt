@@ -1,0 +1,18 @@
+-- Sets of places with one place more.
+use Rattle.std.proofs.Common.{◌≡◌, ℕ, ◌<◌, ◌^◌, ◌∙◌, ap, arith, bit_or, max}
+use Rattle.std.specs.Int.{bit_at}
+use Rattle.std.proofs.lemmas.Nat.Bits.{bit_at-lt, bit_at-pow_same, bit_at_or}
+
+-- what the set has it still has
+pub with_still : (set place next j : ℕ) → next ≡ bit_or set (2 ^ place) → bit_at set j ≡ 1 → bit_at next j ≡ 1
+with_still set place next j is has = ap (λ n. bit_at n j) is ∙ (bit_at_or set (2 ^ place) j ∙ low (bit_at set j) (bit_at (2 ^ place) j) has (bit_at-lt (2 ^ place) j))
+  where
+    low : (x y : ℕ) → x ≡ 1 → y < 2 → max x y ≡ 1
+    low x y one lt = omega arith
+
+-- and the place
+pub with_one : (set place next : ℕ) → next ≡ bit_or set (2 ^ place) → bit_at next place ≡ 1
+with_one set place next is = ap (λ n. bit_at n place) is ∙ (bit_at_or set (2 ^ place) place ∙ low (bit_at set place) (bit_at (2 ^ place) place) (bit_at-pow_same place) (bit_at-lt set place))
+  where
+    low : (x y : ℕ) → y ≡ 1 → x < 2 → max x y ≡ 1
+    low x y one lt = omega arith

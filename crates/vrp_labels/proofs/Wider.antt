@@ -1,0 +1,90 @@
+-- Labels that were closed where rows are remembered at fewer places.
+use Rattle.std.proofs.Common.{◌≡◌, ℕ, get_or, ◌+◌, ◌-◌, ◌%◌, ◌<◌, ◌≤◌, List, [], ◌∷◌, refl, ◌∙◌, subst, arith, ℤ, pos, ◌+ℤ◌, ◌≤ℤ◌, bit_and, min}
+use Rattle.std.specs.Int.{bit_at}
+use Rattle.std.specs.List.{All}
+use Rattle.std.proofs.lemmas.Int.{ints}
+use Rattle.std.proofs.lemmas.List.Elements.{All-head, All-tail}
+use Rattle.std.proofs.lemmas.Nat.Bits.{bit_at-lt, bit_at_and}
+use Rattle.vrp_duals.specs.Folding.{arc_of, due_at, first_of, folded_cost, home_cost, members_at, memories_at, rows_at, rows_of}
+use Rattle.vrp_labels.specs.Closing.{AreKept}
+use Rattle.vrp_labels.specs.Graph.{GraphOf}
+use Rattle.vrp_labels.specs.Label.{IsClosed, StandsFor, excess, rows_without}
+use Rattle.vrp_labels.specs.Route.{joined}
+use Rattle.vrp_labels.specs.Widening.{AreWider, IsClosedBelow, IsWiderAt, with_memories}
+use Rattle.vrp_labels.specs.declared.label.Label.{Label}
+use Rattle.vrp_labels.proofs.AlikeGraphs.{route_alike}
+use Rattle.vrp_labels.proofs.Joins.{halves}
+use Rattle.vrp_labels.proofs.RowExcess.{bit_at_without, bit_at_rows, excess_same, excess_trans, from_bits, weigh_bits}
+
+-- what a row costs less in the one graph it has in excess there
+excess_wider : (g : GraphOf) (memories : List ℕ) (j : ℕ) → IsWiderAt g.folded j (get_or memories j 0) → (a b : ℕ) → due_at g.folded j a + excess g (rows_at g.folded j a) (rows_at (with_memories g memories).folded j b) ≤ excess g a b + due_at g.folded j b
+excess_wider g memories j wider a b =
+    let w = with_memories g memories in
+    let m = memories_at g.folded j in
+    let n = memories_at w.folded j in
+    let t = members_at g.folded j in
+    weigh_bits g.folded.row_prices (bit_and a t) (rows_without (rows_at g.folded j a) (rows_at w.folded j b)) (rows_without a b) (bit_and b t)
+    (λ i. from_bits (bit_at_and a t i) (bit_at_without (rows_at g.folded j a) (rows_at w.folded j b) i ∙ both (bit_at_rows m t a i) (bit_at_rows n t b i)) (bit_at_without a b i) (bit_at_and b t i)
+    (each (bit_at a i) (bit_at b i) (bit_at m i) (bit_at n i) (bit_at t i) (bit_at-lt a i) (bit_at-lt b i) (bit_at-lt n i) (wider.within i) (wider.more i)))
+  where
+    both : {x y x' y' : ℕ} → x ≡ x' → y ≡ y' → x - y ≡ x' - y'
+    both e f = omega arith
+
+    each : (x y m n t : ℕ) → x < 2 → y < 2 → n < 2 → t ≤ m → m ≤ n → min x t + ((min x m + t) % 2 - (min y n + t) % 2) ≤ (x - y) + min y t
+    each x y m n t p q r s u = omega arith
+
+ending_wider : (g : GraphOf) (memories : List ℕ) → AreWider g.folded memories → (ending : List ℕ) → All (λ j. (1 ≤ j) × (j < g.folded.places)) ending → (home_cost g.folded ending +ℤ pos (excess g (rows_of g.folded ending) (rows_of (with_memories g memories).folded ending))) ≤ℤ home_cost (with_memories g memories).folded ending
+ending_wider g memories wider [] known = let none = excess_same g 0 in omega (arith, ints, none)
+ending_wider g memories wider (j ∷ ending) known =
+    let w = with_memories g memories in
+    more (home_cost g.folded ending) (home_cost w.folded ending) (arc_of g.folded j (first_of ending)) (due_at g.folded j (rows_of g.folded ending)) (due_at g.folded j (rows_of w.folded ending)) (excess g (rows_of g.folded ending) (rows_of w.folded ending)) (excess g (rows_at g.folded j (rows_of g.folded ending)) (rows_at w.folded j (rows_of w.folded ending)))
+    (ending_wider g memories wider ending (All-tail (λ j. (1 ≤ j) × (j < g.folded.places)) j ending known))
+    (excess_wider g memories j (wider j (All-head (λ j. (1 ≤ j) × (j < g.folded.places)) j ending known).1) (rows_of g.folded ending) (rows_of w.folded ending))
+  where
+    more : (h k a : ℤ) (d e x y : ℕ) → (h +ℤ pos x) ≤ℤ k → d + y ≤ x + e → (h +ℤ a +ℤ pos d +ℤ pos y) ≤ℤ (k +ℤ a +ℤ pos e)
+    more h k a d e x y p q = omega (arith, ints)
+
+stands_wider : (g : GraphOf) (memories : List ℕ) (label : Label) (ending : List ℕ) → AreWider g.folded memories → All (λ j. (1 ≤ j) × (j < g.folded.places)) ending → StandsFor g label ending → StandsFor (with_memories g memories) label ending
+stands_wider g memories label ending wider known stands =
+    let w = with_memories g memories in
+    record {
+      at = stands.at;
+      load = stands.load;
+      visited = stands.visited;
+      cost = dearer label.cost (home_cost g.folded ending) (home_cost w.folded ending) (excess g label.rows (rows_of w.folded ending)) (excess g label.rows (rows_of g.folded ending)) (excess g (rows_of g.folded ending) (rows_of w.folded ending))
+          (excess_trans g label.rows (rows_of g.folded ending) (rows_of w.folded ending)) stands.cost (ending_wider g memories wider ending known);
+    }
+  where
+    dearer : (c h k : ℤ) (e f x : ℕ) → e ≤ f + x → (c +ℤ pos f) ≤ℤ h → (h +ℤ pos x) ≤ℤ k → (c +ℤ pos e) ≤ℤ k
+    dearer c h k e f x p q r = omega (arith, ints)
+
+-- a route costs no less
+pub route_wider : (g : GraphOf) (memories : List ℕ) (route : List ℕ) → AreWider g.folded memories → All (λ j. (1 ≤ j) × (j < g.folded.places)) route → folded_cost g.folded route ≤ℤ folded_cost (with_memories g memories).folded route
+route_wider g memories route wider known =
+    let w = with_memories g memories in
+    more (arc_of g.folded 0 (first_of route)) (home_cost g.folded route) (home_cost w.folded route) (excess g (rows_of g.folded route) (rows_of w.folded route)) (ending_wider g memories wider route known)
+  where
+    more : (a h k : ℤ) (x : ℕ) → (h +ℤ pos x) ≤ℤ k → (a +ℤ h) ≤ℤ (a +ℤ k)
+    more a h k x p = omega (arith, ints)
+
+closed_wider : (g : GraphOf) (memories : List ℕ) (gap : ℤ) (kept : List (List Label)) → AreWider g.folded memories → IsClosed g gap kept → IsClosed (with_memories g memories) gap kept
+closed_wider g memories gap kept wider closed beginning ending cheap some =
+    let w = with_memories g memories in
+    let route = joined beginning ending in
+    let (label, has, stands) = closed beginning ending (record { is_route = route_alike w g route (record { places = refl; demands = refl; capacity = refl; followers = refl }) cheap.is_route; cheap = trans (folded_cost g.folded route) (folded_cost w.folded route) (route_wider g memories route wider cheap.is_route.is_ending.known) cheap.cheap }) some in
+    (label, has, stands_wider g memories label ending wider (halves w beginning ending cheap.is_route.is_ending).is_ending.known stands)
+  where
+    trans : (a b : ℤ) → a ≤ℤ b → b ≤ℤ gap → a ≤ℤ gap
+    trans a b p q = omega (arith, ints)
+
+kept_wider : (g : GraphOf) (memories : List ℕ) (kept : List (List Label)) → AreKept g kept → AreKept (with_memories g memories) kept
+kept_wider g memories kept are = record {
+  long = are.long;
+  each = λ at label has. let one = are.each at label has in (record { place = one.0.place; light = one.0.light; small = one.0.small }, one.1);
+}
+
+pub closed_above : (wide : GraphOf) (gap : ℤ) (kept : List (List Label)) → IsClosedBelow wide gap kept → IsClosed wide gap kept
+closed_above wide gap kept below = subst (λ (g : GraphOf). IsClosed g gap kept) below.is (closed_wider below.narrow wide.folded.memories gap kept below.wider below.closed)
+
+pub kept_above : (wide : GraphOf) (gap : ℤ) (kept : List (List Label)) → IsClosedBelow wide gap kept → AreKept wide kept
+kept_above wide gap kept below = subst (λ (g : GraphOf). AreKept g kept) below.is (kept_wider below.narrow wide.folded.memories kept below.are_kept)

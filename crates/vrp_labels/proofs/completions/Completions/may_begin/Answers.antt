@@ -1,0 +1,23 @@
+use Rattle.std.proofs.Common.{◌≡◌, ◌∙◌, inl, inr, ap, sym, subst, arith}
+use Rattle.std.proofs.lemmas.Bool.{cases_lt, false≢true}
+use Rattle.vrp_duals.specs.Folding.{first_of}
+use Rattle.vrp_labels.specs.Completion.{AreCompletions, Links, CompletionsOf}
+use Rattle.vrp_labels.proofs.Joins.{halves}
+use Rattle.vrp_labels.proofs.Meetings.{forward_begins}
+use Rattle.vrp_labels.proofs.EitherEnd.{begins_links, place_of}
+use Rattle.vrp_labels.proofs.completions.Completions.may_begin.Goals as goal
+
+pub loop-place-preserved : goal.loop-place-preserved
+loop-place-preserved c = λ j less linked. elim (cases_lt j c.loop-place.place) [
+  | inl before ↦ c.loop-place.invariant j before linked
+  | inr last ↦ false≢true (sym c.if-links.false ∙ c.links.ensures.none (subst (Links c.args.self.now c.args.forward.now) (let same : j ≡ c.loop-place.place = omega (arith, less, last) in same) linked))
+]
+
+pub returns-clause-begins : goal.returns-clause-begins
+returns-clause-begins c = λ beginning ending begins cheap.
+    let s = c.args.self.now in
+    let is : AreCompletions s = subst AreCompletions c.self.view_is c.self.invariant in
+    let all = ap (λ (s : CompletionsOf). s.graph.folded.places) c.self.view_is in
+    let both = halves s.graph beginning ending cheap.is_route.is_ending in
+    let place = place_of s.graph ending (omega (arith, all, c.places-place-end.ensures.known.some_places)) both.is_ending.known in
+    absurd (c.loop-place.invariant (first_of ending) (omega (arith, place, all, c.loop-place-test.false, c.places-place-end.ensures.value)) (begins_links s c.args.forward.now beginning ending is.closed cheap (forward_begins s.graph c.args.forward.now beginning begins)))

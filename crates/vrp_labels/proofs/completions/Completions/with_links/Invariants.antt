@@ -1,0 +1,10 @@
+use Rattle.std.proofs.Common.{◌≡◌, ◌<◌, ℕ}
+use Rattle.std.specs.Int.{bit_at}
+use Rattle.vrp_labels.specs.Completion.{Links}
+use Rattle.vrp_labels.proofs.completions.Completions.with_links.Given as goal
+
+abbrev pub invariant-loop-place : goal.invariant-loop-place
+invariant-loop-place l = record {
+  still : (j : ℕ) → bit_at l.fn.known j ≡ 1 → bit_at l.set j ≡ 1;
+  linked : (j : ℕ) → j < l.place → Links l.self l.forward j → bit_at l.set j ≡ 1;
+}

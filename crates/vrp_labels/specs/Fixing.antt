@@ -1,0 +1,37 @@
+-- Arcs that cheap routes use, in graphs where routes cost the same from either end (fixing of arcs by reduced costs; Irnich, Desaulniers,
+-- Desrosiers and Hadjar 2010).
+use Rattle.std.specs.Prelude.{◌≡◌, ◌<◌, ℕ, ℤ, ◌+ℤ◌, ◌-ℤ◌, List, length}
+use Rattle.vrp_duals.specs.Folding.{arc_of}
+use Rattle.vrp_labels.specs.Graph.{Follows, GraphOf}
+use Rattle.vrp_labels.specs.Route.{IsAliveRoute, IsCheap}
+use Rattle.vrp_labels.specs.declared.label.Label.{Label}
+
+-- this triangle with the depot costs the same either way round, and this arc is alive both ways, if one
+pub record IsPairEven (g : GraphOf) (i j : ℕ) : Type 0 where
+  pub round : arc_of g.folded i j +ℤ arc_of g.folded j 0 +ℤ arc_of g.folded 0 i ≡ arc_of g.folded j i +ℤ arc_of g.folded 0 j +ℤ arc_of g.folded i 0
+  pub both : Follows g i j → Follows g j i
+
+-- each triangle with the depot costs the same either way round, and each arc is alive both ways, if one
+pub record IsEven (g : GraphOf) : Type 0 where
+  pub round : (i j : ℕ) → i < g.folded.places → j < g.folded.places
+      → arc_of g.folded i j +ℤ arc_of g.folded j 0 +ℤ arc_of g.folded 0 i ≡ arc_of g.folded j i +ℤ arc_of g.folded 0 j +ℤ arc_of g.folded i 0
+  pub both : (i j : ℕ) → i < g.folded.places → j < g.folded.places → Follows g i j → Follows g j i
+
+-- a label of an ending, as that of a beginning with the same customers, read from the other end
+abbrev pub as_forward : GraphOf → Label → Label
+as_forward g label = record {
+  visited = label.visited;
+  rows = label.rows;
+  cost = label.cost +ℤ arc_of g.folded 0 label.at -ℤ arc_of g.folded label.at 0;
+  load = label.load;
+  at = label.at;
+}
+
+-- the graph where these arcs are alive
+abbrev pub with_followers : GraphOf → List ℕ → GraphOf
+with_followers g followers = record g { followers = followers }
+
+-- no cheap route uses other arcs
+pub record KeepsCheap (g : GraphOf) (gap : ℤ) (followers : List ℕ) : Type 0 where
+  pub long : length followers ≡ g.folded.places
+  pub cheap : (route : List ℕ) → IsCheap g gap route → IsAliveRoute (with_followers g followers) route

@@ -1,0 +1,11 @@
+pub mod Graph
+pub mod Route
+pub mod Label
+pub mod Closing
+pub mod Closed
+pub mod Completion
+pub mod Sorting
+pub mod OnwardBound
+pub mod Fixing
+pub mod Widening
+pub mod Plans

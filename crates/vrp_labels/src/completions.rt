@@ -1,0 +1,189 @@
+//! What completes a beginning of a route, and the arcs that cheap routes use.
+ghost use Rattle.std.specs.Prelude.{◌≡◌, ◌⊎◌, ◌≤◌, ◌<◌, ◌≤ℤ◌, ◌^◌, pos, ℕ, List, IfOk, IsTrue, unsigned_abs};
+ghost use Rattle.std.specs.Int.{bit_at};
+ghost use Rattle.std.specs.List.{Contains};
+ghost use Rattle.vrp_duals.specs.Folding.{folded_cost};
+ghost use Rattle.vrp_labels.specs.Closing.{AreKept};
+ghost use Rattle.vrp_labels.specs.Completion.{BoundsCompletions, IsForward, IsLinkCost, Links};
+ghost use Rattle.vrp_labels.specs.Fixing.{IsEven, KeepsCheap, as_forward};
+ghost use Rattle.vrp_labels.specs.Label.{IsClosed, IsLabelOf, pile_at, root_label};
+ghost use Rattle.vrp_labels.specs.Route.{IsAliveRoute, IsCheap, joined};
+ghost use Rattle.vrp_labels.specs.Widening.{IsClosedBelow};
+
+use crate::graph::RouteGraph;
+use crate::label::Label;
+use crate::lookup::{least_join, meets};
+use crate::piles::LabelPiles;
+use std::alloc::{AllocError, Global};
+use std::marker::Model;
+use vrp_customers::CustomerSet;
+
+// No completion adds more.
+const FAR: i64 = 1 << 62;
+
+/// The closed labels of a graph, cheapest first: what completes a beginning of a route.
+#[derive(Debug, Drop)]
+pub struct Completions<'a> {
+    graph: &'a RouteGraph,
+    gap: i64,
+    kept: LabelPiles,
+}
+
+impl<'a> Model for Completions<'a> {
+    ghost use Rattle.vrp_labels.specs.Completion.{AreCompletions, CompletionsOf};
+
+    ghost Value = { CompletionsOf };
+
+    ghost view = { λ a. record { graph = a.graph.now; gap = a.gap; kept = a.kept } };
+
+    ghost invariant = { λ a. AreCompletions (record { graph = a.graph.now; gap = a.gap; kept = a.kept }) };
+}
+
+impl<'a> Completions<'a> {
+    /// The completions by the closed labels of a graph.
+    pub fn new(graph: &'a RouteGraph, gap: i64, mut kept: LabelPiles) -> Completions<'a>
+        requires are_kept { AreKept graph.now kept }
+        requires closed { IsClosed graph.now gap kept }
+        ensures graph { result.graph ≡ graph.now }
+        ensures gap { result.gap ≡ gap }
+    {
+        for at in 0..graph.places() {
+            kept.sort(at as usize);
+        }
+        Completions { graph, gap, kept }
+    }
+
+    /// The completions by labels that were closed where rows are remembered at fewer places, or the same. So if all rows are remembered
+    /// everywhere in this graph, whoever asks may count the customers of each row in full.
+    pub fn widened(graph: &'a RouteGraph, gap: i64, kept: LabelPiles) -> Completions<'a>
+        requires { IsClosedBelow graph.now gap kept }
+        ensures graph { result.graph ≡ graph.now }
+        ensures gap { result.gap ≡ gap }
+    {
+        Completions::new(graph, gap, kept)
+    }
+
+    /// A number that no completion of the beginning to a cheap route adds less than, in price units: what the arc to the depot or some label
+    /// adds, or 2 ^ 62 if there is neither.
+    pub fn least(&self, forward: &Label) -> i64
+        requires { IsLabelOf self.now.graph forward.now }
+        ensures bound { BoundsCompletions self.now.graph self.now.gap forward.now result }
+        ensures attained { (result ≡ pos (2 ^ 62)) ⊎ IsLinkCost self.now forward.now result }
+    {
+        let mut best = FAR;
+        if self.graph.follows(forward.at, 0) {
+            best = self.graph.arc(forward.at, 0);
+        }
+        for place in 1..self.graph.places() {
+            if self.graph.follows(forward.at, place) {
+                best = least_join(
+                    self.graph,
+                    self.kept.get(place as usize),
+                    place,
+                    forward,
+                    best,
+                );
+            }
+        }
+        best
+    }
+
+    /// Whether a cheap route may begin so: true for each beginning of one, and only where some label, or the depot, links to it.
+    pub fn may_begin(&self, forward: &Label) -> bool
+        requires { IsLabelOf self.now.graph forward.now }
+        ensures begins { (beginning ending : List ℕ) → IsForward self.now.graph beginning forward.now
+            → IsCheap self.now.graph self.now.gap (joined beginning ending) → IsTrue result }
+        ensures found { IsTrue result → (place : ℕ) × Links self.now forward.now place }
+    {
+        for place in 0..self.graph.places() {
+            if self.links(forward, place) {
+                return true;
+            }
+        }
+        false
+    }
+
+    // Whether a place may follow a beginning in a cheap route.
+    #[inline(always)]
+    fn links(&self, forward: &Label, place: u16) -> bool
+        requires place { place < self.now.graph.folded.places }
+        requires at { forward.now.at < self.now.graph.folded.places }
+        requires light { forward.now.load ≤ self.now.graph.capacity }
+        requires small { unsigned_abs forward.now.cost ≤ 2 ^ 62 }
+        ensures none { Links self.now forward.now place → IsTrue result }
+        ensures found { IsTrue result → Links self.now forward.now place }
+    {
+        if !self.graph.follows(forward.at, place) {
+            return false;
+        }
+        if place == 0 {
+            return forward.cost + self.graph.arc(forward.at, 0) <= self.gap;
+        }
+        meets(
+            self.graph,
+            self.kept.get(place as usize),
+            place,
+            forward,
+            &self.gap,
+        )
+    }
+
+    /// A number, 0 at most, that no route along alive arcs within the capacity costs less than, in price units: 0, the gap, or what some
+    /// label costs with the arc from the depot.
+    pub fn least_route(&self) -> i64
+        ensures least { (route : List ℕ) → IsAliveRoute self.now.graph route
+            → result ≤ℤ folded_cost self.now.graph.folded route }
+        ensures most { result ≤ℤ pos 0 }
+        ensures attained { (result ≡ pos 0) ⊎ ((result ≡ self.now.gap) ⊎ IsLinkCost self.now root_label result) }
+    {
+        self.least(&self.graph.root()).min(self.gap).min(0)
+    }
+
+    /// For each place, the places that follow it in cheap routes, and maybe more. The only error is lack of memory.
+    pub fn useful_arcs(&self, alloc: Global) -> Result<Vec<CustomerSet>, AllocError>
+        requires { IsEven self.now.graph }
+        ensures { IfOk result (λ followers. KeepsCheap self.now.graph self.now.gap followers.items) }
+    {
+        let places = self.graph.places();
+        let mut followers = Vec::with_capacity(alloc, places as usize)?;
+        for i in 0..places {
+            followers.push(self.useful_from(i))?;
+        }
+        Ok(followers)
+    }
+
+    // The places that follow a place in cheap routes.
+    fn useful_from(&self, i: u16) -> CustomerSet
+        requires { i < self.now.graph.folded.places }
+        ensures depot { i ≡ 0 → (j : ℕ) → j < self.now.graph.folded.places → Links self.now root_label j → bit_at result j ≡ 1 }
+        ensures kept { 1 ≤ i → (label : Label) → Contains (pile_at self.now.kept i) label → (j : ℕ) → j < self.now.graph.folded.places
+            → Links self.now (as_forward self.now.graph label) j → bit_at result j ≡ 1 }
+    {
+        if i == 0 {
+            return self.with_links(&Label::root(), CustomerSet::empty());
+        }
+        let mut set = CustomerSet::empty();
+        for label in self.kept.get(i as usize) {
+            let forward = self.graph.as_forward(label);
+            set = self.with_links(&forward, set);
+        }
+        set
+    }
+
+    // These places, and those that may follow a beginning in cheap routes.
+    fn with_links(&self, forward: &Label, known: CustomerSet) -> CustomerSet
+        requires place { forward.now.at < self.now.graph.folded.places }
+        requires light { forward.now.load ≤ self.now.graph.capacity }
+        requires small { unsigned_abs forward.now.cost ≤ 2 ^ 62 }
+        ensures still { (j : ℕ) → bit_at known j ≡ 1 → bit_at result j ≡ 1 }
+        ensures linked { (j : ℕ) → j < self.now.graph.folded.places → Links self.now forward.now j → bit_at result j ≡ 1 }
+    {
+        let mut set = known;
+        for place in 0..self.graph.places() {
+            if !set.contains(place) && self.links(forward, place) {
+                set = set.with(place);
+            }
+        }
+        set
+    }
+}
