@@ -15,7 +15,7 @@ use vrp_bound::NgTables;
 use vrp_bound_ascent::{FoundPrices, find_prices_for_routes};
 use vrp_customers::MOST_CUSTOMERS;
 use vrp_model::{Crew, Instance, NO_COST, Unhurried};
-use vrp_routes::{Listed, can_list, list_routes};
+use vrp_routes::{Listed, can_list, list_routes_by_tables};
 
 // The number of customers near each place.
 const NEAR: usize = 4;
@@ -105,7 +105,7 @@ fn print_routes<R: Clock + Print + Eprint + AllocGlobal + Threads + Sync>(
         workers,
         watch: &Unhurried,
     };
-    let listed = list_routes(&crew, &relaxation, &tables, limit, u32::MAX)?;
+    let listed = list_routes_by_tables(&crew, &relaxation, &tables, limit, u32::MAX)?;
     print_time(rt, "routes", start.elapsed(rt)?)?;
     match listed {
         Listed::Pool(pool) => {

@@ -6,6 +6,7 @@ use Rattle.std.proofs.lemmas.Bool.Decides.{nat_tests}
 use Rattle.std.proofs.lemmas.List.{append-nil, get_or-drop, get_or-set_other, get_or-set_same, get_or_append_left, get_or_default, get_or_push, length-drop, length-set, length_push}
 use Rattle.std.proofs.lemmas.List.Elements.{Contains-get_or}
 use Rattle.vrp_model.specs.Order.{ComesBefore, IsEarlier}
+use Rattle.vrp_model.specs.Problem.{Problem}
 use Rattle.vrp_model.specs.Route.{route_cost}
 use Rattle.vrp_routes.specs.ClosedLevel.{AreClosedIn, HasPlaces, IsAdded, IsLeftOut, IsReplaced, TakesRoute, closed_at, no_closed, place_of, route_by}
 use Rattle.vrp_customers.specs.CustomerSet.{set_of}
@@ -68,11 +69,11 @@ no_places closed empty set at is = absurd (let none : place_of closed set ≡ No
 -- ---- the routes of the labels so far
 
 -- the route of a label that was closed, where labels are numbered from this one on
-pub record IsOfLabel (s : SettingOf) (start : ℕ) (stops : List (List ℕ)) (at : ℕ) (route : ClosedRoute) : Type 0 where
+pub record IsOfLabel (p : Problem) (start : ℕ) (stops : List (List ℕ)) (at : ℕ) (route : ClosedRoute) : Type 0 where
   pub from : ℕ
   pub before : from < at
   pub label : route.label ≡ start + from
-  pub listed : IsListed s.relaxation.problem (route_by stops route)
+  pub listed : IsListed p (route_by stops route)
 
 -- the route of this label stands here, in the place of its set
 pub record StandsAt (start from : ℕ) (set : ℕ) (closed : ClosedLevel) : Type 0 where
@@ -82,76 +83,75 @@ pub record StandsAt (start from : ℕ) (set : ℕ) (closed : ClosedLevel) : Type
   pub there : place_of closed set ≡ Some at
 
 -- of those labels whose sets pass the test
-pub record ClosesSome (s : SettingOf) (mine : ℕ → Bool) (start : ℕ) (stops : List (List ℕ)) (at : ℕ) (closed : ClosedLevel) : Type 0 where
-  pub each : (i : ℕ) → i < length closed.routes.items → IsOfLabel s start stops at (closed_at closed i)
-  pub every : (j : ℕ) → j < at → mine (set_of (get_or stops (start + j) [])) ≡ true → IsUseful s.relaxation.problem s.limit (get_or stops (start + j) []) → StandsAt start j (set_of (get_or stops (start + j) [])) closed
+pub record ClosesSome (p : Problem) (limit : ℕ) (mine : ℕ → Bool) (start : ℕ) (stops : List (List ℕ)) (at : ℕ) (closed : ClosedLevel) : Type 0 where
+  pub each : (i : ℕ) → i < length closed.routes.items → IsOfLabel p start stops at (closed_at closed i)
+  pub every : (j : ℕ) → j < at → mine (set_of (get_or stops (start + j) [])) ≡ true → IsUseful p limit (get_or stops (start + j) []) → StandsAt start j (set_of (get_or stops (start + j) [])) closed
 
-pub closes_none : (s : SettingOf) (mine : ℕ → Bool) (start : ℕ) (stops : List (List ℕ)) (closed : ClosedLevel) → closed.routes.items ≡ [] → ClosesSome s mine start stops 0 closed
-closes_none s mine start stops closed none = record {
+pub closes_none : (p : Problem) (limit : ℕ) (mine : ℕ → Bool) (start : ℕ) (stops : List (List ℕ)) (closed : ClosedLevel) → closed.routes.items ≡ [] → ClosesSome p limit mine start stops 0 closed
+closes_none p limit mine start stops closed none = record {
   each = λ i lt. absurd (omega (arith, lt, ap length none));
   every = λ j lt own useful. absurd (omega (arith, lt));
 }
 
-later : (s : SettingOf) (start : ℕ) (stops : List (List ℕ)) (at : ℕ) (route : ClosedRoute) → IsOfLabel s start stops at route → IsOfLabel s start stops (at + 1) route
-later s start stops at route is = record { from = is.from; before = omega (arith, is.before); label = is.label; listed = is.listed }
+later : (p : Problem) (start : ℕ) (stops : List (List ℕ)) (at : ℕ) (route : ClosedRoute) → IsOfLabel p start stops at route → IsOfLabel p start stops (at + 1) route
+later p start stops at route is = record { from = is.from; before = omega (arith, is.before); label = is.label; listed = is.listed }
 
 -- a label that is no useful route
-pub closes_not : (s : SettingOf) (mine : ℕ → Bool) (start : ℕ) (stops : List (List ℕ)) (at : ℕ) (closed : ClosedLevel) → ClosesSome s mine start stops at closed → (mine (set_of (get_or stops (start + at) [])) ≡ true → IsUseful s.relaxation.problem s.limit (get_or stops (start + at) []) → ⊥) → ClosesSome s mine start stops (at + 1) closed
-closes_not s mine start stops at closed some none = record {
-  each = λ i lt. later s start stops at (closed_at closed i) (some.each i lt);
+pub closes_not : (p : Problem) (limit : ℕ) (mine : ℕ → Bool) (start : ℕ) (stops : List (List ℕ)) (at : ℕ) (closed : ClosedLevel) → ClosesSome p limit mine start stops at closed → (mine (set_of (get_or stops (start + at) [])) ≡ true → IsUseful p limit (get_or stops (start + at) []) → ⊥) → ClosesSome p limit mine start stops (at + 1) closed
+closes_not p limit mine start stops at closed some none = record {
+  each = λ i lt. later p start stops at (closed_at closed i) (some.each i lt);
   every = λ j lt own useful. elim (cases_lt j at) [
     | inl less ↦ some.every j less own useful
     | inr here ↦
         let same : j ≡ at = omega (arith, here, lt) in
-        absurd (none (subst (λ n. mine (set_of (get_or stops (start + n) [])) ≡ true) same own) (subst (λ n. IsUseful s.relaxation.problem s.limit (get_or stops (start + n) [])) same useful))
+        absurd (none (subst (λ n. mine (set_of (get_or stops (start + n) [])) ≡ true) same own) (subst (λ n. IsUseful p limit (get_or stops (start + n) [])) same useful))
   ];
 }
 
 -- of two routes with one set the one that comes before isn't the rival of a useful one
-no_route_rival : (s : SettingOf) (stops : List (List ℕ)) (one other : ClosedRoute) (i j : ℕ) → IsListed s.relaxation.problem (route_by stops one) → IsListed s.relaxation.problem (route_by stops other) → one.label ≡ i → other.label ≡ j
-    → one.set ≡ other.set → IsUseful s.relaxation.problem s.limit (get_or stops j []) → ComesBefore one.cost (get_or stops i []) other.cost (get_or stops j []) → ⊥
-no_route_rival s stops one other i j is also one_is other_is same useful before =
-    let p = s.relaxation.problem in
+no_route_rival : (p : Problem) (limit : ℕ) (stops : List (List ℕ)) (one other : ClosedRoute) (i j : ℕ) → IsListed p (route_by stops one) → IsListed p (route_by stops other) → one.label ≡ i → other.label ≡ j
+    → one.set ≡ other.set → IsUseful p limit (get_or stops j []) → ComesBefore one.cost (get_or stops i []) other.cost (get_or stops j []) → ⊥
+no_route_rival p limit stops one other i j is also one_is other_is same useful before =
     let xs = get_or stops one.label [] in
     let ys = get_or stops other.label [] in
     let sets : set_of ys ≡ set_of xs = sym also.set ∙ sym same ∙ is.set in
     let there : get_or stops i [] ≡ xs = ap (λ n. get_or stops n []) (sym one_is) in
     let here : get_or stops j [] ≡ ys = ap (λ n. get_or stops n []) (sym other_is) in
-    no_better_route p s.limit ys xs (subst (IsUseful p s.limit) here useful) (same_set ys xs also.begins.once is.begins.once sets)
+    no_better_route p limit ys xs (subst (IsUseful p limit) here useful) (same_set ys xs also.begins.once is.begins.once sets)
     (subst (λ n. ComesBefore (route_cost p xs) xs n ys) also.cost
     (subst (λ n. ComesBefore n xs other.cost ys) is.cost
     (subst (λ (zs : List ℕ). ComesBefore one.cost zs other.cost ys) there
     (subst (λ (zs : List ℕ). ComesBefore one.cost (get_or stops i []) other.cost zs) here before))))
 
 -- the route of the next label was offered
-pub record ClosesOne (s : SettingOf) (start : ℕ) (stops : List (List ℕ)) (at : ℕ) (route : ClosedRoute) : Type 0 where
-  pub listed : IsListed s.relaxation.problem (route_by stops route)
+pub record ClosesOne (p : Problem) (start : ℕ) (stops : List (List ℕ)) (at : ℕ) (route : ClosedRoute) : Type 0 where
+  pub listed : IsListed p (route_by stops route)
   pub label : route.label ≡ start + at
   pub rises : (j : ℕ) → j < at → IsEarlier (get_or stops (start + j) []) (get_or stops (start + at) [])
 
-own_set : (s : SettingOf) (start : ℕ) (stops : List (List ℕ)) (at : ℕ) (route : ClosedRoute) → ClosesOne s start stops at route → route.set ≡ set_of (get_or stops (start + at) [])
-own_set s start stops at route one = one.listed.set ∙ ap (λ n. set_of (get_or stops n [])) one.label
+own_set : (p : Problem) (start : ℕ) (stops : List (List ℕ)) (at : ℕ) (route : ClosedRoute) → ClosesOne p start stops at route → route.set ≡ set_of (get_or stops (start + at) [])
+own_set p start stops at route one = one.listed.set ∙ ap (λ n. set_of (get_or stops n [])) one.label
 
-mine_of : (s : SettingOf) (start : ℕ) (stops : List (List ℕ)) (at : ℕ) (route : ClosedRoute) → ClosesOne s start stops at route → IsOfLabel s start stops (at + 1) route
-mine_of s start stops at route one = record { from = at; before = omega arith; label = one.label; listed = one.listed }
+mine_of : (p : Problem) (start : ℕ) (stops : List (List ℕ)) (at : ℕ) (route : ClosedRoute) → ClosesOne p start stops at route → IsOfLabel p start stops (at + 1) route
+mine_of p start stops at route one = record { from = at; before = omega arith; label = one.label; listed = one.listed }
 
-left_out_route : (s : SettingOf) (mine : ℕ → Bool) (start : ℕ) (stops : List (List ℕ)) (at : ℕ) (old new : ClosedLevel) (route : ClosedRoute) → ClosesSome s mine start stops at old → HasPlaces old → ClosesOne s start stops at route → IsLeftOut old route new → ClosesSome s mine start stops (at + 1) new
-left_out_route s mine start stops at old new route some has one left_out =
-    subst (ClosesSome s mine start stops (at + 1)) (sym left_out.same) (closes_not s mine start stops at old some (λ own useful.
+left_out_route : (p : Problem) (limit : ℕ) (mine : ℕ → Bool) (start : ℕ) (stops : List (List ℕ)) (at : ℕ) (old new : ClosedLevel) (route : ClosedRoute) → ClosesSome p limit mine start stops at old → HasPlaces old → ClosesOne p start stops at route → IsLeftOut old route new → ClosesSome p limit mine start stops (at + 1) new
+left_out_route p limit mine start stops at old new route some has one left_out =
+    subst (ClosesSome p limit mine start stops (at + 1)) (sym left_out.same) (closes_not p limit mine start stops at old some (λ own useful.
     let (within, of_set) = has route.set left_out.at left_out.there in
     let other = some.each left_out.at within in
     let earlier = one.rises other.from other.before in
-    no_route_rival s stops (closed_at old left_out.at) route (start + other.from) (start + at) other.listed one.listed other.label one.label of_set useful
+    no_route_rival p limit stops (closed_at old left_out.at) route (start + other.from) (start + at) other.listed one.listed other.label one.label of_set useful
     (elim (cases_lt (closed_at old left_out.at).cost route.cost) [
       | inl less ↦ inl less
       | inr more ↦ inr (omega (arith, left_out.no_costlier, more), earlier)
     ])))
 
-replaced_route : (s : SettingOf) (mine : ℕ → Bool) (start : ℕ) (stops : List (List ℕ)) (at : ℕ) (old new : ClosedLevel) (route : ClosedRoute) → ClosesSome s mine start stops at old → HasPlaces old → ClosesOne s start stops at route → IsReplaced old route new → ClosesSome s mine start stops (at + 1) new
-replaced_route s mine start stops at old new route some has one taken = record {
+replaced_route : (p : Problem) (limit : ℕ) (mine : ℕ → Bool) (start : ℕ) (stops : List (List ℕ)) (at : ℕ) (old new : ClosedLevel) (route : ClosedRoute) → ClosesSome p limit mine start stops at old → HasPlaces old → ClosesOne p start stops at route → IsReplaced old route new → ClosesSome p limit mine start stops (at + 1) new
+replaced_route p limit mine start stops at old new route some has one taken = record {
   each = λ i lt. elim (cases_eq i taken.at) [
-    | inl same ↦ subst (IsOfLabel s start stops (at + 1)) (sym (ap (closed_at new) same ∙ replaced_same old new route taken there)) (mine_of s start stops at route one)
-    | inr other ↦ subst (IsOfLabel s start stops (at + 1)) (sym (replaced_other old new route i taken other)) (later s start stops at (closed_at old i) (some.each i (omega (arith, lt, long))))
+    | inl same ↦ subst (IsOfLabel p start stops (at + 1)) (sym (ap (closed_at new) same ∙ replaced_same old new route taken there)) (mine_of p start stops at route one)
+    | inr other ↦ subst (IsOfLabel p start stops (at + 1)) (sym (replaced_other old new route i taken other)) (later p start stops at (closed_at old i) (some.each i (omega (arith, lt, long))))
   ];
   every = λ j lt own useful. elim (cases_lt j at) [
     | inl less ↦
@@ -160,7 +160,7 @@ replaced_route s mine start stops at old new route some has one taken = record {
           | inl same ↦ absurd (
               let other = some.each taken.at there in
               let labelled : (closed_at old taken.at).label ≡ start + j = ap (λ n. (closed_at old n).label) (sym same) ∙ stands.label in
-              no_route_rival s stops route (closed_at old taken.at) (start + at) (start + j) one.listed other.listed one.label labelled (sym of_set) useful (inl taken.cheaper))
+              no_route_rival p limit stops route (closed_at old taken.at) (start + at) (start + j) one.listed other.listed one.label labelled (sym of_set) useful (inl taken.cheaper))
           | inr other ↦ record {
             at = stands.at;
             within = omega (arith, stands.within, long);
@@ -174,7 +174,7 @@ replaced_route s mine start stops at old new route some has one taken = record {
           at = taken.at;
           within = omega (arith, there, long);
           label = ap (λ (r : ClosedRoute). r.label) (replaced_same old new route taken there) ∙ one.label;
-          there = ap (place_of new) (sym (own_set s start stops at route one)) ∙ taken.places route.set ∙ taken.there;
+          there = ap (place_of new) (sym (own_set p start stops at route one)) ∙ taken.places route.set ∙ taken.there;
         })
   ];
 }
@@ -188,13 +188,13 @@ replaced_route s mine start stops at old new route some has one taken = record {
     long : length new.routes.items ≡ length old.routes.items
     long = long_replaced old new route taken
 
-added_route : (s : SettingOf) (mine : ℕ → Bool) (start : ℕ) (stops : List (List ℕ)) (at : ℕ) (old new : ClosedLevel) (route : ClosedRoute) → ClosesSome s mine start stops at old → ClosesOne s start stops at route → IsAdded old route new → ClosesSome s mine start stops (at + 1) new
-added_route s mine start stops at old new route some one added = record {
+added_route : (p : Problem) (limit : ℕ) (mine : ℕ → Bool) (start : ℕ) (stops : List (List ℕ)) (at : ℕ) (old new : ClosedLevel) (route : ClosedRoute) → ClosesSome p limit mine start stops at old → ClosesOne p start stops at route → IsAdded old route new → ClosesSome p limit mine start stops (at + 1) new
+added_route p limit mine start stops at old new route some one added = record {
   each = λ i lt. elim (cases_lt i (length old.routes.items)) [
-    | inl first ↦ subst (IsOfLabel s start stops (at + 1)) (sym (added_before old new route i added first)) (later s start stops at (closed_at old i) (some.each i first))
+    | inl first ↦ subst (IsOfLabel p start stops (at + 1)) (sym (added_before old new route i added first)) (later p start stops at (closed_at old i) (some.each i first))
     | inr last ↦
         let end : i ≡ length old.routes.items = omega (arith, last, lt, long) in
-        subst (IsOfLabel s start stops (at + 1)) (sym (ap (closed_at new) end ∙ added_last old new route added)) (mine_of s start stops at route one)
+        subst (IsOfLabel p start stops (at + 1)) (sym (ap (closed_at new) end ∙ added_last old new route added)) (mine_of p start stops at route one)
   ];
   every = λ j lt own useful. elim (cases_lt j at) [
     | inl less ↦
@@ -215,7 +215,7 @@ added_route s mine start stops at old new route some one added = record {
           at = length old.routes.items;
           within = omega (arith, long);
           label = ap (λ (r : ClosedRoute). r.label) (added_last old new route added) ∙ one.label;
-          there = ap (place_of new) (sym (own_set s start stops at route one)) ∙ added.places route.set ∙ ap (λ b. if b then Some (length old.routes.items) else place_of old route.set) (itself route.set);
+          there = ap (place_of new) (sym (own_set p start stops at route one)) ∙ added.places route.set ∙ ap (λ b. if b then Some (length old.routes.items) else place_of old route.set) (itself route.set);
         })
   ];
 }
@@ -226,10 +226,10 @@ added_route s mine start stops at old new route some one added = record {
     itself : (n : ℕ) → (n == n) ≡ true
     itself n = grind (arith, nat_tests)
 
-pub closes_one : (s : SettingOf) (mine : ℕ → Bool) (start : ℕ) (stops : List (List ℕ)) (at : ℕ) (old new : ClosedLevel) (route : ClosedRoute) → ClosesSome s mine start stops at old → HasPlaces old → ClosesOne s start stops at route → TakesRoute old route new → ClosesSome s mine start stops (at + 1) new
-closes_one s mine start stops at old new route some has one (inl left_out) = left_out_route s mine start stops at old new route some has one left_out
-closes_one s mine start stops at old new route some has one (inr (inl taken)) = replaced_route s mine start stops at old new route some has one taken
-closes_one s mine start stops at old new route some has one (inr (inr added)) = added_route s mine start stops at old new route some one added
+pub closes_one : (p : Problem) (limit : ℕ) (mine : ℕ → Bool) (start : ℕ) (stops : List (List ℕ)) (at : ℕ) (old new : ClosedLevel) (route : ClosedRoute) → ClosesSome p limit mine start stops at old → HasPlaces old → ClosesOne p start stops at route → TakesRoute old route new → ClosesSome p limit mine start stops (at + 1) new
+closes_one p limit mine start stops at old new route some has one (inl left_out) = left_out_route p limit mine start stops at old new route some has one left_out
+closes_one p limit mine start stops at old new route some has one (inr (inl taken)) = replaced_route p limit mine start stops at old new route some has one taken
+closes_one p limit mine start stops at old new route some has one (inr (inr added)) = added_route p limit mine start stops at old new route some one added
 
 -- ---- a label's route
 
@@ -239,9 +239,9 @@ some_stops k xs long some none = let short = ap length none in omega (arith, sho
 pub label_stops : (start : ℕ) (stops : List (List ℕ)) (at : ℕ) → get_or (drop start stops) at [] ≡ get_or stops (start + at) []
 label_stops start stops at = get_or-drop start stops at []
 
-pub route_of_label : (s : SettingOf) (k start : ℕ) (stops : List (List ℕ)) (labels : List Label) (at : ℕ) (label : Label) (cost : ℕ) → IsLevel s k (drop start stops) labels → 1 ≤ k → at < length labels
-    → IsLabel s (get_or (drop start stops) at []) label → cost ≡ route_cost s.relaxation.problem (get_or (drop start stops) at [])
-    → ClosesOne s start stops at (record { set = label.set; load = label.load; cost = cost; label = start + at })
+pub route_of_label : {X : Type 0} (s : SettingOf X) (k start : ℕ) (stops : List (List ℕ)) (labels : List (Label X)) (at : ℕ) (label : Label X) (cost : ℕ) → IsLevel s k (drop start stops) labels → 1 ≤ k → at < length labels
+    → IsLabel s (get_or (drop start stops) at []) label → cost ≡ route_cost s.problem (get_or (drop start stops) at [])
+    → ClosesOne s.problem start stops at (record { set = label.set; load = label.load; cost = cost; label = start + at })
 route_of_label s k start stops labels at label cost level some lt is cost_is =
     let mine = drop start stops in
     let xs = get_or stops (start + at) [] in
@@ -254,25 +254,25 @@ route_of_label s k start stops labels at label cost level some lt is cost_is =
         some = some_stops k xs (subst (λ (ys : List ℕ). length ys ≡ k) there (level.are.size at [] within)) some;
         set = own.set;
         load = own.load;
-        cost = cost_is ∙ ap (route_cost s.relaxation.problem) there;
+        cost = cost_is ∙ ap (route_cost s.problem) there;
       };
       label = let same : start + at ≡ start + at = omega arith in same;
       rises = λ j less. subst (λ (ys : List ℕ). IsEarlier ys xs) (label_stops start stops j) (subst (IsEarlier (get_or mine j [])) there (level.are.rising j at [] less within));
     }
 
-pub closes_all : (s : SettingOf) (mine : ℕ → Bool) (k start : ℕ) (stops : List (List ℕ)) (labels : List Label) (at : ℕ) (closed : ClosedLevel) → IsLevel s k (drop start stops) labels → at ≡ length labels → ClosesSome s mine start stops at closed → AreClosedIn s k mine stops closed.routes.items
+pub closes_all : {X : Type 0} (s : SettingOf X) (mine : ℕ → Bool) (k start : ℕ) (stops : List (List ℕ)) (labels : List (Label X)) (at : ℕ) (closed : ClosedLevel) → IsLevel s k (drop start stops) labels → at ≡ length labels → ClosesSome s.problem s.limit mine start stops at closed → AreClosedIn s.problem s.limit k mine stops closed.routes.items
 closes_all s mine k start stops labels at closed level all some =
     let count = level.are.long in
     record {
       each = λ i d lt.
           let is = some.each i lt in
           let route = closed_at closed i in
-          subst (λ (r : ClosedRoute). IsListed s.relaxation.problem (route_by stops r) × (r.label < length stops)) (get_or_default closed.routes.items i no_closed d lt)
+          subst (λ (r : ClosedRoute). IsListed s.problem (route_by stops r) × (r.label < length stops)) (get_or_default closed.routes.items i no_closed d lt)
           (is.listed, omega (arith, is.label, is.before, all, count, length-drop start stops));
       every = λ xs long own useful.
-          let begins : BeginsUseful s.relaxation.problem s.limit xs = ([], subst (IsUseful s.relaxation.problem s.limit) (sym (append-nil xs)) useful) in
+          let begins : BeginsUseful s.problem s.limit xs = ([], subst (IsUseful s.problem s.limit) (sym (append-nil xs)) useful) in
           let (j, within, is) = level.every xs long begins in
           let there : get_or stops (start + j) [] ≡ xs = sym (label_stops start stops j) ∙ get_or_default (drop start stops) j [] xs within ∙ is in
-          let stands = some.every j (omega (arith, within, count, all)) (subst (λ (ys : List ℕ). mine (set_of ys) ≡ true) (sym there) own) (subst (IsUseful s.relaxation.problem s.limit) (sym there) useful) in
+          let stands = some.every j (omega (arith, within, count, all)) (subst (λ (ys : List ℕ). mine (set_of ys) ≡ true) (sym there) own) (subst (IsUseful s.problem s.limit) (sym there) useful) in
           (closed_at closed stands.at, Contains-get_or closed.routes.items stands.at no_closed stands.within, ap (λ n. get_or stops n []) stands.label ∙ there);
     }

@@ -1,11 +1,11 @@
 -- The extensions of a level's labels, as they are offered one by one.
-use Rattle.std.proofs.Common.{◌≡◌, ◌≢◌, ◌↔◌, ℕ, zero, suc, ◌+◌, ◌%◌, ◌<◌, ◌≤◌, ◌==◌, ◌&&◌, append_assoc, Bool, true, false, if◌then◌else◌, inl, inr, None, Some, Option, List, [], ◌∷◌, ◌++◌, length, length-append, get_or, set, refl, sym, ap, subst, ◌∙◌, arith}
+use Rattle.std.proofs.Common.{◌≡◌, ◌≢◌, ◌↔◌, ℕ, zero, suc, ◌+◌, ◌%◌, ◌<◌, ◌≤◌, ◌==◌, ◌&&◌, append_assoc, Bool, true, false, if◌then◌else◌, inl, inr, None, Some, Option, List, [], ◌∷◌, ◌++◌, length, length-append, map, get_or, set, refl, sym, ap, subst, ◌∙◌, arith}
 use Rattle.std.specs.Option.{option_map}
 use Rattle.std.specs.List.{All, AllPairs, Contains}
 use Rattle.std.specs.Map.{lookup}
 use Rattle.std.proofs.lemmas.Bool.{cases_Bool, cases_eq, cases_lt, eqb-true, false≢true}
 use Rattle.std.proofs.lemmas.Bool.Decides.{nat_tests}
-use Rattle.std.proofs.lemmas.List.{get_or-set_other, get_or-set_same, get_or_append_left, get_or_default, length-set, nil_from_length}
+use Rattle.std.proofs.lemmas.List.{get_or-set_other, get_or-set_same, get_or_append_left, get_or-map, get_or_default, length-map, length-set, map_push, nil_from_length}
 use Rattle.std.proofs.lemmas.List.Elements.{All-cons, All-nil, All-push}
 use Rattle.std.proofs.lemmas.List.Quantifiers.{all_pairs_push}
 use Rattle.vrp_model.specs.Order.{ComesBefore, IsEarlier}
@@ -15,7 +15,7 @@ use Rattle.vrp_model.proofs.CustomerPlaces.{customer_below, customer_is_some}
 use Rattle.vrp_model.proofs.LastRoute.{last_symbol_with}
 use Rattle.vrp_model.proofs.Ordered.{earlier_behind}
 use Rattle.vrp_routes.specs.Label.{IsLabel, SettingOf}
-use Rattle.vrp_routes.specs.Candidates.{HasExtensions, IsBefore, IsGrown, IsKept, IsKeyed, IsOffered, IsRefused, IsTaken, is_superseded, kept_at, kept_for, kept_in, key_of, label_at, no_label, same_key}
+use Rattle.vrp_routes.specs.Candidates.{HasExtensions, IsBefore, IsGrown, IsKept, IsKeyed, IsOffered, IsRefused, IsTaken, is_superseded, cost_at, kept_at, kept_for, kept_in, key_at, key_of, same_key}
 use Rattle.vrp_routes.specs.Level.{AreExtensions, ComesFirst, IsLevel, IsShare, sequences, stops_of}
 use Rattle.vrp_routes.specs.Share.{is_in}
 use Rattle.vrp_routes.specs.Useful.{BeginsUseful, IsUseful}
@@ -26,6 +26,7 @@ use Rattle.vrp_routes.specs.declared.share.Share.{Share}
 use Rattle.vrp_routes.proofs.CheapBeginnings.{ends_at, useful_begins}
 use Rattle.vrp_routes.proofs.Replaced.{earlier_longer, no_better_beginning}
 use Rattle.vrp_routes.proofs.Rests.{none_between}
+use Rattle.vrp_routes.proofs.SharesSteps.{element}
 use Rattle.vrp_customers.proofs.Sets.{same_set}
 
 -- ---- keys
@@ -50,10 +51,13 @@ key_itself key =
 pub some_same : (j k : ℕ) → Some j ≡ Some k → j ≡ k
 some_same j k same = cc
 
+abbrev cost_of : {X : Type 0} → Label X → ℕ
+cost_of label = label.cost
+
 -- two labels with one key are of rearrangements that end at the same stop: the one that comes before isn't of a useful beginning's rival
-pub no_rival : (s : SettingOf) (xs ys : List ℕ) (one other : Label) → IsLabel s xs one → IsLabel s ys other → key_of one ≡ key_of other → BeginsUseful s.relaxation.problem s.limit ys → ComesBefore one.cost xs other.cost ys → ⊥
-no_rival s xs ys one other is also same useful before =
-    let p = s.relaxation.problem in
+pub no_rival : {X : Type 0} (s : SettingOf X) (xs ys : List ℕ) (one other : Label X) → IsLabel s xs one → IsLabel s ys other → key_of one ≡ key_of other → BeginsUseful s.problem s.limit ys → ComesBefore one.cost xs other.cost ys → ⊥
+no_rival {X} s xs ys one other is also same useful before =
+    let p = s.problem in
     let sets = sym also.set ∙ sym (ap (λ (key : ℕ × ℕ). key.0) same) ∙ is.set in
     let ends = sym is.last ∙ ap (λ (key : ℕ × ℕ). key.1) same ∙ also.last in
     no_better_beginning p s.limit ys xs useful (same_set ys xs also.begins.once is.begins.once sets) ends
@@ -61,15 +65,36 @@ no_rival s xs ys one other is also same useful before =
 
 -- ---- a label more
 
-label_first : (old new : Candidates) (label : Label) (at : ℕ) → new.labels.items ≡ old.labels.items ++ label ∷ [] → at < length old.labels.items → label_at new at ≡ label_at old at
-label_first old new label at longer lt = ap (λ (ls : List Label). get_or ls at no_label) longer ∙ get_or_append_left old.labels.items (label ∷ []) no_label at lt
-
 pub at_end : {X : Type 0} (xs : List X) (x d : X) → get_or (xs ++ x ∷ []) (length xs) d ≡ x
 at_end [] x d = refl
 at_end (y ∷ xs) x d = at_end xs x d
 
-pub label_last : (old new : Candidates) (label : Label) → new.labels.items ≡ old.labels.items ++ label ∷ [] → label_at new (length old.labels.items) ≡ label
-label_last old new label longer = ap (λ (ls : List Label). get_or ls (length old.labels.items) no_label) longer ∙ at_end old.labels.items label _
+-- a list that is mapped, with one more
+mapped_first : {A B : Type 0} (f : A → B) (xs : List A) (x : A) (d : B) (at : ℕ) → at < length xs → get_or (map f (xs ++ x ∷ [])) at d ≡ get_or (map f xs) at d
+mapped_first {A} {B} f xs x d at lt = ap (λ (ys : List B). get_or ys at d) (map_push f xs x) ∙ get_or_append_left (map f xs) (f x ∷ []) d at (omega (arith, lt, length-map xs f))
+
+mapped_last : {A B : Type 0} (f : A → B) (xs : List A) (x : A) (d : B) → get_or (map f (xs ++ x ∷ [])) (length xs) d ≡ f x
+mapped_last {A} {B} f xs x d = ap (λ (ys : List B). get_or ys (length xs) d) (map_push f xs x) ∙ ap (λ n. get_or (map f xs ++ f x ∷ []) n d) (sym (length-map xs f)) ∙ at_end (map f xs) (f x) d
+
+-- the key and the cost of the label at a place, where the list has one there
+pub key_there : {X : Type 0} (found : Candidates X) (at : ℕ) (d : Label X) → at < length found.labels.items → key_at found at ≡ key_of (get_or found.labels.items at d)
+key_there found at d lt = get_or-map key_of found.labels.items at d (0, 0) lt
+
+pub cost_there : {X : Type 0} (found : Candidates X) (at : ℕ) (d : Label X) → at < length found.labels.items → cost_at found at ≡ (get_or found.labels.items at d).cost
+cost_there found at d lt = get_or-map cost_of found.labels.items at d 0 lt
+
+key_first : {X : Type 0} (old new : Candidates X) (label : Label X) (at : ℕ) → new.labels.items ≡ old.labels.items ++ label ∷ [] → at < length old.labels.items → key_at new at ≡ key_at old at
+key_first {X} old new label at longer lt = ap (λ (ls : List (Label X)). get_or (map key_of ls) at (0, 0)) longer ∙ mapped_first key_of old.labels.items label (0, 0) at lt
+
+cost_first : {X : Type 0} (old new : Candidates X) (label : Label X) (at : ℕ) → new.labels.items ≡ old.labels.items ++ label ∷ [] → at < length old.labels.items → cost_at new at ≡ cost_at old at
+cost_first {X} old new label at longer lt = ap (λ (ls : List (Label X)). get_or (map cost_of ls) at 0) longer ∙ mapped_first cost_of old.labels.items label 0 at lt
+
+
+key_last : {X : Type 0} (old new : Candidates X) (label : Label X) → new.labels.items ≡ old.labels.items ++ label ∷ [] → key_at new (length old.labels.items) ≡ key_of label
+key_last {X} old new label longer = ap (λ (ls : List (Label X)). get_or (map key_of ls) (length old.labels.items) (0, 0)) longer ∙ mapped_last key_of old.labels.items label (0, 0)
+
+cost_last : {X : Type 0} (old new : Candidates X) (label : Label X) → new.labels.items ≡ old.labels.items ++ label ∷ [] → cost_at new (length old.labels.items) ≡ label.cost
+cost_last {X} old new label longer = ap (λ (ls : List (Label X)). get_or (map cost_of ls) (length old.labels.items) 0) longer ∙ mapped_last cost_of old.labels.items label 0
 
 -- the flag of a label that was there, where none is superseded
 pub no_flag_set : (olds news : List Bool) (place : Option ℕ) (at : ℕ) → news ≡ olds ++ false ∷ [] → place ≡ None → at < length olds → (get_or news at true ≡ false) ↔ ((get_or olds at true ≡ false) × (place ≢ Some at))
@@ -91,54 +116,54 @@ one_flag_set olds news place one at longer is lt =
     ]
 
 -- what is kept for a key once the label is taken
-kept_own : (old new : Candidates) (label : Label) (key : ℕ × ℕ) → IsTaken old label new → same_key (key_of label) key ≡ true → kept_in new key ≡ Some (record { at = length old.labels.items; cost = label.cost })
-kept_own old new label key taken same = taken.kept key ∙ ap (λ b. if b then Some (record { at = length old.labels.items; cost = label.cost }) else kept_in old key) same
+kept_own : {X : Type 0} (old new : Candidates X) (label : Label X) (key : ℕ × ℕ) → IsTaken old label new → same_key (key_of label) key ≡ true → kept_in new key ≡ Some (record { at = length old.labels.items; cost = label.cost })
+kept_own {X} old new label key taken same = taken.kept key ∙ ap (λ b. if b then Some (record { at = length old.labels.items; cost = label.cost }) else kept_in old key) same
 
-kept_other : (old new : Candidates) (label : Label) (key : ℕ × ℕ) → IsTaken old label new → same_key (key_of label) key ≡ false → kept_in new key ≡ kept_in old key
-kept_other old new label key taken other = taken.kept key ∙ ap (λ b. if b then Some (record { at = length old.labels.items; cost = label.cost }) else kept_in old key) other
+kept_other : {X : Type 0} (old new : Candidates X) (label : Label X) (key : ℕ × ℕ) → IsTaken old label new → same_key (key_of label) key ≡ false → kept_in new key ≡ kept_in old key
+kept_other {X} old new label key taken other = taken.kept key ∙ ap (λ b. if b then Some (record { at = length old.labels.items; cost = label.cost }) else kept_in old key) other
 
-kept_if : (old new : Candidates) (label : Label) (key : ℕ × ℕ) → IsTaken old label new → same_key (key_of label) key ≡ true → kept_for new key ≡ Some (length old.labels.items)
-kept_if old new label key taken same = ap (option_map (λ (kept : KeptLabel). kept.at)) (kept_own old new label key taken same)
+kept_if : {X : Type 0} (old new : Candidates X) (label : Label X) (key : ℕ × ℕ) → IsTaken old label new → same_key (key_of label) key ≡ true → kept_for new key ≡ Some (length old.labels.items)
+kept_if {X} old new label key taken same = ap (option_map (λ (kept : KeptLabel). kept.at)) (kept_own old new label key taken same)
 
-kept_else : (old new : Candidates) (label : Label) (key : ℕ × ℕ) → IsTaken old label new → same_key (key_of label) key ≡ false → kept_for new key ≡ kept_for old key
-kept_else old new label key taken other = ap (option_map (λ (kept : KeptLabel). kept.at)) (kept_other old new label key taken other)
+kept_else : {X : Type 0} (old new : Candidates X) (label : Label X) (key : ℕ × ℕ) → IsTaken old label new → same_key (key_of label) key ≡ false → kept_for new key ≡ kept_for old key
+kept_else {X} old new label key taken other = ap (option_map (λ (kept : KeptLabel). kept.at)) (kept_other old new label key taken other)
 
 -- where the label of a key stands
-pub place_of_kept : (found : Candidates) (key : ℕ × ℕ) (kept : KeptLabel) → kept_in found key ≡ Some kept → kept_for found key ≡ Some kept.at
-place_of_kept found key kept is = ap (option_map (λ (k : KeptLabel). k.at)) is
+pub place_of_kept : {X : Type 0} (found : Candidates X) (key : ℕ × ℕ) (kept : KeptLabel) → kept_in found key ≡ Some kept → kept_for found key ≡ Some kept.at
+place_of_kept {X} found key kept is = ap (option_map (λ (k : KeptLabel). k.at)) is
 
 pub same_kept : (one other : KeptLabel) → Some one ≡ Some other → one ≡ other
 same_kept one other same = cc
 
-keyed_places : (old new : Candidates) (label : Label) → IsKeyed old → IsTaken old label new → (key : ℕ × ℕ) (at : ℕ) → kept_for new key ≡ Some at → (at < length new.labels.items) × (key_of (label_at new at) ≡ key)
-keyed_places old new label keyed taken key at is =
+keyed_places : {X : Type 0} (old new : Candidates X) (label : Label X) → IsKeyed old → IsTaken old label new → (key : ℕ × ℕ) (at : ℕ) → kept_for new key ≡ Some at → (at < length new.labels.items) × (key_at new at ≡ key)
+keyed_places {X} old new label keyed taken key at is =
     let long : length new.labels.items ≡ length old.labels.items + 1 = ap length taken.longer ∙ length-append old.labels.items (label ∷ []) in
     elim (cases_Bool (same_key (key_of label) key)) [
       | inl same ↦
           let here : length old.labels.items ≡ at = some_same (length old.labels.items) at (sym (kept_if old new label key taken same) ∙ is) in
-          (omega (arith, long, here), ap (λ n. key_of (label_at new n)) (sym here) ∙ ap key_of (label_last old new label taken.longer) ∙ keys_same (key_of label) key same)
+          (omega (arith, long, here), ap (key_at new) (sym here) ∙ key_last old new label taken.longer ∙ keys_same (key_of label) key same)
       | inr other ↦
           let (within, of_key) = keyed.places key at (sym (kept_else old new label key taken other) ∙ is) in
-          (omega (arith, long, within), ap key_of (label_first old new label at taken.longer within) ∙ of_key)
+          (omega (arith, long, within), key_first old new label at taken.longer within ∙ of_key)
     ]
 
-keyed_costs : (old new : Candidates) (label : Label) → IsKeyed old → IsTaken old label new → (key : ℕ × ℕ) (kept : KeptLabel) → kept_in new key ≡ Some kept → kept.cost ≡ (label_at new kept.at).cost
-keyed_costs old new label keyed taken key kept is =
+keyed_costs : {X : Type 0} (old new : Candidates X) (label : Label X) → IsKeyed old → IsTaken old label new → (key : ℕ × ℕ) (kept : KeptLabel) → kept_in new key ≡ Some kept → kept.cost ≡ cost_at new kept.at
+keyed_costs {X} old new label keyed taken key kept is =
     elim (cases_Bool (same_key (key_of label) key)) [
       | inl same ↦
           let here = same_kept (record { at = length old.labels.items; cost = label.cost }) kept (sym (kept_own old new label key taken same) ∙ is) in
-          subst (λ (k : KeptLabel). k.cost ≡ (label_at new k.at).cost) here (sym (ap (λ (l : Label). l.cost) (label_last old new label taken.longer)))
+          subst (λ (k : KeptLabel). k.cost ≡ cost_at new k.at) here (sym (cost_last old new label taken.longer))
       | inr other ↦
           let before : kept_in old key ≡ Some kept = sym (kept_other old new label key taken other) ∙ is in
           let (within, _) = keyed.places key kept.at (place_of_kept old key kept before) in
-          keyed.costs key kept before ∙ sym (ap (λ (l : Label). l.cost) (label_first old new label kept.at taken.longer within))
+          keyed.costs key kept before ∙ sym (cost_first old new label kept.at taken.longer within)
     ]
 
 -- the flag of a label that was there
-first_flags : (old new : Candidates) (label : Label) → IsKeyed old → IsTaken old label new → (at : ℕ) → at < length old.labels.items → (is_superseded new at ≡ false) ↔ (kept_at new at ≡ Some at)
-first_flags old new label keyed taken at below =
-    let key = key_of (label_at old at) in
-    let there : kept_at new at ≡ kept_for new key = ap (λ (l : Label). kept_for new (key_of l)) (label_first old new label at taken.longer below) in
+first_flags : {X : Type 0} (old new : Candidates X) (label : Label X) → IsKeyed old → IsTaken old label new → (at : ℕ) → at < length old.labels.items → (is_superseded new at ≡ false) ↔ (kept_at new at ≡ Some at)
+first_flags {X} old new label keyed taken at below =
+    let key = key_at old at in
+    let there : kept_at new at ≡ kept_for new key = ap (kept_for new) (key_first old new label at taken.longer below) in
     let (stays, back) = taken.first_flags at (omega (arith, below, keyed.one_flag_each)) in
     let (kept, flag) = keyed.flags at below in
     elim (cases_Bool (same_key (key_of label) key)) [
@@ -152,43 +177,43 @@ first_flags old new label keyed taken at below =
       )
     ]
 
-keyed_flags : (old new : Candidates) (label : Label) → IsKeyed old → IsTaken old label new → (at : ℕ) → at < length new.labels.items → (is_superseded new at ≡ false) ↔ (kept_at new at ≡ Some at)
-keyed_flags old new label keyed taken at lt =
+keyed_flags : {X : Type 0} (old new : Candidates X) (label : Label X) → IsKeyed old → IsTaken old label new → (at : ℕ) → at < length new.labels.items → (is_superseded new at ≡ false) ↔ (kept_at new at ≡ Some at)
+keyed_flags {X} old new label keyed taken at lt =
     let count = length old.labels.items in
     elim (cases_lt at count) [
       | inl below ↦ first_flags old new label keyed taken at below
       | inr above ↦
           let here : count ≡ at = omega (arith, above, lt, ap length taken.longer, length-append old.labels.items (label ∷ [])) in
-          let kept : kept_at new count ≡ Some count = ap (λ (l : Label). kept_for new (key_of l)) (label_last old new label taken.longer) ∙ kept_if old new label (key_of label) taken (key_itself (key_of label)) in
+          let kept : kept_at new count ≡ Some count = ap (kept_for new) (key_last old new label taken.longer) ∙ kept_if old new label (key_of label) taken (key_itself (key_of label)) in
           (λ _. subst (λ n. kept_at new n ≡ Some n) here kept, λ _. subst (λ n. is_superseded new n ≡ false) (keyed.one_flag_each ∙ here) taken.last_flag)
     ]
 
-pub keyed_taken : (old new : Candidates) (label : Label) → IsKeyed old → IsTaken old label new → IsKeyed new
-keyed_taken old new label keyed taken = record {
+pub keyed_taken : {X : Type 0} (old new : Candidates X) (label : Label X) → IsKeyed old → IsTaken old label new → IsKeyed new
+keyed_taken {X} old new label keyed taken = record {
   places = keyed_places old new label keyed taken;
   costs = keyed_costs old new label keyed taken;
   one_flag_each = omega (arith, taken.one_flag_more, keyed.one_flag_each, ap length taken.longer, length-append old.labels.items (label ∷ []));
   flags = keyed_flags old new label keyed taken;
 }
 
-pub keyed_offered : (old new : Candidates) (label : Label) → IsKeyed old → IsOffered old label new → IsKeyed new
-keyed_offered old new label keyed (inl refused) = subst IsKeyed (sym refused.same) keyed
-keyed_offered old new label keyed (inr taken) = keyed_taken old new label keyed taken
+pub keyed_offered : {X : Type 0} (old new : Candidates X) (label : Label X) → IsKeyed old → IsOffered old label new → IsKeyed new
+keyed_offered {X} old new label keyed (inl refused) = subst IsKeyed (sym refused.same) keyed
+keyed_offered {X} old new label keyed (inr taken) = keyed_taken old new label keyed taken
 
 -- ---- the stops of labels
 
-pub length_sequences : (before : List (List ℕ)) (labels : List Label) → length (sequences before labels) ≡ length labels
-length_sequences before [] = refl
-length_sequences before (label ∷ labels) = ap suc (length_sequences before labels)
+pub length_sequences : {X : Type 0} (before : List (List ℕ)) (labels : List (Label X)) → length (sequences before labels) ≡ length labels
+length_sequences {X} before [] = refl
+length_sequences {X} before (label ∷ labels) = ap suc (length_sequences before labels)
 
-sequences_with : (before : List (List ℕ)) (labels : List Label) (label : Label) → sequences before (labels ++ label ∷ []) ≡ sequences before labels ++ stops_of before label ∷ []
-sequences_with before [] label = refl
-sequences_with before (other ∷ labels) label = ap (λ (xs : List (List ℕ)). stops_of before other ∷ xs) (sequences_with before labels label)
+sequences_with : {X : Type 0} (before : List (List ℕ)) (labels : List (Label X)) (label : Label X) → sequences before (labels ++ label ∷ []) ≡ sequences before labels ++ stops_of before label ∷ []
+sequences_with {X} before [] label = refl
+sequences_with {X} before (other ∷ labels) label = ap (λ (xs : List (List ℕ)). stops_of before other ∷ xs) (sequences_with before labels label)
 
-pub sequence_at : (before : List (List ℕ)) (labels : List Label) (at : ℕ) (d : List ℕ) (e : Label) → at < length labels → get_or (sequences before labels) at d ≡ stops_of before (get_or labels at e)
-sequence_at before [] at d e lt = absurd (omega (arith, lt))
-sequence_at before (label ∷ labels) zero d e lt = refl
-sequence_at before (label ∷ labels) (suc at) d e lt = sequence_at before labels at d e (omega (arith, lt))
+pub sequence_at : {X : Type 0} (before : List (List ℕ)) (labels : List (Label X)) (at : ℕ) (d : List ℕ) (e : Label X) → at < length labels → get_or (sequences before labels) at d ≡ stops_of before (get_or labels at e)
+sequence_at {X} before [] at d e lt = absurd (omega (arith, lt))
+sequence_at {X} before (label ∷ labels) zero d e lt = refl
+sequence_at {X} before (label ∷ labels) (suc at) d e lt = sequence_at before labels at d e (omega (arith, lt))
 
 -- ---- extensions
 
@@ -199,11 +224,11 @@ extensions_rise k stops i c j d size rising lt within (inr (same, less)) =
     subst (λ (n : ℕ). IsEarlier (get_or stops n [] ++ c ∷ []) (get_or stops j [] ++ d ∷ [])) (sym same) (earlier_behind (get_or stops j []) (c ∷ []) (d ∷ []) (inl less))
 
 -- what comes before changes, where no useful beginning of the share comes between
-pub moved : (s : SettingOf) (k : ℕ) (stops : List (List ℕ)) (i c j d : ℕ) (level : Candidates) → HasExtensions s k stops i c level
+pub moved : {X : Type 0} (s : SettingOf X) (k : ℕ) (stops : List (List ℕ)) (i c j d : ℕ) (level : Candidates X) → HasExtensions s k stops i c level
     → ((m n : ℕ) → IsBefore m n i c → IsBefore m n j d)
-    → ((m n : ℕ) → IsBefore m n j d → m < length stops → is_in level.share n ≡ true → BeginsUseful s.relaxation.problem s.limit (get_or stops m [] ++ n ∷ []) → IsBefore m n i c)
+    → ((m n : ℕ) → IsBefore m n j d → m < length stops → is_in level.share n ≡ true → BeginsUseful s.problem s.limit (get_or stops m [] ++ n ∷ []) → IsBefore m n i c)
     → HasExtensions s k stops j d level
-moved s k stops i c j d level has on back = record {
+moved {X} s k stops i c j d level has on back = record {
   size = has.size;
   rising = has.rising;
   are = has.are;
@@ -212,30 +237,30 @@ moved s k stops i c j d level has on back = record {
 }
 
 -- an extension that isn't offered is of no useful beginning, or of another share
-pub passed : (s : SettingOf) (k : ℕ) (stops : List (List ℕ)) (i c : ℕ) (level : Candidates) → HasExtensions s k stops i c level → (is_in level.share c ≡ true → BeginsUseful s.relaxation.problem s.limit (get_or stops i [] ++ c ∷ []) → ⊥) → HasExtensions s k stops i (c + 1) level
-passed s k stops i c level has none = moved s k stops i c i (c + 1) level has on back
+pub passed : {X : Type 0} (s : SettingOf X) (k : ℕ) (stops : List (List ℕ)) (i c : ℕ) (level : Candidates X) → HasExtensions s k stops i c level → (is_in level.share c ≡ true → BeginsUseful s.problem s.limit (get_or stops i [] ++ c ∷ []) → ⊥) → HasExtensions s k stops i (c + 1) level
+passed {X} s k stops i c level has none = moved s k stops i c i (c + 1) level has on back
   where
     on : (m n : ℕ) → IsBefore m n i c → IsBefore m n i (c + 1)
     on m n (inl less) = inl less
     on m n (inr (same, less)) = inr (same, omega (arith, less))
 
-    back : (m n : ℕ) → IsBefore m n i (c + 1) → m < length stops → is_in level.share n ≡ true → BeginsUseful s.relaxation.problem s.limit (get_or stops m [] ++ n ∷ []) → IsBefore m n i c
+    back : (m n : ℕ) → IsBefore m n i (c + 1) → m < length stops → is_in level.share n ≡ true → BeginsUseful s.problem s.limit (get_or stops m [] ++ n ∷ []) → IsBefore m n i c
     back m n (inl less) lt mine useful = inl less
     back m n (inr (same, less)) lt mine useful =
         elim (cases_lt n c) [
           | inl below ↦ inr (same, below)
-          | inr above ↦ (let is : n ≡ c = omega (arith, above, less) in absurd (none (subst (λ n. is_in level.share n ≡ true) is mine) (subst (λ (n : ℕ). BeginsUseful s.relaxation.problem s.limit (get_or stops i [] ++ n ∷ [])) is (subst (λ (m : ℕ). BeginsUseful s.relaxation.problem s.limit (get_or stops m [] ++ n ∷ [])) same useful))))
+          | inr above ↦ (let is : n ≡ c = omega (arith, above, less) in absurd (none (subst (λ n. is_in level.share n ≡ true) is mine) (subst (λ (n : ℕ). BeginsUseful s.problem s.limit (get_or stops i [] ++ n ∷ [])) is (subst (λ (m : ℕ). BeginsUseful s.problem s.limit (get_or stops m [] ++ n ∷ [])) same useful))))
         ]
 
 -- nor are several of another share
-pub skipped : (s : SettingOf) (k : ℕ) (stops : List (List ℕ)) (i c d : ℕ) (level : Candidates) → HasExtensions s k stops i c level → c ≤ d → ((n : ℕ) → c ≤ n → n < d → is_in level.share n ≡ true → ⊥) → HasExtensions s k stops i d level
-skipped s k stops i c d level has no_more none = moved s k stops i c i d level has on back
+pub skipped : {X : Type 0} (s : SettingOf X) (k : ℕ) (stops : List (List ℕ)) (i c d : ℕ) (level : Candidates X) → HasExtensions s k stops i c level → c ≤ d → ((n : ℕ) → c ≤ n → n < d → is_in level.share n ≡ true → ⊥) → HasExtensions s k stops i d level
+skipped {X} s k stops i c d level has no_more none = moved s k stops i c i d level has on back
   where
     on : (m n : ℕ) → IsBefore m n i c → IsBefore m n i d
     on m n (inl less) = inl less
     on m n (inr (same, less)) = inr (same, omega (arith, less, no_more))
 
-    back : (m n : ℕ) → IsBefore m n i d → m < length stops → is_in level.share n ≡ true → BeginsUseful s.relaxation.problem s.limit (get_or stops m [] ++ n ∷ []) → IsBefore m n i c
+    back : (m n : ℕ) → IsBefore m n i d → m < length stops → is_in level.share n ≡ true → BeginsUseful s.problem s.limit (get_or stops m [] ++ n ∷ []) → IsBefore m n i c
     back m n (inl less) lt mine useful = inl less
     back m n (inr (same, less)) lt mine useful =
         elim (cases_lt n c) [
@@ -248,69 +273,67 @@ last_customer : (p : Problem) (limit : ℕ) (xs : List ℕ) (k : ℕ) → Begins
 last_customer p limit xs k useful = subst (Contains (customers p)) (at_end xs k 0) ((useful_begins p limit (xs ++ k ∷ []) useful).known (length xs) 0 (omega (arith, length-append xs (k ∷ []))))
 
 -- a label has no extensions from the last place on
-pub all_extensions : (s : SettingOf) (k : ℕ) (stops : List (List ℕ)) (i c : ℕ) (level : Candidates) → place_count s.relaxation.problem ≤ c → HasExtensions s k stops i c level → HasExtensions s k stops (i + 1) 0 level
-all_extensions s k stops i c level all has = moved s k stops i c (i + 1) 0 level has on back
+pub all_extensions : {X : Type 0} (s : SettingOf X) (k : ℕ) (stops : List (List ℕ)) (i c : ℕ) (level : Candidates X) → place_count s.problem ≤ c → HasExtensions s k stops i c level → HasExtensions s k stops (i + 1) 0 level
+all_extensions {X} s k stops i c level all has = moved s k stops i c (i + 1) 0 level has on back
   where
     on : (m n : ℕ) → IsBefore m n i c → IsBefore m n (i + 1) 0
     on m n (inl less) = inl (omega (arith, less))
     on m n (inr (same, less)) = inl (omega (arith, same))
 
-    back : (m n : ℕ) → IsBefore m n (i + 1) 0 → m < length stops → is_in level.share n ≡ true → BeginsUseful s.relaxation.problem s.limit (get_or stops m [] ++ n ∷ []) → IsBefore m n i c
+    back : (m n : ℕ) → IsBefore m n (i + 1) 0 → m < length stops → is_in level.share n ≡ true → BeginsUseful s.problem s.limit (get_or stops m [] ++ n ∷ []) → IsBefore m n i c
     back m n (inr (same, less)) lt mine useful = absurd (omega (arith, less))
     back m n (inl less) lt mine useful =
         elim (cases_lt m i) [
           | inl below ↦ inl below
-          | inr above ↦ inr (omega (arith, less, above), (let place = customer_below s.relaxation.problem n (last_customer s.relaxation.problem s.limit (get_or stops m []) n useful) in omega (arith, place, all)))
+          | inr above ↦ inr (omega (arith, less, above), (let place = customer_below s.problem n (last_customer s.problem s.limit (get_or stops m []) n useful) in omega (arith, place, all)))
         ]
 
 -- and none at the depot
-pub first_extension : (s : SettingOf) (k : ℕ) (stops : List (List ℕ)) (i : ℕ) (level : Candidates) → HasExtensions s k stops i 0 level → HasExtensions s k stops i 1 level
-first_extension s k stops i level has = passed s k stops i 0 level has (λ mine useful. (let some = customer_is_some s.relaxation.problem 0 (last_customer s.relaxation.problem s.limit (get_or stops i []) 0 useful) in omega (arith, some)))
+pub first_extension : {X : Type 0} (s : SettingOf X) (k : ℕ) (stops : List (List ℕ)) (i : ℕ) (level : Candidates X) → HasExtensions s k stops i 0 level → HasExtensions s k stops i 1 level
+first_extension {X} s k stops i level has = passed s k stops i 0 level has (λ mine useful. (let some = customer_is_some s.problem 0 (last_customer s.problem s.limit (get_or stops i []) 0 useful) in omega (arith, some)))
 
 -- the extensions up to the first customer of the share
-pub up_to_first : (s : SettingOf) (k : ℕ) (stops : List (List ℕ)) (i c : ℕ) (level : Candidates) → 1 ≤ c → ((n : ℕ) → 1 ≤ n → n < c → is_in level.share n ≡ true → ⊥) → HasExtensions s k stops i 0 level → HasExtensions s k stops i c level
-up_to_first s k stops i c level some none has = skipped s k stops i 1 c level (first_extension s k stops i level has) some none
+pub up_to_first : {X : Type 0} (s : SettingOf X) (k : ℕ) (stops : List (List ℕ)) (i c : ℕ) (level : Candidates X) → 1 ≤ c → ((n : ℕ) → 1 ≤ n → n < c → is_in level.share n ≡ true → ⊥) → HasExtensions s k stops i 0 level → HasExtensions s k stops i c level
+up_to_first {X} s k stops i c level some none has = skipped s k stops i 1 c level (first_extension s k stops i level has) some none
 
 -- and from one to the next
-pub up_to_next : (s : SettingOf) (k : ℕ) (stops : List (List ℕ)) (i c : ℕ) (share : Share) (level : Candidates) → level.share ≡ share → c % share.shares ≡ share.rest → HasExtensions s k stops i (c + 1) level → HasExtensions s k stops i (c + share.shares) level
-up_to_next s k stops i c share level same is has =
+pub up_to_next : {X : Type 0} (s : SettingOf X) (k : ℕ) (stops : List (List ℕ)) (i c : ℕ) (share : Share) (level : Candidates X) → level.share ≡ share → c % share.shares ≡ share.rest → HasExtensions s k stops i (c + 1) level → HasExtensions s k stops i (c + share.shares) level
+up_to_next {X} s k stops i c share level same is has =
     skipped s k stops i (c + 1) (c + share.shares) level has (omega (arith, share.some))
     (λ n above below mine. none_between share.shares share.rest c n is (omega (arith, above)) below (eqb-true (n % share.shares) share.rest (subst (λ (own : Share). is_in own n ≡ true) same mine)))
 
 shorter : (p : Problem) (limit : ℕ) (xs : List ℕ) (k : ℕ) → BeginsUseful p limit (xs ++ k ∷ []) → BeginsUseful p limit xs
 shorter p limit xs k (more, useful) = (k ∷ more, subst (IsUseful p limit) (simp append_assoc) useful)
 
--- the stops of a label that is found
-found_stops : (stops : List (List ℕ)) (found : Candidates) (at : ℕ) → at < length found.labels.items → get_or (sequences stops found.labels.items) at [] ≡ stops_of stops (label_at found at)
-found_stops stops found at lt = sequence_at stops found.labels.items at [] no_label lt
-
 -- what was kept stays so, where it is useful
-still_kept : (s : SettingOf) (before : List (List ℕ)) (old new : Candidates) (label : Label) (xs : List ℕ) → All (λ l. IsLabel s (stops_of before l) l) old.labels.items
-    → IsTaken old label new → IsLabel s (stops_of before label) label → BeginsUseful s.relaxation.problem s.limit xs → IsKept (sequences before old.labels.items) old xs → IsKept (sequences before new.labels.items) new xs
-still_kept s before old new label xs each taken is_label useful kept =
+still_kept : {X : Type 0} (s : SettingOf X) (before : List (List ℕ)) (old new : Candidates X) (label : Label X) (xs : List ℕ) → All (λ l. IsLabel s (stops_of before l) l) old.labels.items
+    → IsTaken old label new → IsLabel s (stops_of before label) label → BeginsUseful s.problem s.limit xs → IsKept (sequences before old.labels.items) old xs → IsKept (sequences before new.labels.items) new xs
+still_kept {X} s before old new label xs each taken is_label useful kept =
     let olds = sequences before old.labels.items in
     let all : sequences before new.labels.items ≡ olds ++ stops_of before label ∷ [] = ap (sequences before) taken.longer ∙ sequences_with before old.labels.items label in
     let within : kept.at < length old.labels.items = subst (λ n. kept.at < n) (length_sequences before old.labels.items) kept.within in
-    let same : label_at new kept.at ≡ label_at old kept.at = label_first old new label kept.at taken.longer within in
-    let key = key_of (label_at old kept.at) in
-    let there : stops_of before (label_at old kept.at) ≡ xs = sym (found_stops before old kept.at within) ∙ kept.is in
-    let is_old : IsLabel s xs (label_at old kept.at) = subst (λ (ys : List ℕ). IsLabel s ys (label_at old kept.at)) there (each kept.at no_label within) in
+    let other_label = get_or old.labels.items kept.at label in
+    let key = key_at old kept.at in
+    let of_key : key ≡ key_of other_label = key_there old kept.at label within in
+    let of_cost : cost_at old kept.at ≡ other_label.cost = cost_there old kept.at label within in
+    let there : stops_of before other_label ≡ xs = sym (sequence_at before old.labels.items kept.at [] label within) ∙ kept.is in
+    let is_old : IsLabel s xs other_label = subst (λ (ys : List ℕ). IsLabel s ys other_label) there (each kept.at label within) in
     let place : kept_for new key ≡ Some kept.at = elim (cases_Bool (same_key (key_of label) key)) [
       | inl same ↦ absurd (
           let one = keys_same (key_of label) key same in
-          no_rival s (stops_of before label) xs label (label_at old kept.at) is_label is_old one useful (inl (taken.cheaper kept.at (ap (kept_for old) one ∙ kept.kept))))
+          no_rival s (stops_of before label) xs label other_label is_label is_old (one ∙ of_key) useful (inl (subst (λ n. label.cost < n) of_cost (taken.cheaper kept.at (ap (kept_for old) one ∙ kept.kept)))))
       | inr other ↦ kept_else old new label key taken other ∙ kept.kept
     ] in
     record {
       at = kept.at;
       within = subst (λ (zs : List (List ℕ)). kept.at < length zs) (sym all) (omega (arith, kept.within, length-append olds (stops_of before label ∷ [])));
       is = ap (λ (zs : List (List ℕ)). get_or zs kept.at []) all ∙ get_or_append_left olds (stops_of before label ∷ []) [] kept.at kept.within ∙ kept.is;
-      kept = ap (λ (l : Label). kept_for new (key_of l)) same ∙ place;
+      kept = ap (kept_for new) (key_first old new label kept.at taken.longer within) ∙ place;
     }
 
-taken_extension : (s : SettingOf) (k : ℕ) (stops : List (List ℕ)) (old new : Candidates) (child : Label) → HasExtensions s k stops child.parent child.last old → child.parent < length stops → is_in old.share child.last ≡ true → IsLabel s (stops_of stops child) child → IsTaken old child new
+taken_extension : {X : Type 0} (s : SettingOf X) (k : ℕ) (stops : List (List ℕ)) (old new : Candidates X) (child : Label X) → HasExtensions s k stops child.parent child.last old → child.parent < length stops → is_in old.share child.last ≡ true → IsLabel s (stops_of stops child) child → IsTaken old child new
     → HasExtensions s k stops child.parent (child.last + 1) new
-taken_extension s k stops old new child has lt mine is taken = record {
+taken_extension {X} s k stops old new child has lt mine is taken = record {
   size = has.size;
   rising = has.rising;
   are = subst (λ share. AreExtensions s (is_in share) stops new.labels.items) (sym taken.share) (subst (AreExtensions s (is_in old.share) stops) (sym taken.longer) (record {
@@ -329,7 +352,7 @@ taken_extension s k stops old new child has lt mine is taken = record {
     own_stops : List ℕ
     own_stops = stops_of stops child
 
-    Before : Label → Type 0
+    Before : Label X → Type 0
     Before label = IsBefore label.parent label.last child.parent (child.last + 1)
 
     all : sequences stops new.labels.items ≡ olds ++ own_stops ∷ []
@@ -345,7 +368,7 @@ taken_extension s k stops old new child has lt mine is taken = record {
     count : length olds ≡ length old.labels.items
     count = length_sequences stops old.labels.items
 
-    every : (i c : ℕ) → IsBefore i c child.parent (child.last + 1) → i < length stops → is_in old.share c ≡ true → BeginsUseful s.relaxation.problem s.limit (get_or stops i [] ++ c ∷ []) → IsKept (sequences stops new.labels.items) new (get_or stops i [] ++ c ∷ [])
+    every : (i c : ℕ) → IsBefore i c child.parent (child.last + 1) → i < length stops → is_in old.share c ≡ true → BeginsUseful s.problem s.limit (get_or stops i [] ++ c ∷ []) → IsKept (sequences stops new.labels.items) new (get_or stops i [] ++ c ∷ [])
     every i c (inl less) within own useful = still_kept s stops old new child (get_or stops i [] ++ c ∷ []) has.are.each taken is useful (has.every i c (inl less) within own useful)
     every i c (inr (same, less)) within own useful =
         elim (cases_lt c child.last) [
@@ -357,18 +380,18 @@ taken_extension s k stops old new child has lt mine is taken = record {
                 at = length olds;
                 within = omega (arith, ap length all, many);
                 is = ap (λ (zs : List (List ℕ)). get_or zs (length olds) []) all ∙ at_end olds own_stops [];
-                kept = ap (λ (l : Label). kept_for new (key_of l)) (ap (label_at new) count ∙ label_last old new child taken.longer) ∙ kept_if old new child (key_of child) taken (key_itself (key_of child)) ∙ ap Some (sym count);
+                kept = ap (kept_for new) (ap (key_at new) count ∙ key_last old new child taken.longer) ∙ kept_if old new child (key_of child) taken (key_itself (key_of child)) ∙ ap Some (sym count);
               })
         ]
 
-refused_extension : (s : SettingOf) (k : ℕ) (stops : List (List ℕ)) (old new : Candidates) (child : Label) → HasExtensions s k stops child.parent child.last old → IsKeyed old → child.parent < length stops → IsLabel s (stops_of stops child) child → IsRefused old child new
+refused_extension : {X : Type 0} (s : SettingOf X) (k : ℕ) (stops : List (List ℕ)) (old new : Candidates X) (child : Label X) → HasExtensions s k stops child.parent child.last old → IsKeyed old → child.parent < length stops → IsLabel s (stops_of stops child) child → IsRefused old child new
     → HasExtensions s k stops child.parent (child.last + 1) new
-refused_extension s k stops old new child has keyed lt is refused =
+refused_extension {X} s k stops old new child has keyed lt is refused =
     subst (HasExtensions s k stops child.parent (child.last + 1)) (sym refused.same) (passed s k stops child.parent child.last old has (λ mine useful.
     let (within, of_key) = keyed.places (key_of child) refused.at refused.kept in
-    let other = label_at old refused.at in
-    let earlier : IsEarlier (stops_of stops other) (stops_of stops child) = extensions_rise k stops other.parent other.last child.parent child.last has.size has.rising (has.are.parents refused.at no_label within) lt (has.before refused.at no_label within) in
-    no_rival s (stops_of stops other) (stops_of stops child) other child (has.are.each refused.at no_label within) is of_key useful (no_costlier_before other.cost child.cost (stops_of stops other) (stops_of stops child) refused.no_costlier earlier)))
+    let other = get_or old.labels.items refused.at child in
+    let earlier : IsEarlier (stops_of stops other) (stops_of stops child) = extensions_rise k stops other.parent other.last child.parent child.last has.size has.rising (has.are.parents refused.at child within) lt (has.before refused.at child within) in
+    no_rival s (stops_of stops other) (stops_of stops child) other child (has.are.each refused.at child within) is (sym (key_there old refused.at child within) ∙ of_key) useful (no_costlier_before other.cost child.cost (stops_of stops other) (stops_of stops child) (subst (λ n. n ≤ child.cost) (cost_there old refused.at child within) refused.no_costlier) earlier)))
   where
     no_costlier_before : (cost other : ℕ) (xs ys : List ℕ) → cost ≤ other → IsEarlier xs ys → ComesBefore cost xs other ys
     no_costlier_before cost other xs ys no_more earlier = elim (cases_lt cost other) [
@@ -376,19 +399,19 @@ refused_extension s k stops old new child has keyed lt is refused =
       | inr more ↦ inr (omega (arith, no_more, more), earlier)
     ]
 
-pub offered_extension : (s : SettingOf) (k : ℕ) (stops : List (List ℕ)) (old new : Candidates) (child : Label) → HasExtensions s k stops child.parent child.last old → IsKeyed old → child.parent < length stops → is_in old.share child.last ≡ true → IsLabel s (stops_of stops child) child → IsOffered old child new
+pub offered_extension : {X : Type 0} (s : SettingOf X) (k : ℕ) (stops : List (List ℕ)) (old new : Candidates X) (child : Label X) → HasExtensions s k stops child.parent child.last old → IsKeyed old → child.parent < length stops → is_in old.share child.last ≡ true → IsLabel s (stops_of stops child) child → IsOffered old child new
     → HasExtensions s k stops child.parent (child.last + 1) new
-offered_extension s k stops old new child has keyed lt mine is (inl refused) = refused_extension s k stops old new child has keyed lt is refused
-offered_extension s k stops old new child has keyed lt mine is (inr taken) = taken_extension s k stops old new child has lt mine is taken
+offered_extension {X} s k stops old new child has keyed lt mine is (inl refused) = refused_extension s k stops old new child has keyed lt is refused
+offered_extension {X} s k stops old new child has keyed lt mine is (inr taken) = taken_extension s k stops old new child has lt mine is taken
 
-pub share_stays : (old new : Candidates) (label : Label) → IsOffered old label new → new.share ≡ old.share
-share_stays old new label (inl refused) = ap (λ (found : Candidates). found.share) refused.same
-share_stays old new label (inr taken) = taken.share
+pub share_stays : {X : Type 0} (old new : Candidates X) (label : Label X) → IsOffered old label new → new.share ≡ old.share
+share_stays {X} old new label (inl refused) = ap (λ (found : Candidates X). found.share) refused.same
+share_stays {X} old new label (inr taken) = taken.share
 
 -- ---- a level
 
-pub no_extensions : (s : SettingOf) (k : ℕ) (stops : List (List ℕ)) (labels : List Label) (next : Candidates) → IsLevel s k stops labels → next.labels.items ≡ [] → HasExtensions s k stops 0 0 next
-no_extensions s k stops labels next is none = record {
+pub no_extensions : {X : Type 0} (s : SettingOf X) (k : ℕ) (stops : List (List ℕ)) (labels : List (Label X)) (next : Candidates X) → IsLevel s k stops labels → next.labels.items ≡ [] → HasExtensions s k stops 0 0 next
+no_extensions {X} s k stops labels next is none = record {
   size = is.are.size;
   rising = is.are.rising;
   are = subst (AreExtensions s (is_in next.share) stops) (sym none) (record {
@@ -405,49 +428,51 @@ no_extensions s k stops labels next is none = record {
     never i c (inl less) = omega (arith, less)
     never i c (inr (same, less)) = omega (arith, less)
 
-pub all_grown : (s : SettingOf) (k : ℕ) (stops : List (List ℕ)) (labels : List Label) (next : Candidates) (i : ℕ) → IsLevel s k stops labels → length stops ≤ i → HasExtensions s k stops i 0 next → IsGrown s (k + 1) stops next
-all_grown s k stops labels next i is all has = record {
+pub all_grown : {X : Type 0} (s : SettingOf X) (k : ℕ) (stops : List (List ℕ)) (labels : List (Label X)) (next : Candidates X) (i : ℕ) → IsLevel s k stops labels → length stops ≤ i → HasExtensions s k stops i 0 next → IsGrown s (k + 1) stops next
+all_grown {X} s k stops labels next i is all has = record {
   are = has.are;
   every = λ xs long mine useful.
       let e = ends_at xs (λ none. (let short = ap length none in omega (arith, long, short))) in
-      let whole : BeginsUseful s.relaxation.problem s.limit (e.prefix ++ e.last ∷ []) = subst (BeginsUseful s.relaxation.problem s.limit) e.is useful in
+      let whole : BeginsUseful s.problem s.limit (e.prefix ++ e.last ∷ []) = subst (BeginsUseful s.problem s.limit) e.is useful in
       let size : length e.prefix ≡ k = omega (arith, ap length e.is, length-append e.prefix (e.last ∷ []), long) in
-      let (at, within, there) = is.every e.prefix size (shorter s.relaxation.problem s.limit e.prefix e.last whole) in
+      let (at, within, there) = is.every e.prefix size (shorter s.problem s.limit e.prefix e.last whole) in
       let prefix : get_or stops at [] ≡ e.prefix = get_or_default stops at [] e.prefix within ∙ there in
       let same : get_or stops at [] ++ e.last ∷ [] ≡ xs = ap (λ (ys : List ℕ). ys ++ e.last ∷ []) prefix ∙ sym e.is in
       let last : last_symbol xs ≡ e.last = ap last_symbol e.is ∙ last_symbol_with e.prefix e.last in
-      let should_continue : IsKept (sequences stops next.labels.items) next (get_or stops at [] ++ e.last ∷ []) = (has.every at e.last (inl (omega (arith, within, all))) within (subst (λ n. is_in next.share n ≡ true) last mine) (subst (BeginsUseful s.relaxation.problem s.limit) (sym same) useful)) in
+      let should_continue : IsKept (sequences stops next.labels.items) next (get_or stops at [] ++ e.last ∷ []) = (has.every at e.last (inl (omega (arith, within, all))) within (subst (λ n. is_in next.share n ≡ true) last mine) (subst (BeginsUseful s.problem s.limit) (sym same) useful)) in
       subst (IsKept (sequences stops next.labels.items) next) same should_continue;
 }
 
 -- the labels of all shares together are a level
-pub whole_level : (s : SettingOf) (k : ℕ) (mine : ℕ → Bool) (stops : List (List ℕ)) (before labels : List Label) → IsLevel s k stops before → ((c : ℕ) → mine c ≡ true) → IsShare s (k + 1) mine stops labels → IsLevel s (k + 1) (sequences stops labels) labels
-whole_level s k mine stops before labels is every share = record {
+pub whole_level : {X : Type 0} (s : SettingOf X) (k : ℕ) (mine : ℕ → Bool) (stops : List (List ℕ)) (before labels : List (Label X)) → IsLevel s k stops before → ((c : ℕ) → mine c ≡ true) → IsShare s (k + 1) mine stops labels → IsLevel s (k + 1) (sequences stops labels) labels
+whole_level {X} s k mine stops before labels is every share = record {
   are = record {
     long = length_sequences stops labels;
     each = λ at d lt. (let inside : at < length labels = omega (arith, lt, length_sequences stops labels) in subst (λ (xs : List ℕ). IsLabel s xs (get_or labels at d)) (sym (sequence_at stops labels at [] d inside)) (share.are.each at d inside));
     size = λ at d lt. (let inside : at < length labels = omega (arith, lt, length_sequences stops labels) in
-        let label = get_or labels at no_label in
-        ap length (sequence_at stops labels at d no_label inside) ∙ length-append (get_or stops label.parent []) (label.last ∷ []) ∙ ap (λ n. n + 1) (is.are.size label.parent [] (share.are.parents at no_label inside)));
+        let some = element labels at inside in
+        let label = get_or labels at some in
+        ap length (sequence_at stops labels at d some inside) ∙ length-append (get_or stops label.parent []) (label.last ∷ []) ∙ ap (λ n. n + 1) (is.are.size label.parent [] (share.are.parents at some inside)));
     rising = λ i j d less lt.
         let within : j < length labels = omega (arith, lt, length_sequences stops labels) in
         let inside : i < length labels = omega (arith, less, within) in
-        let one = get_or labels i no_label in
-        let other = get_or labels j no_label in
-        let rises = extensions_rise k stops one.parent one.last other.parent other.last is.are.size is.are.rising (share.are.parents i no_label inside) (share.are.parents j no_label within) (share.are.ordered i j no_label less within) in
-        subst (λ (xs : List ℕ). IsEarlier (get_or (sequences stops labels) i d) xs) (sym (sequence_at stops labels j d no_label within))
-        (subst (λ (xs : List ℕ). IsEarlier xs (stops_of stops other)) (sym (sequence_at stops labels i d no_label inside)) rises);
+        let some = element labels i inside in
+        let one = get_or labels i some in
+        let other = get_or labels j some in
+        let rises = extensions_rise k stops one.parent one.last other.parent other.last is.are.size is.are.rising (share.are.parents i some inside) (share.are.parents j some within) (share.are.ordered i j some less within) in
+        subst (λ (xs : List ℕ). IsEarlier (get_or (sequences stops labels) i d) xs) (sym (sequence_at stops labels j d some within))
+        (subst (λ (xs : List ℕ). IsEarlier xs (stops_of stops other)) (sym (sequence_at stops labels i d some inside)) rises);
   };
   every = λ xs long useful. share.every xs long (every (last_symbol xs)) useful;
 }
 
 -- ---- none so far
 
-none_kept : (level : Candidates) (key : ℕ × ℕ) → level.kept.entries ≡ [] → kept_in level key ≡ None
-none_kept level key empty = ap (lookup (same_key key)) empty
+none_kept : {X : Type 0} (level : Candidates X) (key : ℕ × ℕ) → level.kept.entries ≡ [] → kept_in level key ≡ None
+none_kept {X} level key empty = ap (lookup (same_key key)) empty
 
-pub empty_is_keyed : (level : Candidates) → level.kept.entries ≡ [] → level.labels.items ≡ [] → level.superseded.items ≡ [] → IsKeyed level
-empty_is_keyed level empty none no_flags = record {
+pub empty_is_keyed : {X : Type 0} (level : Candidates X) → level.kept.entries ≡ [] → level.labels.items ≡ [] → level.superseded.items ≡ [] → IsKeyed level
+empty_is_keyed {X} level empty none no_flags = record {
   places = λ key at is. absurd (let never : None ≡ Some at = sym (ap (option_map (λ (kept : KeptLabel). kept.at)) (none_kept level key empty)) ∙ is in cc);
   costs = λ key kept is. absurd (let never : None ≡ Some kept = sym (none_kept level key empty) ∙ is in cc);
   one_flag_each = ap length no_flags ∙ sym (ap length none);
@@ -456,8 +481,8 @@ empty_is_keyed level empty none no_flags = record {
 
 -- ---- the level of no stops
 
-pub root_level : (s : SettingOf) (root : Label) → IsLabel s [] root → IsLevel s 0 ([] ∷ []) (root ∷ [])
-root_level s root is = record {
+pub root_level : {X : Type 0} (s : SettingOf X) (root : Label X) → IsLabel s [] root → IsLevel s 0 ([] ∷ []) (root ∷ [])
+root_level {X} s root is = record {
   are = record {
     long = refl;
     each = each;
@@ -467,6 +492,6 @@ root_level s root is = record {
   every = λ xs long useful. (0, omega arith, sym (nil_from_length xs long));
 }
   where
-    each : (at : ℕ) (d : Label) → at < 1 → IsLabel s (get_or ([] ∷ []) at []) (get_or (root ∷ []) at d)
+    each : (at : ℕ) (d : Label X) → at < 1 → IsLabel s (get_or ([] ∷ []) at []) (get_or (root ∷ []) at d)
     each zero d lt = is
     each (suc at) d lt = absurd (omega (arith, lt))

@@ -17,21 +17,21 @@ use Rattle.vrp_routes.proofs.SharesSteps.{element}
 
 -- ---- the parts
 
-pub labels_there : (parts : List (Vec Label Global)) (i : ℕ) (d : Vec Label Global) → i < length parts → labels_at parts i ≡ (get_or parts i d).items
-labels_there parts i d lt = get_or-map (λ (part : Vec Label Global). part.items) parts i d [] lt
+pub labels_there : {X : Type 0} (parts : List (Vec (Label X) Global)) (i : ℕ) (d : Vec (Label X) Global) → i < length parts → labels_at parts i ≡ (get_or parts i d).items
+labels_there {X} parts i d lt = get_or-map (λ (part : Vec (Label X) Global). part.items) parts i d [] lt
 
-pub labels_behind : (parts : List (Vec Label Global)) (i : ℕ) → length parts ≤ i → labels_at parts i ≡ []
-labels_behind parts i over = get_or_past (map (λ (part : Vec Label Global). part.items) parts) i [] (omega (arith, over, length-map parts (λ (part : Vec Label Global). part.items)))
+pub labels_behind : {X : Type 0} (parts : List (Vec (Label X) Global)) (i : ℕ) → length parts ≤ i → labels_at parts i ≡ []
+labels_behind {X} parts i over = get_or_past (map (λ (part : Vec (Label X) Global). part.items) parts) i [] (omega (arith, over, length-map parts (λ (part : Vec (Label X) Global). part.items)))
 
-has_labels : (s : SettingOf) (k : ℕ) (before : List (List ℕ)) (shares : ℕ) (parts : List (Vec Label Global)) → AreParts s k before shares 0 parts → (i : ℕ) → i < length parts → IsShare s k (has_rest shares i) before (labels_at parts i)
-has_labels s k before shares parts are i lt =
+has_labels : {X : Type 0} (s : SettingOf X) (k : ℕ) (before : List (List ℕ)) (shares : ℕ) (parts : List (Vec (Label X) Global)) → AreParts s k before shares 0 parts → (i : ℕ) → i < length parts → IsShare s k (has_rest shares i) before (labels_at parts i)
+has_labels {X} s k before shares parts are i lt =
     let part = element parts i lt in
     let place : 0 + i ≡ i = omega arith in
     subst (IsShare s k (has_rest shares i) before) (sym (labels_there parts i part lt)) (subst (λ n. IsShare s k (has_rest shares n) before (get_or parts i part).items) place (are i part lt))
 
 -- parts of different shares can be merged
-pub shares_can_merge : (s : SettingOf) (k : ℕ) (before : List (List ℕ)) (shares : ℕ) (parts : List (Vec Label Global)) → AreParts s k before shares 0 parts → CanMerge parts
-shares_can_merge s k before shares parts are = record {
+pub shares_can_merge : {X : Type 0} (s : SettingOf X) (k : ℕ) (before : List (List ℕ)) (shares : ℕ) (parts : List (Vec (Label X) Global)) → AreParts s k before shares 0 parts → CanMerge parts
+shares_can_merge {X} s k before shares parts are = record {
   rising = λ i. elim (cases_lt i (length parts)) [
     | inl lt ↦ (has_labels s k before shares parts are i lt).are.ordered
     | inr over ↦ subst (AllPairs ComesFirst) (sym (labels_behind parts i over)) (λ a b d less lt. absurd (omega (arith, lt)))
@@ -43,21 +43,21 @@ shares_can_merge s k before shares parts are = record {
         let first : (get_or (labels_at parts i) a d).last % shares ≡ i = eqb-true ((get_or (labels_at parts i) a d).last % shares) i one in
         let second : (get_or (labels_at parts j) b e).last % shares ≡ j = eqb-true ((get_or (labels_at parts j) b e).last % shares) j other in
         omega (arith, sym first ∙ ap (λ n. n % shares) same ∙ second, less)
-    | inr over ↦ λ a b d e within inside same. absurd (omega (arith, subst (λ (ls : List Label). b < length ls) (labels_behind parts j over) inside))
+    | inr over ↦ λ a b d e within inside same. absurd (omega (arith, subst (λ (ls : List (Label X)). b < length ls) (labels_behind parts j over) inside))
   ];
 }
 
 -- ---- part by part
 
-pub merges_no_part : (parts : List (Vec Label Global)) (from to : ℕ) → AreMerged parts 0 from to []
-merges_no_part parts from to = record {
+pub merges_no_part : {X : Type 0} (parts : List (Vec (Label X) Global)) (from to : ℕ) → AreMerged parts 0 from to []
+merges_no_part {X} parts from to = record {
   among = All-nil _;
   all = λ i lt label some between. absurd (omega (arith, lt));
   ordered = λ i j d less lt. absurd (omega (arith, lt));
 }
 
-pub merges_part : (parts : List (Vec Label Global)) (n from to : ℕ) (old cut new : List Label) → CanMerge parts → AreMerged parts n from to old → IsCut from to (labels_at parts n) cut → IsMerged old cut new → AreMerged parts (n + 1) from to new
-merges_part parts n from to old cut new can are is merged = record {
+pub merges_part : {X : Type 0} (parts : List (Vec (Label X) Global)) (n from to : ℕ) (old cut new : List (Label X)) → CanMerge parts → AreMerged parts n from to old → IsCut from to (labels_at parts n) cut → IsMerged old cut new → AreMerged parts (n + 1) from to new
+merges_part {X} parts n from to old cut new can are is merged = record {
   among = λ at d lt. All-contains Among (old ++ cut) (get_or new at d) (All-append Among old cut
       (λ i e within. (let (between, (part, less, some)) = are.among i e within in (between, (part, omega (arith, less), some))))
       (λ i e within. (let (some, between) = is.among i e within in (between, (n, omega arith, some)))))
@@ -69,7 +69,7 @@ merges_part parts n from to old cut new can are is merged = record {
   ordered = merged.ordered apart are.ordered is.ordered;
 }
   where
-    Among : Label → Type 0
+    Among : Label X → Type 0
     Among label = IsBetween from to label × ((i : ℕ) × (i < n + 1) × Contains (labels_at parts i) label)
 
     apart : EndApart old cut
@@ -95,15 +95,15 @@ all_pairs_append R xs ys one other across i j d less lt = elim (cases_lt j (leng
     right : (n : ℕ) → length xs ≤ n → get_or (xs ++ ys) n d ≡ get_or ys (n - length xs) d
     right n outside = get_or-append_right xs ys (length xs) n d refl outside
 
-pub merges_no_range : (parts : List (Vec Label Global)) → AreMerged parts (length parts) 0 0 []
-merges_no_range parts = record {
+pub merges_no_range : {X : Type 0} (parts : List (Vec (Label X) Global)) → AreMerged parts (length parts) 0 0 []
+merges_no_range {X} parts = record {
   among = All-nil _;
   all = λ i lt label some between. absurd (omega (arith, between.0, between.1));
   ordered = λ i j d less lt. absurd (omega (arith, lt));
 }
 
-pub merges_range : (parts : List (Vec Label Global)) (count from middle to : ℕ) (old more : List Label) → from ≤ middle → middle ≤ to → AreMerged parts count from middle old → AreMerged parts count middle to more → AreMerged parts count from to (old ++ more)
-merges_range parts count from middle to old more below above are also = record {
+pub merges_range : {X : Type 0} (parts : List (Vec (Label X) Global)) (count from middle to : ℕ) (old more : List (Label X)) → from ≤ middle → middle ≤ to → AreMerged parts count from middle old → AreMerged parts count middle to more → AreMerged parts count from to (old ++ more)
+merges_range {X} parts count from middle to old more below above are also = record {
   among = All-append Among old more
       (λ i d lt. (let (between, some) = are.among i d lt in ((between.0, omega (arith, between.1, above)), some)))
       (λ i d lt. (let (between, some) = also.among i d lt in ((omega (arith, between.0, below), between.1), some)));
@@ -114,13 +114,13 @@ merges_range parts count from middle to old more below above are also = record {
   ordered = all_pairs_append ComesFirst old more are.ordered also.ordered (λ i j d e lt within. (let (one, _) = are.among i d lt in let (other, _) = also.among j e within in inl (omega (arith, one.1, other.0))));
 }
   where
-    Among : Label → Type 0
+    Among : Label X → Type 0
     Among label = IsBetween from to label × ((i : ℕ) × (i < count) × Contains (labels_at parts i) label)
 
 -- ---- the labels of all shares
 
-pub merged_shares : (s : SettingOf) (k : ℕ) (before : List (List ℕ)) (shares : ℕ) (parts : List (Vec Label Global)) (to : ℕ) (labels : List Label) → AreParts s k before shares 0 parts → length before ≤ to → AreMerged parts (length parts) 0 to labels → IsShare s k (is_in_first shares (length parts)) before labels
-merged_shares s k before shares parts to labels are below merged = record {
+pub merged_shares : {X : Type 0} (s : SettingOf X) (k : ℕ) (before : List (List ℕ)) (shares : ℕ) (parts : List (Vec (Label X) Global)) (to : ℕ) (labels : List (Label X)) → AreParts s k before shares 0 parts → length before ≤ to → AreMerged parts (length parts) 0 to labels → IsShare s k (is_in_first shares (length parts)) before labels
+merged_shares {X} s k before shares parts to labels are below merged = record {
   are = record {
     each = keep (λ l. IsLabel s (stops_of before l) l) (λ i lt. (part i lt).are.each);
     parents = keep (λ l. l.parent < length before) (λ i lt. (part i lt).are.parents);
@@ -138,5 +138,5 @@ merged_shares s k before shares parts to labels are below merged = record {
     part : (i : ℕ) → i < length parts → IsShare s k (has_rest shares i) before (labels_at parts i)
     part i lt = has_labels s k before shares parts are i lt
 
-    keep : (P : Label → Type 0) → ((i : ℕ) → i < length parts → All P (labels_at parts i)) → All P labels
+    keep : (P : Label X → Type 0) → ((i : ℕ) → i < length parts → All P (labels_at parts i)) → All P labels
     keep P each a d lt = (let (_, (i, within, some)) = merged.among a d lt in All-contains P (labels_at parts i) (get_or labels a d) (each i within) some)

@@ -77,8 +77,8 @@ go_on_with steps step on earlier i d lt =
     ]
 
 -- the sequence of a label of the level that begins at this number
-pub level_step : (old now : List (List ℕ)) (more : List (List ℕ)) (start : ℕ) (label : Label) → now ≡ old ++ more → label.parent < length (drop start old)
+pub level_step : {X : Type 0} (old now : List (List ℕ)) (more : List (List ℕ)) (start : ℕ) (label : Label X) → now ≡ old ++ more → label.parent < length (drop start old)
     → get_or now (start + label.parent) [] ++ label.last ∷ [] ≡ stops_of (drop start old) label
-level_step old now more start label is within =
+level_step {X} old now more start label is within =
     let inside : start + label.parent < length old = omega (arith, within, length-drop start old) in
     ap (λ (xs : List ℕ). xs ++ label.last ∷ []) (ap (λ (xs : List (List ℕ)). get_or xs (start + label.parent) []) is ∙ get_or_append_left old more [] (start + label.parent) inside ∙ sym (get_or-drop start old label.parent []))

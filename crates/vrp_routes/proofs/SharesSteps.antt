@@ -14,12 +14,12 @@ pub in_some_share : (workers c : ℕ) → 0 < workers → is_in_first workers wo
 in_some_share workers c some = tests_below (c % workers) workers (omega arith)
 
 -- the parts of more shares
-pub more_parts : (s : SettingOf) (k : ℕ) (before : List (List ℕ)) (shares : ℕ) (xs ys : List (Vec Label Global)) → AreParts s k before shares 0 xs → AreParts s k before shares (length xs) ys → AreParts s k before shares 0 (xs ++ ys)
-more_parts s k before shares xs ys first more i d lt = elim (cases_lt i (length xs)) [
-  | inl below ↦ subst (λ (v : Vec Label Global). IsShare s k (has_rest shares (0 + i)) before v.items) (sym (get_or_append_left xs ys d i below)) (first i d below)
+pub more_parts : {X : Type 0} (s : SettingOf X) (k : ℕ) (before : List (List ℕ)) (shares : ℕ) (xs ys : List (Vec (Label X) Global)) → AreParts s k before shares 0 xs → AreParts s k before shares (length xs) ys → AreParts s k before shares 0 (xs ++ ys)
+more_parts {X} s k before shares xs ys first more i d lt = elim (cases_lt i (length xs)) [
+  | inl below ↦ subst (λ (v : Vec (Label X) Global). IsShare s k (has_rest shares (0 + i)) before v.items) (sym (get_or_append_left xs ys d i below)) (first i d below)
   | inr above ↦
       let place : length xs + (i - length xs) ≡ 0 + i = omega (arith, above) in
-      subst (λ (v : Vec Label Global). IsShare s k (has_rest shares (0 + i)) before v.items) (sym (get_or-append_right xs ys (length xs) i d refl above))
+      subst (λ (v : Vec (Label X) Global). IsShare s k (has_rest shares (0 + i)) before v.items) (sym (get_or-append_right xs ys (length xs) i d refl above))
       (subst (λ n. IsShare s k (has_rest shares n) before (get_or ys (i - length xs) d).items) place (more (i - length xs) d (omega (arith, above, lt, length-append xs ys))))
 ]
 

@@ -3,6 +3,7 @@ use Rattle.std.specs.Prelude.{◌≡◌, ◌⊎◌, ℕ, ◌*◌, ◌/◌, ◌%�
 use Rattle.std.specs.Global.{Global}
 use Rattle.std.specs.HashMap.{get}
 use Rattle.std.specs.List.{All, Contains}
+use Rattle.vrp_model.specs.Problem.{Problem}
 use Rattle.vrp_customers.specs.CustomerSet.{folded_of, set_of}
 use Rattle.vrp_routes.specs.Label.{SettingOf}
 use Rattle.vrp_routes.specs.Level.{IsLevel}
@@ -13,7 +14,7 @@ use Rattle.vrp_routes.specs.declared.closed.ClosedRoute.{ClosedRoute}
 use Rattle.vrp_routes.specs.declared.label.Label.{Label}
 
 -- the labels are those of one length, of a customer at least, and are numbered from a start on
-abbrev pub CanClose : SettingOf → ℕ → List Label → Type 0
+abbrev pub CanClose : {X : Type 0} → SettingOf X → ℕ → List (Label X) → Type 0
 CanClose s start labels = (k : ℕ) × (stops : List (List ℕ)) × IsLevel s k (drop start stops) labels × (1 ≤ k)
 
 -- a route with the stops of its label
@@ -57,9 +58,9 @@ abbrev pub TakesRoute : ClosedLevel → ClosedRoute → ClosedLevel → Type 0
 TakesRoute old route new = IsLeftOut old route new ⊎ (IsReplaced old route new ⊎ IsAdded old route new)
 
 -- the routes with this many stops
-pub record AreClosed (s : SettingOf) (k : ℕ) (stops : List (List ℕ)) (routes : List ClosedRoute) : Type 0 where
-  pub each : All (λ route. IsListed s.relaxation.problem (route_by stops route) × (route.label < length stops)) routes
-  pub every : (xs : List ℕ) → length xs ≡ k → IsUseful s.relaxation.problem s.limit xs → (route : ClosedRoute) × Contains routes route × (slice_index_or stops route.label [] ≡ xs)
+pub record AreClosed (p : Problem) (limit : ℕ) (k : ℕ) (stops : List (List ℕ)) (routes : List ClosedRoute) : Type 0 where
+  pub each : All (λ route. IsListed p (route_by stops route) × (route.label < length stops)) routes
+  pub every : (xs : List ℕ) → length xs ≡ k → IsUseful p limit xs → (route : ClosedRoute) × Contains routes route × (slice_index_or stops route.label [] ≡ xs)
 
 -- which share closes a set
 abbrev pub closing_share : ℕ → ℕ
@@ -69,10 +70,10 @@ abbrev pub is_closed_in : ℕ → ℕ → Bool
 is_closed_in share set = closing_share set == share
 
 -- the routes with this many stops whose sets pass the test
-pub record AreClosedIn (s : SettingOf) (k : ℕ) (mine : ℕ → Bool) (stops : List (List ℕ)) (routes : List ClosedRoute) : Type 0 where
-  pub each : All (λ route. IsListed s.relaxation.problem (route_by stops route) × (route.label < length stops)) routes
-  pub every : (xs : List ℕ) → length xs ≡ k → mine (set_of xs) ≡ true → IsUseful s.relaxation.problem s.limit xs → (route : ClosedRoute) × Contains routes route × (slice_index_or stops route.label [] ≡ xs)
+pub record AreClosedIn (p : Problem) (limit : ℕ) (k : ℕ) (mine : ℕ → Bool) (stops : List (List ℕ)) (routes : List ClosedRoute) : Type 0 where
+  pub each : All (λ route. IsListed p (route_by stops route) × (route.label < length stops)) routes
+  pub every : (xs : List ℕ) → length xs ≡ k → mine (set_of xs) ≡ true → IsUseful p limit xs → (route : ClosedRoute) × Contains routes route × (slice_index_or stops route.label [] ≡ xs)
 
 -- these are the routes of the shares from the first one on
-abbrev pub AreClosedParts : SettingOf → ℕ → List (List ℕ) → List (Vec ClosedRoute Global) → Type 0
-AreClosedParts s k stops parts = (i : ℕ) (d : Vec ClosedRoute Global) → i < length parts → AreClosedIn s k (is_closed_in i) stops (slice_index_or parts i d).items
+abbrev pub AreClosedParts : Problem → ℕ → ℕ → List (List ℕ) → List (Vec ClosedRoute Global) → Type 0
+AreClosedParts p limit k stops parts = (i : ℕ) (d : Vec ClosedRoute Global) → i < length parts → AreClosedIn p limit k (is_closed_in i) stops (slice_index_or parts i d).items

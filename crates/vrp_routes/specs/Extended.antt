@@ -8,11 +8,11 @@ use Rattle.vrp_routes.specs.declared.level.Parts.{Parts}
 use Rattle.vrp_routes.specs.declared.level.Parts.TheVariants.{Found, Stopped}
 
 -- a fact of the labels, where there are some
-abbrev pub IfLabels : Extended → (List Label → Type 0) → Type 0
+abbrev pub IfLabels : {X : Type 0} → Extended X → (List (Label X) → Type 0) → Type 0
 IfLabels (Labels labels) P = P labels.items
 IfLabels (Met limit) P = Unit {0}
 
 -- a fact of the parts, where there are some
-abbrev pub IfParts : Parts → (List (Vec Label Global) → Type 0) → Type 0
+abbrev pub IfParts : {X : Type 0} → Parts X → (List (Vec (Label X) Global) → Type 0) → Type 0
 IfParts (Found parts found) P = P parts.items
 IfParts (Stopped limit) P = Unit {0}

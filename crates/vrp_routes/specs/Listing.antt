@@ -1,6 +1,7 @@
 -- How far the list of useful routes has come, level by level.
 use Rattle.std.specs.Prelude.{◌≡◌, ℕ, ◌+◌, ◌^◌, ◌<◌, ◌≤◌, List, [], drop, length, slice_index_or}
 use Rattle.std.specs.List.{All, Contains}
+use Rattle.vrp_model.specs.Problem.{Problem}
 use Rattle.vrp_routes.specs.ClosedLevel.{route_by}
 use Rattle.vrp_routes.specs.Label.{SettingOf}
 use Rattle.vrp_routes.specs.Level.{IsLevel}
@@ -17,13 +18,13 @@ IfPool (Pool pool) P = P pool
 IfPool (Met limit) P = Unit {0}
 
 -- the routes with fewer stops than this are listed
-pub record AreListed (s : SettingOf) (k : ℕ) (stops : List (List ℕ)) (routes : List ClosedRoute) : Type 0 where
-  pub each : All (λ route. IsListed s.relaxation.problem (route_by stops route) × (route.label < length stops)) routes
-  pub every : (xs : List ℕ) → length xs < k → IsUseful s.relaxation.problem s.limit xs → (route : ClosedRoute) × Contains routes route × (slice_index_or stops route.label [] ≡ xs)
+pub record AreListed (p : Problem) (limit : ℕ) (k : ℕ) (stops : List (List ℕ)) (routes : List ClosedRoute) : Type 0 where
+  pub each : All (λ route. IsListed p (route_by stops route) × (route.label < length stops)) routes
+  pub every : (xs : List ℕ) → length xs < k → IsUseful p limit xs → (route : ClosedRoute) × Contains routes route × (slice_index_or stops route.label [] ≡ xs)
 
 -- the labels with this many stops are the last sequences, and the routes up to them are listed
-pub record IsListing (s : SettingOf) (k : ℕ) (listing : Listing) : Type 0 where
+pub record IsListing {X : Type 0} (s : SettingOf X) (k : ℕ) (listing : Listing X) : Type 0 where
   pub start : listing.start ≤ length listing.sequences
   pub few : length listing.sequences < 2 ^ 32
   pub level : IsLevel s k (drop listing.start listing.sequences) listing.labels.items
-  pub routes : AreListed s (k + 1) listing.sequences listing.routes.items
+  pub routes : AreListed s.problem s.limit (k + 1) listing.sequences listing.routes.items

@@ -1,11 +1,12 @@
 //! The labels of one length as they are found, and the choice of those to keep.
 ghost use Rattle.std.specs.Prelude.{◌≡◌, ◌+◌, ◌^◌, ◌<◌, ◌≤◌, ℕ, List, [], OnOk, IfOk, IsTrue, Some, ◌↔◌, length, slice_index_or};
-ghost use Rattle.vrp_routes.specs.Candidates.{HasExtensions, IsGrown, IsKeyed, IsOffered, kept_at};
-ghost use Rattle.vrp_routes.specs.Label.{IsLabel, SettingOf};
-ghost use Rattle.vrp_routes.specs.Level.{IsLevel, IsShare};
-ghost use Rattle.vrp_routes.specs.Share.{is_in};
+ghost use Rattle.vrp_routes.specs.Candidates.{HasExtensions, IsKeyed, IsOffered, kept_at};
+ghost use Rattle.vrp_routes.specs.Label.{IsLabel};
+ghost use Rattle.vrp_routes.specs.Level.{IsLevel};
+ghost use Rattle.vrp_routes.specs.Setting.{setting_of};
 ghost use Rattle.vrp_routes.specs.Shares.{IsFurther, IsPart};
 
+use crate::completion_test::CompletionTest;
 use crate::label::Label;
 use crate::setting::Setting;
 use crate::share::Share;
@@ -17,9 +18,9 @@ use vrp_model::NoMemory;
 /// Labels of one length whose last customer is in a share, in the order of their stops, symbol by symbol. Among labels with the same
 /// customers and the same last one the cheapest is kept, and among equal ones the earliest.
 #[derive(Drop)]
-pub struct Candidates {
+pub struct Candidates<X> {
     share: Share,
-    labels: Vec<Label>,
+    labels: Vec<Label<X>>,
     // Whether a later label has taken its place, label by label.
     superseded: Vec<bool>,
     // The label that is kept, by set and last customer.
@@ -33,9 +34,9 @@ pub struct KeptLabel {
     pub cost: u64,
 }
 
-impl Candidates {
+impl<X: Copy> Candidates<X> {
     /// No labels yet, for a share.
-    pub fn new(alloc: Global, share: Share) -> Candidates
+    pub fn new(alloc: Global, share: Share) -> Candidates<X>
         ensures share { result.share ≡ share }
         ensures empty { result.labels.items ≡ [] }
         ensures keyed { IsKeyed result }
@@ -56,19 +57,19 @@ impl Candidates {
     }
 
     /// Offers the extensions of these labels, whose numbers start at `from`.
-    pub fn extended(
+    pub fn extended<T: CompletionTest<Resources = X>>(
         mut self,
-        setting: &Setting<'_>,
-        labels: &[Label],
+        setting: &Setting<'_, T>,
+        labels: &[Label<X>],
         from: usize,
         to: usize,
-    ) -> Result<Candidates, NoMemory>
-        requires level { (k : ℕ) × (stops : List (List ℕ)) × IsLevel setting.now k stops labels.now }
+    ) -> Result<Candidates<X>, NoMemory>
+        requires level { (k : ℕ) × (stops : List (List ℕ)) × IsLevel (setting_of T.CompletionTest setting.now.test.now) k stops labels.now }
         requires keyed { IsKeyed self }
         requires from { from ≤ to }
         requires to { to ≤ length labels.now }
         requires few { length labels.now < 2 ^ 32 }
-        ensures { IfOk result (IsFurther setting.now labels.now from to self) }
+        ensures { IfOk result (IsFurther (setting_of T.CompletionTest setting.now.test.now) labels.now from to self) }
     {
         for parent in from..to {
             self.offer_extensions(setting, &labels[parent], parent as u32)?;
@@ -77,18 +78,18 @@ impl Candidates {
     }
 
     // Offers each extension of a label by a customer of the share.
-    fn offer_extensions(
+    fn offer_extensions<T: CompletionTest<Resources = X>>(
         &mut self,
-        setting: &Setting<'_>,
-        label: &Label,
+        setting: &Setting<'_, T>,
+        label: &Label<X>,
         parent: u32,
     ) -> Result<(), NoMemory>
-        requires label { (stops : List ℕ) × IsLabel setting.now stops label.now }
+        requires label { (stops : List ℕ) × IsLabel (setting_of T.CompletionTest setting.now.test.now) stops label.now }
         requires keyed { IsKeyed self.old }
         ensures extensions { OnOk result ((k : ℕ) (stops : List (List ℕ)) → parent < length stops
-            → IsLabel setting.now (slice_index_or stops parent []) label.now
-            → HasExtensions setting.now k stops parent 0 self.old
-            → HasExtensions setting.now k stops (parent + 1) 0 self.new) }
+            → IsLabel (setting_of T.CompletionTest setting.now.test.now) (slice_index_or stops parent []) label.now
+            → HasExtensions (setting_of T.CompletionTest setting.now.test.now) k stops parent 0 self.old
+            → HasExtensions (setting_of T.CompletionTest setting.now.test.now) k stops (parent + 1) 0 self.new) }
         ensures keyed { OnOk result (IsKeyed self.new) }
         ensures share { OnOk result (self.new.share ≡ self.old.share) }
     {
@@ -105,7 +106,7 @@ impl Candidates {
     }
 
     /// The labels that are kept, in their order.
-    pub fn undominated(&self, alloc: Global) -> Result<Vec<Label>, NoMemory>
+    pub fn undominated(&self, alloc: Global) -> Result<Vec<Label<X>>, NoMemory>
         requires keyed { IsKeyed self.now }
         ensures { IfOk result (IsPart self.now) }
     {
@@ -129,7 +130,7 @@ impl Candidates {
     }
 
     // Adds a label, unless one with the same customers and the same last one costs no more.
-    fn offer(&mut self, label: Label) -> Result<(), NoMemory>
+    fn offer(&mut self, label: Label<X>) -> Result<(), NoMemory>
         requires keyed { IsKeyed self.old }
         ensures offered { OnOk result (IsOffered self.old label self.new) }
         ensures keyed { OnOk result (IsKeyed self.new) }

@@ -1,12 +1,15 @@
 //! The routes of one length, the cheapest for each set of customers.
 ghost use Rattle.std.specs.Prelude.{◌≡◌, ◌≢◌, ◌+◌, ◌^◌, ◌<◌, ◌≤◌, ℕ, true, List, [], OnOk, IfOk, IfNone, IfSome, drop, length, vec_len};
+ghost use Rattle.vrp_model.specs.Problem.{Problem};
 ghost use Rattle.vrp_model.specs.Route.{route_cost};
 ghost use Rattle.vrp_customers.specs.CustomerSet.{set_of};
 ghost use Rattle.vrp_routes.specs.ClosedLevel.{AreClosed, AreClosedIn, AreClosedParts, CanClose, HasPlaces, TakesRoute, closing_share, is_closed_in};
-ghost use Rattle.vrp_routes.specs.Label.{IsLabel, SettingOf};
+ghost use Rattle.vrp_routes.specs.Label.{IsLabel};
 ghost use Rattle.vrp_routes.specs.Level.{IsLevel};
+ghost use Rattle.vrp_routes.specs.Setting.{setting_of};
 ghost use Rattle.vrp_routes.specs.Useful.{IsUseful};
 
+use crate::completion_test::CompletionTest;
 use crate::label::Label;
 use crate::setting::Setting;
 use crate::tasks::values_of;
@@ -40,17 +43,17 @@ pub struct ClosedLevel {
 
 /// Closes the labels of one length, whose numbers start at `start`, into routes. Routes with the same customers are closed in the same
 /// share, and each worker closes one share at a time.
-pub fn close_level<R: Threads + Sync, W>(
+pub fn close_level<R: Threads + Sync, W, T: CompletionTest + Sync>(
     crew: &Crew<'_, R, W>,
-    setting: &Setting<'_>,
-    labels: &[Label],
+    setting: &Setting<'_, T>,
+    labels: &[Label<T::Resources>],
     start: u32,
 ) -> Result<Vec<ClosedRoute>, NoMemory>
-    requires level { CanClose setting.now start labels.now }
+    requires level { CanClose (setting_of T.CompletionTest setting.now.test.now) start labels.now }
     requires few { start + length labels.now < 2 ^ 32 }
     ensures { IfOk result (λ routes. (k : ℕ) (stops : List (List ℕ)) → 1 ≤ k
-        → IsLevel setting.now k (drop start stops) labels.now
-        → AreClosed setting.now k stops routes.items) }
+        → IsLevel (setting_of T.CompletionTest setting.now.test.now) k (drop start stops) labels.now
+        → AreClosed (T.problem setting.now.test.now) (T.limit setting.now.test.now) k stops routes.items) }
 {
     let alloc = crew.alloc;
     let parts = values_of(
@@ -59,11 +62,11 @@ pub fn close_level<R: Threads + Sync, W>(
         crew.workers,
         CLOSING_SHARES,
         &|share: usize| -> Result<Vec<ClosedRoute>, NoMemory>
-            requires level { CanClose setting.now start labels.now }
+            requires level { CanClose (setting_of T.CompletionTest setting.now.test.now) start labels.now }
             requires few { start + length labels.now < 2 ^ 32 }
             ensures { IfOk result (λ routes. (k : ℕ) (stops : List (List ℕ)) → 1 ≤ k
-                → IsLevel setting.entry.now k (drop start stops) labels.entry.now
-                → AreClosedIn setting.entry.now k (is_closed_in share) stops routes.items) }
+                → IsLevel (setting_of T.CompletionTest setting.entry.now.test.now) k (drop start stops) labels.entry.now
+                → AreClosedIn (T.problem setting.entry.now.test.now) (T.limit setting.entry.now.test.now) k (is_closed_in share) stops routes.items) }
         { close_share(alloc, setting, labels, start, share) },
     )?;
     joined(alloc, parts)
@@ -72,8 +75,8 @@ pub fn close_level<R: Threads + Sync, W>(
 // The routes of all shares.
 fn joined(alloc: Global, parts: Vec<Vec<ClosedRoute>>) -> Result<Vec<ClosedRoute>, NoMemory>
     requires { vec_len parts ≡ CLOSING_SHARES }
-    ensures { IfOk result (λ routes. (s : SettingOf) (k : ℕ) (stops : List (List ℕ))
-        → AreClosedParts s k stops parts.items → AreClosed s k stops routes.items) }
+    ensures { IfOk result (λ routes. (p : Problem) (limit k : ℕ) (stops : List (List ℕ))
+        → AreClosedParts p limit k stops parts.items → AreClosed p limit k stops routes.items) }
 {
     let mut routes = Vec::new(alloc);
     for part in parts {
@@ -83,18 +86,18 @@ fn joined(alloc: Global, parts: Vec<Vec<ClosedRoute>>) -> Result<Vec<ClosedRoute
 }
 
 // The routes of one share.
-fn close_share(
+fn close_share<T: CompletionTest>(
     alloc: Global,
-    setting: &Setting<'_>,
-    labels: &[Label],
+    setting: &Setting<'_, T>,
+    labels: &[Label<T::Resources>],
     start: u32,
     share: usize,
 ) -> Result<Vec<ClosedRoute>, NoMemory>
-    requires level { CanClose setting.now start labels.now }
+    requires level { CanClose (setting_of T.CompletionTest setting.now.test.now) start labels.now }
     requires few { start + length labels.now < 2 ^ 32 }
     ensures { IfOk result (λ routes. (k : ℕ) (stops : List (List ℕ)) → 1 ≤ k
-        → IsLevel setting.now k (drop start stops) labels.now
-        → AreClosedIn setting.now k (is_closed_in share) stops routes.items) }
+        → IsLevel (setting_of T.CompletionTest setting.now.test.now) k (drop start stops) labels.now
+        → AreClosedIn (T.problem setting.now.test.now) (T.limit setting.now.test.now) k (is_closed_in share) stops routes.items) }
 {
     let mut closed = ClosedLevel {
         routes: Vec::new(alloc),
@@ -120,13 +123,17 @@ fn close_share(
 
 // The cost of the route that a closed label makes. `None` if its set is in another share, or the route is not useful.
 #[inline(always)]
-fn cost_in_share(setting: &Setting<'_>, label: &Label, share: usize) -> Option<u64>
-    requires label { (stops : List ℕ) × IsLabel setting.now stops label.now × (stops ≢ []) }
-    ensures cost { IfSome result (λ cost. (stops : List ℕ) → IsLabel setting.now stops label.now
-        → cost ≡ route_cost setting.now.relaxation.problem stops) }
-    ensures none { IfNone result ((stops : List ℕ) → IsLabel setting.now stops label.now
+fn cost_in_share<T: CompletionTest>(
+    setting: &Setting<'_, T>,
+    label: &Label<T::Resources>,
+    share: usize,
+) -> Option<u64>
+    requires label { (stops : List ℕ) × IsLabel (setting_of T.CompletionTest setting.now.test.now) stops label.now × (stops ≢ []) }
+    ensures cost { IfSome result (λ cost. (stops : List ℕ) → IsLabel (setting_of T.CompletionTest setting.now.test.now) stops label.now
+        → cost ≡ route_cost (T.problem setting.now.test.now) stops) }
+    ensures none { IfNone result ((stops : List ℕ) → IsLabel (setting_of T.CompletionTest setting.now.test.now) stops label.now
         → is_closed_in share (set_of stops) ≡ true
-        → IsUseful setting.now.relaxation.problem setting.now.limit stops → ⊥) }
+        → IsUseful (T.problem setting.now.test.now) (T.limit setting.now.test.now) stops → ⊥) }
 {
     if share_of(label.set) != share {
         return None;

@@ -1,18 +1,20 @@
 //! The list of useful routes, level by level: the enumeration of routes of Baldacci, Christofides and Mingozzi (2008).
 ghost use Rattle.std.specs.Prelude.{◌≡◌, ◌+◌, ◌<◌, ◌≤◌, ◌↔◌, ℕ, IfNone, IfOk, IsTrue};
-ghost use Rattle.vrp_model.specs.Problem.{IsProblem, place_count};
+ghost use Rattle.vrp_model.specs.Problem.{IsProblem, Problem, place_count};
 ghost use Rattle.vrp_model.specs.declared.limits.TheConstants.{NO_COST};
 ghost use Rattle.vrp_customers.specs.declared.customer_set.TheConstants.{PLACES};
-ghost use Rattle.vrp_routes.specs.Label.{SettingOf};
-ghost use Rattle.vrp_routes.specs.Listing.{IfPool, IsListing};
+ghost use Rattle.vrp_routes.specs.Listing.{AreListed, IfPool, IsListing};
 ghost use Rattle.vrp_routes.specs.Pool.{IsPool};
+ghost use Rattle.vrp_routes.specs.Setting.{setting_of};
 
 use crate::closed::{ClosedRoute, close_level};
+use crate::completion_test::CompletionTest;
 use crate::label::Label;
 use crate::level::{Extended, Limit, extend_level};
 use crate::pool::RoutePool;
 use crate::sequences::Sequences;
 use crate::setting::Setting;
+use crate::table_test::TableTest;
 use crate::tally::LabelTally;
 use std::alloc::Global;
 use std::thread::Threads;
@@ -35,13 +37,34 @@ pub fn can_list(instance: &Instance) -> bool
     instance.customers() <= MOST_CUSTOMERS
 }
 
-/// The routes that may be in the canonical plan of the relaxation's instance, if that plan costs no more than the limit. The tables are
-/// those of the relaxed instance, for any near customers. Labels are extended customer by customer. A label is dropped if its cost and
-/// its least completion by the tables exceed the limit, or if another label with the same customers and the same last one costs less, or
-/// as much and is earlier. At most `most_labels` labels are made; the label of no customers, and labels dropped later, count too. Now and
-/// then the watch hears the number of labels made so far, and is asked whether to go on. The contract leaves open that number, which limit
-/// is met and when, and that the pool is the same for every number of workers.
-pub fn list_routes<R: Threads + Sync, W: Watch + Sync>(
+/// The routes that may be in the canonical plan of the test's instance, if that plan costs no more than the test's limit. Labels are
+/// extended customer by customer. A label is dropped if the test tells that no useful route begins with its customers, or if another
+/// label with the same customers and the same last one costs less, or as much and is earlier. At most `most_labels` labels are made; the
+/// label of no customers, and labels dropped later, count too. Now and then the watch hears the number of labels made so far, and is
+/// asked whether to go on. The contract leaves open that number, which limit is met and when, and that the pool is the same for every
+/// number of workers.
+pub fn list_routes<R: Threads + Sync, W: Watch + Sync, T: CompletionTest + Sync>(
+    crew: &Crew<'_, R, W>,
+    test: &T,
+    most_labels: u32,
+) -> Result<Listed, NoMemory>
+    requires few { place_count (T.problem test.now) ≤ PLACES }
+    ensures { IfOk result (λ listed. IfPool listed (IsPool (T.problem test.now) (T.limit test.now))) }
+{
+    let setting = Setting::new(test);
+    let mut listing = Listing::new(crew.alloc, &setting)?;
+    for _level in 1..setting.places() {
+        if let Some(limit) = listing.step(crew, &setting, most_labels)? {
+            return Ok(Listed::Met(limit));
+        }
+    }
+    Ok(Listed::Pool(listing.into_pool()))
+}
+
+/// The routes that may be in the canonical plan of the relaxation's instance, if that plan costs no more than the limit, by the test by
+/// tables (`TableTest`): a label is dropped if its cost and its least completion by the tables exceed the limit. The tables are those of
+/// the relaxed instance, for any near customers. The rest is as in `list_routes`, and the contract leaves open the same.
+pub fn list_routes_by_tables<R: Threads + Sync, W: Watch + Sync>(
     crew: &Crew<'_, R, W>,
     relaxation: &Relaxation<'_>,
     tables: &NgTables<'_>,
@@ -53,35 +76,33 @@ pub fn list_routes<R: Threads + Sync, W: Watch + Sync>(
     requires limit { limit ≤ NO_COST }
     ensures { IfOk result (λ listed. IfPool listed (IsPool relaxation.now.problem limit)) }
 {
-    let Some(setting) = Setting::new(relaxation, tables, limit) else {
+    let Some(test) = TableTest::new(relaxation, tables, limit) else {
         return Ok(Listed::Pool(RoutePool::empty(crew.alloc)));
     };
-    let mut listing = Listing::new(crew.alloc)?;
-    for _level in 1..setting.places() {
-        if let Some(limit) = listing.step(crew, &setting, most_labels)? {
-            return Ok(Listed::Met(limit));
-        }
-    }
-    Ok(Listed::Pool(listing.into_pool()))
+    list_routes(crew, &test, most_labels)
 }
 
 // The state of the list: the labels of one length, the sequences of all labels so far, and the routes up to that length.
 #[derive(Drop)]
-pub struct Listing {
+pub struct Listing<X> {
     sequences: Sequences,
-    labels: Vec<Label>,
+    labels: Vec<Label<X>>,
     // The number of the first label's sequence.
     start: u32,
     routes: Vec<ClosedRoute>,
 }
 
-impl Listing {
+impl<X: Copy + Send + Sync> Listing<X> {
     // The label of no customers.
-    fn new(alloc: Global) -> Result<Listing, NoMemory>
-        ensures { IfOk result (λ listing. (s : SettingOf) → IsListing s 0 listing) }
+    fn new<T: CompletionTest<Resources = X>>(
+        alloc: Global,
+        setting: &Setting<'_, T>,
+    ) -> Result<Listing<X>, NoMemory>
+        ensures { IfOk result (λ listing.
+            IsListing (setting_of T.CompletionTest setting.now.test.now) 0 listing) }
     {
         let mut labels = Vec::new(alloc);
-        labels.push(Label::root())?;
+        labels.push(setting.root())?;
         Ok(Listing {
             sequences: Sequences::new(alloc),
             labels,
@@ -91,15 +112,15 @@ impl Listing {
     }
 
     // Advances to the labels that are one customer longer.
-    fn step<R: Threads + Sync, W: Watch + Sync>(
+    fn step<R: Threads + Sync, W: Watch + Sync, T: CompletionTest<Resources = X> + Sync>(
         &mut self,
         crew: &Crew<'_, R, W>,
-        setting: &Setting<'_>,
+        setting: &Setting<'_, T>,
         most_labels: u32,
     ) -> Result<Option<Limit>, NoMemory>
-        requires listing { (k : ℕ) × IsListing setting.now k self.old }
+        requires listing { (k : ℕ) × IsListing (setting_of T.CompletionTest setting.now.test.now) k self.old }
         ensures { IfOk result (λ met. IfNone met ((k : ℕ)
-            → IsListing setting.now k self.old → IsListing setting.now (k + 1) self.new)) }
+            → IsListing (setting_of T.CompletionTest setting.now.test.now) k self.old → IsListing (setting_of T.CompletionTest setting.now.test.now) (k + 1) self.new)) }
     {
         let start = self.sequences.len() as u32;
         let tally = LabelTally {
@@ -121,10 +142,9 @@ impl Listing {
 
     // The routes that are listed.
     fn into_pool(self) -> RoutePool
-        requires { (s : SettingOf) × (k : ℕ) × IsListing s k self }
-        ensures { (s : SettingOf) (k : ℕ) → IsListing s k self
-            → IsProblem s.relaxation.problem → place_count s.relaxation.problem ≤ k + 1
-            → IsPool s.relaxation.problem s.limit result }
+        requires { (p : Problem) × (limit : ℕ) × (k : ℕ) × AreListed p limit k self.sequences self.routes.items }
+        ensures { (p : Problem) (limit k : ℕ) → AreListed p limit k self.sequences self.routes.items
+            → IsProblem p → place_count p ≤ k → IsPool p limit result }
     {
         let Listing {
             sequences,

@@ -2,12 +2,8 @@
 ghost use Rattle.std.specs.Prelude.{◌≡◌, ◌⊎◌, ◌+◌, ◌*◌, ◌^◌, ◌<◌, ◌≤◌, ℕ, List, Vec, OnOk, IfOk, IsTrue, false, length, slice_index_or, vec_len};
 ghost use Rattle.std.specs.Global.{Global};
 ghost use Rattle.std.specs.List.{AllPairs};
-ghost use Rattle.vrp_routes.specs.Candidates.{no_label};
-ghost use Rattle.vrp_routes.specs.Label.{SettingOf};
-ghost use Rattle.vrp_routes.specs.Level.{ComesFirst, IsShare};
+ghost use Rattle.vrp_routes.specs.Level.{ComesFirst};
 ghost use Rattle.vrp_routes.specs.Merge.{AreMerged, AreRanges, CanMerge, IsCut, IsMerged, labels_at};
-ghost use Rattle.vrp_routes.specs.Share.{is_in_first};
-ghost use Rattle.vrp_routes.specs.Shares.{AreParts};
 ghost use Rattle.vrp_routes.specs.declared.label.Label.{Label};
 
 use crate::label::Label;
@@ -21,19 +17,18 @@ const PARENTS_AT_ONCE: usize = 16_384;
 
 /// The labels of all parts, by rising parent, and for one parent by rising last customer. Each worker merges the labels of one range of
 /// parents at a time.
-pub fn all_merged<R: Threads + Sync>(
+pub fn all_merged<R: Threads + Sync, X: Copy + Send + Sync>(
     rt: &R,
     alloc: Global,
-    parts: &[Vec<Label>],
+    parts: &[Vec<Label<X>>],
     parents: usize,
     workers: u16,
-) -> Result<Vec<Label>, NoMemory>
+) -> Result<Vec<Label<X>>, NoMemory>
     requires workers { 0 < workers }
     requires can { CanMerge parts.now }
     requires few { parents < 2 ^ 32 }
-    ensures { IfOk result (λ labels. (s : SettingOf) (k : ℕ) (before : List (List ℕ)) (shares : ℕ)
-        → AreParts s k before shares 0 parts.now → length before ≤ parents
-        → IsShare s k (is_in_first shares (length parts.now)) before labels.items) }
+    ensures { IfOk result (λ labels. (to : ℕ) × (parents ≤ to)
+        × AreMerged parts.now (length parts.now) 0 to labels.items) }
 {
     let mut merged = Vec::with_capacity(alloc, label_count(parts))?;
     let mut from = 0;
@@ -46,20 +41,20 @@ pub fn all_merged<R: Threads + Sync>(
 }
 
 // The number of labels.
-fn label_count(parts: &[Vec<Label>]) -> usize {
+fn label_count<X: Copy>(parts: &[Vec<Label<X>>]) -> usize {
     parts
         .iter()
         .fold(0usize, |sum, part| sum.saturating_add(part.len()))
 }
 
 // The labels of some ranges of parents, one range for each worker; the first range begins with this parent.
-fn ranges_from<R: Threads + Sync>(
+fn ranges_from<R: Threads + Sync, X: Copy + Send + Sync>(
     rt: &R,
     alloc: Global,
-    parts: &[Vec<Label>],
+    parts: &[Vec<Label<X>>],
     from: usize,
     workers: u16,
-) -> Result<Vec<Vec<Label>>, NoMemory>
+) -> Result<Vec<Vec<Label<X>>>, NoMemory>
     requires workers { 0 < workers }
     requires can { CanMerge parts.now }
     requires few { from < 2 ^ 32 }
@@ -71,7 +66,7 @@ fn ranges_from<R: Threads + Sync>(
         alloc,
         workers,
         usize::from(workers),
-        &|range: usize| -> Result<Vec<Label>, NoMemory>
+        &|range: usize| -> Result<Vec<Label<X>>, NoMemory>
             requires can { CanMerge parts.now }
             requires few { from + range * PARENTS_AT_ONCE + PARENTS_AT_ONCE < 2 ^ 64 }
             ensures { IfOk result (λ merged. AreMerged parts.entry.now (length parts.entry.now)
@@ -84,8 +79,8 @@ fn ranges_from<R: Threads + Sync>(
 }
 
 // Appends the labels of some ranges.
-fn append_ranges(merged: &mut Vec<Label>, ranges: &[Vec<Label>]) -> Result<(), NoMemory>
-    ensures { OnOk result ((parts : List (Vec Label Global)) (from : ℕ)
+fn append_ranges<X: Copy>(merged: &mut Vec<Label<X>>, ranges: &[Vec<Label<X>>]) -> Result<(), NoMemory>
+    ensures { OnOk result ((parts : List (Vec (Label X) Global)) (from : ℕ)
         → AreMerged parts (length parts) 0 from merged.old.items → AreRanges parts from PARENTS_AT_ONCE ranges.now
         → AreMerged parts (length parts) 0 (from + length ranges.now * PARENTS_AT_ONCE) merged.new.items) }
 {
@@ -96,12 +91,12 @@ fn append_ranges(merged: &mut Vec<Label>, ranges: &[Vec<Label>]) -> Result<(), N
 }
 
 // The labels of all parts whose parents are in a range.
-fn merged_between(
+fn merged_between<X: Copy>(
     alloc: Global,
-    parts: &[Vec<Label>],
+    parts: &[Vec<Label<X>>],
     from: usize,
     to: usize,
-) -> Result<Vec<Label>, NoMemory>
+) -> Result<Vec<Label<X>>, NoMemory>
     requires can { CanMerge parts.now }
     requires some { from ≤ to }
     ensures { IfOk result (λ merged. AreMerged parts.now (length parts.now) from to merged.items) }
@@ -115,7 +110,7 @@ fn merged_between(
 }
 
 // The labels whose parents are in a range.
-fn labels_between(labels: &[Label], from: usize, to: usize) -> &[Label]
+fn labels_between<X: Copy>(labels: &[Label<X>], from: usize, to: usize) -> &[Label<X>]
     requires rising { AllPairs ComesFirst labels.now }
     requires some { from ≤ to }
     ensures { IsCut from to labels.now result.now }
@@ -126,17 +121,17 @@ fn labels_between(labels: &[Label], from: usize, to: usize) -> &[Label]
 }
 
 // The first position of a label whose parent's number is at least this.
-fn place_from(labels: &[Label], parent: usize) -> usize
+fn place_from<X: Copy>(labels: &[Label<X>], parent: usize) -> usize
     requires rising { AllPairs ComesFirst labels.now }
     ensures within { result ≤ length labels.now }
-    ensures below { (i : ℕ) (d : Label) → i < result → (slice_index_or labels.now i d).parent < parent }
-    ensures above { (i : ℕ) (d : Label) → result ≤ i → i < length labels.now → parent ≤ (slice_index_or labels.now i d).parent }
+    ensures below { (i : ℕ) (d : Label X) → i < result → (slice_index_or labels.now i d).parent < parent }
+    ensures above { (i : ℕ) (d : Label X) → result ≤ i → i < length labels.now → parent ≤ (slice_index_or labels.now i d).parent }
 {
     labels.partition_point(|label| (label.parent as usize) < parent)
 }
 
 // The labels of both lists.
-fn merged(alloc: Global, left: &[Label], right: &[Label]) -> Result<Vec<Label>, NoMemory>
+fn merged<X: Copy>(alloc: Global, left: &[Label<X>], right: &[Label<X>]) -> Result<Vec<Label<X>>, NoMemory>
     ensures { IfOk result (λ merged. IsMerged left.now right.now merged.items) }
 {
     let mut merged = Vec::with_capacity(alloc, left.len() + right.len())?;
@@ -154,14 +149,14 @@ fn merged(alloc: Global, left: &[Label], right: &[Label]) -> Result<Vec<Label>, 
 }
 
 // Whether the next label is one of the left list.
-fn takes_left(left: &[Label], i: usize, right: &[Label], j: usize) -> bool
+fn takes_left<X: Copy>(left: &[Label<X>], i: usize, right: &[Label<X>], j: usize) -> bool
     requires some { i + j < length left.now + length right.now }
     requires left { i ≤ length left.now }
     requires right { j ≤ length right.now }
     ensures yes { IsTrue result → (i < length left.now)
-        × (j < length right.now → ComesFirst (slice_index_or left.now i no_label) (slice_index_or right.now j no_label)) }
+        × (j < length right.now → (d e : Label X) → ComesFirst (slice_index_or left.now i d) (slice_index_or right.now j e)) }
     ensures no { (result ≡ false) → (j < length right.now)
-        × (i < length left.now → ComesFirst (slice_index_or left.now i no_label) (slice_index_or right.now j no_label) → ⊥) }
+        × (i < length left.now → (d e : Label X) → ComesFirst (slice_index_or left.now i d) (slice_index_or right.now j e) → ⊥) }
 {
     if j == right.len() {
         return true;

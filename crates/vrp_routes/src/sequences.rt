@@ -52,7 +52,7 @@ impl Sequences {
     }
 
     /// Adds the sequences of labels, in their order. The numbers of their parents start at `start`.
-    pub fn push_level(&mut self, start: u32, labels: &[Label]) -> Result<(), NoMemory>
+    pub fn push_level<X: Copy>(&mut self, start: u32, labels: &[Label<X>]) -> Result<(), NoMemory>
         requires parents { All (λ label. label.parent < length (drop start self.old)) labels.now }
         requires few { length self.old < 2 ^ 32 }
         ensures { OnOk result (self.new ≡ self.old ++ sequences (drop start self.old) labels.now) }

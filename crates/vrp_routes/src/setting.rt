@@ -1,99 +1,75 @@
 //! The setting that all labels share.
-ghost use Rattle.std.specs.Prelude.{◌≡◌, ◌≢◌, ◌≤◌, ◌<◌, List, [], ◌∷◌, ◌++◌, MatchOption, IfNone, IfSome, ℕ};
+ghost use Rattle.std.specs.Prelude.{◌≡◌, ◌≢◌, ◌≤◌, ◌<◌, List, [], ◌∷◌, ◌++◌, IfNone, IfSome, ℕ};
 ghost use Rattle.vrp_model.specs.Problem.{IsProblem, place_count};
 ghost use Rattle.vrp_model.specs.Route.{route_cost};
-ghost use Rattle.vrp_model.specs.declared.limits.TheConstants.{NO_COST};
 ghost use Rattle.vrp_customers.specs.declared.customer_set.TheConstants.{PLACES};
-ghost use Rattle.vrp_bound_prices.specs.Relaxation.{RelaxationOf};
-ghost use Rattle.vrp_routes.specs.Label.{IsLabel, SettingOf};
+ghost use Rattle.vrp_routes.specs.Label.{IsLabel};
+ghost use Rattle.vrp_routes.specs.Setting.{setting_of};
 ghost use Rattle.vrp_routes.specs.Useful.{BeginsUseful, IsUseful};
 
+use crate::completion_test::CompletionTest;
 use crate::label::Label;
-use std::marker::Model;
-use vrp_bound::NgTables;
-use vrp_bound_prices::Relaxation;
+use vrp_customers::CustomerSet;
 
-/// A relaxation of an instance, tables of ng-walks in it, and the highest cost of a canonical plan.
+/// The completion test of all labels, for an instance whose customers fit a set.
 #[derive(Drop)]
-pub struct Setting<'a> {
-    relaxation: &'a Relaxation<'a>,
-    tables: &'a NgTables<'a>,
-    limit: u64,
-    // The highest cost of a feasible word in the relaxation.
-    relaxed_limit: u64,
-    // The demand of all customers in the relaxation.
-    whole_demand: u64,
+pub struct Setting<'a, T: CompletionTest> {
+    pub test: &'a T,
+    ghost few: { place_count (T.problem test.now) ≤ PLACES },
+    ghost instance: { IsProblem (T.problem test.now) },
 }
 
-impl<'a> Model for Setting<'a> {
-    ghost use Rattle.vrp_routes.specs.Label.{IsSetting, SettingOf};
-
-    ghost Value = { SettingOf };
-
-    ghost view = { λ a. record { relaxation = a.relaxation.now; limit = a.limit } };
-
-    ghost invariant = { λ a.
-        IsSetting (record { relaxation = a.relaxation.now; limit = a.limit })
-        a.tables.now.problem a.relaxed_limit a.whole_demand };
-}
-
-impl<'a> Setting<'a> {
-    /// The setting of a relaxation. `None` if no plan costs so little.
-    pub fn new(
-        relaxation: &'a Relaxation<'a>,
-        tables: &'a NgTables<'a>,
-        limit: u64,
-    ) -> Option<Setting<'a>>
-        requires tables { tables.now.problem ≡ relaxation.now.relaxed }
-        requires few { place_count relaxation.now.problem ≤ PLACES }
-        requires limit { limit ≤ NO_COST }
-        ensures { MatchOption result
-            ((stops : List ℕ) → BeginsUseful relaxation.now.problem limit stops → ⊥)
-            (λ setting. setting ≡ record { relaxation = relaxation.now; limit = limit }) }
+impl<'a, T: CompletionTest> Setting<'a, T> {
+    /// The setting of a test.
+    pub fn new(test: &'a T) -> Setting<'a, T>
+        requires few { place_count (T.problem test.now) ≤ PLACES }
+        ensures { result.test.now ≡ test.now }
     {
         // The facts known of every instance come with the number of customers.
-        let _customers = relaxation.problem().customers();
-        let _relaxed = relaxation.relaxed().customers();
-        let Some(relaxed_limit) = relaxation.limit(limit) else {
-            return None;
-        };
-        Some(Setting {
-            relaxation,
-            tables,
-            limit,
-            relaxed_limit,
-            whole_demand: relaxation.relaxed().whole_demand(),
-        })
+        let _customers = test.instance().customers();
+        Setting { test }
     }
 
     /// The number of places, the depot included.
     pub fn places(&self) -> u16
-        ensures value { result ≡ place_count self.now.relaxation.problem }
+        ensures value { result ≡ place_count (T.problem self.now.test.now) }
         // What is known of every instance.
-        ensures problem { IsProblem self.now.relaxation.problem }
+        ensures problem { IsProblem (T.problem self.now.test.now) }
     {
-        self.relaxation.problem().customers() + 1
+        self.test.instance().customers() + 1
+    }
+
+    /// The label of no customers.
+    pub fn root(&self) -> Label<T::Resources>
+        ensures { IsLabel (setting_of T.CompletionTest self.now.test.now) [] result }
+    {
+        Label {
+            set: CustomerSet::empty(),
+            cost: 0,
+            resources: self.test.start(),
+            load: 0,
+            parent: 0,
+            first: 0,
+            last: 0,
+        }
     }
 
     /// The cost of the route that a closed label makes. `None` if it is not a useful route.
-    pub fn close(&self, label: &Label) -> Option<u64>
-        requires label { (stops : List ℕ) × IsLabel self.now stops label.now × (stops ≢ []) }
-        ensures cost { IfSome result (λ cost. (stops : List ℕ) → IsLabel self.now stops label.now
-            → cost ≡ route_cost self.now.relaxation.problem stops) }
-        ensures none { IfNone result ((stops : List ℕ) → IsLabel self.now stops label.now
-            → IsUseful self.now.relaxation.problem self.now.limit stops → ⊥) }
+    pub fn close(&self, label: &Label<T::Resources>) -> Option<u64>
+        requires label { (stops : List ℕ)
+            × IsLabel (setting_of T.CompletionTest self.now.test.now) stops label.now × (stops ≢ []) }
+        ensures cost { IfSome result (λ cost. (stops : List ℕ)
+            → IsLabel (setting_of T.CompletionTest self.now.test.now) stops label.now
+            → cost ≡ route_cost (T.problem self.now.test.now) stops) }
+        ensures none { IfNone result ((stops : List ℕ)
+            → IsLabel (setting_of T.CompletionTest self.now.test.now) stops label.now
+            → IsUseful (T.problem self.now.test.now) (T.limit self.now.test.now) stops → ⊥) }
     {
-        let problem = self.relaxation.problem();
-        let relaxed = self.relaxation.relaxed();
+        let problem = self.test.instance();
         if label.first > label.last && problem.symmetric() {
             return None;
         }
-        let relaxed_cost = label.relaxed_cost + relaxed.weight(label.last, 0);
-        let rest = self.whole_demand - label.relaxed_load as u64;
-        let Some(least) = self.tables.bound(0, 0, rest) else {
-            return None;
-        };
-        if relaxed_cost + least > self.relaxed_limit {
+        if !self.test.may_close(&label.resources, label.set, label.load, label.last) {
             return None;
         }
         let cost = label.cost + problem.weight(label.last, 0);
@@ -102,19 +78,26 @@ impl<'a> Setting<'a> {
 
     /// The label extended by one customer. `None` if no useful route begins so.
     #[inline(always)]
-    pub fn extended(&self, label: &Label, stop: u16, parent: u32) -> Option<Label>
-        requires label { (stops : List ℕ) × IsLabel self.now stops label.now }
+    pub fn extended(
+        &self,
+        label: &Label<T::Resources>,
+        stop: u16,
+        parent: u32,
+    ) -> Option<Label<T::Resources>>
+        requires label { (stops : List ℕ)
+            × IsLabel (setting_of T.CompletionTest self.now.test.now) stops label.now }
         requires some { 0 < stop }
-        requires place { stop < place_count self.now.relaxation.problem }
-        ensures label { IfSome result (λ child. (stops : List ℕ) → IsLabel self.now stops label.now
-            → IsLabel self.now (stops ++ stop ∷ []) child) }
+        requires place { stop < place_count (T.problem self.now.test.now) }
+        ensures label { IfSome result (λ child. (stops : List ℕ)
+            → IsLabel (setting_of T.CompletionTest self.now.test.now) stops label.now
+            → IsLabel (setting_of T.CompletionTest self.now.test.now) (stops ++ stop ∷ []) child) }
         ensures parent { IfSome result (λ child. child.parent ≡ parent) }
         ensures last { IfSome result (λ child. child.last ≡ stop) }
-        ensures none { IfNone result ((stops : List ℕ) → IsLabel self.now stops label.now
-            → BeginsUseful self.now.relaxation.problem self.now.limit (stops ++ stop ∷ []) → ⊥) }
+        ensures none { IfNone result ((stops : List ℕ)
+            → IsLabel (setting_of T.CompletionTest self.now.test.now) stops label.now
+            → BeginsUseful (T.problem self.now.test.now) (T.limit self.now.test.now) (stops ++ stop ∷ []) → ⊥) }
     {
-        let problem = self.relaxation.problem();
-        let relaxed = self.relaxation.relaxed();
+        let problem = self.test.instance();
         if label.set.contains(stop) {
             return None;
         }
@@ -122,25 +105,17 @@ impl<'a> Setting<'a> {
         if load > problem.capacity() {
             return None;
         }
-        let relaxed_load = label.relaxed_load as u64 + relaxed.demand(stop);
-        if relaxed_load > relaxed.capacity() {
-            return None;
-        }
-        let relaxed_cost = label.relaxed_cost + relaxed.weight(label.last, stop);
-        let rest = self.whole_demand - relaxed_load;
-        let Some(least) = self.tables.bound(stop, relaxed_load, rest) else {
+        let Some(resources) =
+            self.test.extended(&label.resources, label.set, label.load, label.last, stop)
+        else {
             return None;
         };
-        if relaxed_cost + least > self.relaxed_limit {
-            return None;
-        }
         let cost = label.cost + problem.weight(label.last, stop);
         Some(Label {
             set: label.set.with(stop),
             cost,
-            relaxed_cost,
+            resources,
             load: load as u32,
-            relaxed_load: relaxed_load as u32,
             parent,
             first: label.first_with(stop),
             last: stop,

@@ -23,7 +23,7 @@ use vrp_customers::{Fleet, route_sets};
 use vrp_model::{
     Instance, MOST_NEAR, NgSets, NoMemory, Plan, canonical_is_cheapest, plans_cost_less,
 };
-use vrp_routes::{Listed, RoutePool, can_list, list_routes};
+use vrp_routes::{Listed, RoutePool, can_list, list_routes_by_tables};
 use vrp_simplex::ProgramGuide;
 
 /// The canonical plan, by useful routes. It isn't found without a start plan or ng-sets, or if a limit is met first: there are too many
@@ -105,7 +105,7 @@ fn listed<R: Threads + Sync, G: Gate + Sync>(
     let most_labels = u32::try_from(share.work_for(shared.budget_in_all())).unwrap_or(u32::MAX);
     let watch = StageWatch::of_stage(shared, Stage::Routes);
     let crew = crew_of(shared, workers, &watch);
-    list_routes(&crew, relaxation, &tables, limit, most_labels)
+    list_routes_by_tables(&crew, relaxation, &tables, limit, most_labels)
 }
 
 // The first of the cheapest choices of a pool, which was listed for the cost of the known plan, by all workers, with the prices of linear

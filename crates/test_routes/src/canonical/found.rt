@@ -9,7 +9,7 @@ use vrp_bound_prices::Relaxation;
 use vrp_canonical::{RoutesOutcome, canonical_plan};
 use vrp_model::{Crew, Instance, NO_COST, NgSets, NoMemory, Plan, Unhurried};
 use vrp_partition::Guide;
-use vrp_routes::{Listed, can_list, list_routes};
+use vrp_routes::{Listed, can_list, list_routes_by_tables};
 
 /// The effort that a search may spend.
 #[derive(Clone, Copy)]
@@ -40,7 +40,7 @@ pub(crate) fn found_plan<R: Abort + Threads + Sync, P: Guide + Send>(
         workers: 2,
         watch: &Unhurried,
     };
-    let listed = list_routes(&unhurried, &relaxation, &tables, limit, u32::MAX)?;
+    let listed = list_routes_by_tables(&unhurried, &relaxation, &tables, limit, u32::MAX)?;
     let mut left = effort.budget;
     let crew = Crew {
         rt,

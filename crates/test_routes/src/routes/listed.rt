@@ -11,7 +11,7 @@ use std::thread::Threads;
 use vrp_bound::NgTables;
 use vrp_bound_prices::Relaxation;
 use vrp_model::{Crew, Instance, MOST_NEAR, NO_COST, News, NgSets, NoMemory, Watch};
-use vrp_routes::{Limit, Listed, RoutePool, can_list, list_routes};
+use vrp_routes::{Limit, Listed, RoutePool, can_list, list_routes_by_tables};
 
 /// How an instance gets its prices, and the ng-sets of walks.
 #[derive(Clone, Copy)]
@@ -114,7 +114,7 @@ pub(crate) fn by_ng_sets<R: Threads + Sync>(
         workers,
         watch: &UpTo::new(limits.enough),
     };
-    list_routes(&crew, relaxation, &tables, limits.cost, limits.most_labels)
+    list_routes_by_tables(&crew, relaxation, &tables, limits.cost, limits.most_labels)
 }
 
 /// The pool, if no limit was met.

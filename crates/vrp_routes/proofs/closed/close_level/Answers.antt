@@ -1,9 +1,10 @@
 use Rattle.std.proofs.Common.{arith}
+use Rattle.vrp_routes.specs.Setting.{setting_of}
 use Rattle.vrp_routes.proofs.SharesSteps.{if_ok}
 use Rattle.vrp_routes.proofs.closed.close_level.Goals as goal
 
 pub returns : goal.returns
 returns g c =
     let known = c.in_ok-parts.ensures in
-    if_ok c.joined.result _ _ (λ routes closed k stops some is. closed c.args.setting.now k stops
+    if_ok c.joined.result _ _ (λ routes closed k stops some is. closed (setting_of g.T.CompletionTest c.args.setting.now.test.now).problem (setting_of g.T.CompletionTest c.args.setting.now.test.now).limit k stops
     (λ i d lt. known.each i d (omega (arith, lt, known.count, c.in_ok-parts.parts.ok)) k stops some is)) c.joined.ensures

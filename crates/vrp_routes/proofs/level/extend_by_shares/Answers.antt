@@ -1,7 +1,9 @@
 use Rattle.std.proofs.Common.{◌∙◌, ◌<◌, ◌+◌, length, get_or, ap, sym, subst, arith}
 use Rattle.vrp_routes.specs.Candidates.{IsKeyed}
 use Rattle.vrp_routes.specs.declared.share.Share.{Share}
+use Rattle.vrp_routes.specs.Setting.{setting_of}
 use Rattle.vrp_routes.proofs.Extensions.{all_grown, no_extensions}
+use Rattle.vrp_routes.proofs.Undominated.{parts_of_shares}
 use Rattle.vrp_routes.proofs.level.extend_by_shares.Goals as goal
 
 pub loop-from-init : goal.loop-from-init
@@ -12,7 +14,7 @@ loop-from-init g c =
       within = omega arith;
       count = made.count;
       shares = made.shares;
-      finding = λ k stops is i d lt. no_extensions c.args.setting.now k stops c.args.labels.now (get_or found i d) is (made.empty i d (omega (arith, lt, made.count)));
+      finding = λ k stops is i d lt. no_extensions (setting_of g.T.CompletionTest c.args.setting.now.test.now) k stops c.args.labels.now (get_or found i d) is (made.empty i d (omega (arith, lt, made.count)));
     }
 
 pub extended_by_all-requires-clause-keyed : goal.extended_by_all-requires-clause-keyed
@@ -41,8 +43,10 @@ returns-clause-count g c = omega (arith, c.in_ok-parts.ensures.count, c.loop-fro
 
 pub returns-clause-parts : goal.returns-clause-parts
 returns-clause-parts g c = λ k stops is.
-    let s = c.args.setting.now in
+    let s = (setting_of g.T.CompletionTest c.args.setting.now.test.now) in
     let found = c.loop-from.found.items in
     let known = c.loop-from.invariant in
-    c.in_ok-parts.ensures.parts c.args.range.shares c.args.range.first s (k + 1) stops known.shares (λ i d lt.
-    all_grown s k stops c.args.labels.now (get_or found i d) c.loop-from.from is (omega (arith, is.are.long, c.loop-from-test.false)) (known.finding k stops is i d (omega (arith, lt, c.loop-from.found.ok))))
+    parts_of_shares s (k + 1) stops c.args.range.shares c.args.range.first found c.in_ok-parts.parts.items known.shares
+    (omega (arith, c.in_ok-parts.ensures.count, c.loop-from.found.ok))
+    (λ i d lt. all_grown s k stops c.args.labels.now (get_or found i d) c.loop-from.from is (omega (arith, is.are.long, c.loop-from-test.false)) (known.finding k stops is i d lt))
+    (λ i d e lt. c.in_ok-parts.ensures.parts i d e (omega (arith, lt, c.loop-from.found.ok)))

@@ -1,7 +1,6 @@
 use Rattle.std.proofs.Common.{◌≡◌, ◌+◌, ◌*◌, length, sym, subst, ap, arith}
 use Rattle.vrp_routes.specs.Merge.{AreMerged, AreRanges}
 use Rattle.vrp_routes.specs.declared.merge.TheConstants.{PARENTS_AT_ONCE}
-use Rattle.vrp_routes.proofs.MergeRounds.{merged_shares}
 use Rattle.vrp_routes.proofs.merge.all_merged.Goals as goal
 
 pub loop-from-preserved : goal.loop-from-preserved
@@ -17,5 +16,4 @@ loop-from-preserved g c =
     }
 
 pub returns : goal.returns
-returns g c = λ s k before shares are below.
-    merged_shares s k before shares c.args.parts.now c.loop-from.from c.loop-from.merged.items are (omega (arith, below, c.loop-from-test.false)) c.loop-from.invariant.merged
+returns g c = (c.loop-from.from, omega (arith, c.loop-from-test.false), c.loop-from.invariant.merged)

@@ -3,4 +3,4 @@ use Rattle.vrp_routes.proofs.merge.merged_between.Given as goal
 
 -- the labels of the parts before this one are merged
 abbrev pub invariant-loop-index : goal.invariant-loop-index
-invariant-loop-index l = AreMerged l.parts l.index l.from l.to l.labels.items
+invariant-loop-index g l = AreMerged l.parts l.index l.from l.to l.labels.items

@@ -2,7 +2,7 @@ use Rattle.std.proofs.Common.{◌≡◌, ◌≢◌, ◌↔◌, ◌∙◌, ℕ, l
 use Rattle.std.specs.Option.{option_map}
 use Rattle.std.specs.HashMap.{get}
 use Rattle.std.proofs.lemmas.List.{length-set, length_push}
-use Rattle.vrp_routes.specs.Candidates.{IsOffered, is_superseded, key_of, kept_for, kept_in, label_at, same_key}
+use Rattle.vrp_routes.specs.Candidates.{IsOffered, cost_at, is_superseded, key_of, kept_for, kept_in, same_key}
 use Rattle.vrp_routes.specs.declared.candidates.Candidates.{Candidates}
 use Rattle.vrp_routes.specs.declared.candidates.KeptLabel.{KeptLabel}
 use Rattle.vrp_routes.proofs.Extensions.{at_end, keyed_offered, no_flag_set, one_flag_set, place_of_kept, some_same}
@@ -10,7 +10,7 @@ use Rattle.vrp_routes.proofs.candidates.Candidates.offer.Goals as goal
 use Rattle.vrp_routes.proofs.candidates.Candidates.offer.Goals.{in-Some+else-kept-label, in_default}
 
 pub index_mut-requires : goal.index_mut-requires
-index_mut-requires c =
+index_mut-requires g c =
     let old = c.args.self.now in
     let key = key_of c.args.label in
     let kept = c.in-Some.kept.now in
@@ -18,7 +18,7 @@ index_mut-requires c =
     omega (arith, within, c.requires.keyed.one_flag_each, old.superseded.ok)
 
 pub returns-then-kept-label-clause-offered : goal.returns-then-kept-label-clause-offered
-returns-then-kept-label-clause-offered c =
+returns-then-kept-label-clause-offered g c =
     let old = c.args.self.now in
     let kept = c.in-Some.kept.now in
     let there : kept_in old (key_of c.args.label) ≡ Some kept = sym c.in-Some.ensures.value in
@@ -30,15 +30,15 @@ returns-then-kept-label-clause-offered c =
     })
 
 pub returns-clause-offered : goal.returns-clause-offered
-returns-clause-offered c =
+returns-clause-offered g c =
     let old = c.args.self.now in
     let label = c.args.label in
     let key = key_of label in
     let middle = c.match-get.self in
-    let new : Candidates = record { share = middle.share; labels = c.push.new.self; superseded = c.push-2.new.self; kept = c.insert.new.self } in
+    let new : Candidates g.row.X.Denot = record { share = middle.share; labels = c.push.new.self; superseded = c.push-2.new.self; kept = c.insert.new.self } in
     let place = length old.labels.items in
     let taken : middle.share ≡ old.share → middle.labels ≡ old.labels → middle.kept ≡ old.kept → length middle.superseded.items ≡ length old.superseded.items
-    → ((at : ℕ) → kept_for old key ≡ Some at → label.cost < (label_at old at).cost)
+    → ((at : ℕ) → kept_for old key ≡ Some at → label.cost < cost_at old at)
     → ((at : ℕ) → at < length old.superseded.items → (is_superseded new at ≡ false) ↔ ((is_superseded old at ≡ false) × (kept_for old key ≢ Some at)))
     → IsOffered old label new = λ share labels map long cheaper flags. inr (record {
       share = share;
@@ -57,19 +57,19 @@ returns-clause-offered c =
       | in-Some+else-kept-label w ↦
           let kept = w.in-Some.kept.now in
           let there : kept_in old key ≡ Some kept = sym w.in-Some.ensures.value in
-          let flags : middle.superseded.items ≡ set old.superseded.items kept.at true = ap (λ (l : Candidates). l.superseded.items) w.self-is in
-          taken (ap (λ (l : Candidates). l.share) w.self-is) (ap (λ (l : Candidates). l.labels) w.self-is) (ap (λ (l : Candidates). l.kept) w.self-is)
+          let flags : middle.superseded.items ≡ set old.superseded.items kept.at true = ap (λ (l : Candidates g.row.X.Denot). l.superseded.items) w.self-is in
+          taken (ap (λ (l : Candidates g.row.X.Denot). l.share) w.self-is) (ap (λ (l : Candidates g.row.X.Denot). l.labels) w.self-is) (ap (λ (l : Candidates g.row.X.Denot). l.kept) w.self-is)
           (ap length flags ∙ length-set old.superseded.items kept.at true)
           (λ at is.
           let same : kept.at ≡ at = some_same kept.at at (sym (place_of_kept old key kept there) ∙ is) in
-          subst (λ n. label.cost < (label_at old n).cost) same (omega (arith, w.if-kept-label.false, c.requires.keyed.costs key kept there)))
+          subst (λ n. label.cost < cost_at old n) same (omega (arith, w.if-kept-label.false, c.requires.keyed.costs key kept there)))
           (λ at lt. one_flag_set old.superseded.items new.superseded.items (kept_for old key) kept.at at (c.in_ok-push-2.ensures.items ∙ ap (λ (xs : List Bool). xs ++ false ∷ []) flags) (place_of_kept old key kept there) lt)
       | in_default w ↦
           let none : kept_for old key ≡ None = sym (ap (option_map (λ (kept : KeptLabel). kept.at)) w.in_default.ensures.value) in
-          taken (ap (λ (l : Candidates). l.share) w.self-is) (ap (λ (l : Candidates). l.labels) w.self-is) (ap (λ (l : Candidates). l.kept) w.self-is) (ap (λ (l : Candidates). length l.superseded.items) w.self-is)
+          taken (ap (λ (l : Candidates g.row.X.Denot). l.share) w.self-is) (ap (λ (l : Candidates g.row.X.Denot). l.labels) w.self-is) (ap (λ (l : Candidates g.row.X.Denot). l.kept) w.self-is) (ap (λ (l : Candidates g.row.X.Denot). length l.superseded.items) w.self-is)
           (λ at is. absurd (let never : None ≡ Some at = sym none ∙ is in cc))
-          (λ at lt. no_flag_set old.superseded.items new.superseded.items (kept_for old key) at (c.in_ok-push-2.ensures.items ∙ ap (λ (l : Candidates). l.superseded.items ++ false ∷ []) w.self-is) none lt)
+          (λ at lt. no_flag_set old.superseded.items new.superseded.items (kept_for old key) at (c.in_ok-push-2.ensures.items ∙ ap (λ (l : Candidates g.row.X.Denot). l.superseded.items ++ false ∷ []) w.self-is) none lt)
     ]
 
 pub returns-clause-keyed : goal.returns-clause-keyed
-returns-clause-keyed c = keyed_offered c.args.self.now _ c.args.label c.requires.keyed (returns-clause-offered c)
+returns-clause-keyed g c = keyed_offered c.args.self.now _ c.args.label c.requires.keyed (returns-clause-offered g c)

@@ -4,23 +4,24 @@ use Rattle.vrp_routes.specs.Label.{IsLabel}
 use Rattle.vrp_routes.specs.Share.{is_in}
 use Rattle.vrp_routes.specs.declared.candidates.Candidates.{Candidates}
 use Rattle.vrp_routes.specs.declared.share.Share.{Share}
+use Rattle.vrp_routes.specs.Setting.{setting_of}
 use Rattle.vrp_routes.proofs.Extensions.{all_extensions, offered_extension, passed, share_stays, up_to_first, up_to_next}
 use Rattle.vrp_routes.proofs.Rests.{next_of_share}
 use Rattle.vrp_routes.proofs.candidates.Candidates.offer_extensions.Goals as goal
 use Rattle.vrp_routes.proofs.candidates.Candidates.offer_extensions.Goals.{in-Some+in_ok-offer, in_default}
 
 pub loop-stop-init : goal.loop-stop-init
-loop-stop-init c = record {
+loop-stop-init g c = record {
   some = c.first-stop.ensures.some;
   keyed = c.requires.keyed;
   share = refl;
   rest = c.first-stop.ensures.rest;
-  extensions = λ k stops lt is has. up_to_first c.args.setting.now k stops c.args.parent c.first-stop.result c.args.self.now c.first-stop.ensures.some c.first-stop.ensures.lowest has;
+  extensions = λ k stops lt is has. up_to_first (setting_of g.T.CompletionTest c.args.setting.now.test.now) k stops c.args.parent c.first-stop.result c.args.self.now c.first-stop.ensures.some c.first-stop.ensures.lowest has;
 }
 
 pub loop-stop-preserved : goal.loop-stop-preserved
-loop-stop-preserved c =
-    let s = c.args.setting.now in
+loop-stop-preserved g c =
+    let s = (setting_of g.T.CompletionTest c.args.setting.now.test.now) in
     let parent = c.args.parent in
     let share = c.args.self.now.share in
     let old = c.loop-stop.self in
@@ -37,7 +38,7 @@ loop-stop-preserved c =
           record {
             some = some;
             keyed = subst IsKeyed (sym w.self-is) w.in_ok-offer.ensures.keyed;
-            share = ap (λ (found : Candidates). found.share) w.self-is ∙ same;
+            share = ap (λ (found : Candidates g.row.X.Denot). found.share) w.self-is ∙ same;
             rest = next;
             extensions = λ k stops lt is has.
                 let own : child.parent ≡ parent = w.in-Some.ensures.parent in
@@ -60,7 +61,7 @@ loop-stop-preserved c =
       | in_default w ↦ record {
         some = some;
         keyed = subst IsKeyed (sym w.self-is) known.keyed;
-        share = ap (λ (found : Candidates). found.share) w.self-is ∙ known.share;
+        share = ap (λ (found : Candidates g.row.X.Denot). found.share) w.self-is ∙ known.share;
         rest = next;
         extensions = λ k stops lt is has.
             subst (HasExtensions s k stops parent to) (sym w.self-is)
@@ -71,5 +72,5 @@ loop-stop-preserved c =
     ]
 
 pub returns-clause-extensions : goal.returns-clause-extensions
-returns-clause-extensions c = λ k stops lt is has.
-    all_extensions c.args.setting.now k stops c.args.parent c.loop-stop.stop c.loop-stop.self (omega (arith, c.places.ensures.value, c.from-places.ensures, c.loop-stop-test.false)) (c.loop-stop.invariant.extensions k stops lt is has)
+returns-clause-extensions g c = λ k stops lt is has.
+    all_extensions (setting_of g.T.CompletionTest c.args.setting.now.test.now) k stops c.args.parent c.loop-stop.stop c.loop-stop.self (omega (arith, c.places.ensures.value, c.from-places.ensures, c.loop-stop-test.false)) (c.loop-stop.invariant.extensions k stops lt is has)

@@ -4,4 +4,4 @@ use Rattle.vrp_routes.proofs.sequences.Sequences.push_level.Given as goal
 
 -- the sequences of the labels so far were added
 abbrev pub invariant-loop-label : goal.invariant-loop-label
-invariant-loop-label l = l.self ≡ l.fn.self ++ sequences (drop l.start l.fn.self) (take l.label-index l.labels)
+invariant-loop-label g l = l.self ≡ l.fn.self ++ sequences (drop l.start l.fn.self) (take l.label-index l.labels)

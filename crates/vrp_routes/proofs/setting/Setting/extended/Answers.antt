@@ -1,151 +1,84 @@
-use Rattle.std.proofs.Common.{◌≡◌, ◌∙◌, ◌↔◌, ℕ, ◌+◌, ◌-◌, ◌<◌, Bool, IsTrue, false, None, Some, ap, sym, subst, arith}
-use Rattle.std.proofs.lemmas.Grind.{common_steps}
-use Rattle.std.proofs.lemmas.Int.{ints}
+use Rattle.std.proofs.Common.{◌≡◌, ◌∙◌, ◌↔◌, ℕ, ◌+◌, ◌<◌, ◌≤◌, Bool, IsTrue, List, false, ap, sym, subst, arith}
 use Rattle.std.specs.Int.{bit_at}
 use Rattle.std.proofs.lemmas.Bool.{false≢true}
 use Rattle.vrp_model.specs.Problem.{Problem, demand_of, place_count, weight_of}
-use Rattle.vrp_customers.specs.declared.customer_set.TheConstants.{PLACES}
-use Rattle.vrp_routes.specs.Label.{IsSetting, SettingOf}
-use Rattle.vrp_routes.proofs.Labels.{costly_child, label_place, label_small, label_within, longer_label, not_too_heavy_relaxed, not_twice}
+use Rattle.vrp_routes.specs.Setting.{setting_of}
+use Rattle.vrp_routes.proofs.Labels.{goes_on, label_place, label_small, longer_label, not_too_heavy, not_twice, told_label}
 use Rattle.vrp_routes.proofs.setting.Setting.extended.Goals as goal
-
--- the instances that were read are those of the setting
-the_relaxed : (s inside : SettingOf) (q : Problem) → inside ≡ s → q ≡ inside.relaxation.relaxed → q ≡ s.relaxation.relaxed
-the_relaxed s inside q view is = is ∙ ap (λ (t : SettingOf). t.relaxation.relaxed) view
-
-the_problem : (s inside : SettingOf) (p : Problem) → inside ≡ s → p ≡ inside.relaxation.problem → p ≡ s.relaxation.problem
-the_problem s inside p view is = is ∙ ap (λ (t : SettingOf). t.relaxation.problem) view
-
-known : (s inside : SettingOf) (tabled : Problem) (most whole : ℕ) → inside ≡ s → IsSetting inside tabled most whole → IsSetting s tabled most whole
-known s inside tabled most whole view is = subst (λ (t : SettingOf). IsSetting t tabled most whole) view is
-
--- the stop has a place in a set
-within : (s : SettingOf) (tabled : Problem) (most whole stop : ℕ) → IsSetting s tabled most whole → stop < place_count s.relaxation.problem → stop < PLACES
-within s tabled most whole stop k place = omega (arith, k.few, place)
 
 -- a stop that the test does not find is not in the set
 fresh : (taken : Bool) (set stop : ℕ) → IsTrue taken ↔ (bit_at set stop ≡ 1) → taken ≡ false → bit_at set stop ≡ 1 → ⊥
 fresh taken set stop tells not is = false≢true (sym not ∙ tells.1 is)
 
 pub contains-requires : goal.contains-requires
-contains-requires c =
-    let k = known c.args.self.now _ c.self.inside.tables.now.problem c.self.inside.relaxed_limit c.self.inside.whole_demand c.self.view_is c.self.invariant in
-    within c.args.self.now c.self.inside.tables.now.problem c.self.inside.relaxed_limit c.self.inside.whole_demand c.args.stop k c.requires.place
+contains-requires g c = omega (arith, c.args.self.now.few, c.requires.place)
 
 pub with-requires : goal.with-requires
-with-requires c =
-    let k = known c.args.self.now _ c.self.inside.tables.now.problem c.self.inside.relaxed_limit c.self.inside.whole_demand c.self.view_is c.self.invariant in
-    within c.args.self.now c.self.inside.tables.now.problem c.self.inside.relaxed_limit c.self.inside.whole_demand c.args.stop k c.requires.place
+with-requires g c = omega (arith, c.args.self.now.few, c.requires.place)
 
 pub returns-then-contains-clause-none : goal.returns-then-contains-clause-none
-returns-then-contains-clause-none c = λ stops is useful. not_twice c.args.self.now.relaxation.problem c.args.self.now.limit stops c.args.stop c.args.label.now.set is.set (c.contains.ensures.0 c.if-contains.true) useful
+returns-then-contains-clause-none g c = λ stops is useful.
+    let s = setting_of g.T.CompletionTest c.args.self.now.test.now in
+    not_twice s.problem s.limit stops c.args.stop c.args.label.now.set is.set (c.contains.ensures.0 c.if-contains.true) useful
 
-pub returns-then-relaxed_load-capacity-clause-none : goal.returns-then-relaxed_load-capacity-clause-none
-returns-then-relaxed_load-capacity-clause-none c = λ stops is useful.
-    let s = c.args.self.now in
-    let k = known s _ c.self.inside.tables.now.problem c.self.inside.relaxed_limit c.self.inside.whole_demand c.self.view_is c.self.invariant in
-    let heavy : s.relaxation.relaxed.capacity < c.args.label.now.relaxed_load + demand_of s.relaxation.relaxed c.args.stop =
-    subst (λ (q : Problem). q.capacity < c.args.label.now.relaxed_load + demand_of q c.args.stop) (the_relaxed s _ c.relaxed-relaxed.result.now c.self.view_is c.relaxed-relaxed.ensures.value)
-    (omega (arith, c.if-relaxed_load-capacity.true, c.capacity-2.ensures.value, c.demand-2.ensures.value)) in
-    not_too_heavy_relaxed s.relaxation s.limit stops c.args.stop c.args.label.now.relaxed_load k.bounds is.relaxed_load heavy useful
-
-pub weight-requires-clause-from_within : goal.weight-requires-clause-from_within
-weight-requires-clause-from_within c =
-    let s = c.args.self.now in
-    let k = known s _ c.self.inside.tables.now.problem c.self.inside.relaxed_limit c.self.inside.whole_demand c.self.view_is c.self.invariant in
-    subst (λ (q : Problem). c.args.label.now.last < place_count q) (sym (the_relaxed s _ c.relaxed-relaxed.result.now c.self.view_is c.relaxed-relaxed.ensures.value))
-    (label_place s c.self.inside.tables.now.problem c.self.inside.relaxed_limit c.self.inside.whole_demand c.args.label.now k c.requires.label).1
-
-pub overflow_add-relaxed_cost : goal.overflow_add-relaxed_cost
-overflow_add-relaxed_cost c =
-    let s = c.args.self.now in
-    let k = known s _ c.self.inside.tables.now.problem c.self.inside.relaxed_limit c.self.inside.whole_demand c.self.view_is c.self.invariant in
-    let small = label_small s c.self.inside.tables.now.problem c.self.inside.relaxed_limit c.self.inside.whole_demand c.args.label.now k c.requires.label in
-    omega (arith, small.1, c.weight.ensures.small)
-
-pub overflow_sub-rest : goal.overflow_sub-rest
-overflow_sub-rest c =
-    let s = c.args.self.now in
-    let k = known s _ c.self.inside.tables.now.problem c.self.inside.relaxed_limit c.self.inside.whole_demand c.self.view_is c.self.invariant in
-    let e = the_relaxed s _ c.relaxed-relaxed.result.now c.self.view_is c.relaxed-relaxed.ensures.value in
-    let within = label_within s c.self.inside.tables.now.problem c.self.inside.relaxed_limit c.self.inside.whole_demand c.args.label.now c.args.stop k c.requires.label c.requires.some c.requires.place (fresh c.contains.result c.args.label.now.set c.args.stop c.contains.ensures c.if-contains.false) in
-    omega (arith, within, c.demand-2.ensures.value, ap (λ (q : Problem). demand_of q c.args.stop) e)
-
-pub returns-in_default-clause-none : goal.returns-in_default-clause-none
-returns-in_default-clause-none c =
-    let s = c.args.self.now in
-    let label = c.args.label.now in
-    let relaxed_load = label.relaxed_load + c.demand-2.result in
-    let k = known s _ c.self.inside.tables.now.problem c.self.inside.relaxed_limit c.self.inside.whole_demand c.self.view_is c.self.invariant in
-    let e = the_relaxed s _ c.relaxed-relaxed.result.now c.self.view_is c.relaxed-relaxed.ensures.value in
-    let demand : c.demand-2.result ≡ demand_of s.relaxation.relaxed c.args.stop = c.demand-2.ensures.value ∙ ap (λ (q : Problem). demand_of q c.args.stop) e in
-    let weight : c.weight.result ≡ weight_of s.relaxation.relaxed label.last c.args.stop = c.weight.ensures.value ∙ ap (λ (q : Problem). weight_of q label.last c.args.stop) e in
-    let within = label_within s c.self.inside.tables.now.problem c.self.inside.relaxed_limit c.self.inside.whole_demand label c.args.stop k c.requires.label c.requires.some c.requires.place (fresh c.contains.result c.args.label.now.set c.args.stop c.contains.ensures c.if-contains.false) in
-    costly_child s c.self.inside.tables.now c.self.inside.relaxed_limit c.self.inside.whole_demand label c.args.stop relaxed_load (label.relaxed_cost + c.weight.result) (c.self.inside.whole_demand - relaxed_load) None k
-    (ap (λ n. label.relaxed_load + n) demand) (ap (λ n. label.relaxed_cost + n) weight) (omega (arith, within, demand)) c.in_default.ensures.bound tt
-
-pub overflow_add-relaxed_cost-2 : goal.overflow_add-relaxed_cost-2
-overflow_add-relaxed_cost-2 c =
-    let s = c.args.self.now in
-    let k = known s _ c.self.inside.tables.now.problem c.self.inside.relaxed_limit c.self.inside.whole_demand c.self.view_is c.self.invariant in
-    let small = label_small s c.self.inside.tables.now.problem c.self.inside.relaxed_limit c.self.inside.whole_demand c.args.label.now k c.requires.label in
-    omega (arith, small.1, c.weight.ensures.small, c.in-Some.ensures.small)
-
-pub returns-then-relaxed_cost-least-clause-none : goal.returns-then-relaxed_cost-least-clause-none
-returns-then-relaxed_cost-least-clause-none c =
-    let s = c.args.self.now in
-    let label = c.args.label.now in
-    let relaxed_load = label.relaxed_load + c.demand-2.result in
-    let k = known s _ c.self.inside.tables.now.problem c.self.inside.relaxed_limit c.self.inside.whole_demand c.self.view_is c.self.invariant in
-    let e = the_relaxed s _ c.relaxed-relaxed.result.now c.self.view_is c.relaxed-relaxed.ensures.value in
-    let demand : c.demand-2.result ≡ demand_of s.relaxation.relaxed c.args.stop = c.demand-2.ensures.value ∙ ap (λ (q : Problem). demand_of q c.args.stop) e in
-    let weight : c.weight.result ≡ weight_of s.relaxation.relaxed label.last c.args.stop = c.weight.ensures.value ∙ ap (λ (q : Problem). weight_of q label.last c.args.stop) e in
-    let within = label_within s c.self.inside.tables.now.problem c.self.inside.relaxed_limit c.self.inside.whole_demand label c.args.stop k c.requires.label c.requires.some c.requires.place (fresh c.contains.result c.args.label.now.set c.args.stop c.contains.ensures c.if-contains.false) in
-    costly_child s c.self.inside.tables.now c.self.inside.relaxed_limit c.self.inside.whole_demand label c.args.stop relaxed_load (label.relaxed_cost + c.weight.result) (c.self.inside.whole_demand - relaxed_load) (Some c.in-Some.least) k
-    (ap (λ n. label.relaxed_load + n) demand) (ap (λ n. label.relaxed_cost + n) weight) (omega (arith, within, demand)) c.in-Some.ensures.bound c.if-relaxed_cost-least.true
-
-pub weight-requires-2-clause-from_within : goal.weight-requires-2-clause-from_within
-weight-requires-2-clause-from_within c =
-    let s = c.args.self.now in
-    let k = known s _ c.self.inside.tables.now.problem c.self.inside.relaxed_limit c.self.inside.whole_demand c.self.view_is c.self.invariant in
-    subst (λ (p : Problem). c.args.label.now.last < place_count p) (sym (the_problem s _ c.problem-problem.result.now c.self.view_is c.problem-problem.ensures))
-    (label_place s c.self.inside.tables.now.problem c.self.inside.relaxed_limit c.self.inside.whole_demand c.args.label.now k c.requires.label).0
-
-pub overflow_add-cost : goal.overflow_add-cost
-overflow_add-cost c =
-    let s = c.args.self.now in
-    let k = known s _ c.self.inside.tables.now.problem c.self.inside.relaxed_limit c.self.inside.whole_demand c.self.view_is c.self.invariant in
-    let small = label_small s c.self.inside.tables.now.problem c.self.inside.relaxed_limit c.self.inside.whole_demand c.args.label.now k c.requires.label in
-    omega (arith, small.0, c.weight-2.ensures.small)
-
-pub returns-clause-label : goal.returns-clause-label
-returns-clause-label c = λ stops is.
-    let s = c.args.self.now in
-    let label = c.args.label.now in
-    let stop = c.args.stop in
-    let k = known s _ c.self.inside.tables.now.problem c.self.inside.relaxed_limit c.self.inside.whole_demand c.self.view_is c.self.invariant in
-    let d = the_problem s _ c.problem-problem.result.now c.self.view_is c.problem-problem.ensures in
-    let e = the_relaxed s _ c.relaxed-relaxed.result.now c.self.view_is c.relaxed-relaxed.ensures.value in
-    let relaxed_load : c.demand-2.result ≡ demand_of s.relaxation.relaxed stop = c.demand-2.ensures.value ∙ ap (λ (q : Problem). demand_of q stop) e in
-    let relaxed_cost : c.weight.result ≡ weight_of s.relaxation.relaxed label.last stop = c.weight.ensures.value ∙ ap (λ (q : Problem). weight_of q label.last stop) e in
-    let load : c.demand.result ≡ demand_of s.relaxation.problem stop = c.demand.ensures.value ∙ ap (λ (q : Problem). demand_of q stop) d in
-    let cost : c.weight-2.result ≡ weight_of s.relaxation.problem label.last stop = c.weight-2.ensures.value ∙ ap (λ (q : Problem). weight_of q label.last stop) d in
-    longer_label s stops label stop c.args.parent c.first_with.result (label.load + c.demand.result) (label.relaxed_load + c.demand-2.result) (label.cost + c.weight-2.result) (label.relaxed_cost + c.weight.result) _ is (record {
-      problem = k.problem;
-      relaxed = k.relaxed;
-      bounds = k.bounds;
-      some = c.requires.some;
-      place = c.requires.place;
-      fresh = fresh c.contains.result c.args.label.now.set c.args.stop c.contains.ensures c.if-contains.false;
-      load_is = ap (λ n. label.load + n) load;
-      light = omega (arith, c.if-load-capacity.false, c.capacity.ensures.value, ap (λ (q : Problem). q.capacity) d);
-      relaxed_load_is = ap (λ n. label.relaxed_load + n) relaxed_load;
-      light_relaxed = omega (arith, c.if-relaxed_load-capacity.false, c.capacity-2.ensures.value, ap (λ (q : Problem). q.capacity) e);
-      cost_is = ap (λ n. label.cost + n) cost;
-      relaxed_cost_is = ap (λ n. label.relaxed_cost + n) relaxed_cost;
-      first_is = c.first_with.ensures;
-      set_is = c.with.ensures;
-    })
 
 pub returns-then-load-capacity-clause-none : goal.returns-then-load-capacity-clause-none
-returns-then-load-capacity-clause-none c = grind (ints, arith, common_steps)
+returns-then-load-capacity-clause-none g c = λ stops is useful.
+    let s = setting_of g.T.CompletionTest c.args.self.now.test.now in
+    let label = c.args.label.now in
+    let heavy : s.problem.capacity < label.load + demand_of s.problem c.args.stop =
+    subst (λ (p : Problem). p.capacity < label.load + demand_of p c.args.stop) c.instance-problem.ensures (omega (arith, c.if-load-capacity.true, c.capacity.ensures.value, c.demand.ensures.value)) in
+    not_too_heavy s.problem s.limit stops c.args.stop label.load is.load heavy useful
+
+
+pub extended-requires : goal.extended-requires
+extended-requires g c =
+    let s = setting_of g.T.CompletionTest c.args.self.now.test.now in
+    let label = c.args.label.now in
+    let d = c.instance-problem.ensures in
+    let load : c.demand.result ≡ demand_of s.problem c.args.stop = c.demand.ensures.value ∙ ap (λ (p : Problem). demand_of p c.args.stop) d in
+    let light : label.load + c.demand.result ≤ s.problem.capacity = omega (arith, c.if-load-capacity.false, c.capacity.ensures.value, ap (λ (p : Problem). p.capacity) d) in
+    let new_stop = fresh c.contains.result label.set c.args.stop c.contains.ensures c.if-contains.false in
+    let (stops, is) = c.requires.label in
+    (stops, told_label s stops label is, goes_on s stops label c.args.stop (label.load + c.demand.result) is c.requires.some c.requires.place new_stop (ap (λ n. label.load + n) load) light, is.counted)
+
+
+pub returns-in_default-clause-none : goal.returns-in_default-clause-none
+returns-in_default-clause-none g c = λ stops is useful.
+    let s = setting_of g.T.CompletionTest c.args.self.now.test.now in
+    c.in_default.ensures.none stops (told_label s stops c.args.label.now is) is.counted useful
+
+
+pub weight-requires-clause-from_within : goal.weight-requires-clause-from_within
+weight-requires-clause-from_within g c =
+    let s = setting_of g.T.CompletionTest c.args.self.now.test.now in
+    subst (λ (p : Problem). c.args.label.now.last < place_count p) (sym c.instance-problem.ensures) (label_place s c.args.label.now c.args.self.now.instance c.requires.label)
+
+
+pub overflow_add-cost : goal.overflow_add-cost
+overflow_add-cost g c =
+    let s = setting_of g.T.CompletionTest c.args.self.now.test.now in
+    omega (arith, label_small s c.args.label.now c.args.self.now.instance c.requires.label, c.weight.ensures.small)
+
+
+pub returns-clause-label : goal.returns-clause-label
+returns-clause-label g c = λ stops is.
+    let s = setting_of g.T.CompletionTest c.args.self.now.test.now in
+    let label = c.args.label.now in
+    let d = c.instance-problem.ensures in
+    let load : c.demand.result ≡ demand_of s.problem c.args.stop = c.demand.ensures.value ∙ ap (λ (p : Problem). demand_of p c.args.stop) d in
+    let light : label.load + c.demand.result ≤ s.problem.capacity = omega (arith, c.if-load-capacity.false, c.capacity.ensures.value, ap (λ (p : Problem). p.capacity) d) in
+    let new_stop = fresh c.contains.result label.set c.args.stop c.contains.ensures c.if-contains.false in
+    let cost : c.weight.result ≡ weight_of s.problem label.last c.args.stop = c.weight.ensures.value ∙ ap (λ (p : Problem). weight_of p label.last c.args.stop) d in
+    longer_label s stops label c.args.stop c.args.parent c.first_with.result (label.load + c.demand.result) (label.cost + c.weight.result) c.with.result c.in-Some.resources is (record {
+      problem = c.args.self.now.instance;
+      some = c.requires.some;
+      place = c.requires.place;
+      fresh = new_stop;
+      load_is = ap (λ n. label.load + n) load;
+      light = light;
+      cost_is = ap (λ n. label.cost + n) cost;
+      set_is = c.with.ensures;
+      first_is = c.first_with.ensures;
+    }) (c.in-Some.ensures.some stops (told_label s stops label is) is.counted)
+

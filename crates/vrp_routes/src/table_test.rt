@@ -1,0 +1,133 @@
+//! The completion test by tables of a relaxation.
+ghost use Rattle.std.specs.Prelude.{◌≡◌, ◌≤◌, List, MatchOption, ℕ};
+ghost use Rattle.vrp_model.specs.declared.limits.TheConstants.{NO_COST};
+ghost use Rattle.vrp_routes.specs.TableTest.{AreRelaxed};
+ghost use Rattle.vrp_routes.specs.Useful.{BeginsUseful};
+
+use crate::completion_test::CompletionTest;
+use crate::table_resources::{HalvedCost, TableResources};
+use std::marker::Model;
+use vrp_bound::NgTables;
+use vrp_bound_prices::Relaxation;
+use vrp_customers::CustomerSet;
+use vrp_model::Instance;
+
+/// The test by a relaxation of an instance and tables of ng-walks in it, for canonical plans of at most a cost.
+#[derive(Drop)]
+pub struct TableTest<'a> {
+    relaxation: &'a Relaxation<'a>,
+    tables: &'a NgTables<'a>,
+    limit: u64,
+    // The highest cost of a feasible word in the relaxation.
+    relaxed_limit: u64,
+    // The demand of all customers in the relaxation.
+    whole_demand: u64,
+}
+
+impl<'a> Model for TableTest<'a> {
+    ghost use Rattle.vrp_routes.specs.TableTest.{IsTableTest, TableTestOf};
+
+    ghost Value = { TableTestOf };
+
+    ghost view = { λ a. record { relaxation = a.relaxation.now; limit = a.limit } };
+
+    ghost invariant = { λ a.
+        IsTableTest (record { relaxation = a.relaxation.now; limit = a.limit })
+        a.tables.now.problem a.relaxed_limit a.whole_demand };
+}
+
+impl<'a> TableTest<'a> {
+    /// The test by a relaxation and the tables of its relaxed instance. `None` if no plan costs so little.
+    pub fn new(
+        relaxation: &'a Relaxation<'a>,
+        tables: &'a NgTables<'a>,
+        limit: u64,
+    ) -> Option<TableTest<'a>>
+        requires tables { tables.now.problem ≡ relaxation.now.relaxed }
+        requires limit { limit ≤ NO_COST }
+        ensures { MatchOption result
+            ((stops : List ℕ) → BeginsUseful relaxation.now.problem limit stops → ⊥)
+            (λ test. test ≡ record { relaxation = relaxation.now; limit = limit }) }
+    {
+        // The facts known of every instance come with the number of customers.
+        let _customers = relaxation.problem().customers();
+        let _relaxed = relaxation.relaxed().customers();
+        let Some(relaxed_limit) = relaxation.limit(limit) else {
+            return None;
+        };
+        Some(TableTest {
+            relaxation,
+            tables,
+            limit,
+            relaxed_limit,
+            whole_demand: relaxation.relaxed().whole_demand(),
+        })
+    }
+}
+
+impl<'a> CompletionTest for TableTest<'a> {
+    type Resources = TableResources;
+
+    ghost problem = { λ t. t.relaxation.problem };
+
+    ghost limit = { λ t. t.limit };
+
+    ghost Counts = { λ t stops resources. AreRelaxed t.relaxation.relaxed stops resources };
+
+    #[inline(always)]
+    fn instance(&self) -> &Instance {
+        self.relaxation.problem()
+    }
+
+    fn start(&self) -> TableResources {
+        TableResources {
+            load: 0,
+            cost: HalvedCost::new(0),
+        }
+    }
+
+    #[inline(always)]
+    fn extended(
+        &self,
+        resources: &TableResources,
+        _set: CustomerSet,
+        _load: u32,
+        last: u16,
+        stop: u16,
+    ) -> Option<TableResources> {
+        let relaxed = self.relaxation.relaxed();
+        let load = resources.load as u64 + relaxed.demand(stop);
+        if load > relaxed.capacity() {
+            return None;
+        }
+        let cost = resources.cost.whole() + relaxed.weight(last, stop);
+        let rest = self.whole_demand - load;
+        let Some(least) = self.tables.bound(stop, load, rest) else {
+            return None;
+        };
+        if cost + least > self.relaxed_limit {
+            return None;
+        }
+        Some(TableResources {
+            load: load as u32,
+            cost: HalvedCost::new(cost),
+        })
+    }
+
+    #[inline(always)]
+    fn may_close(
+        &self,
+        resources: &TableResources,
+        _set: CustomerSet,
+        _load: u32,
+        last: u16,
+    ) -> bool {
+        let relaxed = self.relaxation.relaxed();
+        let cost = resources.cost.whole() + relaxed.weight(last, 0);
+        let rest = self.whole_demand - resources.load as u64;
+        let Some(least) = self.tables.bound(0, 0, rest) else {
+            return false;
+        };
+        cost + least <= self.relaxed_limit
+    }
+}
