@@ -89,7 +89,6 @@ key_first {X} old new label at longer lt = ap (λ (ls : List (Label X)). get_or 
 cost_first : {X : Type 0} (old new : Candidates X) (label : Label X) (at : ℕ) → new.labels.items ≡ old.labels.items ++ label ∷ [] → at < length old.labels.items → cost_at new at ≡ cost_at old at
 cost_first {X} old new label at longer lt = ap (λ (ls : List (Label X)). get_or (map cost_of ls) at 0) longer ∙ mapped_first cost_of old.labels.items label 0 at lt
 
-
 key_last : {X : Type 0} (old new : Candidates X) (label : Label X) → new.labels.items ≡ old.labels.items ++ label ∷ [] → key_at new (length old.labels.items) ≡ key_of label
 key_last {X} old new label longer = ap (λ (ls : List (Label X)). get_or (map key_of ls) (length old.labels.items) (0, 0)) longer ∙ mapped_last key_of old.labels.items label (0, 0)
 

@@ -53,13 +53,7 @@ pub trait CompletionTest {
             → BeginsUseful (problem self.now) (limit self.now) (stops ++ stop ∷ []) → ⊥) };
 
     /// Whether a beginning may be a whole useful route. `false` only if it is none.
-    fn may_close(
-        &self,
-        resources: &Self::Resources,
-        set: CustomerSet,
-        load: u32,
-        last: u16,
-    ) -> bool
+    fn may_close(&self, resources: &Self::Resources, set: CustomerSet, load: u32, last: u16) -> bool
         requires { (stops : List ℕ) × IsBeginningWith (problem self.now) stops set load last
             × (stops ≢ [])
             × Counts self.now stops resources.now }

@@ -92,7 +92,7 @@ pub struct Listing<X> {
     routes: Vec<ClosedRoute>,
 }
 
-impl<X: Copy + Send + Sync> Listing<X> {
+impl<X: Copy> Listing<X> {
     // The label of no customers.
     fn new<T: CompletionTest<Resources = X>>(
         alloc: Global,
@@ -111,6 +111,23 @@ impl<X: Copy + Send + Sync> Listing<X> {
         })
     }
 
+    // The routes that are listed.
+    fn into_pool(self) -> RoutePool
+        requires { (p : Problem) × (limit : ℕ) × (k : ℕ) × AreListed p limit k self.sequences self.routes.items }
+        ensures { (p : Problem) (limit k : ℕ) → AreListed p limit k self.sequences self.routes.items
+            → IsProblem p → place_count p ≤ k → IsPool p limit result }
+    {
+        let Listing {
+            sequences,
+            labels: _labels,
+            start: _start,
+            routes,
+        } = self;
+        RoutePool::new(sequences, routes)
+    }
+}
+
+impl<X: Copy + Send + Sync> Listing<X> {
     // Advances to the labels that are one customer longer.
     fn step<R: Threads + Sync, W: Watch + Sync, T: CompletionTest<Resources = X> + Sync>(
         &mut self,
@@ -138,20 +155,5 @@ impl<X: Copy + Send + Sync> Listing<X> {
         self.labels = labels;
         self.start = start;
         Ok(None)
-    }
-
-    // The routes that are listed.
-    fn into_pool(self) -> RoutePool
-        requires { (p : Problem) × (limit : ℕ) × (k : ℕ) × AreListed p limit k self.sequences self.routes.items }
-        ensures { (p : Problem) (limit k : ℕ) → AreListed p limit k self.sequences self.routes.items
-            → IsProblem p → place_count p ≤ k → IsPool p limit result }
-    {
-        let Listing {
-            sequences,
-            labels: _labels,
-            start: _start,
-            routes,
-        } = self;
-        RoutePool::new(sequences, routes)
     }
 }

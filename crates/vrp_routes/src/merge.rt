@@ -79,7 +79,10 @@ fn ranges_from<R: Threads + Sync, X: Copy + Send + Sync>(
 }
 
 // Appends the labels of some ranges.
-fn append_ranges<X: Copy>(merged: &mut Vec<Label<X>>, ranges: &[Vec<Label<X>>]) -> Result<(), NoMemory>
+fn append_ranges<X: Copy>(
+    merged: &mut Vec<Label<X>>,
+    ranges: &[Vec<Label<X>>],
+) -> Result<(), NoMemory>
     ensures { OnOk result ((parts : List (Vec (Label X) Global)) (from : ℕ)
         → AreMerged parts (length parts) 0 from merged.old.items → AreRanges parts from PARENTS_AT_ONCE ranges.now
         → AreMerged parts (length parts) 0 (from + length ranges.now * PARENTS_AT_ONCE) merged.new.items) }
@@ -131,7 +134,11 @@ fn place_from<X: Copy>(labels: &[Label<X>], parent: usize) -> usize
 }
 
 // The labels of both lists.
-fn merged<X: Copy>(alloc: Global, left: &[Label<X>], right: &[Label<X>]) -> Result<Vec<Label<X>>, NoMemory>
+fn merged<X: Copy>(
+    alloc: Global,
+    left: &[Label<X>],
+    right: &[Label<X>],
+) -> Result<Vec<Label<X>>, NoMemory>
     ensures { IfOk result (λ merged. IsMerged left.now right.now merged.items) }
 {
     let mut merged = Vec::with_capacity(alloc, left.len() + right.len())?;

@@ -69,7 +69,10 @@ impl<'a, T: CompletionTest> Setting<'a, T> {
         if label.first > label.last && problem.symmetric() {
             return None;
         }
-        if !self.test.may_close(&label.resources, label.set, label.load, label.last) {
+        if !self
+            .test
+            .may_close(&label.resources, label.set, label.load, label.last)
+        {
             return None;
         }
         let cost = label.cost + problem.weight(label.last, 0);
@@ -105,8 +108,9 @@ impl<'a, T: CompletionTest> Setting<'a, T> {
         if load > problem.capacity() {
             return None;
         }
-        let Some(resources) =
-            self.test.extended(&label.resources, label.set, label.load, label.last, stop)
+        let Some(resources) = self
+            .test
+            .extended(&label.resources, label.set, label.load, label.last, stop)
         else {
             return None;
         };

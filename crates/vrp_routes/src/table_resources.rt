@@ -8,17 +8,17 @@ use std::mem::size_of;
 /// A cost in two halves. So it needs no alignment to eight bytes.
 // The low half comes first: so a processor reads and writes both at once.
 #[derive(Clone, Copy, Debug)]
-pub struct HalvedCost {
+pub struct SplitCost {
     low: u32,
     high: u32,
 }
 
-impl Model for HalvedCost {
+impl Model for SplitCost {
     ghost use Rattle.std.specs.Prelude.{ℕ, ◌+◌, ◌*◌, ◌/◌, ◌%◌, ◌^◌, ◌<◌};
 
     ghost Value = { ℕ };
 
-    ghost use Rattle.vrp_routes.specs.Halves.{halves_back};
+    ghost use Rattle.vrp_routes.specs.SplitCost.{halves_back};
 
     ghost view = { λ c. c.high * 2 ^ 32 + c.low };
 
@@ -29,13 +29,13 @@ impl Model for HalvedCost {
     ghost inverse_ok = { λ c small. halves_back c small.1 };
 }
 
-impl HalvedCost {
+impl SplitCost {
     /// The halves of a cost.
     #[inline(always)]
-    pub fn new(cost: u64) -> HalvedCost
+    pub fn new(cost: u64) -> SplitCost
         ensures { result ≡ cost }
     {
-        HalvedCost {
+        SplitCost {
             low: (cost & 0xffff_ffff) as u32,
             high: (cost >> 32) as u32,
         }
@@ -54,7 +54,7 @@ impl HalvedCost {
 #[derive(Clone, Copy, Debug)]
 pub struct TableResources {
     pub load: u32,
-    pub cost: HalvedCost,
+    pub cost: SplitCost,
 }
 
 const _: () = prove!(size_of::<Label<TableResources>>() == 64);

@@ -5,7 +5,7 @@ ghost use Rattle.vrp_routes.specs.TableTest.{AreRelaxed};
 ghost use Rattle.vrp_routes.specs.Useful.{BeginsUseful};
 
 use crate::completion_test::CompletionTest;
-use crate::table_resources::{HalvedCost, TableResources};
+use crate::table_resources::{SplitCost, TableResources};
 use std::marker::Model;
 use vrp_bound::NgTables;
 use vrp_bound_prices::Relaxation;
@@ -82,7 +82,7 @@ impl<'a> CompletionTest for TableTest<'a> {
     fn start(&self) -> TableResources {
         TableResources {
             load: 0,
-            cost: HalvedCost::new(0),
+            cost: SplitCost::new(0),
         }
     }
 
@@ -110,7 +110,7 @@ impl<'a> CompletionTest for TableTest<'a> {
         }
         Some(TableResources {
             load: load as u32,
-            cost: HalvedCost::new(cost),
+            cost: SplitCost::new(cost),
         })
     }
 

@@ -21,7 +21,6 @@ returns-then-contains-clause-none g c = λ stops is useful.
     let s = setting_of g.T.CompletionTest c.args.self.now.test.now in
     not_twice s.problem s.limit stops c.args.stop c.args.label.now.set is.set (c.contains.ensures.0 c.if-contains.true) useful
 
-
 pub returns-then-load-capacity-clause-none : goal.returns-then-load-capacity-clause-none
 returns-then-load-capacity-clause-none g c = λ stops is useful.
     let s = setting_of g.T.CompletionTest c.args.self.now.test.now in
@@ -29,7 +28,6 @@ returns-then-load-capacity-clause-none g c = λ stops is useful.
     let heavy : s.problem.capacity < label.load + demand_of s.problem c.args.stop =
     subst (λ (p : Problem). p.capacity < label.load + demand_of p c.args.stop) c.instance-problem.ensures (omega (arith, c.if-load-capacity.true, c.capacity.ensures.value, c.demand.ensures.value)) in
     not_too_heavy s.problem s.limit stops c.args.stop label.load is.load heavy useful
-
 
 pub extended-requires : goal.extended-requires
 extended-requires g c =
@@ -42,24 +40,20 @@ extended-requires g c =
     let (stops, is) = c.requires.label in
     (stops, told_label s stops label is, goes_on s stops label c.args.stop (label.load + c.demand.result) is c.requires.some c.requires.place new_stop (ap (λ n. label.load + n) load) light, is.counted)
 
-
 pub returns-in_default-clause-none : goal.returns-in_default-clause-none
 returns-in_default-clause-none g c = λ stops is useful.
     let s = setting_of g.T.CompletionTest c.args.self.now.test.now in
     c.in_default.ensures.none stops (told_label s stops c.args.label.now is) is.counted useful
-
 
 pub weight-requires-clause-from_within : goal.weight-requires-clause-from_within
 weight-requires-clause-from_within g c =
     let s = setting_of g.T.CompletionTest c.args.self.now.test.now in
     subst (λ (p : Problem). c.args.label.now.last < place_count p) (sym c.instance-problem.ensures) (label_place s c.args.label.now c.args.self.now.instance c.requires.label)
 
-
 pub overflow_add-cost : goal.overflow_add-cost
 overflow_add-cost g c =
     let s = setting_of g.T.CompletionTest c.args.self.now.test.now in
     omega (arith, label_small s c.args.label.now c.args.self.now.instance c.requires.label, c.weight.ensures.small)
-
 
 pub returns-clause-label : goal.returns-clause-label
 returns-clause-label g c = λ stops is.
@@ -81,4 +75,3 @@ returns-clause-label g c = λ stops is.
       set_is = c.with.ensures;
       first_is = c.first_with.ensures;
     }) (c.in-Some.ensures.some stops (told_label s stops label is) is.counted)
-

@@ -22,7 +22,6 @@ demand-requires c =
     let (stops, is, longer, counted) = c.requires in
     subst (λ (q : Problem). c.args.stop < place_count q) (sym e) (told_stop t tabled most whole k stops c.args.stop longer).1
 
-
 pub returns-then-load-capacity-clause-none : goal.returns-then-load-capacity-clause-none
 returns-then-load-capacity-clause-none c = λ stops is counted useful.
     let t = c.args.self.now in
@@ -35,7 +34,6 @@ returns-then-load-capacity-clause-none c = λ stops is counted useful.
     subst (λ (q : Problem). q.capacity < c.args.resources.now.load + demand_of q c.args.stop) e (omega (arith, c.if-load-capacity.true, c.capacity.ensures.value, c.demand.ensures.value)) in
     not_too_heavy_relaxed t.relaxation t.limit stops c.args.stop c.args.resources.now.load k.bounds counted.load heavy useful
 
-
 pub weight-requires-clause-from_within : goal.weight-requires-clause-from_within
 weight-requires-clause-from_within c =
     let t = c.args.self.now in
@@ -46,7 +44,6 @@ weight-requires-clause-from_within c =
     let e = the_relaxed t _ c.relaxed-relaxed.result.now c.self.view_is c.relaxed-relaxed.ensures.value in
     let (stops, is, longer, counted) = c.requires in
     subst (λ (q : Problem). c.args.last < place_count q) (sym e) (told_place t tabled most whole _ _ c.args.last k stops is)
-
 
 pub weight-requires-clause-to_within : goal.weight-requires-clause-to_within
 weight-requires-clause-to_within c =
@@ -59,7 +56,6 @@ weight-requires-clause-to_within c =
     let (stops, is, longer, counted) = c.requires in
     subst (λ (q : Problem). c.args.stop < place_count q) (sym e) (told_stop t tabled most whole k stops c.args.stop longer).1
 
-
 pub overflow_add-cost : goal.overflow_add-cost
 overflow_add-cost c =
     let t = c.args.self.now in
@@ -70,7 +66,6 @@ overflow_add-cost c =
     let (stops, is, longer, counted) = c.requires in
     let small = told_small t tabled most whole _ _ c.args.last c.args.resources.now k stops is counted in
     omega (arith, small, c.whole.ensures, c.weight.ensures.small)
-
 
 pub overflow_sub-rest : goal.overflow_sub-rest
 overflow_sub-rest c =
@@ -84,7 +79,6 @@ overflow_sub-rest c =
     let within = longer_within t tabled most whole c.args.resources.now k stops c.args.stop longer counted in
     omega (arith, within, c.demand.ensures.value, ap (λ (q : Problem). demand_of q c.args.stop) e)
 
-
 pub bound-requires-clause-place : goal.bound-requires-clause-place
 bound-requires-clause-place c =
     let t = c.args.self.now in
@@ -95,7 +89,6 @@ bound-requires-clause-place c =
     let (stops, is, longer, counted) = c.requires in
     subst (λ (q : Problem). c.args.stop < place_count q) (sym k.tables) (told_stop t tabled most whole k stops c.args.stop longer).1
 
-
 pub bound-requires-clause-depot : goal.bound-requires-clause-depot
 bound-requires-clause-depot c = λ none.
     let t = c.args.self.now in
@@ -105,7 +98,6 @@ bound-requires-clause-depot c = λ none.
     let k = known t _ tabled most whole c.self.view_is c.self.invariant in
     let (stops, is, longer, counted) = c.requires in
     absurd (omega (arith, none, (told_stop t tabled most whole k stops c.args.stop longer).0))
-
 
 pub returns-in_default-clause-none : goal.returns-in_default-clause-none
 returns-in_default-clause-none c = λ stops is counted useful.
@@ -127,7 +119,6 @@ returns-in_default-clause-none c = λ stops is counted useful.
     let within = longer_within t tabled most whole resources k first c.args.stop longer before in
     costly_child t c.self.inside.tables.now most whole resources c.args.last c.args.stop load cost (whole - load) None k load_is cost_is (omega (arith, within, load_is)) c.in_default.ensures.bound tt stops is.last_is counted useful
 
-
 pub overflow_add-cost-2 : goal.overflow_add-cost-2
 overflow_add-cost-2 c =
     let t = c.args.self.now in
@@ -138,7 +129,6 @@ overflow_add-cost-2 c =
     let (stops, is, longer, counted) = c.requires in
     let small = told_small t tabled most whole _ _ c.args.last c.args.resources.now k stops is counted in
     omega (arith, small, c.whole.ensures, c.weight.ensures.small, c.in-Some.ensures.small)
-
 
 pub returns-then-cost-least-clause-none : goal.returns-then-cost-least-clause-none
 returns-then-cost-least-clause-none c = λ stops is counted useful.
@@ -160,7 +150,6 @@ returns-then-cost-least-clause-none c = λ stops is counted useful.
     let within = longer_within t tabled most whole resources k first c.args.stop longer before in
     costly_child t c.self.inside.tables.now most whole resources c.args.last c.args.stop load cost (whole - load) (Some c.in-Some.least) k load_is cost_is (omega (arith, within, load_is)) c.in-Some.ensures.bound c.if-cost-least.true stops is.last_is counted useful
 
-
 pub returns-clause-some : goal.returns-clause-some
 returns-clause-some c = λ stops is counted.
     let t = c.args.self.now in
@@ -178,4 +167,3 @@ returns-clause-some c = λ stops is counted.
     let load_is : load ≡ resources.load + demand_of q c.args.stop = ap (λ n. resources.load + n) demand in
     let cost_is : cost ≡ resources.cost + weight_of q c.args.last c.args.stop = omega (arith, c.whole.ensures, weight) in
     longer_relaxed t tabled most whole resources _ c.args.last c.args.stop k load_is (omega (arith, c.if-load-capacity.false, c.capacity.ensures.value, ap (λ (p : Problem). p.capacity) e)) (c.new.ensures ∙ cost_is) stops is.last_is counted
-

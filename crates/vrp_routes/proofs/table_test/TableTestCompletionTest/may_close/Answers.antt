@@ -23,7 +23,6 @@ weight-requires-clause-from_within c =
     let (stops, is, some, counted) = c.requires in
     subst (λ (q : Problem). c.args.last < place_count q) (sym e) (told_place t tabled most whole _ _ c.args.last k stops is)
 
-
 pub overflow_add-cost : goal.overflow_add-cost
 overflow_add-cost c =
     let t = c.args.self.now in
@@ -35,7 +34,6 @@ overflow_add-cost c =
     let small = told_small t tabled most whole _ _ c.args.last c.args.resources.now k stops is counted in
     omega (arith, small, c.whole.ensures, c.weight.ensures.small)
 
-
 pub overflow_sub-rest : goal.overflow_sub-rest
 overflow_sub-rest c =
     let t = c.args.self.now in
@@ -45,7 +43,6 @@ overflow_sub-rest c =
     let k = known t _ tabled most whole c.self.view_is c.self.invariant in
     let (stops, is, some, counted) = c.requires in
     told_within t tabled most whole _ _ c.args.last c.args.resources.now k stops is counted
-
 
 pub returns-in_default : goal.returns-in_default
 returns-in_default c = λ no stops is counted useful.
@@ -64,7 +61,6 @@ returns-in_default c = λ no stops is counted useful.
     let within = told_within t tabled most whole _ _ c.args.last resources k first at before in
     costly_closed t c.self.inside.tables.now most whole resources c.args.last cost (whole - resources.load) None k cost_is (omega (arith, within)) c.in_default.ensures.bound tt stops is.last_is counted useful
 
-
 pub overflow_add-result : goal.overflow_add-result
 overflow_add-result c =
     let t = c.args.self.now in
@@ -75,7 +71,6 @@ overflow_add-result c =
     let (stops, is, some, counted) = c.requires in
     let small = told_small t tabled most whole _ _ c.args.last c.args.resources.now k stops is counted in
     omega (arith, small, c.whole.ensures, c.weight.ensures.small, c.in-Some.ensures.small)
-
 
 pub returns : goal.returns
 returns c = λ no stops is counted useful.
@@ -94,4 +89,3 @@ returns c = λ no stops is counted useful.
     let within = told_within t tabled most whole _ _ c.args.last resources k first at before in
     let costly : most < cost + c.in-Some.least = grind (arith, nat_tests, no) in
     costly_closed t c.self.inside.tables.now most whole resources c.args.last cost (whole - resources.load) (Some c.in-Some.least) k cost_is (omega (arith, within)) c.in-Some.ensures.bound costly stops is.last_is counted useful
-

@@ -1,7 +1,7 @@
 -- A number in two halves.
 use Rattle.std.proofs.Common.{◌≡◌, ℕ, ◌+◌, ◌*◌, ◌/◌, ◌%◌, ◌^◌, ◌<◌, refl}
 use Rattle.std.proofs.lemmas.Nat.{shr_high, mod_low}
-use Rattle.vrp_routes.specs.declared.table_resources.HalvedCost.TheInside.{Inside}
+use Rattle.vrp_routes.specs.declared.table_resources.SplitCost.TheInside.{Inside}
 
 abbrev halves_of : ℕ → Inside
 halves_of cost = record { high = cost / 2 ^ 32; low = cost % 2 ^ 32 }
