@@ -1,8 +1,8 @@
 -- What is counted along a beginning with one more stop.
-use Rattle.std.proofs.Common.{◌≡◌, ◌≢◌, ℕ, ◌+◌, ◌-◌, ◌*◌, ◌^◌, ◌<◌, ◌≤◌, ◌==◌, if◌then◌else◌, false, true, false, Option, None, Some, MatchOption, List, [], ◌∷◌, ◌++◌, length, length-append, get_or, sym, ap, subst, ◌∙◌, arith}
+use Rattle.std.proofs.Common.{◌≡◌, ◌≢◌, ℕ, ◌+◌, ◌-◌, ◌*◌, ◌^◌, ◌<◌, ◌≤◌, ◌==◌, if◌then◌else◌, false, true, false, List, [], ◌∷◌, ◌++◌, length, length-append, get_or, sym, ap, subst, ◌∙◌, arith}
 use Rattle.std.specs.Int.{bit_at}
 use Rattle.std.specs.Int.RustNames.{bit_or}
-use Rattle.std.specs.List.{All, Contains, range_with_len}
+use Rattle.std.specs.List.{Contains}
 use Rattle.std.proofs.lemmas.List.{get_or-append-add, get_or_append_left}
 use Rattle.std.proofs.lemmas.Bool.{false≢true}
 use Rattle.std.proofs.lemmas.Bool.Decides.{nat_tests}
@@ -15,7 +15,7 @@ use Rattle.vrp_model.specs.Word.{last_symbol, stands_in, word_cost}
 use Rattle.vrp_model.specs.declared.limits.TheConstants.{MAX_NODES, MAX_WEIGHT}
 use Rattle.vrp_model.proofs.CustomerPlaces.{customer_below, customer_is_some, is_customer, load_with}
 use Rattle.vrp_model.proofs.DistinctLists.{AreDistinct}
-use Rattle.vrp_model.proofs.DistinctWithin.{length_among, sum_among}
+use Rattle.vrp_model.proofs.DistinctWithin.{length_among}
 use Rattle.vrp_model.proofs.LastRoute.{last_symbol_with}
 use Rattle.vrp_model.proofs.PlanWords.{cost_parts}
 use Rattle.vrp_model.proofs.Words.{last_is}

@@ -1,37 +1,25 @@
 -- What is counted in a relaxation along a beginning with one more stop, and what its tables say.
-use Rattle.std.proofs.Common.{◌≡◌, ◌≢◌, ℕ, ◌+◌, ◌-◌, ◌*◌, ◌^◌, ◌<◌, ◌≤◌, ◌==◌, if◌then◌else◌, false, true, false, Option, None, Some, MatchOption, List, [], ◌∷◌, ◌++◌, length, length-append, get_or, refl, sym, ap, subst, ◌∙◌, arith}
-use Rattle.std.specs.Int.{bit_at}
-use Rattle.std.specs.Int.RustNames.{bit_or}
+use Rattle.std.proofs.Common.{◌≡◌, ◌≢◌, ℕ, ◌+◌, ◌-◌, ◌*◌, ◌<◌, ◌≤◌, Option, None, Some, MatchOption, List, [], ◌∷◌, ◌++◌, length, length-append, sym, ap, subst, ◌∙◌, arith}
 use Rattle.std.specs.List.{All, Contains, range_with_len}
-use Rattle.std.proofs.lemmas.List.{get_or-append-add, get_or_append_left}
-use Rattle.std.proofs.lemmas.Bool.{false≢true}
-use Rattle.std.proofs.lemmas.Bool.Decides.{nat_tests}
-use Rattle.std.proofs.lemmas.List.Elements.{All-append, All-cons, All-nil, Contains-get_or}
-use Rattle.std.proofs.lemmas.List.FromFn.{length-range_with_len}
-use Rattle.std.proofs.lemmas.List.Quantifiers.{all_pairs_push}
-use Rattle.vrp_model.specs.Problem.{IsProblem, IsSymmetric, Problem, customers, demand_of, place_count, weight_of}
+use Rattle.vrp_model.specs.Problem.{Problem, customers, demand_of, place_count, weight_of}
 use Rattle.vrp_model.specs.Route.{load_of, route_cost}
-use Rattle.vrp_model.specs.Word.{last_symbol, stands_in, word_cost}
+use Rattle.vrp_model.specs.Word.{last_symbol, word_cost}
 use Rattle.vrp_model.specs.declared.limits.TheConstants.{MAX_NODES, MAX_WEIGHT}
-use Rattle.vrp_model.proofs.CustomerPlaces.{customer_below, customer_is_some, is_customer, load_with}
-use Rattle.vrp_model.proofs.DistinctLists.{AreDistinct}
-use Rattle.vrp_model.proofs.DistinctWithin.{length_among, sum_among}
+use Rattle.vrp_model.proofs.CustomerPlaces.{customer_below, customer_is_some, load_with}
+use Rattle.vrp_model.proofs.DistinctWithin.{sum_among}
 use Rattle.vrp_model.proofs.LastRoute.{last_symbol_with}
-use Rattle.vrp_model.proofs.PlanWords.{cost_parts}
 use Rattle.vrp_model.proofs.Words.{last_is}
-use Rattle.vrp_model.proofs.Recalled.{contained_stands, stands_contained}
 use Rattle.vrp_bound_prices.specs.Relaxation.{Bounds, IsLimit, RelaxationOf}
 use Rattle.vrp_model.specs.Near.{near_in}
 use Rattle.vrp_bound.specs.NgWalks.{IsNgTablesBound, IsNgBound}
 use Rattle.vrp_bound.specs.Tables.{NgTablesOf}
-use Rattle.vrp_customers.specs.CustomerSet.{set_of}
-use Rattle.vrp_customers.proofs.Sets.{set_with, stands_if_set, stands_not_if_not_set}
 use Rattle.vrp_routes.specs.Label.{IsBeginning, IsBeginningWith}
 use Rattle.vrp_routes.specs.TableTest.{AreRelaxed, IsTableTest, TableTestOf}
 use Rattle.vrp_routes.specs.Useful.{BeginsUseful, IsUseful}
 use Rattle.vrp_routes.specs.declared.table_resources.TableResources.{TableResources}
-use Rattle.vrp_routes.proofs.CheapBeginnings.{cheap_beginning, cheap_route, useful_begins, useful_begins_relaxed}
-use Rattle.vrp_routes.proofs.Labels.{cost_with, last_place, longer_beginning, short_beginning, small_cost_along, small_with}
+use Rattle.vrp_routes.proofs.CheapBeginnings.{cheap_beginning, cheap_route, useful_begins_relaxed}
+use Rattle.vrp_routes.proofs.Extensions.{at_end}
+use Rattle.vrp_routes.proofs.Labels.{cost_with, last_place, small_cost_along, small_with}
 
 pub not_too_heavy_relaxed : (r : RelaxationOf) (limit : ℕ) (stops : List ℕ) (k load : ℕ) → Bounds r → load ≡ load_of r.relaxed stops → r.relaxed.capacity < load + demand_of r.relaxed k → BeginsUseful r.problem limit (stops ++ k ∷ []) → ⊥
 not_too_heavy_relaxed r limit stops k load bounds is heavy useful = omega (arith, (useful_begins_relaxed r limit (stops ++ k ∷ []) bounds useful).light, load_with r.relaxed stops k, is, heavy)
@@ -71,12 +59,8 @@ told_place t tabled most whole set load last known stops is =
 -- the last of some stops that begin a route is a customer of both
 pub told_stop : (t : TableTestOf) (tabled : Problem) (most whole : ℕ) → IsTableTest t tabled most whole → (stops : List ℕ) (stop : ℕ) → IsBeginning t.relaxation.problem (stops ++ stop ∷ []) → (0 < stop) × (stop < place_count t.relaxation.relaxed)
 told_stop t tabled most whole known stops stop longer =
-    let customer : Contains (customers t.relaxation.problem) stop = subst (Contains (customers t.relaxation.problem)) (last_is_there stops stop) (longer.known (length stops) 0 (omega (arith, length-append stops (stop ∷ [])))) in
+    let customer : Contains (customers t.relaxation.problem) stop = subst (Contains (customers t.relaxation.problem)) (at_end stops stop 0) (longer.known (length stops) 0 (omega (arith, length-append stops (stop ∷ [])))) in
     (customer_is_some t.relaxation.problem stop customer, subst (λ n. stop < n) (sym known.bounds.same_places) (customer_below t.relaxation.problem stop customer))
-  where
-    last_is_there : (xs : List ℕ) (x : ℕ) → get_or (xs ++ x ∷ []) (length xs) 0 ≡ x
-    last_is_there [] x = refl
-    last_is_there (y ∷ xs) x = last_is_there xs x
 
 pub told_small : (t : TableTestOf) (tabled : Problem) (most whole set load last : ℕ) (resources : TableResources) → IsTableTest t tabled most whole → (stops : List ℕ) → IsBeginningWith t.relaxation.problem stops set load last → AreRelaxed t.relaxation.relaxed stops resources → resources.cost ≤ MAX_WEIGHT * MAX_NODES
 told_small t tabled most whole set load last resources known stops is counted = small_cost_along t.relaxation.problem stops resources.cost known.problem is.begins counted.small_cost

@@ -64,7 +64,8 @@ impl<X: Copy> Candidates<X> {
         from: usize,
         to: usize,
     ) -> Result<Candidates<X>, NoMemory>
-        requires level { (k : ℕ) × (stops : List (List ℕ)) × IsLevel (setting_of T.CompletionTest setting.now.test.now) k stops labels.now }
+        requires level { (k : ℕ) × (stops : List (List ℕ))
+            × IsLevel (setting_of T.CompletionTest setting.now.test.now) k stops labels.now }
         requires keyed { IsKeyed self }
         requires from { from ≤ to }
         requires to { to ≤ length labels.now }

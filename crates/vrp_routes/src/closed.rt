@@ -53,7 +53,8 @@ pub fn close_level<R: Threads + Sync, W, T: CompletionTest + Sync>(
     requires few { start + length labels.now < 2 ^ 32 }
     ensures { IfOk result (λ routes. (k : ℕ) (stops : List (List ℕ)) → 1 ≤ k
         → IsLevel (setting_of T.CompletionTest setting.now.test.now) k (drop start stops) labels.now
-        → AreClosed (T.problem setting.now.test.now) (T.limit setting.now.test.now) k stops routes.items) }
+        → AreClosed (T.problem setting.now.test.now) (T.limit setting.now.test.now) k stops
+        routes.items) }
 {
     let alloc = crew.alloc;
     let parts = values_of(
@@ -66,7 +67,8 @@ pub fn close_level<R: Threads + Sync, W, T: CompletionTest + Sync>(
             requires few { start + length labels.now < 2 ^ 32 }
             ensures { IfOk result (λ routes. (k : ℕ) (stops : List (List ℕ)) → 1 ≤ k
                 → IsLevel (setting_of T.CompletionTest setting.entry.now.test.now) k (drop start stops) labels.entry.now
-                → AreClosedIn (T.problem setting.entry.now.test.now) (T.limit setting.entry.now.test.now) k (is_closed_in share) stops routes.items) }
+                → AreClosedIn (T.problem setting.entry.now.test.now) (T.limit setting.entry.now.test.now) k
+                (is_closed_in share) stops routes.items) }
         { close_share(alloc, setting, labels, start, share) },
     )?;
     joined(alloc, parts)
@@ -128,10 +130,13 @@ fn cost_in_share<T: CompletionTest>(
     label: &Label<T::Resources>,
     share: usize,
 ) -> Option<u64>
-    requires label { (stops : List ℕ) × IsLabel (setting_of T.CompletionTest setting.now.test.now) stops label.now × (stops ≢ []) }
-    ensures cost { IfSome result (λ cost. (stops : List ℕ) → IsLabel (setting_of T.CompletionTest setting.now.test.now) stops label.now
+    requires label { (stops : List ℕ)
+        × IsLabel (setting_of T.CompletionTest setting.now.test.now) stops label.now × (stops ≢ []) }
+    ensures cost { IfSome result (λ cost. (stops : List ℕ)
+        → IsLabel (setting_of T.CompletionTest setting.now.test.now) stops label.now
         → cost ≡ route_cost (T.problem setting.now.test.now) stops) }
-    ensures none { IfNone result ((stops : List ℕ) → IsLabel (setting_of T.CompletionTest setting.now.test.now) stops label.now
+    ensures none { IfNone result ((stops : List ℕ)
+        → IsLabel (setting_of T.CompletionTest setting.now.test.now) stops label.now
         → is_closed_in share (set_of stops) ≡ true
         → IsUseful (T.problem setting.now.test.now) (T.limit setting.now.test.now) stops → ⊥) }
 {

@@ -137,7 +137,8 @@ impl<X: Copy + Send + Sync> Listing<X> {
     ) -> Result<Option<Limit>, NoMemory>
         requires listing { (k : ℕ) × IsListing (setting_of T.CompletionTest setting.now.test.now) k self.old }
         ensures { IfOk result (λ met. IfNone met ((k : ℕ)
-            → IsListing (setting_of T.CompletionTest setting.now.test.now) k self.old → IsListing (setting_of T.CompletionTest setting.now.test.now) (k + 1) self.new)) }
+            → IsListing (setting_of T.CompletionTest setting.now.test.now) k self.old
+            → IsListing (setting_of T.CompletionTest setting.now.test.now) (k + 1) self.new)) }
     {
         let start = self.sequences.len() as u32;
         let tally = LabelTally {

@@ -6,7 +6,8 @@ use Rattle.vrp_routes.proofs.closed.close_level.Goals as goal
 pub returns : goal.returns
 returns g c =
     let known = c.in_ok-parts.ensures in
-    if_ok c.joined.result _ _ (λ routes closed k stops some is. closed (setting_of g.T.CompletionTest c.args.setting.now.test.now).problem (setting_of g.T.CompletionTest c.args.setting.now.test.now).limit k stops
+    let s = setting_of g.T.CompletionTest c.args.setting.now.test.now in
+    if_ok c.joined.result _ _ (λ routes closed k stops some is. closed s.problem s.limit k stops
     (λ i d lt. known.each i d (omega (arith, lt, known.count, c.in_ok-parts.parts.ok)) k stops some is)) c.joined.ensures
 
 pub values_of-requires-clause-tasks : goal.values_of-requires-clause-tasks

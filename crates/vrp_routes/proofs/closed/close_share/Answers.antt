@@ -12,10 +12,11 @@ use Rattle.vrp_routes.proofs.closed.close_share.Goals.{in-Some+in_ok-offer, in_d
 
 pub loop-at-init : goal.loop-at-init
 loop-at-init g c =
+    let s = setting_of g.T.CompletionTest c.args.setting.now.test.now in
     let closed : ClosedLevel = record { routes = c.new.result; by_set = c.new-2.result } in
     record {
       places = no_places closed c.new-2.ensures.empty;
-      closes = λ k stops some is. closes_none (setting_of g.T.CompletionTest c.args.setting.now.test.now).problem (setting_of g.T.CompletionTest c.args.setting.now.test.now).limit (is_closed_in c.args.share) c.args.start stops closed c.new.ensures.items;
+      closes = λ k stops some is. closes_none s.problem s.limit (is_closed_in c.args.share) c.args.start stops closed c.new.ensures.items;
     }
 
 pub cost_in_share-requires-clause-label : goal.cost_in_share-requires-clause-label
@@ -28,7 +29,7 @@ cost_in_share-requires-clause-label g c = λ _ _.
 
 pub loop-at-preserved : goal.loop-at-preserved
 loop-at-preserved g c =
-    let s = (setting_of g.T.CompletionTest c.args.setting.now.test.now) in
+    let s = setting_of g.T.CompletionTest c.args.setting.now.test.now in
     let labels = c.args.labels.now in
     let start = c.args.start in
     let at = c.loop-at.at in

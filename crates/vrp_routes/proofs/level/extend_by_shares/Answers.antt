@@ -43,7 +43,7 @@ returns-clause-count g c = omega (arith, c.in_ok-parts.ensures.count, c.loop-fro
 
 pub returns-clause-parts : goal.returns-clause-parts
 returns-clause-parts g c = λ k stops is.
-    let s = (setting_of g.T.CompletionTest c.args.setting.now.test.now) in
+    let s = setting_of g.T.CompletionTest c.args.setting.now.test.now in
     let found = c.loop-from.found.items in
     let known = c.loop-from.invariant in
     parts_of_shares s (k + 1) stops c.args.range.shares c.args.range.first found c.in_ok-parts.parts.items known.shares

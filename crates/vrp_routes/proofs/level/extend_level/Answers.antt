@@ -13,7 +13,7 @@ use Rattle.vrp_routes.proofs.level.extend_level.Goals as goal
 
 pub loop-first-preserved : goal.loop-first-preserved
 loop-first-preserved g c =
-    let s = (setting_of g.T.CompletionTest c.args.setting.now.test.now) in
+    let s = setting_of g.T.CompletionTest c.args.setting.now.test.now in
     let first = c.loop-first.first in
     let count = c.min-count.result in
     let shares = c.max-shares.result in
@@ -38,7 +38,7 @@ all_merged-requires-clause-can g c κs within =
 
 pub returns-clause-level : goal.returns-clause-level
 returns-clause-level g c = λ k stops is.
-    let s = (setting_of g.T.CompletionTest c.args.setting.now.test.now) in
+    let s = setting_of g.T.CompletionTest c.args.setting.now.test.now in
     let shares = c.max-shares.result in
     let parts = c.loop-first.parts.items in
     let some : 0 < shares = omega (arith, c.max-shares.ensures, c.args.crew.now.some_worker) in
@@ -52,7 +52,7 @@ returns-clause-level g c = λ k stops is.
 pub returns-clause-parents : goal.returns-clause-parents
 returns-clause-parents g c =
     let (k, stops, is) = c.requires.level in
-    let s = (setting_of g.T.CompletionTest c.args.setting.now.test.now) in
+    let s = setting_of g.T.CompletionTest c.args.setting.now.test.now in
     let shares = c.max-shares.result in
     let parts = c.loop-first.parts.items in
     let there : c.deref.result.now ≡ parts = c.deref.ensures.value in

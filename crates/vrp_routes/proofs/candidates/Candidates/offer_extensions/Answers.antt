@@ -21,7 +21,7 @@ loop-stop-init g c = record {
 
 pub loop-stop-preserved : goal.loop-stop-preserved
 loop-stop-preserved g c =
-    let s = (setting_of g.T.CompletionTest c.args.setting.now.test.now) in
+    let s = setting_of g.T.CompletionTest c.args.setting.now.test.now in
     let parent = c.args.parent in
     let share = c.args.self.now.share in
     let old = c.loop-stop.self in

@@ -12,7 +12,7 @@ use Rattle.vrp_routes.proofs.listing.Listing.step.Goals as goal
 pub close_level-requires-clause-level : goal.close_level-requires-clause-level
 close_level-requires-clause-level g c = λ _ _.
     let (k, is) = c.requires.listing in
-    let s = (setting_of g.T.CompletionTest c.args.setting.now.test.now) in
+    let s = setting_of g.T.CompletionTest c.args.setting.now.test.now in
     let old = c.args.self.now in
     let labels = c.in-Labels.labels.items in
     let before = drop old.start old.sequences in
@@ -23,7 +23,7 @@ close_level-requires-clause-level g c = λ _ _.
 
 pub returns : goal.returns
 returns g c = λ k is.
-    let s = (setting_of g.T.CompletionTest c.args.setting.now.test.now) in
+    let s = setting_of g.T.CompletionTest c.args.setting.now.test.now in
     let old = c.args.self.now in
     let made = c.len-start.result in
     let labels = c.in-Labels.labels.items in

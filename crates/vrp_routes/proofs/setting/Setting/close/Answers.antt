@@ -1,6 +1,5 @@
-use Rattle.std.proofs.Common.{◌≡◌, ◌∙◌, ◌+◌, ◌<◌, List, ℕ, ap, sym, subst, arith}
+use Rattle.std.proofs.Common.{◌∙◌, ◌+◌, ◌<◌, ap, sym, subst, arith}
 use Rattle.vrp_model.specs.Problem.{IsSymmetric, Problem, place_count, weight_of}
-use Rattle.vrp_routes.specs.Label.{IsLabel}
 use Rattle.vrp_routes.specs.Setting.{setting_of}
 use Rattle.vrp_routes.proofs.Labels.{backward, closed_cost, label_place, label_small, told_label}
 use Rattle.vrp_routes.proofs.setting.Setting.close.Goals as goal

@@ -1,4 +1,4 @@
-use Rattle.std.proofs.Common.{List, ◌≡◌, ◌∙◌, ℕ, ◌+◌, ◌-◌, ◌<◌, None, Some, ap, sym, subst, arith}
+use Rattle.std.proofs.Common.{◌≡◌, ◌∙◌, ℕ, ◌+◌, ◌-◌, ◌<◌, None, Some, ap, sym, subst, arith}
 use Rattle.vrp_model.specs.Problem.{Problem, demand_of, place_count, weight_of}
 use Rattle.vrp_routes.specs.TableTest.{IsTableTest, TableTestOf}
 use Rattle.vrp_routes.proofs.TableSteps.{costly_child, longer_relaxed, longer_within, not_too_heavy_relaxed, told_place, told_small, told_stop}

@@ -1,4 +1,4 @@
-use Rattle.std.proofs.Common.{List, ◌≡◌, ◌∙◌, ℕ, ◌+◌, ◌-◌, ◌<◌, None, Some, ap, sym, subst, arith}
+use Rattle.std.proofs.Common.{◌≡◌, ◌∙◌, ℕ, ◌+◌, ◌-◌, ◌<◌, None, Some, ap, sym, subst, arith}
 use Rattle.std.proofs.lemmas.Bool.Decides.{nat_tests}
 use Rattle.vrp_model.specs.Problem.{Problem, place_count, weight_of}
 use Rattle.vrp_routes.specs.TableTest.{IsTableTest, TableTestOf}
