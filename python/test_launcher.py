@@ -26,13 +26,17 @@ cvrp: upper
 upper: left right
 """
 
-# As rt does, keeps others out of all crates at hand as long as it works; tells if it is kept out itself. What it proves is in the folder
+# As rt does, wants a folder for each crate of the list, and keeps others out of all crates at hand as long as it works; tells if it is kept
+# out itself. What it proves is in the folder
 # `out`. Sleeps a bit; fails in the crate that the file `fail` names, and dawdles in the one that `slow` names. `rt run` makes a program, if
 # the crate doesn't fail, and ends with the status of that program's run on empty input.
 FAKE_RT = """\
 #!/usr/bin/env bash
 crate=$(basename "$PWD")
 echo "begin $1 $crate" >> "$ROOM/log"
+for name in $(sed -n 's/^\\([a-z_0-9]*\\)[ :].*/\\1/p' ../../crates.txt); do
+    [ -d "../$name" ] || echo "no folder of $name" >> "$ROOM/log"
+done
 for folder in ../*/; do
     exec {lock}< "$folder"
     ! command -v flock > /dev/null || flock -n "$lock" || echo "kept out of $folder" >> "$ROOM/log"
