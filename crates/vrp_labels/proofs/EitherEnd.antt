@@ -15,7 +15,7 @@ use Rattle.vrp_labels.specs.Route.{IsAliveBeginning, IsAliveEnding, IsAliveRoute
 use Rattle.vrp_labels.specs.declared.label.Label.{Label}
 use Rattle.vrp_labels.proofs.Joins.{halves, route_joined, alive_halves, meeting_alive}
 use Rattle.vrp_labels.proofs.RowExcess.{excess_same, meeting_excess}
-use Rattle.vrp_labels.proofs.Endings.{behind_head, load_more, not_set}
+use Rattle.vrp_labels.proofs.Endings.{behind_head, load_more, not_set, place_of}
 
 -- ---- both ways
 
@@ -44,10 +44,6 @@ whole g (j ∷ beginning) ending kb kp ob op apart load ahead homeward =
     parted j c ending (suc k, lt, is) = inr (k, omega (arith, lt), is)
 
 -- arcs that are alive both ways
-pub place_of : (g : GraphOf) (ending : List ℕ) → 1 ≤ g.folded.places → IsKnown g ending → first_of ending < g.folded.places
-place_of g [] some known = omega (arith, some)
-place_of g (j ∷ ending) some known = (All-head (λ j. (1 ≤ j) × (j < g.folded.places)) j ending known).1
-
 ending_of_beginning : (g : GraphOf) → IsEven g → 1 ≤ g.folded.places → (beginning : List ℕ) → IsKnown g beginning → (to : ℕ) → IsAliveBeginning g beginning to → IsAliveEnding g beginning
 ending_of_beginning g even some [] known to ahead = tt
 ending_of_beginning g even some (j ∷ beginning) known to ahead =
@@ -173,10 +169,11 @@ begins_links s forward beginning (j ∷ ending) closed cheap begins =
 
 -- ---- arcs that cheap routes use
 
--- the followers of a place in cheap routes
+-- the followers of a place in cheap routes, all of them alive
 pub record Marks (s : CompletionsOf) (i set : ℕ) : Type 0 where
   pub depot : i ≡ 0 → (j : ℕ) → j < s.graph.folded.places → Links s root_label j → bit_at set j ≡ 1
   pub kept : 1 ≤ i → (label : Label) → Contains (pile_at s.kept i) label → (j : ℕ) → j < s.graph.folded.places → Links s (as_forward s.graph label) j → bit_at set j ≡ 1
+  pub alive : (j : ℕ) → bit_at set j ≡ 1 → Follows s.graph i j
 
 marked : (s : CompletionsOf) (followers : List ℕ) → IsEven s.graph → 1 ≤ s.graph.folded.places → IsClosed s.graph s.gap s.kept → ((i : ℕ) → i < s.graph.folded.places → Marks s i (get_or followers i 0))
     → (beginning ending : List ℕ) → IsCheap s.graph s.gap (joined beginning ending) → bit_at (get_or followers (first_of beginning) 0) (first_of ending) ≡ 1

@@ -2,7 +2,7 @@
 use Rattle.std.proofs.Common.{◌≡◌, ◌⊎◌, ℕ, suc, ◌+◌, ◌^◌, ◌<◌, ◌≤◌, ◌≤ℤ◌, ℤ, pos, ◌+ℤ◌, List, [], ◌∷◌, inl, inr, refl, sym, ◌∙◌, ap, subst, arith, bit_and, min, max}
 use Rattle.std.specs.Int.{bit_at}
 use Rattle.std.specs.Int.RustNames.{bit_or}
-use Rattle.std.specs.List.{Contains}
+use Rattle.std.specs.List.{All, Contains}
 use Rattle.std.proofs.lemmas.Bool.{cases_eq}
 use Rattle.std.proofs.lemmas.Int.{ints}
 use Rattle.std.proofs.lemmas.List.Elements.{All-head, All-tail}
@@ -41,6 +41,10 @@ head_known g j ending is = All-head (λ j. (1 ≤ j) × (j < g.folded.places)) j
 
 pub head_fresh : (g : GraphOf) (j : ℕ) (ending : List ℕ) → IsEnding g (j ∷ ending) → Contains ending j → ⊥
 head_fresh g j ending is (k, lt, same) = is.once 0 (suc k) j (omega arith) (omega (arith, lt)) (sym same)
+
+pub place_of : (g : GraphOf) (ending : List ℕ) → 1 ≤ g.folded.places → All (λ j. (1 ≤ j) × (j < g.folded.places)) ending → first_of ending < g.folded.places
+place_of g [] some known = omega (arith, some)
+place_of g (j ∷ ending) some known = (All-head (λ j. (1 ≤ j) × (j < g.folded.places)) j ending known).1
 
 -- ---- what a label remembers
 

@@ -3,6 +3,7 @@ pub mod CheapPlans
 pub mod ClosingSteps
 pub mod EitherEnd
 pub mod Endings
+pub mod FewerArcs
 pub mod Graphs
 pub mod Joins
 pub mod Meetings

@@ -1,5 +1,5 @@
 -- Labels that were closed where rows are remembered at fewer places.
-use Rattle.std.proofs.Common.{◌≡◌, ℕ, get_or, ◌+◌, ◌-◌, ◌%◌, ◌<◌, ◌≤◌, List, [], ◌∷◌, refl, ◌∙◌, subst, arith, ℤ, pos, ◌+ℤ◌, ◌≤ℤ◌, bit_and, min}
+use Rattle.std.proofs.Common.{◌≡◌, ℕ, get_or, ◌+◌, ◌-◌, ◌%◌, ◌<◌, ◌≤◌, List, [], ◌∷◌, refl, sym, ◌∙◌, subst, arith, ℤ, pos, ◌+ℤ◌, ◌≤ℤ◌, bit_and, min}
 use Rattle.std.specs.Int.{bit_at}
 use Rattle.std.specs.List.{All}
 use Rattle.std.proofs.lemmas.Int.{ints}
@@ -7,12 +7,14 @@ use Rattle.std.proofs.lemmas.List.Elements.{All-head, All-tail}
 use Rattle.std.proofs.lemmas.Nat.Bits.{bit_at-lt, bit_at_and}
 use Rattle.vrp_duals.specs.Folding.{arc_of, due_at, first_of, folded_cost, home_cost, members_at, memories_at, rows_at, rows_of}
 use Rattle.vrp_labels.specs.Closing.{AreKept}
+use Rattle.vrp_labels.specs.Fixing.{AreAlive, KeepsCheap, with_followers}
 use Rattle.vrp_labels.specs.Graph.{GraphOf}
 use Rattle.vrp_labels.specs.Label.{IsClosed, StandsFor, excess, rows_without}
-use Rattle.vrp_labels.specs.Route.{joined}
+use Rattle.vrp_labels.specs.Route.{IsCheap, joined}
 use Rattle.vrp_labels.specs.Widening.{AreWider, IsClosedBelow, IsWiderAt, with_memories}
 use Rattle.vrp_labels.specs.declared.label.Label.{Label}
 use Rattle.vrp_labels.proofs.AlikeGraphs.{route_alike}
+use Rattle.vrp_labels.proofs.FewerArcs.{closed_fewer, kept_fewer}
 use Rattle.vrp_labels.proofs.Joins.{halves}
 use Rattle.vrp_labels.proofs.RowExcess.{bit_at_without, bit_at_rows, excess_same, excess_trans, from_bits, weigh_bits}
 
@@ -67,15 +69,22 @@ route_wider g memories route wider known =
     more : (a h k : ℤ) (x : ℕ) → (h +ℤ pos x) ≤ℤ k → (a +ℤ h) ≤ℤ (a +ℤ k)
     more a h k x p = omega (arith, ints)
 
+-- a cheap route of the graph with more memories is cheap in the other
+pub cheap_wider : (g : GraphOf) (memories : List ℕ) (gap : ℤ) (route : List ℕ) → AreWider g.folded memories → IsCheap (with_memories g memories) gap route → IsCheap g gap route
+cheap_wider g memories gap route wider cheap = record {
+  is_route = route_alike (with_memories g memories) g route (record { places = refl; demands = refl; capacity = refl; followers = refl }) cheap.is_route;
+  cheap = trans (folded_cost g.folded route) (folded_cost (with_memories g memories).folded route) (route_wider g memories route wider cheap.is_route.is_ending.known) cheap.cheap;
+}
+  where
+    trans : (a b : ℤ) → a ≤ℤ b → b ≤ℤ gap → a ≤ℤ gap
+    trans a b p q = omega (arith, ints)
+
 closed_wider : (g : GraphOf) (memories : List ℕ) (gap : ℤ) (kept : List (List Label)) → AreWider g.folded memories → IsClosed g gap kept → IsClosed (with_memories g memories) gap kept
 closed_wider g memories gap kept wider closed beginning ending cheap some =
     let w = with_memories g memories in
     let route = joined beginning ending in
-    let (label, has, stands) = closed beginning ending (record { is_route = route_alike w g route (record { places = refl; demands = refl; capacity = refl; followers = refl }) cheap.is_route; cheap = trans (folded_cost g.folded route) (folded_cost w.folded route) (route_wider g memories route wider cheap.is_route.is_ending.known) cheap.cheap }) some in
+    let (label, has, stands) = closed beginning ending (cheap_wider g memories gap route wider cheap) some in
     (label, has, stands_wider g memories label ending wider (halves w beginning ending cheap.is_route.is_ending).is_ending.known stands)
-  where
-    trans : (a b : ℤ) → a ≤ℤ b → b ≤ℤ gap → a ≤ℤ gap
-    trans a b p q = omega (arith, ints)
 
 kept_wider : (g : GraphOf) (memories : List ℕ) (kept : List (List Label)) → AreKept g kept → AreKept (with_memories g memories) kept
 kept_wider g memories kept are = record {
@@ -84,7 +93,32 @@ kept_wider g memories kept are = record {
 }
 
 pub closed_above : (wide : GraphOf) (gap : ℤ) (kept : List (List Label)) → IsClosedBelow wide gap kept → IsClosed wide gap kept
-closed_above wide gap kept below = subst (λ (g : GraphOf). IsClosed g gap kept) below.is (closed_wider below.narrow wide.folded.memories gap kept below.wider below.closed)
+closed_above wide gap kept below =
+    let memories = wide.folded.memories in
+    subst (λ (g : GraphOf). IsClosed g gap kept) below.is
+    (closed_fewer (with_memories below.narrow memories) wide.followers gap kept below.alive (closed_wider below.narrow memories gap kept below.wider below.closed))
 
 pub kept_above : (wide : GraphOf) (gap : ℤ) (kept : List (List Label)) → IsClosedBelow wide gap kept → AreKept wide kept
-kept_above wide gap kept below = subst (λ (g : GraphOf). AreKept g kept) below.is (kept_wider below.narrow wide.folded.memories kept below.are_kept)
+kept_above wide gap kept below =
+    let memories = wide.folded.memories in
+    subst (λ (g : GraphOf). AreKept g kept) below.is (kept_fewer (with_memories below.narrow memories) wide.followers kept (kept_wider below.narrow memories kept below.are_kept))
+
+-- so arcs that cheap routes use in the other are kept for its own
+pub keeps_wider : (g : GraphOf) (memories : List ℕ) (gap : ℤ) (followers : List ℕ) → AreWider g.folded memories → KeepsCheap g gap followers → KeepsCheap (with_memories g memories) gap followers
+keeps_wider g memories gap followers wider keeps = record {
+  long = keeps.long;
+  cheap = λ route cheap. route_alike (with_followers g followers) (with_followers (with_memories g memories) followers) route (record { places = refl; demands = refl; capacity = refl; followers = refl })
+      (keeps.cheap route (cheap_wider g memories gap route wider cheap));
+}
+
+-- labels that were closed in a graph serve where fewer arcs are alive, and then rows are remembered at more places
+pub closed_below : (g : GraphOf) (followers memories : List ℕ) (wide : GraphOf) (gap : ℤ) (kept : List (List Label)) → wide ≡ with_memories (with_followers g followers) memories → AreAlive g followers → AreWider g.folded memories → AreKept g kept → IsClosed g gap kept
+    → IsClosedBelow wide gap kept
+closed_below g followers memories wide gap kept is alive wider are closed = subst (λ (w : GraphOf). IsClosedBelow w gap kept) (sym is) (record {
+  narrow = g;
+  is = refl;
+  wider = wider;
+  alive = alive;
+  are_kept = are;
+  closed = closed;
+})

@@ -1,6 +1,7 @@
 -- Arcs that cheap routes use, in graphs where routes cost the same from either end (fixing of arcs by reduced costs; Irnich, Desaulniers,
 -- Desrosiers and Hadjar 2010).
-use Rattle.std.specs.Prelude.{◌≡◌, ◌<◌, ℕ, ℤ, ◌+ℤ◌, ◌-ℤ◌, List, length}
+use Rattle.std.specs.Prelude.{◌≡◌, ◌<◌, ℕ, ℤ, ◌+ℤ◌, ◌-ℤ◌, List, length, slice_index}
+use Rattle.std.specs.Int.{bit_at}
 use Rattle.vrp_duals.specs.Folding.{arc_of}
 use Rattle.vrp_labels.specs.Graph.{Follows, GraphOf}
 use Rattle.vrp_labels.specs.Route.{IsAliveRoute, IsCheap}
@@ -30,6 +31,10 @@ as_forward g label = record {
 -- the graph where these arcs are alive
 abbrev pub with_followers : GraphOf → List ℕ → GraphOf
 with_followers g followers = record g { followers = followers }
+
+-- each of these arcs is alive in the graph
+abbrev pub AreAlive : GraphOf → List ℕ → Type 0
+AreAlive g followers = (from to : ℕ) → from < g.folded.places → to < g.folded.places → bit_at (slice_index followers from) to ≡ 1 → Follows g from to
 
 -- no cheap route uses other arcs
 pub record KeepsCheap (g : GraphOf) (gap : ℤ) (followers : List ℕ) : Type 0 where

@@ -5,7 +5,8 @@ ghost use Rattle.std.specs.List.{Contains};
 ghost use Rattle.vrp_duals.specs.Folding.{folded_cost};
 ghost use Rattle.vrp_labels.specs.Closing.{AreKept};
 ghost use Rattle.vrp_labels.specs.Completion.{BoundsCompletions, IsForward, IsLinkCost, Links};
-ghost use Rattle.vrp_labels.specs.Fixing.{IsEven, KeepsCheap, as_forward};
+ghost use Rattle.vrp_labels.specs.Fixing.{AreAlive, IsEven, KeepsCheap, as_forward};
+ghost use Rattle.vrp_labels.specs.Graph.{Follows};
 ghost use Rattle.vrp_labels.specs.Label.{IsClosed, IsLabelOf, pile_at, root_label};
 ghost use Rattle.vrp_labels.specs.Route.{IsAliveRoute, IsCheap, joined};
 ghost use Rattle.vrp_labels.specs.Widening.{IsClosedBelow};
@@ -53,14 +54,22 @@ impl<'a> Completions<'a> {
         Completions { graph, gap, kept }
     }
 
-    /// The completions by labels that were closed where rows are remembered at fewer places, or the same. So if all rows are remembered
-    /// everywhere in this graph, whoever asks may count the customers of each row in full.
+    /// The completions by labels that were closed where rows are remembered at fewer places, or the same, and where more arcs are alive, or
+    /// the same. So if all rows are remembered everywhere in this graph, whoever asks may count the customers of each row in full.
     pub fn widened(graph: &'a RouteGraph, gap: i64, kept: LabelPiles) -> Completions<'a>
         requires { IsClosedBelow graph.now gap kept }
         ensures graph { result.graph ≡ graph.now }
         ensures gap { result.gap ≡ gap }
     {
         Completions::new(graph, gap, kept)
+    }
+
+    /// The labels, for completions in another graph.
+    pub fn into_labels(self) -> LabelPiles
+        ensures are_kept { AreKept self.entry.graph result }
+        ensures closed { IsClosed self.entry.graph self.entry.gap result }
+    {
+        self.kept
     }
 
     /// A number that no completion of the beginning to a cheap route adds less than, in price units: what the arc to the depot or some label
@@ -139,10 +148,11 @@ impl<'a> Completions<'a> {
         self.least(&self.graph.root()).min(self.gap).min(0)
     }
 
-    /// For each place, the places that follow it in cheap routes, and maybe more. The only error is lack of memory.
+    /// For each place, the places that follow it in cheap routes, and maybe more to which the arc is alive. The only error is lack of memory.
     pub fn useful_arcs(&self, alloc: Global) -> Result<Vec<CustomerSet>, AllocError>
         requires { IsEven self.now.graph }
-        ensures { IfOk result (λ followers. KeepsCheap self.now.graph self.now.gap followers.items) }
+        ensures keeps { IfOk result (λ followers. KeepsCheap self.now.graph self.now.gap followers.items) }
+        ensures alive { IfOk result (λ followers. AreAlive self.now.graph followers.items) }
     {
         let places = self.graph.places();
         let mut followers = Vec::with_capacity(alloc, places as usize)?;
@@ -158,6 +168,7 @@ impl<'a> Completions<'a> {
         ensures depot { i ≡ 0 → (j : ℕ) → j < self.now.graph.folded.places → Links self.now root_label j → bit_at result j ≡ 1 }
         ensures kept { 1 ≤ i → (label : Label) → Contains (pile_at self.now.kept i) label → (j : ℕ) → j < self.now.graph.folded.places
             → Links self.now (as_forward self.now.graph label) j → bit_at result j ≡ 1 }
+        ensures alive { (j : ℕ) → bit_at result j ≡ 1 → Follows self.now.graph i j }
     {
         if i == 0 {
             return self.with_links(&Label::root(), CustomerSet::empty());
@@ -177,6 +188,7 @@ impl<'a> Completions<'a> {
         requires small { unsigned_abs forward.now.cost ≤ 2 ^ 62 }
         ensures still { (j : ℕ) → bit_at known j ≡ 1 → bit_at result j ≡ 1 }
         ensures linked { (j : ℕ) → j < self.now.graph.folded.places → Links self.now forward.now j → bit_at result j ≡ 1 }
+        ensures alive { (j : ℕ) → bit_at result j ≡ 1 → (bit_at known j ≡ 1) ⊎ Follows self.now.graph forward.now.at j }
     {
         let mut set = known;
         for place in 0..self.graph.places() {

@@ -3,7 +3,7 @@ ghost use Rattle.std.specs.Prelude.{◌≡◌, ◌≤◌, ◌<◌, ◌+◌, ◌*
 ghost use Rattle.std.specs.Int.{bit_at};
 ghost use Rattle.vrp_duals.specs.Folding.{arc_of, weigh};
 ghost use Rattle.vrp_duals.specs.declared.limits.TheConstants.{MAX_ARC_PRICE, MAX_ROW_CHARGE};
-ghost use Rattle.vrp_labels.specs.Fixing.{IsEven, IsPairEven, as_forward};
+ghost use Rattle.vrp_labels.specs.Fixing.{IsEven, IsPairEven, as_forward, with_followers};
 ghost use Rattle.vrp_labels.specs.Graph.{Follows, IsGraph, demand_at, graph_of, near_at};
 ghost use Rattle.vrp_labels.specs.Label.{IsLabelOf};
 ghost use Rattle.vrp_labels.specs.Widening.{AreWider, with_memories};
@@ -148,6 +148,14 @@ impl RouteGraph {
         } else {
             None
         }
+    }
+
+    /// The graph where these arcs are alive, and no others: for each place, those that follow it.
+    pub fn keep_arcs(self, followers: Vec<CustomerSet>) -> RouteGraph
+        requires { length followers.items ≡ self.folded.places }
+        ensures { result ≡ with_followers self followers.items }
+    {
+        RouteGraph { followers, ..self }
     }
 
     /// The number of places, the depot among them.

@@ -4,7 +4,8 @@ use Rattle.vrp_duals.specs.Folding.{first_of}
 use Rattle.vrp_labels.specs.Completion.{AreCompletions, Links, CompletionsOf}
 use Rattle.vrp_labels.proofs.Joins.{halves}
 use Rattle.vrp_labels.proofs.Meetings.{forward_begins}
-use Rattle.vrp_labels.proofs.EitherEnd.{begins_links, place_of}
+use Rattle.vrp_labels.proofs.EitherEnd.{begins_links}
+use Rattle.vrp_labels.proofs.Endings.{place_of}
 use Rattle.vrp_labels.proofs.completions.Completions.may_begin.Goals as goal
 
 pub loop-place-preserved : goal.loop-place-preserved

@@ -2,8 +2,12 @@ use Rattle.std.proofs.Common.{◌≡◌, ◌<◌, ℕ, get_or}
 use Rattle.std.specs.Int.{bit_at}
 use Rattle.vrp_labels.specs.Completion.{Links}
 use Rattle.vrp_labels.specs.Fixing.{as_forward}
+use Rattle.vrp_labels.specs.Graph.{Follows}
 use Rattle.vrp_labels.specs.Label.{pile_at, root_label}
 use Rattle.vrp_labels.proofs.completions.Completions.useful_from.Given as goal
 
 abbrev pub invariant-loop-label : goal.invariant-loop-label
-invariant-loop-label l = (k : ℕ) → k < l.label-index → (j : ℕ) → j < l.self.graph.folded.places → Links l.self (as_forward l.self.graph (get_or (pile_at l.self.kept l.i) k root_label)) j → bit_at l.set j ≡ 1
+invariant-loop-label l = record {
+  marked : (k : ℕ) → k < l.label-index → (j : ℕ) → j < l.self.graph.folded.places → Links l.self (as_forward l.self.graph (get_or (pile_at l.self.kept l.i) k root_label)) j → bit_at l.set j ≡ 1;
+  alive : (j : ℕ) → bit_at l.set j ≡ 1 → Follows l.self.graph l.i j;
+}
