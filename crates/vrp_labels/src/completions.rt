@@ -41,27 +41,39 @@ impl<'a> Model for Completions<'a> {
 }
 
 impl<'a> Completions<'a> {
-    /// The completions by the closed labels of a graph.
-    pub fn new(graph: &'a RouteGraph, gap: i64, mut kept: LabelPiles) -> Completions<'a>
+    /// The completions by the closed labels of a graph. The only error is lack of memory.
+    pub fn new(
+        alloc: Global,
+        graph: &'a RouteGraph,
+        gap: i64,
+        mut kept: LabelPiles,
+    ) -> Result<Completions<'a>, AllocError>
         requires are_kept { AreKept graph.now kept }
         requires closed { IsClosed graph.now gap kept }
-        ensures graph { result.graph ≡ graph.now }
-        ensures gap { result.gap ≡ gap }
+        ensures graph { IfOk result (λ completions. completions.graph ≡ graph.now) }
+        ensures gap { IfOk result (λ completions. completions.gap ≡ gap) }
     {
+        let _alloc = alloc;
         for at in 0..graph.places() {
             kept.sort(at as usize);
         }
-        Completions { graph, gap, kept }
+        Ok(Completions { graph, gap, kept })
     }
 
     /// The completions by labels that were closed where rows are remembered at fewer places, or the same, and where more arcs are alive, or
-    /// the same. So if all rows are remembered everywhere in this graph, whoever asks may count the customers of each row in full.
-    pub fn widened(graph: &'a RouteGraph, gap: i64, kept: LabelPiles) -> Completions<'a>
+    /// the same. So if all rows are remembered everywhere in this graph, whoever asks may count the customers of each row in full. The only
+    /// error is lack of memory.
+    pub fn widened(
+        alloc: Global,
+        graph: &'a RouteGraph,
+        gap: i64,
+        kept: LabelPiles,
+    ) -> Result<Completions<'a>, AllocError>
         requires { IsClosedBelow graph.now gap kept }
-        ensures graph { result.graph ≡ graph.now }
-        ensures gap { result.gap ≡ gap }
+        ensures graph { IfOk result (λ completions. completions.graph ≡ graph.now) }
+        ensures gap { IfOk result (λ completions. completions.gap ≡ gap) }
     {
-        Completions::new(graph, gap, kept)
+        Completions::new(alloc, graph, gap, kept)
     }
 
     /// The labels, for completions in another graph.

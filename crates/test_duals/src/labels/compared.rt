@@ -89,7 +89,7 @@ fn assert_case(
         assert!(rt; false, "a limit was met");
         return 0;
     };
-    let completions = Completions::new(graph, case.gap, kept);
+    let completions = Completions::new(alloc, graph, case.gap, kept).expect(rt, "memory");
     let least = least_cost(rt, prices, case).min(0);
     assert_same(rt, completions.least_route(), least, case.gap);
     assert_beginnings(rt, graph, &completions, prices, case);
@@ -122,7 +122,7 @@ fn assert_bounds(
         assert!(rt; false, "a limit was met");
         return;
     };
-    let completions = Completions::new(graph, case.gap, kept);
+    let completions = Completions::new(alloc, graph, case.gap, kept).expect(rt, "memory");
     assert!(rt; completions.least_route() <= least_cost(rt, prices, case));
     assert_beginnings(rt, graph, &completions, prices, case);
     assert!(rt; graph.is_even());

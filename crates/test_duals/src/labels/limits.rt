@@ -38,7 +38,7 @@ fn most_places(rt: HostRuntime) {
         return;
     };
     assert_same(&rt, kept.len(), PLACES, "piles");
-    let completions = Completions::new(&graph, 20, kept);
+    let completions = Completions::new(rt.alloc(), &graph, 20, kept).expect(&rt, "memory");
     let root = graph.root();
     assert!(&rt; 1 < graph.places());
     assert!(&rt; graph.may_advance(&root, 1));
