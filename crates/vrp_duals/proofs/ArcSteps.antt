@@ -101,13 +101,13 @@ same_difference n n' y y' v v' e f g = cc
 
 -- ---- the table of all arcs
 
-pub table_at : (p : Problem) (d : DualsOf) (items : List ℤ) (places : ℕ) → length items ≡ places * places → ((k : ℕ) → k < length items → get_or items k (pos 0) ≡ arc_price p d (k / places) (k % places))
-    → (i j : ℕ) → i < places → j < places → get_or items (i * places + j) (pos 0) ≡ arc_price p d i j
-table_at p d items places long each i j is js =
+pub table_at : (value : ℕ → ℕ → ℤ) (items : List ℤ) (places : ℕ) → length items ≡ places * places → ((k : ℕ) → k < length items → get_or items k (pos 0) ≡ value (k / places) (k % places))
+    → (i j : ℕ) → i < places → j < places → get_or items (i * places + j) (pos 0) ≡ value i j
+table_at value items places long each i j is js =
     let k = i * places + j in
     let row : k / places ≡ i = div-mul-add i places j js in
     let column : k % places ≡ j = mod-mul-add i places j js in
-    each k (omega (arith, long, mul-add-lt i places j places is js)) ∙ (ap (λ n. arc_price p d n (k % places)) row ∙ ap (arc_price p d i) column)
+    each k (omega (arith, long, mul-add-lt i places j places is js)) ∙ (ap (λ n. value n (k % places)) row ∙ ap (value i) column)
 
 pub pair_inside : (places k : ℕ) → k < places * places → 0 < places
 pair_inside zero k lt = absurd (omega (arith, lt))

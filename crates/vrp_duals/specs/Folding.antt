@@ -104,6 +104,14 @@ AreFull d memories = (place : ℕ) → place < length d.prices → slice_index m
 abbrev pub remembering : FoldedOf → List ℕ → FoldedOf
 remembering f memories = record f { memories = memories }
 
+-- each arc costs what the arc the other way costs, and the rows are the same
+pub record AreReversed (f reversed : FoldedOf) : Type 0 where
+  pub places : reversed.places ≡ f.places
+  pub arcs : (from to : ℕ) → from < f.places → to < f.places → arc_of reversed from to ≡ arc_of f to from
+  pub members : reversed.members ≡ f.members
+  pub memories : reversed.memories ≡ f.memories
+  pub row_prices : reversed.row_prices ≡ f.row_prices
+
 -- a table for each place, and prices of moderate size, so that sums of them fit
 pub record IsTable (f : FoldedOf) : Type 0 where
   pub some_places : 1 ≤ f.places

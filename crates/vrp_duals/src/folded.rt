@@ -1,11 +1,13 @@
 //! Dual prices folded into prices of arcs and sets of rows.
-ghost use Rattle.std.specs.Prelude.{◌≡◌, ◌≤◌, ◌<◌, length, slice_index, slice_index_or, unsigned_abs};
+ghost use Rattle.std.specs.Prelude.{◌≡◌, ◌≤◌, ◌<◌, ◌+◌, ◌*◌, ℕ, pos, IfOk, length, slice_index, slice_index_or, unsigned_abs};
+ghost use Rattle.std.specs.List.{All};
 ghost use Rattle.vrp_customers.specs.declared.customer_set.TheConstants.{PLACES};
-ghost use Rattle.vrp_duals.specs.Folding.{arc_of, due_at, members_at, memories_at, remembering, rows_at, weigh};
+ghost use Rattle.vrp_duals.specs.Folding.{AreReversed, arc_of, due_at, members_at, memories_at, remembering, rows_at, weigh};
 ghost use Rattle.vrp_duals.specs.declared.limits.TheConstants.{MAX_ARC_PRICE, MAX_ROW_CHARGE};
 
 use crate::row_set::RowSet;
 use crate::sums::weigh;
+use std::alloc::{AllocError, Global};
 use std::marker::Model;
 
 /// Dual prices folded into prices of arcs and sets of rows: what a route costs is read off them arc by arc and stop by stop.
@@ -34,6 +36,7 @@ impl Model for FoldedDuals {
 
 impl FoldedDuals {
     /// The number of places, the depot among them.
+    #[inline(always)]
     pub fn places(&self) -> u16
         ensures value { result ≡ self.now.places }
         ensures some { 1 ≤ result }
@@ -43,6 +46,7 @@ impl FoldedDuals {
     }
 
     /// The price of the arc from one place to another, in price units.
+    #[inline(always)]
     pub fn arc_price(&self, from: u16, to: u16) -> i64
         requires from { from < self.now.places }
         requires to { to < self.now.places }
@@ -53,6 +57,7 @@ impl FoldedDuals {
     }
 
     /// The rows that have a place.
+    #[inline(always)]
     pub fn members(&self, place: u16) -> RowSet
         requires { place < self.now.places }
         ensures { result ≡ members_at self.now place }
@@ -61,6 +66,7 @@ impl FoldedDuals {
     }
 
     /// The rows whose memory has a place.
+    #[inline(always)]
     pub fn memories(&self, place: u16) -> RowSet
         requires { place < self.now.places }
         ensures { result ≡ memories_at self.now place }
@@ -70,6 +76,7 @@ impl FoldedDuals {
 
     /// The rows in state 1 after a stop, if `rows` are those before it: a row whose memory lacks the stop leaves state 1, and a row that
     /// has the stop changes its state.
+    #[inline(always)]
     pub fn rows_at(&self, stop: u16, rows: RowSet) -> RowSet
         requires { stop < self.now.places }
         ensures { result ≡ rows_at self.now stop rows }
@@ -79,6 +86,7 @@ impl FoldedDuals {
     }
 
     /// What is due at a stop, in price units, if `rows` are in state 1 before it: the prices of those that have the stop.
+    #[inline(always)]
     pub fn due_at(&self, stop: u16, rows: RowSet) -> u64
         requires { stop < self.now.places }
         ensures value { result ≡ due_at self.now stop rows }
@@ -88,10 +96,15 @@ impl FoldedDuals {
     }
 
     /// The sum of the prices of a set of rows, in price units.
+    #[inline(always)]
     pub fn weigh(&self, rows: RowSet) -> u64
         ensures value { result ≡ weigh self.now.row_prices rows }
         ensures small { result ≤ MAX_ROW_CHARGE }
     {
+        // Mostly there is none.
+        if rows.is_empty() {
+            return 0;
+        }
         weigh(&self.row_prices, rows)
     }
 
@@ -101,5 +114,35 @@ impl FoldedDuals {
         ensures { result ≡ remembering self memories.items }
     {
         FoldedDuals { memories, ..self }
+    }
+
+    /// The same prices with each arc turned round: it costs what the arc the other way costs. The only error is lack of memory.
+    pub fn reversed(&self, alloc: Global) -> Result<FoldedDuals, AllocError>
+        ensures { IfOk result (AreReversed self.now) }
+    {
+        Ok(FoldedDuals {
+            places: self.places,
+            arc_prices: self.reversed_arcs(alloc)?,
+            members: Vec::from_slice(alloc, &self.members)?,
+            memories: Vec::from_slice(alloc, &self.memories)?,
+            row_prices: Vec::from_slice(alloc, &self.row_prices)?,
+        })
+    }
+
+    // For each place, and then each other, the price of the arc to it from the other.
+    fn reversed_arcs(&self, alloc: Global) -> Result<Vec<i64>, AllocError>
+        ensures len { IfOk result (λ arcs. length arcs.items ≡ self.now.places * self.now.places) }
+        ensures value { IfOk result (λ arcs. (from to : ℕ) → from < self.now.places → to < self.now.places
+            → slice_index_or arcs.items (from * self.now.places + to) (pos 0) ≡ arc_of self.now to from) }
+        ensures small { IfOk result (λ arcs. All (λ price. unsigned_abs price ≤ MAX_ARC_PRICE) arcs.items) }
+    {
+        let places = usize::from(self.places());
+        let mut arcs = Vec::with_capacity(alloc, places * places)?;
+        for index in 0..places * places {
+            let from = (index / places) as u16;
+            let to = (index % places) as u16;
+            arcs.push(self.arc_price(to, from))?;
+        }
+        Ok(arcs)
     }
 }

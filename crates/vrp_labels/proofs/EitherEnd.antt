@@ -1,61 +1,23 @@
 -- Routes read from their other ends, and the arcs that cheap routes use.
-use Rattle.std.proofs.Common.{◌≡◌, ◌≢◌, inl, inr, ℕ, ℤ, pos, ◌+ℤ◌, ◌-ℤ◌, ◌≤ℤ◌, ◌<◌, ◌≤◌, ◌+◌, zero, suc, ◌⊎◌, List, [], ◌∷◌, length, get_or, refl, sym, ◌∙◌, ap, subst, arith, bit_and, min}
+use Rattle.std.proofs.Common.{◌≡◌, inl, inr, ℕ, ℤ, pos, ◌+ℤ◌, ◌-ℤ◌, ◌≤ℤ◌, ◌<◌, ◌≤◌, ◌+◌, zero, suc, List, [], ◌∷◌, refl, sym, ◌∙◌, ap, subst, arith, bit_and, min}
 use Rattle.std.specs.Int.{bit_at}
-use Rattle.std.specs.List.{All, AllPairs, Contains}
+use Rattle.std.specs.List.{Contains}
 use Rattle.std.proofs.lemmas.Int.{ints}
-use Rattle.std.proofs.lemmas.List.Elements.{All-cons, All-head, All-tail, Contains-get_or}
-use Rattle.std.proofs.lemmas.List.Kept.{AllPairs-cons}
+use Rattle.std.proofs.lemmas.List.Elements.{All-head, All-tail}
 use Rattle.std.proofs.lemmas.Nat.Bits.{bit_at-lt, bit_at-zero, bit_at_and, same_from_bits}
 use Rattle.vrp_duals.specs.Folding.{arc_of, due_at, first_of, folded_cost, home_cost, rows_of, weigh}
 use Rattle.vrp_labels.specs.Completion.{Meets, Links, CompletionsOf}
-use Rattle.vrp_labels.specs.Fixing.{IsEven, KeepsCheap, with_followers, as_forward}
+use Rattle.vrp_labels.specs.Fixing.{IsEven, as_forward}
 use Rattle.vrp_labels.specs.Graph.{Follows, GraphOf}
-use Rattle.vrp_labels.specs.Label.{IsClosed, StandsFor, excess, pile_at, root_label}
-use Rattle.vrp_labels.specs.Route.{IsAliveBeginning, IsAliveEnding, IsAliveRoute, IsCheap, beginning_cost, joined, load_in_units}
+use Rattle.vrp_labels.specs.Label.{IsClosed, StandsFor, excess, root_label}
+use Rattle.vrp_labels.specs.Route.{IsCheap, beginning_cost, joined, load_in_units}
 use Rattle.vrp_labels.specs.declared.label.Label.{Label}
 use Rattle.vrp_labels.proofs.Joins.{halves, route_joined, alive_halves, meeting_alive}
+use Rattle.vrp_labels.proofs.Turned.{IsKnown, route_turned}
 use Rattle.vrp_labels.proofs.RowExcess.{excess_same, meeting_excess}
-use Rattle.vrp_labels.proofs.Endings.{behind_head, load_more, not_set, place_of}
+use Rattle.vrp_labels.proofs.Endings.{not_set, place_of}
 
 -- ---- both ways
-
-abbrev IsKnown : GraphOf → List ℕ → Type 0
-IsKnown g ending = All (λ j. (1 ≤ j) × (j < g.folded.places)) ending
-
--- two halves with nobody in common make a route
-whole : (g : GraphOf) (beginning ending : List ℕ) → IsKnown g beginning → IsKnown g ending → AllPairs (λ a b. a ≢ b) beginning → AllPairs (λ a b. a ≢ b) ending → ((c : ℕ) → Contains ending c → Contains beginning c → ⊥)
-    → load_in_units g beginning + load_in_units g ending ≤ g.capacity → IsAliveBeginning g beginning (first_of ending) → IsAliveEnding g ending → IsAliveRoute g (joined beginning ending)
-whole g [] ending kb kp ob op apart load ahead homeward = record { is_ending = record { known = kp; once = op; light = omega (arith, load); alive = homeward }; start = ahead }
-whole g (j ∷ beginning) ending kb kp ob op apart load ahead homeward =
-    whole g beginning (j ∷ ending) (All-tail (λ j. (1 ≤ j) × (j < g.folded.places)) j beginning kb) (All-cons (λ j. (1 ≤ j) × (j < g.folded.places)) j ending (All-head (λ j. (1 ≤ j) × (j < g.folded.places)) j beginning kb) kp)
-    (λ i k d less within. ob (suc i) (suc k) d (omega arith) (omega arith))
-    (AllPairs-cons (λ a b. a ≢ b) j ending (λ k d lt same. apart (get_or ending k d) (Contains-get_or ending k d lt) (0, omega arith, same)) op)
-    (λ c has other. elim (parted j c ending has) [
-      | inl same ↦ fresh c same other
-      | inr behind ↦ apart c behind (behind_head j c beginning other)
-    ])
-    (omega (arith, load, load_more g j beginning, load_more g j ending)) ahead.0 (ahead.1, homeward)
-  where
-    fresh : (c : ℕ) → j ≡ c → Contains beginning c → ⊥
-    fresh c same (k, lt, is) = ob 0 (suc k) c (omega arith) (omega (arith, lt)) (same ∙ sym is)
-
-    parted : (j c : ℕ) (ending : List ℕ) → Contains (j ∷ ending) c → (j ≡ c) ⊎ Contains ending c
-    parted j c ending (zero, lt, is) = inl is
-    parted j c ending (suc k, lt, is) = inr (k, omega (arith, lt), is)
-
--- arcs that are alive both ways
-ending_of_beginning : (g : GraphOf) → IsEven g → 1 ≤ g.folded.places → (beginning : List ℕ) → IsKnown g beginning → (to : ℕ) → IsAliveBeginning g beginning to → IsAliveEnding g beginning
-ending_of_beginning g even some [] known to ahead = tt
-ending_of_beginning g even some (j ∷ beginning) known to ahead =
-    let rest = All-tail (λ j. (1 ≤ j) × (j < g.folded.places)) j beginning known in
-    let place = (All-head (λ j. (1 ≤ j) × (j < g.folded.places)) j beginning known).1 in
-    (even.both (first_of beginning) j (place_of g beginning some rest) place (meeting_alive g beginning j ahead.0), ending_of_beginning g even some beginning rest j ahead.0)
-
-beginning_of_ending : (g : GraphOf) → IsEven g → 1 ≤ g.folded.places → (ending : List ℕ) → IsKnown g ending → (to : ℕ) → to < g.folded.places → Follows g to (first_of ending) → IsAliveEnding g ending → IsAliveBeginning g ending to
-beginning_of_ending g even some [] known to lt meets homeward = even.both to 0 lt (omega (arith, some)) meets
-beginning_of_ending g even some (j ∷ ending) known to lt meets homeward =
-    let place = (All-head (λ j. (1 ≤ j) × (j < g.folded.places)) j ending known).1 in
-    (beginning_of_ending g even some ending (All-tail (λ j. (1 ≤ j) × (j < g.folded.places)) j ending known) j place homeward.0 homeward.1, even.both to j lt place meets)
 
 -- a beginning costs what its customers cost as an ending, but for the arcs between its last customer and the depot
 pub either_way : (g : GraphOf) → IsEven g → 1 ≤ g.folded.places → (beginning : List ℕ) → IsKnown g beginning → beginning_cost g.folded beginning +ℤ arc_of g.folded (first_of beginning) 0 ≡ home_cost g.folded beginning +ℤ arc_of g.folded 0 (first_of beginning)
@@ -69,7 +31,7 @@ either_way g even some (j ∷ beginning) known =
     more : (o h a a' b b' c c' : ℤ) (d : ℕ) → o +ℤ b ≡ h +ℤ b' → a +ℤ c +ℤ b' ≡ a' +ℤ c' +ℤ b → o +ℤ a +ℤ pos d +ℤ c ≡ h +ℤ a' +ℤ pos d +ℤ c'
     more o h a a' b b' c c' d e f = omega (arith, ints)
 
-met_either : (g : GraphOf) (a b : ℕ) → weigh g.folded.row_prices (bit_and a b) ≡ weigh g.folded.row_prices (bit_and b a)
+pub met_either : (g : GraphOf) (a b : ℕ) → weigh g.folded.row_prices (bit_and a b) ≡ weigh g.folded.row_prices (bit_and b a)
 met_either g a b = ap (weigh g.folded.row_prices) (same_from_bits (bit_and a b) (bit_and b a) (λ i. bit_at_and a b i ∙ (turn (bit_at a i) (bit_at b i) ∙ sym (bit_at_and b a i))))
   where
     turn : (x y : ℕ) → min x y ≡ min y x
@@ -79,15 +41,13 @@ met_either g a b = ap (weigh g.folded.row_prices) (same_from_bits (bit_and a b) 
 pub reversed_cheap : (g : GraphOf) (gap : ℤ) (beginning ending : List ℕ) → IsEven g → 1 ≤ g.folded.places → IsCheap g gap (joined beginning ending) → IsCheap g gap (joined ending beginning)
 reversed_cheap g gap beginning ending even some cheap =
     let both = halves g beginning ending cheap.is_route.is_ending in
-    let (ahead, homeward) = alive_halves g beginning ending cheap.is_route in
     let kp = both.is_ending.known in
     let b = first_of beginning in
     let p = first_of ending in
     let bs = place_of g beginning some both.known in
     let ps = place_of g ending some kp in
     record {
-      is_route = whole g ending beginning kp both.known both.is_ending.once both.once (λ c has other. both.apart c other has) (omega (arith, both.load))
-          (beginning_of_ending g even some ending kp b bs (meeting_alive g beginning p ahead) homeward) (ending_of_beginning g even some beginning both.known p ahead);
+      is_route = route_turned g g.followers even.both some beginning ending cheap.is_route;
       cheap = same (beginning_cost g.folded beginning) (beginning_cost g.folded ending) (home_cost g.folded beginning) (home_cost g.folded ending) (arc_of g.folded b p) (arc_of g.folded p b) (arc_of g.folded b 0) (arc_of g.folded 0 b) (arc_of g.folded p 0) (arc_of g.folded 0 p)
           (weigh g.folded.row_prices (bit_and (rows_of g.folded beginning) (rows_of g.folded ending))) (weigh g.folded.row_prices (bit_and (rows_of g.folded ending) (rows_of g.folded beginning))) (folded_cost g.folded (joined beginning ending)) (folded_cost g.folded (joined ending beginning))
           (route_joined g beginning ending) (route_joined g ending beginning) (either_way g even some beginning both.known) (either_way g even some ending kp) (even.round b p bs ps) (met_either g (rows_of g.folded beginning) (rows_of g.folded ending)) cheap.cheap;
@@ -105,7 +65,7 @@ pub record StandsForBeginning (g : GraphOf) (forward : Label) (beginning : List 
   pub visited : (c : ℕ) → bit_at forward.visited c ≡ 1 → Contains beginning c
   pub cost : (forward.cost +ℤ pos (excess g forward.rows (rows_of g.folded beginning))) ≤ℤ beginning_cost g.folded beginning
 
-root_begins : (g : GraphOf) → StandsForBeginning g root_label []
+pub root_begins : (g : GraphOf) → StandsForBeginning g root_label []
 root_begins g = record {
   at = refl;
   load = omega arith;
@@ -113,7 +73,7 @@ root_begins g = record {
   cost = let none = excess_same g 0 in omega (arith, ints, none);
 }
 
-as_forward_begins : (g : GraphOf) (label : Label) (beginning : List ℕ) → IsEven g → 1 ≤ g.folded.places → IsKnown g beginning → StandsFor g label beginning → StandsForBeginning g (as_forward g label) beginning
+pub as_forward_begins : (g : GraphOf) (label : Label) (beginning : List ℕ) → IsEven g → 1 ≤ g.folded.places → IsKnown g beginning → StandsFor g label beginning → StandsForBeginning g (as_forward g label) beginning
 as_forward_begins g label beginning even some known stands = record {
   at = stands.at;
   load = stands.load;
@@ -166,43 +126,3 @@ begins_links s forward beginning (j ∷ ending) closed cheap begins =
     let (label, has, stands) = closed beginning (j ∷ ending) cheap (λ same. let no : ⊥ = cc in no) in
     let known = All-head (λ j. (1 ≤ j) × (j < g.folded.places)) j ending (halves g beginning (j ∷ ending) cheap.is_route.is_ending).is_ending.known in
     (subst (λ n. Follows g n j) (sym begins.at) alive, inr (known.0, (label, has, begins_meets g s.gap forward label beginning (j ∷ ending) cheap begins stands)))
-
--- ---- arcs that cheap routes use
-
--- the followers of a place in cheap routes, all of them alive
-pub record Marks (s : CompletionsOf) (i set : ℕ) : Type 0 where
-  pub depot : i ≡ 0 → (j : ℕ) → j < s.graph.folded.places → Links s root_label j → bit_at set j ≡ 1
-  pub kept : 1 ≤ i → (label : Label) → Contains (pile_at s.kept i) label → (j : ℕ) → j < s.graph.folded.places → Links s (as_forward s.graph label) j → bit_at set j ≡ 1
-  pub alive : (j : ℕ) → bit_at set j ≡ 1 → Follows s.graph i j
-
-marked : (s : CompletionsOf) (followers : List ℕ) → IsEven s.graph → 1 ≤ s.graph.folded.places → IsClosed s.graph s.gap s.kept → ((i : ℕ) → i < s.graph.folded.places → Marks s i (get_or followers i 0))
-    → (beginning ending : List ℕ) → IsCheap s.graph s.gap (joined beginning ending) → bit_at (get_or followers (first_of beginning) 0) (first_of ending) ≡ 1
-marked s followers even some closed marks [] ending cheap =
-    let both = halves s.graph [] ending cheap.is_route.is_ending in
-    (marks 0 (omega (arith, some))).depot refl (first_of ending) (place_of s.graph ending some both.is_ending.known) (begins_links s root_label [] ending closed cheap (root_begins s.graph))
-marked s followers even some closed marks (i ∷ beginning) ending cheap =
-    let g = s.graph in
-    let both = halves g (i ∷ beginning) ending cheap.is_route.is_ending in
-    let known = All-head (λ j. (1 ≤ j) × (j < g.folded.places)) i beginning both.known in
-    let (label, has, stands) = closed ending (i ∷ beginning) (reversed_cheap g s.gap (i ∷ beginning) ending even some cheap) (λ same. let no : ⊥ = cc in no) in
-    (marks i known.1).kept known.0 label has (first_of ending) (place_of g ending some both.is_ending.known) (begins_links s (as_forward g label) (i ∷ beginning) ending closed cheap (as_forward_begins g label (i ∷ beginning) even some both.known stands))
-
-ending_marked : (g : GraphOf) (gap : ℤ) (followers : List ℕ) → ((beginning ending : List ℕ) → IsCheap g gap (joined beginning ending) → bit_at (get_or followers (first_of beginning) 0) (first_of ending) ≡ 1)
-    → (beginning ending : List ℕ) → IsCheap g gap (joined beginning ending) → IsAliveEnding (with_followers g followers) ending
-ending_marked g gap followers marks beginning [] cheap = tt
-ending_marked g gap followers marks beginning (j ∷ ending) cheap = (marks (j ∷ beginning) ending cheap, ending_marked g gap followers marks (j ∷ beginning) ending cheap)
-
--- all arcs of cheap routes are marked
-pub keeps : (s : CompletionsOf) (followers : List ℕ) → IsEven s.graph → 1 ≤ s.graph.folded.places → IsClosed s.graph s.gap s.kept → length followers ≡ s.graph.folded.places → ((i : ℕ) → i < s.graph.folded.places → Marks s i (get_or followers i 0)) → KeepsCheap s.graph s.gap followers
-keeps s followers even some closed long marks = record {
-  long = long;
-  cheap = λ route cheap. record {
-    is_ending = record {
-      known = cheap.is_route.is_ending.known;
-      once = cheap.is_route.is_ending.once;
-      light = cheap.is_route.is_ending.light;
-      alive = ending_marked s.graph s.gap followers (marked s followers even some closed marks) [] route cheap;
-    };
-    start = marked s followers even some closed marks [] route cheap;
-  };
-}

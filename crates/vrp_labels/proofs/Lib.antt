@@ -6,11 +6,14 @@ pub mod Endings
 pub mod FewerArcs
 pub mod Graphs
 pub mod Joins
+pub mod MarkedArcs
 pub mod Meetings
 pub mod OnwardTable
 pub mod PileSteps
 pub mod PlaceSets
+pub mod Reversed
 pub mod RowExcess
 pub mod SignedSums
 pub mod SortedPiles
+pub mod Turned
 pub mod Wider

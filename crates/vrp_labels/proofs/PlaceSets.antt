@@ -21,6 +21,13 @@ with_cases set place next j is has = elim (cases_eq place j) [
     kept : (n s p : ℕ) → n ≡ max s p → p ≡ 0 → n ≡ 1 → s ≡ 1
     kept n s p e f one = omega arith
 
+-- another place is in it if it was before
+pub with_other : (set place next j : ℕ) → next ≡ bit_or set (2 ^ place) → (j ≡ place → ⊥) → bit_at next j ≡ bit_at set j
+with_other set place next j is other = ap (λ n. bit_at n j) is ∙ (bit_at_or set (2 ^ place) j ∙ low (bit_at set j) (bit_at (2 ^ place) j) (bit_at-pow_other place j other))
+  where
+    low : (s p : ℕ) → p ≡ 0 → max s p ≡ s
+    low s p none = omega arith
+
 -- and the place
 pub with_one : (set place next : ℕ) → next ≡ bit_or set (2 ^ place) → bit_at next place ≡ 1
 with_one set place next is = ap (λ n. bit_at n place) is ∙ (bit_at_or set (2 ^ place) place ∙ low (bit_at set place) (bit_at (2 ^ place) place) (bit_at-pow_same place) (bit_at-lt set place))

@@ -1,10 +1,15 @@
--- Arcs that cheap routes use, in graphs where routes cost the same from either end (fixing of arcs by reduced costs; Irnich, Desaulniers,
--- Desrosiers and Hadjar 2010).
-use Rattle.std.specs.Prelude.{◌≡◌, ◌<◌, ℕ, ℤ, ◌+ℤ◌, ◌-ℤ◌, List, length, slice_index}
+-- Arcs that cheap routes use (fixing of arcs by reduced costs; Irnich, Desaulniers, Desrosiers and Hadjar 2010): where a label of beginnings
+-- meets one of endings. In graphs where routes cost the same from either end, labels of endings serve as those of beginnings too.
+use Rattle.std.specs.Prelude.{◌≡◌, ◌≤◌, ◌<◌, ℕ, ℤ, ◌+ℤ◌, ◌-ℤ◌, List, length, slice_index}
 use Rattle.std.specs.Int.{bit_at}
+use Rattle.std.specs.List.{Contains}
 use Rattle.vrp_duals.specs.Folding.{arc_of}
+use Rattle.vrp_labels.specs.Completion.{CompletionsOf, Links}
 use Rattle.vrp_labels.specs.Graph.{Follows, GraphOf}
+use Rattle.vrp_labels.specs.Label.{pile_at, root_label}
 use Rattle.vrp_labels.specs.Route.{IsAliveRoute, IsCheap}
+use Rattle.vrp_labels.specs.declared.fixing.Side.{Side}
+use Rattle.vrp_labels.specs.declared.fixing.Side.TheVariants.{Beginnings, Endings}
 use Rattle.vrp_labels.specs.declared.label.Label.{Label}
 
 -- this triangle with the depot costs the same either way round, and this arc is alive both ways, if one
@@ -40,3 +45,20 @@ AreAlive g followers = (from to : ℕ) → from < g.folded.places → to < g.fol
 pub record KeepsCheap (g : GraphOf) (gap : ℤ) (followers : List ℕ) : Type 0 where
   pub long : length followers ≡ g.folded.places
   pub cheap : (route : List ℕ) → IsCheap g gap route → IsAliveRoute (with_followers g followers) route
+
+-- a label of one side as that of a beginning
+abbrev pub read_from : Side → GraphOf → Label → Label
+read_from Endings g label = as_forward g label
+read_from Beginnings g label = label
+
+-- the followers of a place, all of them alive: those to which a label of the place links, or the root at the depot
+pub record Marks (s : CompletionsOf) (side : Side) (piles : List (List Label)) (i set : ℕ) : Type 0 where
+  pub depot : i ≡ 0 → (j : ℕ) → j < s.graph.folded.places → Links s root_label j → bit_at set j ≡ 1
+  pub linked : 1 ≤ i → (label : Label) → Contains (pile_at piles i) label → (j : ℕ) → j < s.graph.folded.places
+      → Links s (read_from side s.graph label) j → bit_at set j ≡ 1
+  pub alive : (j : ℕ) → bit_at set j ≡ 1 → Follows s.graph i j
+
+-- so at each place
+pub record AreMarked (s : CompletionsOf) (side : Side) (piles : List (List Label)) (followers : List ℕ) : Type 0 where
+  pub long : length followers ≡ s.graph.folded.places
+  pub each : (i : ℕ) → i < s.graph.folded.places → Marks s side piles i (slice_index followers i)

@@ -7,5 +7,6 @@ pub mod Completion
 pub mod Sorting
 pub mod OnwardBound
 pub mod Fixing
+pub mod Reversal
 pub mod Widening
 pub mod Plans

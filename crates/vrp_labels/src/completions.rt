@@ -1,13 +1,9 @@
-//! What completes a beginning of a route, and the arcs that cheap routes use.
+//! What completes a beginning of a route.
 ghost use Rattle.std.specs.Prelude.{◌≡◌, ◌⊎◌, ◌≤◌, ◌<◌, ◌≤ℤ◌, ◌^◌, pos, ℕ, List, IfOk, IsTrue, unsigned_abs};
-ghost use Rattle.std.specs.Int.{bit_at};
-ghost use Rattle.std.specs.List.{Contains};
 ghost use Rattle.vrp_duals.specs.Folding.{folded_cost};
 ghost use Rattle.vrp_labels.specs.Closing.{AreKept};
 ghost use Rattle.vrp_labels.specs.Completion.{BoundsCompletions, IsForward, IsLinkCost, Links};
-ghost use Rattle.vrp_labels.specs.Fixing.{AreAlive, IsEven, KeepsCheap, as_forward};
-ghost use Rattle.vrp_labels.specs.Graph.{Follows};
-ghost use Rattle.vrp_labels.specs.Label.{IsClosed, IsLabelOf, pile_at, root_label};
+ghost use Rattle.vrp_labels.specs.Label.{IsClosed, IsLabelOf, root_label};
 ghost use Rattle.vrp_labels.specs.Route.{IsAliveRoute, IsCheap, joined};
 ghost use Rattle.vrp_labels.specs.Widening.{IsClosedBelow};
 
@@ -17,7 +13,6 @@ use crate::lookup::{least_join, meets};
 use crate::piles::LabelPiles;
 use std::alloc::{AllocError, Global};
 use std::marker::Model;
-use vrp_customers::CustomerSet;
 
 // No completion adds more.
 const FAR: i64 = 1 << 62;
@@ -25,9 +20,9 @@ const FAR: i64 = 1 << 62;
 /// The closed labels of a graph, cheapest first: what completes a beginning of a route.
 #[derive(Debug, Drop)]
 pub struct Completions<'a> {
-    graph: &'a RouteGraph,
-    gap: i64,
-    kept: LabelPiles,
+    pub(crate) graph: &'a RouteGraph,
+    pub(crate) gap: i64,
+    pub(crate) kept: LabelPiles,
 }
 
 impl<'a> Model for Completions<'a> {
@@ -126,7 +121,7 @@ impl<'a> Completions<'a> {
 
     // Whether a place may follow a beginning in a cheap route.
     #[inline(always)]
-    fn links(&self, forward: &Label, place: u16) -> bool
+    pub(crate) fn links(&self, forward: &Label, place: u16) -> bool
         requires place { place < self.now.graph.folded.places }
         requires at { forward.now.at < self.now.graph.folded.places }
         requires light { forward.now.load ≤ self.now.graph.capacity }
@@ -158,56 +153,5 @@ impl<'a> Completions<'a> {
         ensures attained { (result ≡ pos 0) ⊎ ((result ≡ self.now.gap) ⊎ IsLinkCost self.now root_label result) }
     {
         self.least(&self.graph.root()).min(self.gap).min(0)
-    }
-
-    /// For each place, the places that follow it in cheap routes, and maybe more to which the arc is alive. The only error is lack of memory.
-    pub fn useful_arcs(&self, alloc: Global) -> Result<Vec<CustomerSet>, AllocError>
-        requires { IsEven self.now.graph }
-        ensures keeps { IfOk result (λ followers. KeepsCheap self.now.graph self.now.gap followers.items) }
-        ensures alive { IfOk result (λ followers. AreAlive self.now.graph followers.items) }
-    {
-        let places = self.graph.places();
-        let mut followers = Vec::with_capacity(alloc, places as usize)?;
-        for i in 0..places {
-            followers.push(self.useful_from(i))?;
-        }
-        Ok(followers)
-    }
-
-    // The places that follow a place in cheap routes.
-    fn useful_from(&self, i: u16) -> CustomerSet
-        requires { i < self.now.graph.folded.places }
-        ensures depot { i ≡ 0 → (j : ℕ) → j < self.now.graph.folded.places → Links self.now root_label j → bit_at result j ≡ 1 }
-        ensures kept { 1 ≤ i → (label : Label) → Contains (pile_at self.now.kept i) label → (j : ℕ) → j < self.now.graph.folded.places
-            → Links self.now (as_forward self.now.graph label) j → bit_at result j ≡ 1 }
-        ensures alive { (j : ℕ) → bit_at result j ≡ 1 → Follows self.now.graph i j }
-    {
-        if i == 0 {
-            return self.with_links(&Label::root(), CustomerSet::empty());
-        }
-        let mut set = CustomerSet::empty();
-        for label in self.kept.get(i as usize) {
-            let forward = self.graph.as_forward(label);
-            set = self.with_links(&forward, set);
-        }
-        set
-    }
-
-    // These places, and those that may follow a beginning in cheap routes.
-    fn with_links(&self, forward: &Label, known: CustomerSet) -> CustomerSet
-        requires place { forward.now.at < self.now.graph.folded.places }
-        requires light { forward.now.load ≤ self.now.graph.capacity }
-        requires small { unsigned_abs forward.now.cost ≤ 2 ^ 62 }
-        ensures still { (j : ℕ) → bit_at known j ≡ 1 → bit_at result j ≡ 1 }
-        ensures linked { (j : ℕ) → j < self.now.graph.folded.places → Links self.now forward.now j → bit_at result j ≡ 1 }
-        ensures alive { (j : ℕ) → bit_at result j ≡ 1 → (bit_at known j ≡ 1) ⊎ Follows self.now.graph forward.now.at j }
-    {
-        let mut set = known;
-        for place in 0..self.graph.places() {
-            if !set.contains(place) && self.links(forward, place) {
-                set = set.with(place);
-            }
-        }
-        set
     }
 }

@@ -1,15 +1,17 @@
 //! What labels see of a problem with dual prices.
-ghost use Rattle.std.specs.Prelude.{◌≡◌, ◌≤◌, ◌<◌, ◌+◌, ◌*◌, ◌^◌, ◌↔◌, ℕ, IfNone, IfSome, IsTrue, length, slice_index, unsigned_abs};
+ghost use Rattle.std.specs.Prelude.{◌≡◌, ◌≤◌, ◌<◌, ◌+◌, ◌*◌, ◌^◌, ◌↔◌, ℕ, IfNone, IfOk, IfSome, IsTrue, length, slice_index, unsigned_abs};
 ghost use Rattle.std.specs.Int.{bit_at};
 ghost use Rattle.vrp_duals.specs.Folding.{arc_of, weigh};
 ghost use Rattle.vrp_duals.specs.declared.limits.TheConstants.{MAX_ARC_PRICE, MAX_ROW_CHARGE};
 ghost use Rattle.vrp_labels.specs.Fixing.{IsEven, IsPairEven, as_forward, with_followers};
 ghost use Rattle.vrp_labels.specs.Graph.{Follows, IsGraph, demand_at, graph_of, near_at};
 ghost use Rattle.vrp_labels.specs.Label.{IsLabelOf};
+ghost use Rattle.vrp_labels.specs.Reversal.{IsReversed};
 ghost use Rattle.vrp_labels.specs.Widening.{AreWider, with_memories};
 
 use crate::label::Label;
 use crate::widening::are_wider;
+use std::alloc::{AllocError, Global};
 use std::marker::Model;
 use vrp_customers::CustomerSet;
 use vrp_duals::{FoldedDuals, RowSet};
@@ -156,6 +158,20 @@ impl RouteGraph {
         ensures { result ≡ with_followers self followers.items }
     {
         RouteGraph { followers, ..self }
+    }
+
+    /// The graph with each arc turned round: it costs what the arc the other way costs, and is alive if that is. The labels of endings there
+    /// are labels of beginnings here. The only error is lack of memory.
+    pub fn reversed(&self, alloc: Global) -> Result<RouteGraph, AllocError>
+        ensures { IfOk result (IsReversed self.now) }
+    {
+        Ok(RouteGraph {
+            folded: self.folded.reversed(alloc)?,
+            capacity: self.capacity,
+            demands: Vec::from_slice(alloc, &self.demands)?,
+            near: Vec::from_slice(alloc, &self.near)?,
+            followers: self.leaders(alloc)?,
+        })
     }
 
     /// The number of places, the depot among them.

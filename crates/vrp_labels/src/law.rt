@@ -1,13 +1,14 @@
-//! Laws about the definitions: the routes of feasible plans are cheap, so their arcs stay alive.
-ghost use Rattle.std.specs.Prelude.{◌≤◌, ℕ, ℤ, List, length};
+//! Laws about the definitions: the routes of feasible plans are cheap, so their arcs stay alive; and routes read from their other ends.
+ghost use Rattle.std.specs.Prelude.{◌≡◌, ◌≤◌, ℕ, ℤ, List, length, reverse};
 ghost use Rattle.std.specs.List.{All};
 ghost use Rattle.vrp_model.specs.Problem.{IsProblem, Problem, customers};
 ghost use Rattle.vrp_model.specs.Route.{IsLawful, plan_cost};
 ghost use Rattle.vrp_duals.specs.Duals.{AreDualsOf, DualsOf, Obeys};
-ghost use Rattle.vrp_duals.specs.Folding.{AreFull, IsFolded};
+ghost use Rattle.vrp_duals.specs.Folding.{AreFull, IsFolded, folded_cost};
 ghost use Rattle.vrp_labels.specs.Fixing.{KeepsCheap, with_followers};
 ghost use Rattle.vrp_labels.specs.Graph.{GraphOf};
 ghost use Rattle.vrp_labels.specs.Plans.{IsAlike, IsGapFor};
+ghost use Rattle.vrp_labels.specs.Reversal.{IsReversed};
 ghost use Rattle.vrp_labels.specs.Route.{IsAliveRoute, IsCheap};
 ghost use Rattle.vrp_labels.specs.Widening.{with_memories};
 
@@ -29,4 +30,15 @@ pub fn cheap_routes_stay_alive()
     ensures { (g next : GraphOf) (gap : ℤ) (followers : List ℕ) (routes : List (List ℕ))
         → KeepsCheap g gap followers → IsAlike (with_followers g followers) next
         → All (IsCheap g gap) routes → All (IsAliveRoute next) routes }
+{}
+
+/// Read from its other end, a route costs in the reversed graph what it costs in the graph, and goes along alive arcs there too: rows turn as
+/// often from either end.
+pub fn cheap_routes_reverse()
+    ensures cost { (g reversed : GraphOf) (route : List ℕ) → IsReversed g reversed → 1 ≤ g.folded.places → IsAliveRoute g route
+        → folded_cost reversed.folded (reverse route) ≡ folded_cost g.folded route }
+    ensures alive { (g reversed : GraphOf) (route : List ℕ) → IsReversed g reversed → 1 ≤ g.folded.places → IsAliveRoute g route
+        → IsAliveRoute reversed (reverse route) }
+    ensures cheap { (g reversed : GraphOf) (gap : ℤ) (route : List ℕ) → IsReversed g reversed → 1 ≤ g.folded.places → IsCheap g gap route
+        → IsCheap reversed gap (reverse route) }
 {}

@@ -5,9 +5,11 @@
 mod closing;
 mod completions;
 mod dominance;
+mod fixing;
 mod graph;
 mod label;
 mod law;
+mod leaders;
 mod lookup;
 mod onward;
 mod piles;
@@ -17,5 +19,5 @@ pub use closing::{Closing, ClosingLimit, close};
 pub use completions::Completions;
 pub use graph::{GraphParts, MAX_UNITS, RouteGraph};
 pub use label::Label;
-pub use law::{cheap_routes_stay_alive, plans_have_cheap_routes};
+pub use law::{cheap_routes_reverse, cheap_routes_stay_alive, plans_have_cheap_routes};
 pub use piles::LabelPiles;

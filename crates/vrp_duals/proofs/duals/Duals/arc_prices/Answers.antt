@@ -30,5 +30,5 @@ returns-clause-value c =
     let p = c.args.instance.now in
     let d = c.args.self.now in
     let places : c.len-places.result ≡ length d.prices = omega (arith, c.len-places.ensures, c.self.inside.prices.ok, ap (λ (d : DualsOf). length d.prices) c.self.view_is) in
-    table_at p d c.loop-index.arcs.items (length d.prices) (omega (arith, c.loop-index.invariant.long, c.loop-index-test.false, c.loop-index.auto.index-end, ap (λ n. n * n) places))
+    table_at (arc_price p d) c.loop-index.arcs.items (length d.prices) (omega (arith, c.loop-index.invariant.long, c.loop-index-test.false, c.loop-index.auto.index-end, ap (λ n. n * n) places))
     (subst (λ n. (k : ℕ) → k < length c.loop-index.arcs.items → get_or c.loop-index.arcs.items k (pos 0) ≡ arc_price p d (k / n) (k % n)) places c.loop-index.invariant.each)
