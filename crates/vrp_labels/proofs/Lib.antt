@@ -14,6 +14,7 @@ pub mod PlaceSets
 pub mod Reversed
 pub mod RowExcess
 pub mod SignedSums
+pub mod Slices
 pub mod SortedPiles
 pub mod Turned
 pub mod Wider

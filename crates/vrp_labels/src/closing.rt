@@ -10,6 +10,7 @@ use crate::graph::RouteGraph;
 use crate::label::Label;
 use crate::onward::OnwardBound;
 use crate::piles::LabelPiles;
+use crate::runs::{Run, Runs};
 use std::alloc::AllocError;
 use vrp_model::{Crew, NoMemory, Watch};
 
@@ -47,6 +48,7 @@ pub fn close<R, W: Watch>(
     let alloc = crew.alloc;
     let onward = OnwardBound::new(alloc, graph, gap)?;
     let mut kept = LabelPiles::new(alloc, graph.places() as usize)?;
+    let mut runs = Runs::new(alloc, graph.places() as usize)?;
     let mut pending = LabelPiles::new(alloc, graph.capacity() as usize + 1)?;
     let mut held = offer_extensions(graph, &onward, &mut pending, &Label::root())?;
     for load in 0..graph.capacity() + 1 {
@@ -56,7 +58,15 @@ pub fn close<R, W: Watch>(
         let mut hand = pending.take(load as usize);
         hand.sort_unstable_by_key(|label| label.cost);
         let room = most_labels.saturating_sub(held);
-        let more = keep_undominated(graph, &onward, &mut kept, &mut pending, &hand, room)?;
+        let more = keep_undominated(
+            graph,
+            &onward,
+            &mut kept,
+            &mut runs,
+            &mut pending,
+            &hand,
+            room,
+        )?;
         match more {
             Some(more) => held = held.saturating_add(more).saturating_sub(hand.len()),
             None => return Ok(Closing::Met(ClosingLimit::Labels)),
@@ -71,19 +81,24 @@ fn keep_undominated(
     graph: &RouteGraph,
     onward: &OnwardBound,
     kept: &mut LabelPiles,
+    runs: &mut Runs,
     pending: &mut LabelPiles,
     hand: &[Label],
     room: usize,
 ) -> Result<Option<usize>, AllocError>
     requires table { IsBoundTable graph.now onward.now.table.items }
     requires closing { (from : ℕ) × IsClosing graph.now onward.now.gap from hand.now kept.old pending.old }
-    ensures { IfOk result (λ more. IfSome more (λ _. (from : ℕ) → IsClosing graph.now onward.now.gap from hand.now kept.old pending.old
+    requires runs { length runs.old.by_place.items ≡ graph.now.folded.places }
+    ensures closing { IfOk result (λ more. IfSome more (λ _. (from : ℕ) → IsClosing graph.now onward.now.gap from hand.now kept.old pending.old
         → IsClosing graph.now onward.now.gap from [] kept.new pending.new)) }
+    ensures runs { IfOk result (λ more. IfSome more (λ _. length runs.new.by_place.items ≡ graph.now.folded.places)) }
 {
     let mut more: usize = 0;
     for label in hand {
         let at = label.at as usize;
-        if !is_dominated(graph, kept.get(at), label) {
+        let pile = kept.get(at);
+        if !is_dominated(graph, pile, runs.of(at), label) {
+            runs.note(label, pile.len())?;
             let offered = offer_extensions(graph, onward, pending, label)?;
             kept.push(at, *label)?;
             more = more.saturating_add(offered).saturating_add(1);
@@ -133,12 +148,36 @@ fn is_beyond_gap(graph: &RouteGraph, onward: &OnwardBound, label: &Label) -> boo
     label.cost + least > onward.gap
 }
 
-// Whether one of these labels dominates the label.
-fn is_dominated(graph: &RouteGraph, kept: &[Label], label: &Label) -> bool
+// Whether one of the kept labels of its place dominates the label. The newest run is looked at first, since its labels are most like this
+// one.
+fn is_dominated(graph: &RouteGraph, kept: &[Label], runs: &[Run], label: &Label) -> bool
     requires { All (λ other. IsLabelOf graph.now other × (other.at ≡ label.now.at)) kept.now }
     ensures { IsTrue result → Any (λ other. Dominates graph.now other label.now) kept.now }
 {
-    for other in kept {
+    let mut end = kept.len();
+    for k in 0..runs.len() {
+        let run = &runs[runs.len() - 1 - k];
+        if run.least_before > label.cost {
+            return false;
+        }
+        let start = run.start.min(end);
+        if run.least <= label.cost && is_dominated_in(graph, &kept[start..end], label) {
+            return true;
+        }
+        end = start;
+    }
+    false
+}
+
+// Whether one of these labels dominates the label, if they come by rising cost.
+fn is_dominated_in(graph: &RouteGraph, run: &[Label], label: &Label) -> bool
+    requires { All (λ other. IsLabelOf graph.now other × (other.at ≡ label.now.at)) run.now }
+    ensures { IsTrue result → Any (λ other. Dominates graph.now other label.now) run.now }
+{
+    for other in run {
+        if other.cost > label.cost {
+            return false;
+        }
         if graph.dominates(other, label) {
             return true;
         }

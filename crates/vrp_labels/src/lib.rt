@@ -13,6 +13,7 @@ mod leaders;
 mod lookup;
 mod onward;
 mod piles;
+mod runs;
 mod widening;
 
 pub use closing::{Closing, ClosingLimit, close};
