@@ -1,12 +1,12 @@
 //! Dual prices folded into prices of arcs and sets of rows.
-ghost use Rattle.std.specs.Prelude.{◌≡◌, ◌≤◌, ◌<◌, ◌+◌, ◌*◌, ℕ, pos, IfOk, length, slice_index, slice_index_or, unsigned_abs};
+ghost use Rattle.std.specs.Prelude.{◌≡◌, ◌≤◌, ◌<◌, ◌+◌, ◌*◌, ◌↔◌, ℕ, pos, IfOk, IsTrue, length, slice_index, slice_index_or, unsigned_abs};
 ghost use Rattle.std.specs.List.{All};
 ghost use Rattle.vrp_customers.specs.declared.customer_set.TheConstants.{PLACES};
 ghost use Rattle.vrp_duals.specs.Folding.{AreReversed, arc_of, due_at, members_at, memories_at, remembering, rows_at, weigh};
 ghost use Rattle.vrp_duals.specs.declared.limits.TheConstants.{MAX_ARC_PRICE, MAX_ROW_CHARGE};
 
 use crate::row_set::RowSet;
-use crate::sums::weigh;
+use crate::sums::{weigh, weighs_at_most};
 use std::alloc::{AllocError, Global};
 use std::marker::Model;
 
@@ -106,6 +106,14 @@ impl FoldedDuals {
             return 0;
         }
         weigh(&self.row_prices, rows)
+    }
+
+    /// Whether the prices of a set of rows sum to no more than a limit, in price units.
+    #[inline(always)]
+    pub fn weighs_at_most(&self, rows: RowSet, limit: u64) -> bool
+        ensures { IsTrue result ↔ (weigh self.now.row_prices rows ≤ limit) }
+    {
+        weighs_at_most(&self.row_prices, rows, limit)
     }
 
     /// The same prices with other memories, one for each place. With those of `Duals::full_memories` rows are counted in full.

@@ -1,5 +1,5 @@
 //! Sums of dual prices.
-ghost use Rattle.std.specs.Prelude.{◌≡◌, ◌≤◌, ◌<◌, ◌-◌, ◌*◌, ◌^◌, pos, ◌*ℤ◌, length, slice_index_or, unsigned_abs};
+ghost use Rattle.std.specs.Prelude.{◌≡◌, ◌≤◌, ◌<◌, ◌-◌, ◌*◌, ◌^◌, ◌↔◌, IsTrue, pos, ◌*ℤ◌, length, slice_index_or, unsigned_abs};
 ghost use Rattle.std.specs.List.{All, range_with_len, sum_by};
 ghost use Rattle.vrp_customers.specs.declared.customer_set.TheConstants.{PLACES};
 ghost use Rattle.vrp_duals.specs.Duals.{HasRowSize, entry, int_sum_by, most_pairs};
@@ -77,6 +77,23 @@ pub fn weigh(prices: &[u64], rows: RowSet) -> u64
         sum += prices[usize::from(row)];
     }
     sum
+}
+
+/// Whether the prices of a set of rows sum to no more than a limit. There is a price for each row that there may be.
+pub fn weighs_at_most(prices: &[u64], rows: RowSet, limit: u64) -> bool
+    requires { length prices.now ≡ MAX_SUBSET_ROWS }
+    ensures { IsTrue result ↔ (weigh prices.now rows ≤ limit) }
+{
+    let mut left = rows;
+    let mut room = limit;
+    while let Some(row) = left.take_first() {
+        let price = prices[usize::from(row)];
+        if price > room {
+            return false;
+        }
+        room -= price;
+    }
+    true
 }
 
 /// What the entry rows pay for an arc.

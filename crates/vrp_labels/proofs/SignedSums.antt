@@ -74,6 +74,13 @@ paid_fits c d fits small =
     let charge = charge_z d small in
     rw (one, charge) (fits_signed_from_abs w64 (c +ℤ pos d) (omega (arith, ints, fits)))
 
+-- a charge that is no more than what two costs differ by
+pub pays_at_most : (a b : ℤ) (e n : ℕ) → a ≤ℤ b → n ≡ unsigned_abs (b -ℤ a) → e ≤ n → (a +ℤ pos e) ≤ℤ b
+pays_at_most a b e n le is small = omega (arith, ints)
+
+pub paid_at_most : (a b : ℤ) (e n : ℕ) → a ≤ℤ b → n ≡ unsigned_abs (b -ℤ a) → (a +ℤ pos e) ≤ℤ b → e ≤ n
+paid_at_most a b e n le is whole = omega (arith, ints)
+
 -- equal sums are coded alike
 pub three_alike : (a b c x y z : ℤ) → unsigned_abs a + unsigned_abs b + unsigned_abs c < 2 ^ 63 → unsigned_abs x + unsigned_abs y + unsigned_abs z < 2 ^ 63 → a +ℤ b +ℤ c ≡ x +ℤ y +ℤ z
     → of_z w64 (to_z w64 (of_z w64 (to_z w64 (of_z w64 a) +ℤ to_z w64 (of_z w64 b))) +ℤ to_z w64 (of_z w64 c)) ≡ of_z w64 (to_z w64 (of_z w64 (to_z w64 (of_z w64 x) +ℤ to_z w64 (of_z w64 y))) +ℤ to_z w64 (of_z w64 z))

@@ -106,6 +106,6 @@ impl RouteGraph {
         let more = label
             .rows
             .symmetric_difference(label.rows.intersection(other.rows));
-        more.is_empty() || label.cost + self.weigh(more) as i64 <= other.cost
+        self.weighs_at_most(more, other.cost.abs_diff(label.cost))
     }
 }

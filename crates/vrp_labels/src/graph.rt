@@ -245,6 +245,14 @@ impl RouteGraph {
         self.folded.weigh(rows)
     }
 
+    /// Whether the prices of a set of rows sum to no more than a limit, in price units.
+    #[inline(always)]
+    pub fn weighs_at_most(&self, rows: RowSet, limit: u64) -> bool
+        ensures { IsTrue result ↔ (weigh self.now.folded.row_prices rows ≤ limit) }
+    {
+        self.folded.weighs_at_most(rows, limit)
+    }
+
     /// Whether the arc from one place to another is alive.
     #[inline(always)]
     pub fn follows(&self, from: u16, to: u16) -> bool

@@ -42,13 +42,16 @@ fn joins(graph: &RouteGraph, label: &Label, forward: &Label, cost: i64, gap: &i6
     requires small { unsigned_abs cost ≤ 2 ^ 62 + 3 * 2 ^ 60 + 2 ^ 45 }
     ensures { IsTrue result ↔ Meets graph.now gap.now forward.now label.now }
 {
-    if !label.visited.is_disjoint(forward.visited) {
+    if *gap < cost {
         return false;
     }
     if label.load > graph.capacity() - forward.load {
         return false;
     }
-    cost + graph.weigh(forward.rows.intersection(label.rows)) as i64 <= *gap
+    if !label.visited.is_disjoint(forward.visited) {
+        return false;
+    }
+    graph.weighs_at_most(forward.rows.intersection(label.rows), gap.abs_diff(cost))
 }
 
 // The lesser of what is known and what a label adds to a beginning, if it can join.
