@@ -1,4 +1,5 @@
 pub mod AlikeGraphs
+pub mod BandLookUp
 pub mod CheapPlans
 pub mod ClosingSteps
 pub mod EitherEnd
@@ -6,6 +7,7 @@ pub mod Endings
 pub mod FewerArcs
 pub mod Graphs
 pub mod Joins
+pub mod LoadBands
 pub mod MarkedArcs
 pub mod Meetings
 pub mod OnwardTable

@@ -6,7 +6,6 @@ use Rattle.vrp_duals.specs.Folding.{arc_of, due_at, first_of, home_cost, rows_at
 use Rattle.vrp_labels.specs.Closing.{AreKept}
 use Rattle.vrp_labels.specs.Graph.{Follows, GraphOf, demand_at}
 use Rattle.vrp_labels.specs.Label.{IsClosed, pile_at}
-use Rattle.vrp_labels.specs.Sorting.{IsRising}
 use Rattle.vrp_labels.specs.Route.{IsCheap, IsEnding, beginning_cost, joined, load_in_units}
 use Rattle.vrp_labels.specs.declared.label.Label.{Label}
 
@@ -82,10 +81,10 @@ pub record CompletionsOf : Type 0 where
   pub gap : ℤ
   pub kept : List (List Label)
 
+-- the labels were closed in the graph for the gap
 pub record AreCompletions (s : CompletionsOf) : Type 0 where
   pub are_kept : AreKept s.graph s.kept
   pub closed : IsClosed s.graph s.gap s.kept
-  pub rising : (at : ℕ) → at < s.graph.folded.places → IsRising (pile_at s.kept at)
 
 -- a place that may follow the beginning, and from which some label meets it, or the depot, if the whole is cheap
 abbrev pub Links : CompletionsOf → Label → ℕ → Type 0

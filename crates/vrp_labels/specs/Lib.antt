@@ -5,6 +5,7 @@ pub mod Closing
 pub mod Closed
 pub mod Completion
 pub mod Sorting
+pub mod Bands
 pub mod OnwardBound
 pub mod Fixing
 pub mod Reversal

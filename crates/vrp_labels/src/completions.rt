@@ -7,9 +7,10 @@ ghost use Rattle.vrp_labels.specs.Label.{IsClosed, IsLabelOf, root_label};
 ghost use Rattle.vrp_labels.specs.Route.{IsAliveRoute, IsCheap, joined};
 ghost use Rattle.vrp_labels.specs.Widening.{IsClosedBelow};
 
+use crate::bands::{Band, band_shift, bands_by_place};
 use crate::graph::RouteGraph;
 use crate::label::Label;
-use crate::lookup::{least_join, meets};
+use crate::lookup::{least_in_bands, meets_in_bands};
 use crate::piles::LabelPiles;
 use std::alloc::{AllocError, Global};
 use std::marker::Model;
@@ -17,22 +18,26 @@ use std::marker::Model;
 // No completion adds more.
 const FAR: i64 = 1 << 62;
 
-/// The closed labels of a graph, cheapest first: what completes a beginning of a route.
+/// The closed labels of a graph, in bands of load and cheapest first: what completes a beginning of a route.
 #[derive(Debug, Drop)]
 pub struct Completions<'a> {
     pub(crate) graph: &'a RouteGraph,
     pub(crate) gap: i64,
     pub(crate) kept: LabelPiles,
+    shift: u32,
+    // By place.
+    bands: Vec<Vec<Band>>,
 }
 
 impl<'a> Model for Completions<'a> {
-    ghost use Rattle.vrp_labels.specs.Completion.{AreCompletions, CompletionsOf};
+    ghost use Rattle.vrp_labels.specs.Bands.{AreLookedUp};
+    ghost use Rattle.vrp_labels.specs.Completion.{CompletionsOf};
 
     ghost Value = { CompletionsOf };
 
     ghost view = { λ a. record { graph = a.graph.now; gap = a.gap; kept = a.kept } };
 
-    ghost invariant = { λ a. AreCompletions (record { graph = a.graph.now; gap = a.gap; kept = a.kept }) };
+    ghost invariant = { λ a. AreLookedUp (record { graph = a.graph.now; gap = a.gap; kept = a.kept }) a.shift a.bands.items };
 }
 
 impl<'a> Completions<'a> {
@@ -48,11 +53,18 @@ impl<'a> Completions<'a> {
         ensures graph { IfOk result (λ completions. completions.graph ≡ graph.now) }
         ensures gap { IfOk result (λ completions. completions.gap ≡ gap) }
     {
-        let _alloc = alloc;
+        let shift = band_shift(graph.capacity());
         for at in 0..graph.places() {
-            kept.sort(at as usize);
+            kept.sort_by_band(at as usize, shift);
         }
-        Ok(Completions { graph, gap, kept })
+        let bands = bands_by_place(alloc, &kept, shift)?;
+        Ok(Completions {
+            graph,
+            gap,
+            kept,
+            shift,
+            bands,
+        })
     }
 
     /// The completions by labels that were closed where rows are remembered at fewer places, or the same, and where more arcs are alive, or
@@ -92,9 +104,11 @@ impl<'a> Completions<'a> {
         }
         for place in 1..self.graph.places() {
             if self.graph.follows(forward.at, place) {
-                best = least_join(
+                best = least_in_bands(
                     self.graph,
                     self.kept.get(place as usize),
+                    self.bands[place as usize].as_slice(),
+                    self.shift,
                     place,
                     forward,
                     best,
@@ -135,9 +149,11 @@ impl<'a> Completions<'a> {
         if place == 0 {
             return forward.cost + self.graph.arc(forward.at, 0) <= self.gap;
         }
-        meets(
+        meets_in_bands(
             self.graph,
             self.kept.get(place as usize),
+            self.bands[place as usize].as_slice(),
+            self.shift,
             place,
             forward,
             &self.gap,

@@ -2,6 +2,7 @@
 //! route; and the arcs that cheap routes use.
 #![tactic(auto)]
 
+mod bands;
 mod closing;
 mod completions;
 mod dominance;

@@ -73,11 +73,12 @@ impl LabelPiles {
         mem::replace(&mut self.piles[at], Vec::new(self.alloc))
     }
 
-    /// Sorts a pile, cheapest first.
-    pub fn sort(&mut self, at: usize)
-        requires { at < length self.old }
-        ensures { IsPileSorted at self.old self.new }
+    /// Sorts a pile by bands of load, and the labels of a band cheapest first.
+    pub fn sort_by_band(&mut self, at: usize, shift: u32)
+        requires at { at < length self.old }
+        requires shift { shift < 32 }
+        ensures { IsPileSorted at shift self.old self.new }
     {
-        self.piles[at].sort_unstable_by_key(|label| label.cost);
+        self.piles[at].sort_unstable_by_key(|label| (label.load >> shift, label.cost));
     }
 }

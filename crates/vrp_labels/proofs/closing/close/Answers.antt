@@ -13,7 +13,7 @@ loop-load-init b c =
     let gap = c.in_ok-onward.onward.gap in
     record {
       closing = started g gap c.in_ok-kept.kept c.in_ok-pending.pending c.offer_extensions.new.pending (c.in_ok-kept.ensures.long ∙ c.places.ensures.value) (omega (arith, c.in_ok-pending.ensures.long, c.capacity.ensures.value)) c.in_ok-kept.ensures.none c.in_ok-pending.ensures.none
-    (subst (λ (l : Label). AreOffered g gap l g.folded.places c.in_ok-pending.pending c.offer_extensions.new.pending) c.root.ensures c.in_ok-held.ensures);
+          (subst (λ (l : Label). AreOffered g gap l g.folded.places c.in_ok-pending.pending c.offer_extensions.new.pending) c.root.ensures c.in_ok-held.ensures);
       runs = c.in_ok-runs.ensures ∙ c.places-2.ensures.value;
     }
 
@@ -32,9 +32,9 @@ loop-load-preserved b c =
     let hand = c.deref.result.now in
     record {
       closing = subst (λ (more : Option ℕ). IfSome more (λ _. (from : ℕ) → IsClosing g gap from hand c.loop-load.kept c.take-hand.new.self → IsClosing g gap from [] c.keep_undominated.new.kept c.keep_undominated.new.pending))
-    c.in-Some.is c.in_ok-more.ensures.closing (c.loop-load.load + 1)
-    (in_hand_sorted g gap c.loop-load.load c.loop-load.kept c.loop-load.pending c.take-hand.new.self c.take-hand.result.items c.sort_unstable_by_key.new.self.items hand
-    (omega (arith, c.loop-load-test.true, c.capacity-load-end.ensures.value, c.loop-load.invariant.closing.are_pending.long)) c.take-hand.ensures.left c.take-hand.ensures.taken c.sort_unstable_by_key.ensures.permutation c.deref.ensures.value c.loop-load.invariant.closing);
+          c.in-Some.is c.in_ok-more.ensures.closing (c.loop-load.load + 1)
+          (in_hand_sorted g gap c.loop-load.load c.loop-load.kept c.loop-load.pending c.take-hand.new.self c.take-hand.result.items c.sort_unstable_by_key.new.self.items hand
+          (omega (arith, c.loop-load-test.true, c.capacity-load-end.ensures.value, c.loop-load.invariant.closing.are_pending.long)) c.take-hand.ensures.left c.take-hand.ensures.taken c.sort_unstable_by_key.ensures.permutation c.deref.ensures.value c.loop-load.invariant.closing);
       runs = subst (λ (more : Option ℕ). IfSome more (λ _. length c.keep_undominated.new.runs.by_place.items ≡ g.folded.places)) c.in-Some.is c.in_ok-more.ensures.runs;
     }
 

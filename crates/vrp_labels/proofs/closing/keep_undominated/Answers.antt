@@ -41,25 +41,25 @@ offer_extensions-requires-clause-label c =
 pub loop-label-preserved : goal.loop-label-preserved
 loop-label-preserved c = record {
   closing = λ from start.
-    let g = c.args.graph.now in
-    let hand = c.args.hand.now in
-    let i = c.loop-label.label-index in
-    let x = c.label-item.result in
-    let left = drop (i + 1) hand in
-    let kept = c.loop-label.kept in
-    let pending = c.loop-label.pending in
-    let here : IsClosing g c.args.onward.now.gap from (x ∷ left) kept pending = subst (λ (h : List Label). IsClosing g c.args.onward.now.gap from h kept pending) (drop_more hand i x c.loop-label-test.true ∙ ap (λ (l : Label). l ∷ left) (sym c.label-item.is)) (c.loop-label.invariant.closing from start) in
-    elim c.if-not-is_dominated.branch [
-      | then-not-is_dominated+in_ok-note+in_ok-offered+in_ok-push+else-more-room w ↦
-          let later = w.offer_extensions.new.pending in
-          let after = one_kept g c.args.onward.now.gap from x left kept pending later w.in_ok-offered.ensures here in
-          subst (λ (k : List (List Label)). IsClosing g c.args.onward.now.gap from left k c.if-not-is_dominated.pending) (sym (w.kept-is ∙ w.in_ok-push.ensures))
-          (subst (λ (p : List (List Label)). IsClosing g c.args.onward.now.gap from left (pushed kept x.at x) p) (sym w.pending-is) after)
-      | else-not-is_dominated w ↦
-          let dominated = dominated_by g kept x c.get-pile.result.now c.get-pile.ensures (w.if-not-is_dominated.ensures refl) in
-          subst (λ (k : List (List Label)). IsClosing g c.args.onward.now.gap from left k c.if-not-is_dominated.pending) (sym w.kept-is)
-          (subst (λ (p : List (List Label)). IsClosing g c.args.onward.now.gap from left kept p) (sym w.pending-is) (one_dominated g c.args.onward.now.gap from x left kept pending dominated here))
-    ];
+      let g = c.args.graph.now in
+      let hand = c.args.hand.now in
+      let i = c.loop-label.label-index in
+      let x = c.label-item.result in
+      let left = drop (i + 1) hand in
+      let kept = c.loop-label.kept in
+      let pending = c.loop-label.pending in
+      let here : IsClosing g c.args.onward.now.gap from (x ∷ left) kept pending = subst (λ (h : List Label). IsClosing g c.args.onward.now.gap from h kept pending) (drop_more hand i x c.loop-label-test.true ∙ ap (λ (l : Label). l ∷ left) (sym c.label-item.is)) (c.loop-label.invariant.closing from start) in
+      elim c.if-not-is_dominated.branch [
+        | then-not-is_dominated+in_ok-note+in_ok-offered+in_ok-push+else-more-room w ↦
+            let later = w.offer_extensions.new.pending in
+            let after = one_kept g c.args.onward.now.gap from x left kept pending later w.in_ok-offered.ensures here in
+            subst (λ (k : List (List Label)). IsClosing g c.args.onward.now.gap from left k c.if-not-is_dominated.pending) (sym (w.kept-is ∙ w.in_ok-push.ensures))
+            (subst (λ (p : List (List Label)). IsClosing g c.args.onward.now.gap from left (pushed kept x.at x) p) (sym w.pending-is) after)
+        | else-not-is_dominated w ↦
+            let dominated = dominated_by g kept x c.get-pile.result.now c.get-pile.ensures (w.if-not-is_dominated.ensures refl) in
+            subst (λ (k : List (List Label)). IsClosing g c.args.onward.now.gap from left k c.if-not-is_dominated.pending) (sym w.kept-is)
+            (subst (λ (p : List (List Label)). IsClosing g c.args.onward.now.gap from left kept p) (sym w.pending-is) (one_dominated g c.args.onward.now.gap from x left kept pending dominated here))
+      ];
   runs = elim c.if-not-is_dominated.branch [
     | then-not-is_dominated+in_ok-note+in_ok-offered+in_ok-push+else-more-room w ↦ ap (λ (r : Runs). length r.by_place.items) w.runs-is ∙ (w.in_ok-note.ensures ∙ c.loop-label.invariant.runs)
     | else-not-is_dominated w ↦ ap (λ (r : Runs). length r.by_place.items) w.runs-is ∙ c.loop-label.invariant.runs

@@ -8,11 +8,11 @@ use Rattle.vrp_labels.proofs.ClosingSteps.{in_kept}
 use Rattle.vrp_labels.proofs.SignedSums.{sum_is}
 use Rattle.vrp_labels.proofs.completions.Completions.links.Goals as goal
 
-pub meets-requires-clause-labels : goal.meets-requires-clause-labels
-meets-requires-clause-labels c =
+pub meets_in_bands-requires-clause-labels : goal.meets_in_bands-requires-clause-labels
+meets_in_bands-requires-clause-labels c =
     let g = c.self.inside.graph.now in
     let place = c.args.place in
-    subst (λ (p : List Label). All (λ label. IsLabelOf g label × (label.at ≡ place)) p) (sym c.get.ensures) (in_kept g place c.self.inside.kept c.self.invariant.are_kept)
+    subst (λ (p : List Label). All (λ label. IsLabelOf g label × (label.at ≡ place)) p) (sym c.get.ensures) (in_kept g place c.self.inside.kept c.self.invariant.completions.are_kept)
 
 pub returns-then-place-eq0-clause-found : goal.returns-then-place-eq0-clause-found
 returns-then-place-eq0-clause-found c = λ yes.

@@ -17,7 +17,7 @@ loop-place-preserved c = λ j less linked. elim (cases_lt j c.loop-place.place) 
 pub returns-clause-begins : goal.returns-clause-begins
 returns-clause-begins c = λ beginning ending begins cheap.
     let s = c.args.self.now in
-    let is : AreCompletions s = subst AreCompletions c.self.view_is c.self.invariant in
+    let is : AreCompletions s = subst AreCompletions c.self.view_is c.self.invariant.completions in
     let all = ap (λ (s : CompletionsOf). s.graph.folded.places) c.self.view_is in
     let both = halves s.graph beginning ending cheap.is_route.is_ending in
     let place = place_of s.graph ending (omega (arith, all, c.places-place-end.ensures.known.some_places)) both.is_ending.known in

@@ -14,7 +14,7 @@ linked_arcs-requires c = kept_reversed c.args.self.now.graph c.requires.reversed
 pub returns-clause-keeps : goal.returns-clause-keeps
 returns-clause-keeps c =
     let s = c.args.self.now in
-    let is : AreCompletions s = subst AreCompletions c.self.view_is c.self.invariant in
+    let is : AreCompletions s = subst AreCompletions c.self.view_is c.self.invariant.completions in
     let some : 1 ≤ s.graph.folded.places = omega (arith, ap (λ (s : CompletionsOf). s.graph.folded.places) c.self.view_is, c.places-places.ensures.known.some_places) in
     let reversed : IsClosedReversed s.graph s.gap c.args.beginnings.now = record { reversed = c.requires.reversed; is = c.requires.is; are_kept = c.requires.are_kept; closed = c.requires.closed } in
     IfOk-weaker c.linked_arcs.result _ _ (λ followers marks. keeps_reversed s c.args.beginnings.now followers.items some is reversed marks) c.linked_arcs.ensures
