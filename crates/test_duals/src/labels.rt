@@ -3,3 +3,4 @@
 mod compared;
 mod fixture;
 mod limits;
+mod reused;

@@ -10,10 +10,10 @@ use Rattle.std.proofs.lemmas.List.Sorted.{All-permutation, Contains-permutation}
 use Rattle.vrp_duals.specs.Folding.{first_of}
 use Rattle.vrp_labels.specs.Graph.{GraphOf, IsGraph}
 use Rattle.vrp_labels.specs.Route.{IsCheap, joined}
-use Rattle.vrp_labels.specs.Label.{Dominates, IsClosed, IsLabelOf, IsBeyondGap, MayExtend, StandsFor, extended_by, pile_at, root_label}
+use Rattle.vrp_labels.specs.Label.{Dominates, IsClosed, IsLabelOf, IsBeyondGap, MayExtend, StandsFor, extended_by, outline_of, pile_at, root_label}
 use Rattle.vrp_labels.specs.Closing.{AreKept, AreOffered, ArePending, IsExtended, HaveGrown, IsClosing, IsDominated, IsDone, Waits, pushed}
 use Rattle.vrp_labels.specs.declared.label.Label.{Label}
-use Rattle.vrp_labels.proofs.Endings.{dominates_itself, last_ending, may_extend, root_stands, stands_better, stands_extended}
+use Rattle.vrp_labels.proofs.Endings.{dominates_itself, last_ending, may_extend, outline_stands, root_stands, stands_better, stands_extended}
 use Rattle.vrp_labels.proofs.PileSteps.{emptied_cases, emptied_still, none_past, pushed_cases, pushed_here, pushed_still}
 
 none_there : (x : Label) → Contains [] x → ⊥
@@ -78,26 +78,22 @@ offered_one g gap label j old new offered are is heavier =
       ];
     }
 
--- no cheap route has the extension
-pub offered_beyond_gap : (g : GraphOf) (gap : ℤ) (label : Label) (j : ℕ) (old new : List (List Label)) → AreOffered g gap label j old new → IsBeyondGap g gap (extended_by g label j) → AreOffered g gap label (j + 1) old new
-offered_beyond_gap g gap label j old new offered beyond_gap = record {
+-- the customer may not come, or no cheap route has the extension
+pub offered_not : (g : GraphOf) (gap : ℤ) (label : Label) (j : ℕ) (old new : List (List Label)) → AreOffered g gap label j old new → (MayExtend g label j → IsBeyondGap g gap (extended_by g label j)) → AreOffered g gap label (j + 1) old new
+offered_not g gap label j old new offered beyond = record {
   grows = offered.grows;
   pending = offered.pending;
   every = λ i less may. elim (cases_lt i j) [
     | inl before ↦ offered.every i before may
-    | inr last ↦ inr (subst (λ n. IsBeyondGap g gap (extended_by g label n)) (let same : j ≡ i = omega (arith, less, last) in same) beyond_gap)
+    | inr last ↦
+        let same : j ≡ i = omega (arith, less, last) in
+        inr (subst (λ n. IsBeyondGap g gap (extended_by g label n)) same (beyond (subst (MayExtend g label) (sym same) may)))
   ];
 }
 
-pub offered_not : (g : GraphOf) (gap : ℤ) (label : Label) (j : ℕ) (old new : List (List Label)) → AreOffered g gap label j old new → (MayExtend g label j → ⊥) → AreOffered g gap label (j + 1) old new
-offered_not g gap label j old new offered never = record {
-  grows = offered.grows;
-  pending = offered.pending;
-  every = λ i less may. elim (cases_lt i j) [
-    | inl before ↦ offered.every i before may
-    | inr last ↦ absurd (never (subst (MayExtend g label) (let same : i ≡ j = omega (arith, less, last) in same) may))
-  ];
-}
+-- what tells that no cheap route has the outline tells it of the extension
+pub beyond_by_outline : (g : GraphOf) (gap : ℤ) (label : Label) (j : ℕ) → IsBeyondGap g gap (outline_of g label j) → IsBeyondGap g gap (extended_by g label j)
+beyond_by_outline g gap label j beyond beginning ending cheap stands = beyond beginning ending cheap (outline_stands g label j ending stands)
 
 -- ---- labels that wait or are dominated
 

@@ -11,9 +11,9 @@ use Rattle.std.proofs.lemmas.Nat.Bits.{bit_at-lt, bit_at-pow_other, bit_at-zero,
 use Rattle.vrp_duals.specs.Folding.{arc_of, due_at, first_of, home_cost, rows_at, rows_of}
 use Rattle.vrp_labels.specs.Graph.{Follows, GraphOf, demand_at, near_at}
 use Rattle.vrp_labels.specs.Route.{IsEnding, joined, load_in_units}
-use Rattle.vrp_labels.specs.Label.{Dominates, MayExtend, StandsFor, excess, extended_by, root_label}
+use Rattle.vrp_labels.specs.Label.{Dominates, MayExtend, StandsFor, excess, extended_by, outline_of, root_label}
 use Rattle.vrp_labels.specs.declared.label.Label.{Label}
-use Rattle.vrp_labels.proofs.RowExcess.{excess_extended, excess_same, excess_trans}
+use Rattle.vrp_labels.proofs.RowExcess.{excess_extended, excess_none, excess_same, excess_trans}
 
 -- ---- endings
 
@@ -98,6 +98,18 @@ stands_extended g label j ending stands = record {
   where
     dearer : (c h a b : ℤ) (e p q f : ℕ) → a ≡ b → p + f ≤ e + q → (c +ℤ pos e) ≤ℤ h → (c +ℤ a +ℤ pos p +ℤ pos f) ≤ℤ (h +ℤ b +ℤ pos q)
     dearer c h a b e p q f same le was = omega (arith, ints)
+
+-- whatever a longer label stands for, its outline does
+pub outline_stands : (g : GraphOf) (label : Label) (j : ℕ) (ending : List ℕ) → StandsFor g (extended_by g label j) ending → StandsFor g (outline_of g label j) ending
+outline_stands g label j ending stands = record {
+  at = stands.at;
+  load = stands.load;
+  visited = λ c set. absurd (omega (arith, bit_at-zero c, set));
+  cost = cheaper (label.cost +ℤ arc_of g.folded j label.at) (home_cost g.folded ending) (due_at g.folded j label.rows) (excess g (rows_at g.folded j label.rows) (rows_of g.folded ending)) (excess g 0 (rows_of g.folded ending)) (excess_none g (rows_of g.folded ending)) stands.cost;
+}
+  where
+    cheaper : (a h : ℤ) (d e f : ℕ) → f ≡ 0 → (a +ℤ pos d +ℤ pos e) ≤ℤ h → (a +ℤ pos f) ≤ℤ h
+    cheaper a h d e f none le = omega (arith, ints)
 
 -- a label that dominates another stands for all that the other stands for
 pub stands_better : (g : GraphOf) (label other : Label) (ending : List ℕ) → Dominates g label other → StandsFor g other ending → StandsFor g label ending

@@ -60,6 +60,10 @@ excess_trans g a b c =
     each : (x y z : ℕ) → (x - z) + 0 ≤ (x - y) + (y - z)
     each x y z = omega arith
 
+-- no row is in excess where there is none
+pub excess_none : (g : GraphOf) (b : ℕ) → excess g 0 b ≡ 0
+excess_none g b = ap (weigh g.folded.row_prices) (none_left 0 b (λ i. omega (arith, bit_at-zero i))) ∙ weigh_none g.folded.row_prices
+
 -- no row is in excess of the same rows
 pub excess_same : (g : GraphOf) (a : ℕ) → excess g a a ≡ 0
 excess_same g a =

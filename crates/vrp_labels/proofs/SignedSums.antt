@@ -60,6 +60,17 @@ grown_is c a d l b e arc due c_small a_small d_small l_small = grown_whole c a d
 pub grown_small : (c a : ℤ) (d l m : ℕ) → unsigned_abs c ≤ (MAX_ARC_PRICE + MAX_ROW_CHARGE) * l → unsigned_abs a ≤ MAX_ARC_PRICE → d ≤ MAX_ROW_CHARGE → l ≤ 2 ^ 16 → 1 ≤ m → unsigned_abs (coded c a d) ≤ (MAX_ARC_PRICE + MAX_ROW_CHARGE) * (l + m)
 grown_small c a d l m c_small a_small d_small l_small some = rw (grown_whole c a d l c_small a_small d_small l_small) (omega (arith, ints, c_small, a_small, d_small, some))
 
+-- the same without what is due
+drawn_whole : (c a : ℤ) (l : ℕ) → unsigned_abs c ≤ (MAX_ARC_PRICE + MAX_ROW_CHARGE) * l → unsigned_abs a ≤ MAX_ARC_PRICE → l ≤ 2 ^ 16 → to_z w64 (of_z w64 (to_z w64 (of_z w64 c) +ℤ to_z w64 (of_z w64 a))) ≡ c +ℤ a
+drawn_whole c a l c_small a_small l_small = sum_is c a (omega (arith, c_small, a_small, l_small))
+
+pub drawn_is : (c a : ℤ) (l : ℕ) (b : ℤ) → a ≡ b → unsigned_abs c ≤ (MAX_ARC_PRICE + MAX_ROW_CHARGE) * l → unsigned_abs a ≤ MAX_ARC_PRICE → l ≤ 2 ^ 16 → to_z w64 (of_z w64 (to_z w64 (of_z w64 c) +ℤ to_z w64 (of_z w64 a))) ≡ c +ℤ b
+drawn_is c a l b arc c_small a_small l_small = drawn_whole c a l c_small a_small l_small ∙ ap (λ (z : ℤ). c +ℤ z) arc
+
+pub drawn_small : (c a : ℤ) (l m : ℕ) → unsigned_abs c ≤ (MAX_ARC_PRICE + MAX_ROW_CHARGE) * l → unsigned_abs a ≤ MAX_ARC_PRICE → l ≤ 2 ^ 16 → 1 ≤ m
+    → unsigned_abs (to_z w64 (of_z w64 (to_z w64 (of_z w64 c) +ℤ to_z w64 (of_z w64 a)))) ≤ (MAX_ARC_PRICE + MAX_ROW_CHARGE) * (l + m)
+drawn_small c a l m c_small a_small l_small some = rw (drawn_whole c a l c_small a_small l_small) (omega (arith, ints, c_small, a_small, some))
+
 -- a cost and a charge
 pub paid_is : (c : ℤ) (d : ℕ) → unsigned_abs c + d < 2 ^ 63 → d ≤ MAX_ROW_CHARGE → to_z w64 (of_z w64 (to_z w64 (of_z w64 c) +ℤ to_z w64 d)) ≡ c +ℤ pos d
 paid_is c d fits small =

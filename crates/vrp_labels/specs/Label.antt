@@ -31,6 +31,16 @@ extended_by g label customer = record {
   at = customer;
 }
 
+-- as much of it as arcs and loads tell
+abbrev pub outline_of : GraphOf → Label → ℕ → Label
+outline_of g label customer = record {
+  visited = 0;
+  rows = 0;
+  cost = label.cost +ℤ arc_of g.folded customer label.at;
+  load = label.load + demand_at g customer;
+  at = customer;
+}
+
 -- what a label's numbers may be
 pub record IsLabelOf (g : GraphOf) (label : Label) : Type 0 where
   pub place : label.at < g.folded.places

@@ -1,10 +1,11 @@
 //! The closure of labels: by rising load each label is extended that no kept label dominates.
-ghost use Rattle.std.specs.Prelude.{◌≡◌, ◌≤◌, ◌<◌, ◌+◌, ◌*◌, ◌^◌, ℕ, [], IfOk, IfSome, OnOk, IsTrue, length};
+ghost use Rattle.std.specs.Prelude.{◌≡◌, ◌≤◌, ◌<◌, ◌+◌, ◌*◌, ◌^◌, ℕ, [], IfNone, IfOk, IfSome, OnOk, IsTrue, length};
 ghost use Rattle.std.specs.List.{All, Any};
 ghost use Rattle.vrp_labels.specs.Closed.{IfClosed};
 ghost use Rattle.vrp_labels.specs.Closing.{AreKept, AreOffered, ArePending, IsClosing};
-ghost use Rattle.vrp_labels.specs.Label.{Dominates, IsClosed, IsLabelOf, IsBeyondGap};
+ghost use Rattle.vrp_labels.specs.Label.{Dominates, IsClosed, IsLabelOf, IsBeyondGap, MayExtend, extended_by};
 ghost use Rattle.vrp_labels.specs.OnwardBound.{IsBoundTable};
+ghost use Rattle.vrp_labels.specs.Reversal.{AreLeaders};
 
 use crate::graph::RouteGraph;
 use crate::label::Label;
@@ -87,6 +88,7 @@ fn keep_undominated(
     room: usize,
 ) -> Result<Option<usize>, AllocError>
     requires table { IsBoundTable graph.now onward.now.table.items }
+    requires leaders { AreLeaders graph.now onward.now.leaders.items }
     requires closing { (from : ℕ) × IsClosing graph.now onward.now.gap from hand.now kept.old pending.old }
     requires runs { length runs.old.by_place.items ≡ graph.now.folded.places }
     ensures closing { IfOk result (λ more. IfSome more (λ _. (from : ℕ) → IsClosing graph.now onward.now.gap from hand.now kept.old pending.old
@@ -118,21 +120,48 @@ fn offer_extensions(
     label: &Label,
 ) -> Result<usize, AllocError>
     requires table { IsBoundTable graph.now onward.now.table.items }
+    requires leaders { AreLeaders graph.now onward.now.leaders.items }
     requires label { IsLabelOf graph.now label.now }
     requires pending { ArePending graph.now pending.old }
     ensures { OnOk result (AreOffered graph.now onward.now.gap label.now graph.now.folded.places pending.old pending.new) }
 {
+    let leaders = onward.leaders[label.at as usize];
     let mut offered: usize = 0;
     for j in 1..graph.places() {
-        if graph.may_extend(label, j) {
-            let extended = graph.extended(label, j);
-            if !is_beyond_gap(graph, onward, &extended) {
+        if leaders.contains(j) && graph.may_extend(label, j) {
+            if let Some(extended) = extension(graph, onward, label, j) {
                 pending.push(extended.load as usize, extended)?;
                 offered = offered.wrapping_add(1);
             }
         }
     }
     Ok(offered)
+}
+
+// The label with one more customer in front, or `None` where no cheap route has it. Most are told by their arcs alone.
+#[inline(always)]
+fn extension(
+    graph: &RouteGraph,
+    onward: &OnwardBound,
+    label: &Label,
+    customer: u16,
+) -> Option<Label>
+    requires table { IsBoundTable graph.now onward.now.table.items }
+    requires label { IsLabelOf graph.now label.now }
+    requires may { MayExtend graph.now label.now customer }
+    ensures value { IfSome result (λ extended. extended ≡ extended_by graph.now label.now customer) }
+    ensures label { IfSome result (IsLabelOf graph.now) }
+    ensures heavier { IfSome result (λ extended. label.now.load < extended.load) }
+    ensures beyond { IfNone result (IsBeyondGap graph.now onward.now.gap (extended_by graph.now label.now customer)) }
+{
+    if is_beyond_gap(graph, onward, &graph.outline(label, customer)) {
+        return None;
+    }
+    let extended = graph.extended(label, customer);
+    if is_beyond_gap(graph, onward, &extended) {
+        return None;
+    }
+    Some(extended)
 }
 
 // Whether the other part of a route costs too much, whatever it is.

@@ -1,10 +1,12 @@
 //! How labels grow customer by customer, and which of them dominate others.
 ghost use Rattle.std.specs.Prelude.{◌≡◌, ◌≤◌, ◌<◌, ◌↔◌, ℕ, List, [], ◌∷◌, IsTrue};
 ghost use Rattle.vrp_labels.specs.Completion.{IsForward, MayAdvance, advanced_by};
-ghost use Rattle.vrp_labels.specs.Label.{Dominates, IsLabelOf, MayExtend, extended_by, root_label};
+ghost use Rattle.vrp_labels.specs.Label.{Dominates, IsLabelOf, MayExtend, extended_by, outline_of, root_label};
 
 use crate::graph::RouteGraph;
 use crate::label::Label;
+use vrp_customers::CustomerSet;
+use vrp_duals::RowSet;
 
 impl RouteGraph {
     /// The label of no stop, from which beginnings are made.
@@ -61,6 +63,23 @@ impl RouteGraph {
                 .with(customer),
             rows: self.folded_duals().rows_at(customer, label.rows),
             cost: label.cost + arc + due as i64,
+            load: label.load + self.demand(customer),
+            at: customer,
+        }
+    }
+
+    /// As much of the label with one more customer in front as its arcs and its load tell: no label costs less than this.
+    #[inline(always)]
+    pub(crate) fn outline(&self, label: &Label, customer: u16) -> Label
+        requires label { IsLabelOf self.now label.now }
+        requires may { MayExtend self.now label.now customer }
+        ensures value { result ≡ outline_of self.now label.now customer }
+        ensures label { IsLabelOf self.now result }
+    {
+        Label {
+            visited: CustomerSet::empty(),
+            rows: RowSet::empty(),
+            cost: label.cost + self.arc(customer, label.at),
             load: label.load + self.demand(customer),
             at: customer,
         }

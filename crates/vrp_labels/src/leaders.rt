@@ -1,6 +1,7 @@
 //! The places from which arcs are alive, as the graph has those to which they are.
-ghost use Rattle.std.specs.Prelude.{◌≡◌, ◌<◌, ℕ, IfOk, length, slice_index};
+ghost use Rattle.std.specs.Prelude.{◌≡◌, ◌<◌, ℕ, IfOk, slice_index};
 ghost use Rattle.std.specs.Int.{bit_at};
+ghost use Rattle.vrp_labels.specs.Reversal.{AreLeaders};
 
 use crate::graph::RouteGraph;
 use std::alloc::{AllocError, Global};
@@ -9,9 +10,7 @@ use vrp_customers::CustomerSet;
 impl RouteGraph {
     /// For each place, those from which the arc to it is alive. The only error is lack of memory.
     pub(crate) fn leaders(&self, alloc: Global) -> Result<Vec<CustomerSet>, AllocError>
-        ensures long { IfOk result (λ sets. length sets.items ≡ self.now.folded.places) }
-        ensures each { IfOk result (λ sets. (to from : ℕ) → to < self.now.folded.places → from < self.now.folded.places
-            → bit_at (slice_index sets.items to) from ≡ bit_at (slice_index self.now.followers from) to) }
+        ensures { IfOk result (λ sets. AreLeaders self.now sets.items) }
     {
         let places = self.places();
         let mut sets = Vec::with_capacity(alloc, usize::from(places))?;

@@ -2,9 +2,11 @@
 ghost use Rattle.std.specs.Prelude.{◌≡◌, ◌+ℤ◌, unsigned_abs, ◌≤◌, ◌<◌, ◌≤ℤ◌, ◌+◌, ◌*◌, ◌/◌, ◌%◌, ◌^◌, ℕ, IfOk};
 ghost use Rattle.vrp_duals.specs.declared.limits.TheConstants.{MAX_ARC_PRICE};
 ghost use Rattle.vrp_labels.specs.OnwardBound.{BoundsBeginnings, IsBoundStep, IsBoundTable, IsBoundTableTo, IsImproved};
+ghost use Rattle.vrp_labels.specs.Reversal.{AreLeaders};
 
 use crate::graph::RouteGraph;
 use std::alloc::{AllocError, Global};
+use vrp_customers::CustomerSet;
 
 // No entry is above this.
 const FAR: i64 = 1 << 62;
@@ -18,12 +20,13 @@ pub struct BoundEntry {
 }
 
 /// What labels are measured by: a table with, for each room, from 0 to the capacity, and each place, what it costs at least to come there
-/// from the depot by customers who carry no more than the room; and what a cheap route costs at most. In the table rows count for nothing,
-/// and a customer may come twice, but not with one other between.
+/// from the depot by customers who carry no more than the room; what a cheap route costs at most; and for each place those from which the
+/// arc to it is alive. In the table rows count for nothing, and a customer may come twice, but not with one other between.
 #[derive(Debug, Drop)]
 pub struct OnwardBound {
     pub gap: i64,
     pub table: Vec<BoundEntry>,
+    pub leaders: Vec<CustomerSet>,
 }
 
 impl OnwardBound {
@@ -32,6 +35,7 @@ impl OnwardBound {
         ensures gap { IfOk result (λ onward. onward.gap ≡ gap) }
         ensures table { IfOk result (λ onward. IsBoundTable graph.now onward.table.items) }
         ensures onward { IfOk result (λ onward. BoundsBeginnings graph.now onward.table.items) }
+        ensures leaders { IfOk result (λ onward. AreLeaders graph.now onward.leaders.items) }
     {
         let places = graph.places() as usize;
         let count = (graph.capacity() as usize + 1) * places;
@@ -40,7 +44,12 @@ impl OnwardBound {
             let entry = bound_entry(graph, table.as_slice(), (k % places) as u16, k / places);
             table.push(entry)?;
         }
-        Ok(OnwardBound { gap, table })
+        let leaders = graph.leaders(alloc)?;
+        Ok(OnwardBound {
+            gap,
+            table,
+            leaders,
+        })
     }
 }
 

@@ -13,16 +13,16 @@ use vrp_duals::{Duals, EntryRow, FoldedDuals, SubsetRow};
 use vrp_labels::{Closing, Completions, RouteGraph, close};
 use vrp_model::{Crew, Instance, Unhurried};
 
-const PLACES: usize = 7;
+pub(super) const PLACES: usize = 7;
 
-const CAPACITY: u32 = 6;
+pub(super) const CAPACITY: u32 = 6;
 
 // Random prices of one instance, what a cheap route costs at most, and all its routes.
 #[derive(Clone, Copy)]
-struct Case<'a> {
-    demands: &'a [u32],
-    gap: i64,
-    routes: &'a [Vec<u16>],
+pub(super) struct Case<'a> {
+    pub(super) demands: &'a [u32],
+    pub(super) gap: i64,
+    pub(super) routes: &'a [Vec<u16>],
 }
 
 #[test]
@@ -38,7 +38,7 @@ fn every_route(rt: HostRuntime) {
 
 // Compares one random instance, and answers how many arcs no cheap route uses.
 fn compare(rt: &impl Abort, alloc: Global, random: &mut Random, round: u32) -> usize {
-    let instance = random_instance(rt, alloc, random);
+    let instance = random_instance(rt, alloc, random, true);
     let duals = random_duals(rt, alloc, &instance, random);
     let demands = random_demands(rt, alloc, random);
     let routes = all_routes(rt, alloc, &demands, CAPACITY);
@@ -142,7 +142,7 @@ fn least_cost(rt: &impl Abort, prices: &FoldedDuals, case: &Case<'_>) -> i64 {
 }
 
 // A cheap route may begin with its first customer.
-fn assert_beginnings(
+pub(super) fn assert_beginnings(
     rt: &impl Abort,
     graph: &RouteGraph,
     completions: &Completions<'_>,
@@ -174,7 +174,12 @@ fn assert_begins(rt: &impl Abort, graph: &RouteGraph, completions: &Completions<
 }
 
 // The arcs of cheap routes are alive.
-fn assert_alive(rt: &impl Abort, alive: &[CustomerSet], prices: &FoldedDuals, case: &Case<'_>) {
+pub(super) fn assert_alive(
+    rt: &impl Abort,
+    alive: &[CustomerSet],
+    prices: &FoldedDuals,
+    case: &Case<'_>,
+) {
     for route in case.routes {
         if !route.is_empty() && route_cost(rt, prices, route) <= case.gap {
             let mut from = 0u16;
@@ -194,14 +199,23 @@ fn has_arc(alive: &[CustomerSet], from: u16, to: u16) -> bool {
     }
 }
 
-// Symmetric arcs.
-fn random_instance(rt: &impl Abort, alloc: Global, random: &mut Random) -> Instance {
+// Arcs that cost the same both ways, or not.
+pub(super) fn random_instance(
+    rt: &impl Abort,
+    alloc: Global,
+    random: &mut Random,
+    both_ways: bool,
+) -> Instance {
     let mut arcs = vec![in alloc; 0u64; PLACES * PLACES].expect(rt, "memory");
     for from in 0..PLACES {
         for to in 0..from {
             let weight = u64::from(random.next() % 1_000);
             arcs[from * PLACES + to] = weight;
-            arcs[to * PLACES + from] = weight;
+            arcs[to * PLACES + from] = if both_ways {
+                weight
+            } else {
+                u64::from(random.next() % 1_000)
+            };
         }
     }
     let demands = one_each(alloc, PLACES).expect(rt, "demands");
@@ -209,7 +223,7 @@ fn random_instance(rt: &impl Abort, alloc: Global, random: &mut Random) -> Insta
 }
 
 // From 1 to 3 for each customer.
-fn random_demands(rt: &impl Abort, alloc: Global, random: &mut Random) -> Vec<u32> {
+pub(super) fn random_demands(rt: &impl Abort, alloc: Global, random: &mut Random) -> Vec<u32> {
     let mut demands = Vec::new(alloc);
     demands.push(0).expect(rt, "memory");
     for _ in 1..PLACES {
@@ -219,7 +233,12 @@ fn random_demands(rt: &impl Abort, alloc: Global, random: &mut Random) -> Vec<u3
 }
 
 // Prices that leave some routes cheap, two entry rows and four subset rows.
-fn random_duals(rt: &impl Abort, alloc: Global, instance: &Instance, random: &mut Random) -> Duals {
+pub(super) fn random_duals(
+    rt: &impl Abort,
+    alloc: Global,
+    instance: &Instance,
+    random: &mut Random,
+) -> Duals {
     let mut prices = Vec::new(alloc);
     prices.push(0).expect(rt, "memory");
     for _ in 1..PLACES {

@@ -14,3 +14,8 @@ loop-place-preserved c =
       each = subst (λ (xs : List ℕ). (k : ℕ) → k < length xs → P k (get_or xs k 0)) (sym c.in_ok-push.ensures.items)
           (each_push P 0 items x c.loop-place.invariant.each (subst (λ n. P n x) (sym c.loop-place.invariant.long) c.leaders_of.ensures));
     }
+
+pub returns : goal.returns
+returns c =
+    let long : length c.loop-place.sets.items ≡ c.args.self.now.folded.places = omega (arith, c.loop-place.invariant.long, c.loop-place-test.false, c.loop-place.auto.place-end, c.places-places.ensures.value) in
+    record { long = long; each = λ to from t f. c.loop-place.invariant.each to (omega (arith, t, long)) from f }
