@@ -38,7 +38,7 @@ fn every_route(rt: HostRuntime) {
 
 // Compares one random instance, and answers how many arcs no cheap route uses.
 fn compare(rt: &impl Abort, alloc: Global, random: &mut Random, round: u32) -> usize {
-    let instance = random_instance(rt, alloc, random, true);
+    let instance = random_instance(rt, alloc, random);
     let duals = random_duals(rt, alloc, &instance, random);
     let demands = random_demands(rt, alloc, random);
     let routes = all_routes(rt, alloc, &demands, CAPACITY);
@@ -199,23 +199,14 @@ fn has_arc(alive: &[CustomerSet], from: u16, to: u16) -> bool {
     }
 }
 
-// Arcs that cost the same both ways, or not.
-pub(super) fn random_instance(
-    rt: &impl Abort,
-    alloc: Global,
-    random: &mut Random,
-    both_ways: bool,
-) -> Instance {
+// Symmetric arcs.
+fn random_instance(rt: &impl Abort, alloc: Global, random: &mut Random) -> Instance {
     let mut arcs = vec![in alloc; 0u64; PLACES * PLACES].expect(rt, "memory");
     for from in 0..PLACES {
         for to in 0..from {
             let weight = u64::from(random.next() % 1_000);
             arcs[from * PLACES + to] = weight;
-            arcs[to * PLACES + from] = if both_ways {
-                weight
-            } else {
-                u64::from(random.next() % 1_000)
-            };
+            arcs[to * PLACES + from] = weight;
         }
     }
     let demands = one_each(alloc, PLACES).expect(rt, "demands");

@@ -8,17 +8,17 @@ ghost use Rattle.vrp_labels.specs.Label.{IsClosed};
 ghost use Rattle.vrp_labels.specs.Reversal.{IsClosedReversed};
 
 use super::compared::{
-    CAPACITY, Case, assert_alive, assert_beginnings, random_demands, random_duals, random_instance,
+    CAPACITY, Case, PLACES, assert_alive, assert_beginnings, random_demands, random_duals,
 };
 use super::fixture::{all_routes, whole_graph};
 use crate::duals::fixture::{folded, folded_in_full, set_of};
 use std::alloc::Global;
 use std::process::Abort;
-use test_fixtures::Random;
+use test_fixtures::{Random, one_each, with_arcs};
 use vrp_customers::CustomerSet;
 use vrp_duals::{FoldedDuals, RowSet};
 use vrp_labels::{Closing, Completions, LabelPiles, RouteGraph, close};
-use vrp_model::{Crew, Unhurried};
+use vrp_model::{Crew, Instance, Unhurried};
 
 #[test]
 fn one_way_costs(rt: HostRuntime) {
@@ -30,7 +30,7 @@ fn one_way_costs(rt: HostRuntime) {
 
 // Compares one random instance.
 fn compare(rt: &impl Abort, alloc: Global, random: &mut Random, gap: i64) {
-    let instance = random_instance(rt, alloc, random, false);
+    let instance = one_way_instance(rt, alloc, random);
     let duals = random_duals(rt, alloc, &instance, random);
     let demands = random_demands(rt, alloc, random);
     let routes = all_routes(rt, alloc, &demands, CAPACITY);
@@ -64,6 +64,17 @@ fn compare(rt: &impl Abort, alloc: Global, random: &mut Random, gap: i64) {
         memories,
     };
     assert_reused(rt, alloc, found, &full, &case);
+}
+
+// Arcs that cost differently each way.
+fn one_way_instance(rt: &impl Abort, alloc: Global, random: &mut Random) -> Instance {
+    let mut arcs = Vec::new(alloc);
+    for _ in 0..PLACES * PLACES {
+        let weight = u64::from(random.next() % 1_000);
+        arcs.push(weight).expect(rt, "memory");
+    }
+    let demands = one_each(alloc, PLACES).expect(rt, "demands");
+    with_arcs(alloc, &arcs, &demands, 6).expect(rt, "an instance")
 }
 
 // The closed labels of a graph.
