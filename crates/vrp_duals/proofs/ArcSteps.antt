@@ -10,7 +10,6 @@ use Rattle.std.proofs.lemmas.Nat.{div-mul-add, mod-mul-add, mul-add-lt}
 use Rattle.vrp_model.specs.Problem.{Problem, weight_of}
 use Rattle.vrp_model.specs.declared.limits.TheConstants.{MAX_WEIGHT}
 use Rattle.vrp_duals.specs.Duals.{AreModerate, DualsOf, entry, int_sum_by, price_of}
-use Rattle.vrp_duals.specs.Folding.{arc_price}
 use Rattle.vrp_duals.specs.declared.limits.TheConstants.{MAX_ARC_PRICE, MAX_PRICE, MAX_SCALE}
 
 -- ---- entries

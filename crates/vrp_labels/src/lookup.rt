@@ -87,7 +87,13 @@ pub fn meets_in_bands(
         if base + bands[top - k].least > *gap {
             return false;
         }
-        if meets(graph, band_labels(pile, bands, top - k), place, forward, gap) {
+        if meets(
+            graph,
+            band_labels(pile, bands, top - k),
+            place,
+            forward,
+            gap,
+        ) {
             return true;
         }
     }
