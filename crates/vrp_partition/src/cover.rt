@@ -101,7 +101,7 @@ fn columns_inside(
     columns
         .iter()
         .copied()
-        .filter(|column| column.set.is_subset(unserved) && column.reduced_cost <= gap)
+        .filter(|column| column.reduced_cost <= gap && column.set.is_subset(unserved))
         .collect(alloc)
 }
 

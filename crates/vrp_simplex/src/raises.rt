@@ -125,7 +125,7 @@ impl Program {
 
     /// The right-hand side of a cut: its slack is raised too, by a value that looks random and is below 1/512.
     pub(crate) fn side_of(&self, cut: &Cut) -> i64 {
-        let mixed = cut.set.folded().wrapping_mul(6_364_136_223_846_793_005);
+        let mixed = folded(cut.set).wrapping_mul(6_364_136_223_846_793_005);
         let slack = (((mixed >> 40) << 7) >> self.raise_shift.min(60)) as i64;
         cut.wide_side()
             .wrapping_add(slack.wrapping_mul(cut.slack()))
@@ -161,4 +161,17 @@ impl Program {
         }
         Ok(())
     }
+}
+
+// The customers as one word, whose places begin again after 61 customers. The topmost three places are those of customers 61 to 63 too.
+fn folded(set: CustomerSet) -> u64 {
+    let mut word = 0u64;
+    for customer in set.iter() {
+        let place = customer % 61;
+        word ^= 1 << place;
+        if customer >= 61 && place < 3 {
+            word ^= 1 << (61 + place);
+        }
+    }
+    word
 }
