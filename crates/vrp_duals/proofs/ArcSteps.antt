@@ -36,7 +36,7 @@ added n s x is fits =
     let all = same_z (s +ℤ x) (omega (arith, ints, fits)) in
     rw (is, one, all) refl
 
-pub combined_is : (a b r : ℤ) → unsigned_abs a ≤ 2 ^ 50 → unsigned_abs b ≤ 2 ^ 58 → unsigned_abs r ≤ 2 ^ 46
+pub combined_is : (a b r : ℤ) → unsigned_abs a ≤ 2 ^ 54 → unsigned_abs b ≤ 2 ^ 58 → unsigned_abs r ≤ 2 ^ 46
     → to_z w64 (of_z w64 (to_z w64 (of_z w64 (to_z w64 (of_z w64 a) +ℤ to_z w64 (of_z w64 b))) -ℤ to_z w64 (of_z w64 r))) ≡ a +ℤ b -ℤ r
 combined_is a b r p q s =
     let first = same_z a (omega (arith, p)) in
@@ -55,7 +55,7 @@ pub record IsDifference (n : ℕ) (y v z : ℤ) : Type 0 where
   pub value : z ≡ pos n -ℤ y -ℤ v
   pub small : unsigned_abs z ≤ MAX_ARC_PRICE
 
-pub difference_fits : (n : ℕ) (y v : ℤ) → n ≤ 2 ^ 42 → unsigned_abs y ≤ MAX_PRICE → unsigned_abs v ≤ 2 ^ 42
+pub difference_fits : (n : ℕ) (y v : ℤ) → n ≤ 2 ^ 47 → unsigned_abs y ≤ MAX_PRICE → unsigned_abs v ≤ 2 ^ 42
     → FitsSigned w64 (to_z w64 (of_z w64 (to_z w64 n -ℤ to_z w64 (of_z w64 y))) -ℤ to_z w64 (of_z w64 v))
 difference_fits n y v a b c =
     let first : to_z w64 n ≡ pos n = to_z_pos w64 n (omega (arith, a)) in
@@ -64,7 +64,7 @@ difference_fits n y v a b c =
     let both = same_z (pos n -ℤ y) (omega (arith, ints, a, b)) in
     rw (first, second, third, both) (fits_signed_from_abs w64 (pos n -ℤ y -ℤ v) (omega (arith, ints, a, b, c)))
 
-pub difference_is : (n : ℕ) (y v : ℤ) → n ≤ 2 ^ 42 → unsigned_abs y ≤ MAX_PRICE → unsigned_abs v ≤ 2 ^ 42
+pub difference_is : (n : ℕ) (y v : ℤ) → n ≤ 2 ^ 47 → unsigned_abs y ≤ MAX_PRICE → unsigned_abs v ≤ 2 ^ 42
     → IsDifference n y v (to_z w64 (of_z w64 (to_z w64 (of_z w64 (to_z w64 n -ℤ to_z w64 (of_z w64 y))) -ℤ to_z w64 (of_z w64 v))))
 difference_is n y v a b c =
     let first : to_z w64 n ≡ pos n = to_z_pos w64 n (omega (arith, a)) in
@@ -77,7 +77,7 @@ difference_is n y v a b c =
 -- a weight in price units, and the price of the place that the arc comes to
 pub record IsRead (p : Problem) (d : DualsOf) (from to n : ℕ) (y : ℤ) : Type 0 where
   pub weight : n ≡ d.scale * weight_of p from to
-  pub weight_small : n ≤ 2 ^ 42
+  pub weight_small : n ≤ 2 ^ 47
   pub price : y ≡ price_of d to
   pub price_small : unsigned_abs y ≤ MAX_PRICE
 
@@ -92,7 +92,7 @@ was_read p d from to scale weight index y is lt s w light at read =
       price_small = subst (λ z. unsigned_abs z ≤ MAX_PRICE) (sym y_is) (is.small_prices to (pos 0) lt);
     }
   where
-    scaled : (a b : ℕ) → a ≤ MAX_SCALE → b ≤ MAX_WEIGHT → a * b ≤ 2 ^ 42
+    scaled : (a b : ℕ) → a ≤ MAX_SCALE → b ≤ MAX_WEIGHT → a * b ≤ 2 ^ 47
     scaled a b p q = omega (arith, mul-le-mul_right b p)
 
 pub same_difference : (n n' : ℕ) (y y' v v' : ℤ) → n ≡ n' → y ≡ y' → v ≡ v' → pos n -ℤ y -ℤ v ≡ pos n' -ℤ y' -ℤ v'

@@ -1,10 +1,10 @@
 //! The limits of dual prices, so that no sum of them overflows. Clauses, definitions and code use these names; the numbers are only here.
 
-/// The greatest number of price units in a unit of cost: 2 ^ 10.
-pub const MAX_SCALE: u32 = 1_024;
+/// The greatest number of price units in a unit of cost: 2 ^ 17.
+pub const MAX_SCALE: u32 = 131_072;
 
-/// The greatest absolute price of a customer: 2 ^ 42.
-pub const MAX_PRICE: u64 = 4_398_046_511_104;
+/// The greatest absolute price of a customer: 2 ^ 46.
+pub const MAX_PRICE: u64 = 70_368_744_177_664;
 
 /// The greatest number of entry rows.
 pub const MAX_ENTRY_ROWS: usize = 512;
@@ -18,8 +18,8 @@ pub const MAX_SUBSET_ROWS: usize = 256;
 /// The greatest price of a subset row: 2 ^ 37.
 pub const MAX_ROW_PRICE: u64 = 137_438_953_472;
 
-/// The greatest absolute price of an arc: 2 ^ 44.
-pub const MAX_ARC_PRICE: u64 = 17_592_186_044_416;
+/// The greatest absolute price of an arc: 2 ^ 48.
+pub const MAX_ARC_PRICE: u64 = 281_474_976_710_656;
 
 /// The greatest sum of the prices of a set of subset rows: `MAX_ROW_PRICE` for each of `MAX_SUBSET_ROWS`, 2 ^ 45.
 pub const MAX_ROW_CHARGE: u64 = 35_184_372_088_832;

@@ -17,7 +17,7 @@ pub fn price_sum(prices: &[i64]) -> i64
     requires small { All (λ price. unsigned_abs price ≤ MAX_PRICE) prices.now }
     ensures value { result ≡ int_sum_by (λ place. slice_index_or prices.now place (pos 0))
         (range_with_len 1 (length prices.now - 1)) }
-    ensures small { unsigned_abs result ≤ 2 ^ 50 }
+    ensures small { unsigned_abs result ≤ 2 ^ 54 }
 {
     let mut sum = 0;
     for place in 1..prices.len() {

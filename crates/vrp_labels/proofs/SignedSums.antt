@@ -47,27 +47,27 @@ coded c a d = to_z w64 (of_z w64 (to_z w64 (of_z w64 (to_z w64 (of_z w64 c) +ℤ
 pub charge_z : (d : ℕ) → d ≤ MAX_ROW_CHARGE → to_z w64 d ≡ pos d
 charge_z d small = grind (arith, ints)
 
-grown_whole : (c a : ℤ) (d l : ℕ) → unsigned_abs c ≤ (MAX_ARC_PRICE + MAX_ROW_CHARGE) * l → unsigned_abs a ≤ MAX_ARC_PRICE → d ≤ MAX_ROW_CHARGE → l ≤ 2 ^ 16 → coded c a d ≡ c +ℤ a +ℤ pos d
+grown_whole : (c a : ℤ) (d l : ℕ) → unsigned_abs c ≤ (MAX_ARC_PRICE + MAX_ROW_CHARGE) * l → unsigned_abs a ≤ MAX_ARC_PRICE → d ≤ MAX_ROW_CHARGE → l ≤ 2 ^ 12 → coded c a d ≡ c +ℤ a +ℤ pos d
 grown_whole c a d l c_small a_small d_small l_small =
     let one = sum_is c a (omega (arith, c_small, a_small, l_small)) in
     let charge : to_z w64 d ≡ pos d = charge_z d d_small in
     let all = same_z (c +ℤ a +ℤ pos d) (omega (arith, ints, c_small, a_small, d_small, l_small)) in
     rw (one, charge, all) refl
 
-pub grown_is : (c a : ℤ) (d l : ℕ) (b : ℤ) (e : ℕ) → a ≡ b → d ≡ e → unsigned_abs c ≤ (MAX_ARC_PRICE + MAX_ROW_CHARGE) * l → unsigned_abs a ≤ MAX_ARC_PRICE → d ≤ MAX_ROW_CHARGE → l ≤ 2 ^ 16 → coded c a d ≡ c +ℤ b +ℤ pos e
+pub grown_is : (c a : ℤ) (d l : ℕ) (b : ℤ) (e : ℕ) → a ≡ b → d ≡ e → unsigned_abs c ≤ (MAX_ARC_PRICE + MAX_ROW_CHARGE) * l → unsigned_abs a ≤ MAX_ARC_PRICE → d ≤ MAX_ROW_CHARGE → l ≤ 2 ^ 12 → coded c a d ≡ c +ℤ b +ℤ pos e
 grown_is c a d l b e arc due c_small a_small d_small l_small = grown_whole c a d l c_small a_small d_small l_small ∙ rw (arc, due) refl
 
-pub grown_small : (c a : ℤ) (d l m : ℕ) → unsigned_abs c ≤ (MAX_ARC_PRICE + MAX_ROW_CHARGE) * l → unsigned_abs a ≤ MAX_ARC_PRICE → d ≤ MAX_ROW_CHARGE → l ≤ 2 ^ 16 → 1 ≤ m → unsigned_abs (coded c a d) ≤ (MAX_ARC_PRICE + MAX_ROW_CHARGE) * (l + m)
+pub grown_small : (c a : ℤ) (d l m : ℕ) → unsigned_abs c ≤ (MAX_ARC_PRICE + MAX_ROW_CHARGE) * l → unsigned_abs a ≤ MAX_ARC_PRICE → d ≤ MAX_ROW_CHARGE → l ≤ 2 ^ 12 → 1 ≤ m → unsigned_abs (coded c a d) ≤ (MAX_ARC_PRICE + MAX_ROW_CHARGE) * (l + m)
 grown_small c a d l m c_small a_small d_small l_small some = rw (grown_whole c a d l c_small a_small d_small l_small) (omega (arith, ints, c_small, a_small, d_small, some))
 
 -- the same without what is due
-drawn_whole : (c a : ℤ) (l : ℕ) → unsigned_abs c ≤ (MAX_ARC_PRICE + MAX_ROW_CHARGE) * l → unsigned_abs a ≤ MAX_ARC_PRICE → l ≤ 2 ^ 16 → to_z w64 (of_z w64 (to_z w64 (of_z w64 c) +ℤ to_z w64 (of_z w64 a))) ≡ c +ℤ a
+drawn_whole : (c a : ℤ) (l : ℕ) → unsigned_abs c ≤ (MAX_ARC_PRICE + MAX_ROW_CHARGE) * l → unsigned_abs a ≤ MAX_ARC_PRICE → l ≤ 2 ^ 12 → to_z w64 (of_z w64 (to_z w64 (of_z w64 c) +ℤ to_z w64 (of_z w64 a))) ≡ c +ℤ a
 drawn_whole c a l c_small a_small l_small = sum_is c a (omega (arith, c_small, a_small, l_small))
 
-pub drawn_is : (c a : ℤ) (l : ℕ) (b : ℤ) → a ≡ b → unsigned_abs c ≤ (MAX_ARC_PRICE + MAX_ROW_CHARGE) * l → unsigned_abs a ≤ MAX_ARC_PRICE → l ≤ 2 ^ 16 → to_z w64 (of_z w64 (to_z w64 (of_z w64 c) +ℤ to_z w64 (of_z w64 a))) ≡ c +ℤ b
+pub drawn_is : (c a : ℤ) (l : ℕ) (b : ℤ) → a ≡ b → unsigned_abs c ≤ (MAX_ARC_PRICE + MAX_ROW_CHARGE) * l → unsigned_abs a ≤ MAX_ARC_PRICE → l ≤ 2 ^ 12 → to_z w64 (of_z w64 (to_z w64 (of_z w64 c) +ℤ to_z w64 (of_z w64 a))) ≡ c +ℤ b
 drawn_is c a l b arc c_small a_small l_small = drawn_whole c a l c_small a_small l_small ∙ ap (λ (z : ℤ). c +ℤ z) arc
 
-pub drawn_small : (c a : ℤ) (l m : ℕ) → unsigned_abs c ≤ (MAX_ARC_PRICE + MAX_ROW_CHARGE) * l → unsigned_abs a ≤ MAX_ARC_PRICE → l ≤ 2 ^ 16 → 1 ≤ m
+pub drawn_small : (c a : ℤ) (l m : ℕ) → unsigned_abs c ≤ (MAX_ARC_PRICE + MAX_ROW_CHARGE) * l → unsigned_abs a ≤ MAX_ARC_PRICE → l ≤ 2 ^ 12 → 1 ≤ m
     → unsigned_abs (to_z w64 (of_z w64 (to_z w64 (of_z w64 c) +ℤ to_z w64 (of_z w64 a)))) ≤ (MAX_ARC_PRICE + MAX_ROW_CHARGE) * (l + m)
 drawn_small c a l m c_small a_small l_small some = rw (drawn_whole c a l c_small a_small l_small) (omega (arith, ints, c_small, a_small, some))
 
@@ -111,7 +111,7 @@ reversed_is c a b x y fits first last =
     let all = same_z (c +ℤ a -ℤ b) (omega (arith, ints, fits)) in
     rw (one, two, all) (rw (first, last) refl)
 
-pub reversed_small : (c a b : ℤ) (l : ℕ) → unsigned_abs c ≤ (MAX_ARC_PRICE + MAX_ROW_CHARGE) * l → l ≤ 2 ^ 16 → unsigned_abs a ≤ MAX_ARC_PRICE → unsigned_abs b ≤ MAX_ARC_PRICE
+pub reversed_small : (c a b : ℤ) (l : ℕ) → unsigned_abs c ≤ (MAX_ARC_PRICE + MAX_ROW_CHARGE) * l → l ≤ 2 ^ 12 → unsigned_abs a ≤ MAX_ARC_PRICE → unsigned_abs b ≤ MAX_ARC_PRICE
     → unsigned_abs (to_z w64 (of_z w64 (to_z w64 (of_z w64 (to_z w64 (of_z w64 c) +ℤ to_z w64 (of_z w64 a))) -ℤ to_z w64 (of_z w64 b)))) ≤ 2 ^ 62
 reversed_small c a b l c_small l_small a_small b_small = rw (reversed_is c a b a b (omega (arith, c_small, l_small, a_small, b_small)) refl refl) (omega (arith, ints, c_small, l_small, a_small, b_small))
 

@@ -17,7 +17,7 @@ use vrp_customers::CustomerSet;
 use vrp_duals::{FoldedDuals, RowSet};
 
 /// The greatest capacity, in units of demand.
-pub const MAX_UNITS: u32 = 65_536;
+pub const MAX_UNITS: u32 = 4_096;
 
 /// The graph that labels go through: folded dual prices, demands and a capacity in units, ng-sets, and the arcs that are alive. The depot is
 /// place 0.
