@@ -1,0 +1,4 @@
+pub mod AllArcs
+pub mod Beginnings
+pub mod Carried
+pub mod PassSteps

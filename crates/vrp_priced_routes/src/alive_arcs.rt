@@ -1,0 +1,97 @@
+//! The arcs that feasible plans up to a cost go along.
+ghost use Rattle.std.specs.Prelude.{◌≡◌, ◌≤◌, ◌<◌, ℕ, IfOk};
+ghost use Rattle.vrp_customers.specs.declared.customer_set.TheConstants.{PLACES};
+ghost use Rattle.vrp_model.specs.Problem.{place_count};
+ghost use Rattle.vrp_model.specs.declared.limits.TheConstants.{NO_COST};
+ghost use Rattle.vrp_priced_routes.specs.Arcs.{HoldPlans, IsAlive};
+
+use std::alloc::Global;
+use std::marker::Model;
+use vrp_customers::{CustomerSet, all_customers};
+use vrp_model::{Instance, NoMemory};
+
+/// For each place of an instance those that may come behind it on a route: a feasible plan that costs no more than the limit goes along
+/// these arcs alone. A pass leaves fewer of them.
+#[derive(Drop)]
+pub struct AliveArcs<'a> {
+    instance: &'a Instance,
+    limit: u64,
+    // By place.
+    followers: Vec<CustomerSet>,
+}
+
+impl<'a> Model for AliveArcs<'a> {
+    ghost use Rattle.vrp_priced_routes.specs.Arcs.{ArcsOf, HoldPlans};
+
+    ghost Value = { ArcsOf };
+
+    ghost view = { λ a. record { problem = a.instance.now; limit = a.limit; followers = a.followers.items } };
+
+    ghost invariant = { λ a. HoldPlans (record { problem = a.instance.now; limit = a.limit; followers = a.followers.items }) };
+}
+
+impl<'a> AliveArcs<'a> {
+    /// All arcs of an instance of at most 256 places, for plans that cost no more than the limit. The only error is lack of memory.
+    pub fn all(alloc: Global, instance: &'a Instance, limit: u64) -> Result<AliveArcs<'a>, NoMemory>
+        requires few { place_count instance.now ≤ PLACES }
+        requires limit { limit ≤ NO_COST }
+        ensures problem { IfOk result (λ arcs. arcs.problem ≡ instance.now) }
+        ensures limit { IfOk result (λ arcs. arcs.limit ≡ limit) }
+        ensures all { IfOk result (λ arcs. (from to : ℕ) → from < place_count instance.now → to < place_count instance.now → IsAlive arcs.followers from to) }
+    {
+        let all = all_customers(instance).with(0);
+        let places = usize::from(instance.customers()) + 1;
+        Ok(AliveArcs {
+            instance,
+            limit,
+            followers: vec![in alloc; all; places]?,
+        })
+    }
+
+    // Arcs that plans within the limit go along.
+    pub(crate) fn of(
+        instance: &'a Instance,
+        limit: u64,
+        followers: Vec<CustomerSet>,
+    ) -> AliveArcs<'a>
+        requires { HoldPlans (record { problem = instance.now; limit = limit; followers = followers.items }) }
+        ensures { result ≡ record { problem = instance.now; limit = limit; followers = followers.items } }
+    {
+        AliveArcs {
+            instance,
+            limit,
+            followers,
+        }
+    }
+
+    /// The same arcs for plans that cost no more than a lower limit.
+    pub fn below(self, limit: u64) -> AliveArcs<'a>
+        requires { limit ≤ self.limit }
+        ensures { result ≡ record { problem = self.entry.problem; limit = limit; followers = self.entry.followers } }
+    {
+        AliveArcs { limit, ..self }
+    }
+
+    /// The instance.
+    pub fn instance(&self) -> &'a Instance
+        ensures value { result.now ≡ self.now.problem }
+        // What is known of all alive arcs.
+        ensures alive { HoldPlans self.now }
+    {
+        self.instance
+    }
+
+    /// What a plan costs at most.
+    pub fn limit(&self) -> u64
+        ensures { result ≡ self.now.limit }
+    {
+        self.limit
+    }
+
+    /// For each place, the depot's first, those that may come behind it.
+    pub fn followers(&self) -> &[CustomerSet]
+        ensures { result.now ≡ self.now.followers }
+    {
+        &self.followers
+    }
+}

@@ -1,0 +1,104 @@
+//! Closed labels by dual prices: the lower bound that they prove, and the list of useful routes.
+ghost use Rattle.std.specs.Prelude.{◌≡◌, IfOk};
+ghost use Rattle.vrp_priced_routes.specs.Priced.{ArePricedLabels, BoundsPlans};
+ghost use Rattle.vrp_routes.specs.Listing.{IfPool};
+ghost use Rattle.vrp_routes.specs.Pool.{IsPool};
+
+use crate::label_test::LabelTest;
+use crate::priced_graph::PricedGraph;
+use std::marker::Model;
+use std::thread::Threads;
+use vrp_labels::{Completions, LabelPiles};
+use vrp_model::{Crew, NoMemory, Watch};
+use vrp_routes::{Limit, Listed, RoutePool, list_routes};
+
+/// The closed labels of an instance by dual prices, for plans that cost no more than a limit.
+#[derive(Drop)]
+pub struct PricedLabels<'a, 'd> {
+    priced: PricedGraph<'a, 'd>,
+    gap: i64,
+    labels: LabelPiles,
+    lower_bound: u64,
+}
+
+impl<'a, 'd> Model for PricedLabels<'a, 'd> {
+    ghost use Rattle.vrp_priced_routes.specs.Priced.{ArePricedLabels, PricedLabelsOf};
+
+    ghost Value = { PricedLabelsOf };
+
+    ghost view = { λ a. record { priced = a.priced; gap = a.gap; labels = a.labels; bound = a.lower_bound } };
+
+    ghost invariant = { λ a. ArePricedLabels (record { priced = a.priced; gap = a.gap; labels = a.labels; bound = a.lower_bound }) };
+}
+
+impl<'a, 'd> PricedLabels<'a, 'd> {
+    // The labels that are closed with this gap, and a lower bound.
+    pub(crate) fn new(
+        priced: PricedGraph<'a, 'd>,
+        gap: i64,
+        labels: LabelPiles,
+        lower_bound: u64,
+    ) -> PricedLabels<'a, 'd>
+        requires { ArePricedLabels (record { priced = priced; gap = gap; labels = labels; bound = lower_bound }) }
+        ensures { result ≡ record { priced = priced.entry; gap = gap; labels = labels; bound = lower_bound } }
+    {
+        PricedLabels {
+            priced,
+            gap,
+            labels,
+            lower_bound,
+        }
+    }
+
+    /// What a feasible plan costs at least, if it costs no more than the limit. If that is more than the limit, none does.
+    pub fn lower_bound(&self) -> u64
+        ensures value { result ≡ self.now.bound }
+        ensures bound { BoundsPlans self.now.priced.problem self.now.priced.limit result }
+    {
+        self.lower_bound
+    }
+
+    /// The number of labels.
+    pub fn count(&self) -> usize {
+        let mut count: usize = 0;
+        for at in 0..self.labels.len() {
+            count = count.saturating_add(self.labels.get(at).len());
+        }
+        count
+    }
+
+    /// The routes that may be in the canonical plan, if that costs no more than the limit. A beginning is kept where a label completes it;
+    /// subset rows are counted in full. The rest is as in `vrp_routes::list_routes`, and the contract leaves open the same. Where the lower
+    /// bound is above the limit, the pool is empty.
+    pub fn list_routes<R: Threads + Sync, W: Watch + Sync>(
+        self,
+        crew: &Crew<'_, R, W>,
+        most_labels: u32,
+    ) -> Result<Listed, NoMemory>
+        ensures { IfOk result (λ listed. IfPool listed (IsPool self.entry.priced.problem self.entry.priced.limit)) }
+    {
+        let PricedLabels {
+            priced,
+            gap,
+            labels,
+            lower_bound,
+        } = self;
+        let PricedGraph {
+            instance,
+            limit,
+            duals,
+            graph,
+        } = priced;
+        if lower_bound > limit {
+            return Ok(Listed::Pool(RoutePool::empty(crew.alloc)));
+        }
+        let memories = duals.full_memories(crew.alloc)?;
+        // Full memories have what any have, so there is a wide graph.
+        let Some(wide) = graph.widen(memories) else {
+            return Ok(Listed::Met(Limit::Labels));
+        };
+        let completions = Completions::widened(crew.alloc, &wide, gap, labels)?;
+        let test = LabelTest::new(instance, limit, &wide, gap, &completions);
+        list_routes(crew, &test, most_labels)
+    }
+}
