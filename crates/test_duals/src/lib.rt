@@ -1,4 +1,4 @@
-//! Tests of `vrp_duals` and `vrp_labels`: by hand, compared with plain slow programs, and at the limits. They are a separate crate, since a
+//! Tests of `vrp_duals`, `vrp_labels` and `vrp_priced_routes`: by hand, compared with plain slow programs, and at the limits. They are a separate crate, since a
 //! crate with tests is proved twice.
 #![tactic(auto)]
 
@@ -8,3 +8,5 @@ mod assertion;
 mod duals;
 #[cfg(test)]
 mod labels;
+#[cfg(test)]
+mod passes;

@@ -83,7 +83,7 @@ const REFUSED: &[Refused<'_>] = &[
         DualFault::ScaleOutOfRange,
     ),
     (
-        1_025,
+        131_073,
         GOOD,
         (&[1], 1),
         (&[1, 2, 3], &[1, 2, 3], 1),
@@ -105,7 +105,7 @@ const REFUSED: &[Refused<'_>] = &[
     ),
     (
         1,
-        &[0, 5, -4_398_046_511_105, 7],
+        &[0, 5, -70_368_744_177_665, 7],
         (&[1], 1),
         (&[1, 2, 3], &[1, 2, 3], 1),
         DualFault::PriceTooLarge,

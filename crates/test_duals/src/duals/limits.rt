@@ -8,11 +8,11 @@ use test_fixtures::{in_layout, one_each};
 use vrp_duals::{DualFault, Duals, EntryRow, SubsetRow};
 use vrp_model::{Instance, Layout};
 
-const SCALE: i64 = 1_024;
+const SCALE: i64 = 131_072;
 
 const WEIGHT: i64 = 1_000_000_000;
 
-const PRICE: i64 = 4_398_046_511_104;
+const PRICE: i64 = 70_368_744_177_664;
 
 const ENTRY_PRICE: i64 = 8_589_934_592;
 
