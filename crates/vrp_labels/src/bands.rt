@@ -14,7 +14,7 @@ use std::alloc::{AllocError, Global};
 pub const BANDS: u32 = 32;
 
 // No label costs more.
-const DEAR: i64 = 3 << 60;
+const HIGHEST_COST: i64 = 3 << 60;
 
 /// The labels of one band of a place: those from one index up to another. No label of the band or a lower one costs less than the least.
 #[derive(Clone, Copy, Debug)]
@@ -78,7 +78,7 @@ fn band_of(pile: &[Label], shift: u32, b: u32) -> Band
 {
     let mut from = 0;
     let mut to = 0;
-    let mut least = DEAR;
+    let mut least = HIGHEST_COST;
     for label in pile {
         let at = label.load >> shift;
         if at > b {

@@ -1,5 +1,6 @@
 //! What completes a beginning of a route.
 ghost use Rattle.std.specs.Prelude.{◌≡◌, ◌⊎◌, ◌≤◌, ◌<◌, ◌≤ℤ◌, ◌^◌, pos, ℕ, List, IfOk, IsTrue, unsigned_abs};
+ghost use Rattle.std.specs.Int.{bit_at};
 ghost use Rattle.vrp_duals.specs.Folding.{folded_cost};
 ghost use Rattle.vrp_labels.specs.Closing.{AreKept};
 ghost use Rattle.vrp_labels.specs.Completion.{BoundsCompletions, IsForward, IsLinkCost, Links};
@@ -126,11 +127,28 @@ impl<'a> Completions<'a> {
         ensures found { IsTrue result → (place : ℕ) × Links self.now forward.now place }
     {
         for place in 0..self.graph.places() {
-            if self.links(forward, place) {
+            if self.may_follow(forward, place) {
                 return true;
             }
         }
         false
+    }
+
+    // Whether a place may follow a beginning in a cheap route that doesn't remember it. A label remembers its own place, so it needn't be
+    // looked at where the beginning does.
+    #[inline(always)]
+    fn may_follow(&self, forward: &Label, place: u16) -> bool
+        requires place { place < self.now.graph.folded.places }
+        requires at { forward.now.at < self.now.graph.folded.places }
+        requires light { forward.now.load ≤ self.now.graph.capacity }
+        requires small { unsigned_abs forward.now.cost ≤ 2 ^ 62 }
+        ensures none { Links self.now forward.now place → (1 ≤ place → bit_at forward.now.visited place ≡ 0) → IsTrue result }
+        ensures found { IsTrue result → Links self.now forward.now place }
+    {
+        if place > 0 && place < self.graph.places() && forward.visited.contains(place) {
+            return false;
+        }
+        self.links(forward, place)
     }
 
     // Whether a place may follow a beginning in a cheap route.
