@@ -1,5 +1,6 @@
-//! How long passes by dual prices take, and the list of routes after the last one. The words are FILE WORKERS PRICES..: an instance, the
-//! number of workers, and files of dual prices, one for each pass. Each pass goes along the arcs that the one before it left.
+//! How long passes by dual prices take, and the list of routes after the last one. The words are FILE[:TRUCKS] WORKERS PRICES..: an
+//! instance, maybe with a limit on trucks, the number of workers, and files of dual prices, one for each pass. Each pass goes along the
+//! arcs that the one before it left.
 mod price_file;
 
 use self::price_file::{PriceFile, read_prices};
@@ -12,7 +13,7 @@ use std::thread::Threads;
 use std::time::Instant;
 use vrp_customers::PLACES;
 use vrp_duals::Duals;
-use vrp_model::{Crew, NO_COST, Unhurried};
+use vrp_model::{Crew, Instance, MAX_NODES, NO_COST, Unhurried};
 use vrp_priced_routes::{AliveArcs, Pass, Passed, PricedLabels, nearest_sets, run_pass};
 use vrp_routes::Listed;
 
@@ -30,11 +31,11 @@ pub(crate) fn run<R: Files + Clock + Print + Eprint + AllocGlobal + Threads + Sy
     words: &[&str],
 ) -> Result<()> {
     let [name, workers, prices @ ..] = words else {
-        bail!("the words of pass are FILE WORKERS PRICES..");
+        bail!("the words of pass are FILE[:TRUCKS] WORKERS PRICES..");
     };
     let workers = workers.parse::<u16>()?;
     ensure!(workers > 0, "no worker");
-    let instance = read(rt, name)?;
+    let instance = instance_of(rt, name)?;
     let places = usize::from(instance.customers()) + 1;
     ensure!(places <= PLACES, "too many places");
     let crew = Crew {
@@ -51,6 +52,16 @@ pub(crate) fn run<R: Files + Clock + Print + Eprint + AllocGlobal + Threads + Sy
         arcs = one_pass(&crew, name, arcs, file, is_last)?;
     }
     Ok(())
+}
+
+// The instance that a word names, with its limit on trucks.
+fn instance_of<R: Files + AllocGlobal>(rt: &R, word: &str) -> Result<Instance> {
+    let Some((name, trucks)) = word.split_once(':') else {
+        return read(rt, word);
+    };
+    let trucks = trucks.parse::<u16>()?;
+    ensure!(1 <= trucks && trucks <= MAX_NODES, "{trucks} trucks");
+    Ok(read(rt, name)?.with_trucks(trucks))
 }
 
 // Runs a pass by the prices of a file, and lists the routes after the last one. The arcs that it leaves.
