@@ -58,7 +58,7 @@ impl<'a, 'd> PricedLabels<'a, 'd> {
         self.lower_bound
     }
 
-    /// The number of labels.
+    /// The number of labels; no clause pins it.
     pub fn count(&self) -> usize {
         let mut count: usize = 0;
         for at in 0..self.labels.len() {
