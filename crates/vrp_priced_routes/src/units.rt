@@ -6,6 +6,7 @@ ghost use Rattle.vrp_labels.specs.declared.graph.TheConstants.{MAX_UNITS};
 ghost use Rattle.vrp_priced_routes.specs.Units.{CarryRoutes};
 
 use std::alloc::Global;
+use vrp_bound::gcd;
 use vrp_bound_prices::{capacity_in_units, demand_in_units};
 use vrp_labels::MAX_UNITS;
 use vrp_model::{Instance, NoMemory};
@@ -51,20 +52,8 @@ fn unit_of(instance: &Instance) -> u64
 {
     let mut unit = 0;
     for index in 0..instance.customers() {
-        unit = common_divisor(unit, instance.demand(index + 1));
+        unit = gcd(unit, instance.demand(index + 1));
     }
     let least = instance.capacity().div_ceil(MOST_UNITS);
     unit.max(least).max(1)
-}
-
-// The greatest number that divides both, by Euclid.
-fn common_divisor(one: u64, other: u64) -> u64 {
-    let mut divisor = one;
-    let mut rest = other;
-    while rest > 0 {
-        let next = divisor % rest;
-        divisor = rest;
-        rest = next;
-    }
-    divisor
 }
