@@ -76,7 +76,7 @@ pub fn list_routes_by_tables<R: Threads + Sync, W: Watch + Sync>(
     requires limit { limit ≤ NO_COST }
     ensures { IfOk result (λ listed. IfPool listed (IsPool relaxation.now.problem limit)) }
 {
-    let Some(test) = TableTest::new(relaxation, tables, limit) else {
+    let Some(test) = TableTest::new(crew.alloc, relaxation, tables, limit)? else {
         return Ok(Listed::Pool(RoutePool::empty(crew.alloc)));
     };
     list_routes(crew, &test, most_labels)

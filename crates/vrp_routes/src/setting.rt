@@ -101,11 +101,11 @@ impl<'a, T: CompletionTest> Setting<'a, T> {
             → BeginsUseful (T.problem self.now.test.now) (T.limit self.now.test.now) (stops ++ stop ∷ []) → ⊥) }
     {
         let problem = self.test.instance();
-        if label.set.contains(stop) {
-            return None;
-        }
         let load = label.load as u64 + problem.demand(stop);
         if load > problem.capacity() {
+            return None;
+        }
+        if label.set.contains(stop) {
             return None;
         }
         let Some(resources) = self

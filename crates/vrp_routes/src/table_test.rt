@@ -1,22 +1,25 @@
 //! The completion test by tables of a relaxation.
-ghost use Rattle.std.specs.Prelude.{◌≡◌, ◌≤◌, List, MatchOption, ℕ};
+ghost use Rattle.std.specs.Prelude.{◌≡◌, ◌≤◌, IfOk, List, MatchOption, ℕ};
 ghost use Rattle.vrp_model.specs.declared.limits.TheConstants.{NO_COST};
 ghost use Rattle.vrp_routes.specs.TableTest.{AreRelaxed};
 ghost use Rattle.vrp_routes.specs.Useful.{BeginsUseful};
 
 use crate::completion_test::CompletionTest;
+use crate::least_completions::LeastCompletions;
 use crate::table_resources::{SplitCost, TableResources};
+use std::alloc::Global;
 use std::marker::Model;
 use vrp_bound::NgTables;
 use vrp_bound_prices::Relaxation;
 use vrp_customers::CustomerSet;
-use vrp_model::Instance;
+use vrp_model::{Instance, NoMemory};
 
 /// The test by a relaxation of an instance and tables of ng-walks in it, for canonical plans of at most a cost.
 #[derive(Drop)]
 pub struct TableTest<'a> {
     relaxation: &'a Relaxation<'a>,
     tables: &'a NgTables<'a>,
+    completions: LeastCompletions<'a>,
     limit: u64,
     // The highest cost of a feasible word in the relaxation.
     relaxed_limit: u64,
@@ -25,6 +28,7 @@ pub struct TableTest<'a> {
 }
 
 impl<'a> Model for TableTest<'a> {
+    ghost use Rattle.std.specs.Prelude.{◌≡◌};
     ghost use Rattle.vrp_routes.specs.TableTest.{IsTableTest, TableTestOf};
 
     ghost Value = { TableTestOf };
@@ -33,35 +37,41 @@ impl<'a> Model for TableTest<'a> {
 
     ghost invariant = { λ a.
         IsTableTest (record { relaxation = a.relaxation.now; limit = a.limit })
-        a.tables.now.problem a.relaxed_limit a.whole_demand };
+        a.tables.now.problem a.relaxed_limit a.whole_demand
+        × (a.completions ≡ record { tables = a.tables.now; whole = a.whole_demand }) };
 }
 
 impl<'a> TableTest<'a> {
     /// The test by a relaxation and the tables of its relaxed instance. `None` if no plan costs so little.
     pub fn new(
+        alloc: Global,
         relaxation: &'a Relaxation<'a>,
         tables: &'a NgTables<'a>,
         limit: u64,
-    ) -> Option<TableTest<'a>>
+    ) -> Result<Option<TableTest<'a>>, NoMemory>
         requires tables { tables.now.problem ≡ relaxation.now.relaxed }
         requires limit { limit ≤ NO_COST }
-        ensures { MatchOption result
+        ensures { IfOk result (λ made. MatchOption made
             ((stops : List ℕ) → BeginsUseful relaxation.now.problem limit stops → ⊥)
-            (λ test. test ≡ record { relaxation = relaxation.now; limit = limit }) }
+            (λ test. test ≡ record { relaxation = relaxation.now; limit = limit })) }
     {
         // The facts known of every instance come with the number of customers.
         let _customers = relaxation.problem().customers();
         let _relaxed = relaxation.relaxed().customers();
         let Some(relaxed_limit) = relaxation.limit(limit) else {
-            return None;
+            return Ok(None);
         };
-        Some(TableTest {
+        let relaxed = relaxation.relaxed();
+        let whole_demand = relaxed.whole_demand();
+        let completions = LeastCompletions::new(alloc, tables, relaxed, whole_demand)?;
+        Ok(Some(TableTest {
             relaxation,
             tables,
+            completions,
             limit,
             relaxed_limit,
-            whole_demand: relaxation.relaxed().whole_demand(),
-        })
+            whole_demand,
+        }))
     }
 }
 
@@ -101,8 +111,7 @@ impl<'a> CompletionTest for TableTest<'a> {
             return None;
         }
         let cost = resources.cost.whole() + relaxed.weight(last, stop);
-        let rest = self.whole_demand - load;
-        let Some(least) = self.tables.bound(stop, load, rest) else {
+        let Some(least) = self.completions.after(stop, load) else {
             return None;
         };
         if cost + least > self.relaxed_limit {

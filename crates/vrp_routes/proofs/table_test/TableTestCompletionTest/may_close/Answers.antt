@@ -18,7 +18,7 @@ weight-requires-clause-from_within c =
     let tabled = c.self.inside.tables.now.problem in
     let most = c.self.inside.relaxed_limit in
     let whole = c.self.inside.whole_demand in
-    let k = known t _ tabled most whole c.self.view_is c.self.invariant in
+    let k = known t _ tabled most whole c.self.view_is c.self.invariant.0 in
     let e = the_relaxed t _ c.relaxed-relaxed.result.now c.self.view_is c.relaxed-relaxed.ensures.value in
     let (stops, is, some, counted) = c.requires in
     subst (λ (q : Problem). c.args.last < place_count q) (sym e) (told_place t tabled most whole _ _ c.args.last k stops is)
@@ -29,7 +29,7 @@ overflow_add-cost c =
     let tabled = c.self.inside.tables.now.problem in
     let most = c.self.inside.relaxed_limit in
     let whole = c.self.inside.whole_demand in
-    let k = known t _ tabled most whole c.self.view_is c.self.invariant in
+    let k = known t _ tabled most whole c.self.view_is c.self.invariant.0 in
     let (stops, is, some, counted) = c.requires in
     let small = told_small t tabled most whole _ _ c.args.last c.args.resources.now k stops is counted in
     omega (arith, small, c.whole.ensures, c.weight.ensures.small)
@@ -40,7 +40,7 @@ overflow_sub-rest c =
     let tabled = c.self.inside.tables.now.problem in
     let most = c.self.inside.relaxed_limit in
     let whole = c.self.inside.whole_demand in
-    let k = known t _ tabled most whole c.self.view_is c.self.invariant in
+    let k = known t _ tabled most whole c.self.view_is c.self.invariant.0 in
     let (stops, is, some, counted) = c.requires in
     told_within t tabled most whole _ _ c.args.last c.args.resources.now k stops is counted
 
@@ -50,7 +50,7 @@ returns-in_default c = λ no stops is counted useful.
     let tabled = c.self.inside.tables.now.problem in
     let most = c.self.inside.relaxed_limit in
     let whole = c.self.inside.whole_demand in
-    let k = known t _ tabled most whole c.self.view_is c.self.invariant in
+    let k = known t _ tabled most whole c.self.view_is c.self.invariant.0 in
     let e = the_relaxed t _ c.relaxed-relaxed.result.now c.self.view_is c.relaxed-relaxed.ensures.value in
     let q = t.relaxation.relaxed in
     let resources = c.args.resources.now in
@@ -67,7 +67,7 @@ overflow_add-result c =
     let tabled = c.self.inside.tables.now.problem in
     let most = c.self.inside.relaxed_limit in
     let whole = c.self.inside.whole_demand in
-    let k = known t _ tabled most whole c.self.view_is c.self.invariant in
+    let k = known t _ tabled most whole c.self.view_is c.self.invariant.0 in
     let (stops, is, some, counted) = c.requires in
     let small = told_small t tabled most whole _ _ c.args.last c.args.resources.now k stops is counted in
     omega (arith, small, c.whole.ensures, c.weight.ensures.small, c.in-Some.ensures.small)
@@ -78,7 +78,7 @@ returns c = λ no stops is counted useful.
     let tabled = c.self.inside.tables.now.problem in
     let most = c.self.inside.relaxed_limit in
     let whole = c.self.inside.whole_demand in
-    let k = known t _ tabled most whole c.self.view_is c.self.invariant in
+    let k = known t _ tabled most whole c.self.view_is c.self.invariant.0 in
     let e = the_relaxed t _ c.relaxed-relaxed.result.now c.self.view_is c.relaxed-relaxed.ensures.value in
     let q = t.relaxation.relaxed in
     let resources = c.args.resources.now in
