@@ -1,5 +1,5 @@
-//! The benches. The first word of the command line names one of them: `search`, `heuristic`, `prices`, `routes` or
-//! `partition`. The other words are the bench's own, and its module says what they are. Without any words, each line of
+//! The benches. The first word of the command line names one of them: `search`, `heuristic`, `prices`, `routes`,
+//! `partition`, `pass` or `passes`. The other words are the bench's own, and its module says what they are. Without any words, each line of
 //! standard input is such a command line, and the lines are run in turn. Results go to standard output, and times to standard
 //! error.
 #![tactic(auto)]
@@ -7,6 +7,9 @@
 mod heuristic;
 mod instance;
 mod partition;
+mod pass;
+mod passed;
+mod passes;
 mod prices;
 mod routes;
 mod search;
@@ -58,6 +61,8 @@ fn run_arguments<R: Files + Clock + Print + Eprint + AllocGlobal + Threads + Syn
         "prices" => prices::run(rt, words),
         "routes" => routes::run(rt, words),
         "partition" => partition::run(rt, words),
+        "pass" => pass::run(rt, words),
+        "passes" => passes::run(rt, words),
         other => bail!("no bench has the name {other}"),
     }
 }

@@ -1,6 +1,5 @@
 //! What completes a beginning of a route.
 ghost use Rattle.std.specs.Prelude.{◌≡◌, ◌⊎◌, ◌≤◌, ◌<◌, ◌≤ℤ◌, ◌^◌, pos, ℕ, List, IfOk, IsTrue, unsigned_abs};
-ghost use Rattle.std.specs.Int.{bit_at};
 ghost use Rattle.vrp_duals.specs.Folding.{folded_cost};
 ghost use Rattle.vrp_labels.specs.Closing.{AreKept};
 ghost use Rattle.vrp_labels.specs.Completion.{BoundsCompletions, IsForward, IsLinkCost, Links};
@@ -126,7 +125,15 @@ impl<'a> Completions<'a> {
             → IsCheap self.now.graph self.now.gap (joined beginning ending) → IsTrue result }
         ensures found { IsTrue result → (place : ℕ) × Links self.now forward.now place }
     {
-        for place in 0..self.graph.places() {
+        // What is known of every graph comes with its places.
+        let _places = self.graph.places();
+        if self.links(forward, 0) {
+            return true;
+        }
+        // A label remembers its own place, so no label is looked up at a place that the beginning remembers.
+        let followers = self.graph.followers(forward.at);
+        let mut others = followers.difference(forward.visited);
+        while let Some(place) = others.take_first() {
             if self.may_follow(forward, place) {
                 return true;
             }
@@ -134,21 +141,16 @@ impl<'a> Completions<'a> {
         false
     }
 
-    // Whether a place may follow a beginning in a cheap route that doesn't remember it. A label remembers its own place, so it needn't be
-    // looked at where the beginning does.
+    // Whether there is such a place, and it may follow a beginning in a cheap route.
     #[inline(always)]
     fn may_follow(&self, forward: &Label, place: u16) -> bool
-        requires place { place < self.now.graph.folded.places }
         requires at { forward.now.at < self.now.graph.folded.places }
         requires light { forward.now.load ≤ self.now.graph.capacity }
         requires small { unsigned_abs forward.now.cost ≤ 2 ^ 62 }
-        ensures none { Links self.now forward.now place → (1 ≤ place → bit_at forward.now.visited place ≡ 0) → IsTrue result }
+        ensures none { place < self.now.graph.folded.places → Links self.now forward.now place → IsTrue result }
         ensures found { IsTrue result → Links self.now forward.now place }
     {
-        if place > 0 && place < self.graph.places() && forward.visited.contains(place) {
-            return false;
-        }
-        self.links(forward, place)
+        place < self.graph.places() && self.links(forward, place)
     }
 
     // Whether a place may follow a beginning in a cheap route.

@@ -18,3 +18,4 @@ pub use fault::PassFault;
 pub use near_sets::nearest_sets;
 pub use pass::{Pass, Passed, run_pass};
 pub use priced_labels::PricedLabels;
+pub use units::{UnitDemands, unit_demands};
