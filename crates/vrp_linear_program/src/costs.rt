@@ -59,6 +59,17 @@ impl Costs {
         Ok(())
     }
 
+    /// Makes a column cost as much as an artificial one. False if it did.
+    pub(crate) fn penalize(&mut self, index: usize) -> bool {
+        match self.named.get_mut(index) {
+            Some(cost) if *cost != self.penalty => {
+                *cost = self.penalty;
+                true
+            }
+            _ => false,
+        }
+    }
+
     /// The cost of a column.
     #[inline(always)]
     pub(crate) fn of(&self, column: &Column) -> i64 {

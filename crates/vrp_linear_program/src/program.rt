@@ -108,7 +108,7 @@ impl LinearProgram {
     }
 
     /// Adds a column, the last one: the caller's name of it, its cost for each unit, and its rows, each as often as it counts there. Rows
-    /// that the program does not have are left out. The basis stays as it is.
+    /// that the program does not have are left out. Costs are clamped to 2^51 in units of prices. The basis stays as it is.
     pub fn add_column(&mut self, name: u32, cost: i64, rows: &[u16]) -> Result<(), AllocError>
         ensures rows { self.new.rows ≡ self.old.rows }
         ensures added { OnOk result (self.new.names ≡ self.old.names ++ name ∷ []) }
@@ -118,8 +118,8 @@ impl LinearProgram {
     }
 
     /// Adds a row, the last one, and answers its number; none if the program has `MOST_ROWS`. `counts` says how often each column counts in
-    /// it, in the order of the columns; columns beyond its end don't. The surplus or slack of the row comes into the basis, so that its value
-    /// may be negative: `regain_feasibility` comes next.
+    /// it, in the order of the columns; columns beyond its end don't. `side` is clamped to 2^14. The surplus or slack of the row comes into
+    /// the basis, so that its value may be negative: `regain_feasibility` comes next.
     pub fn add_row(
         &mut self,
         sense: Sense,
@@ -214,7 +214,7 @@ impl LinearProgram {
     }
 
     /// The prices of the rows, in units of 1/2^`price_bits` of a unit of cost: those of the last basis that was computed, and 0 for rows that
-    /// were added since.
+    /// were added since. Prices of the wrong sign are possible up to 2^17 of these units, since costs are perturbed.
     pub fn prices(&self) -> &[i64]
         ensures { length result.now ≡ self.now.rows }
     {
@@ -248,11 +248,13 @@ impl LinearProgram {
         narrow(sum)
     }
 
-    /// The sum of the artificial columns' values, in units of 1/2^36. If it is well above 0 after `lower_cost`, there is no solution.
+    /// The sum of the values of artificial and forbidden columns, in units of 1/2^36. If it is well above 0 after `lower_cost`, there is no
+    /// solution without them.
     pub fn artificial_value(&self) -> i64 {
         let mut sum = 0i64;
         for (column, &value) in self.simplex.basis.iter().zip(&self.simplex.values) {
-            if let Column::Artificial(_) = *column {
+            let is_artificial = matches!(*column, Column::Artificial(_));
+            if is_artificial || self.matrix.is_banned(column) {
                 sum = clamped(sum.wrapping_add(value));
             }
         }

@@ -2,7 +2,7 @@
 //! repaired by the dual simplex with the true ones, and only at last by a start from the unit columns.
 use crate::entries::place;
 use crate::fixed_point::{ONE, clamped};
-use crate::matrix::Matrix;
+use crate::matrix::{Column, Matrix};
 use crate::simplex::Simplex;
 use std::alloc::AllocError;
 
@@ -33,6 +33,7 @@ impl Simplex {
         most_steps: u64,
     ) -> Result<(), AllocError> {
         self.prepare(matrix)?;
+        self.penalize_banned(matrix);
         for turn in 0..MOST_TURNS {
             let is_shifted = self.mend(matrix, turn)? && turn < PATIENT_TURNS;
             let before = self.steps;
@@ -47,6 +48,19 @@ impl Simplex {
             }
         }
         Ok(())
+    }
+
+    // Forbidden columns that are still in the basis, mostly with the value 0, cost as much as artificial ones, so that they do not grow.
+    fn penalize_banned(&mut self, matrix: &Matrix) {
+        let mut has_changed = false;
+        for column in &self.basis {
+            if let Column::Named(index) = *column {
+                has_changed |= matrix.is_banned(column) && self.costs.penalize(index);
+            }
+        }
+        if has_changed {
+            self.make_prices(matrix);
+        }
     }
 
     /// Makes the basis feasible by the dual simplex. Answers whether it is.
