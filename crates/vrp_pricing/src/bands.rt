@@ -17,11 +17,15 @@ struct BandKey {
     number: u32,
 }
 
-// A label with its number.
+// What is read of a label where it may meet another, with its number.
+// Wider fields come first: so it takes 48 bytes.
 #[derive(Clone, Copy, Debug)]
 struct BandedLabel {
-    label: Label,
+    rows: RowSet,
+    cost: i64,
     number: u32,
+    load: u16,
+    mask: u8,
 }
 
 /// The labels by band.
@@ -74,8 +78,11 @@ impl LabelBands {
         for key in &keys {
             if let Some(label) = labels.get(key.number as usize) {
                 bands.labels.push(BandedLabel {
-                    label: *label,
+                    rows: label.rows,
+                    cost: label.cost,
                     number: key.number,
+                    load: label.load,
+                    mask: label.mask,
                 })?;
             }
         }
@@ -136,8 +143,7 @@ fn cheapest_in(
     best: BestPartner,
 ) -> BestPartner {
     let mut found = best;
-    for other in labels {
-        let label = &other.label;
+    for label in labels {
         if label.cost >= found.cost {
             break;
         }
@@ -147,7 +153,7 @@ fn cheapest_in(
             if cost < found.cost {
                 found = BestPartner {
                     cost,
-                    number: other.number,
+                    number: label.number,
                 };
             }
         }
