@@ -1,5 +1,5 @@
 -- Beginnings of useful routes, as labels see them: read from the last stop.
-use Rattle.std.proofs.Common.{◌≡◌, ℕ, ℤ, pos, ◌+ℤ◌, ◌≤ℤ◌, ◌+◌, ◌≤◌, ◌^◌, List, [], ◌∷◌, ◌++◌, reverse, refl, sym, ◌∙◌, ap, subst, arith, append_assoc, bit_or, bit_and, inl, inr, false, IsTrue, unsigned_abs, to_z, of_z, w64}
+use Rattle.std.proofs.Common.{◌≡◌, ℕ, ℤ, pos, ◌+ℤ◌, ◌≤ℤ◌, ◌≤◌, ◌^◌, List, [], ◌∷◌, ◌++◌, reverse, refl, sym, ◌∙◌, ap, subst, arith, append_assoc, bit_or, bit_and, inl, inr, false, IsTrue, unsigned_abs, to_z, of_z, w64}
 use lib.Signed.{le_z}
 use Rattle.std.proofs.lemmas.Bool.{cases_Bool}
 use Rattle.std.proofs.lemmas.Int.{ints}

@@ -140,6 +140,10 @@ impl<'a> CompletionTest for LabelTest<'a> {
         last: u16,
         stop: u16,
     ) -> Option<LabelResources> {
+        // Most customers are told by their arcs alone.
+        if !self.graph.follows(last, stop) {
+            return None;
+        }
         let forward = resources.label(set, last);
         if !self.graph.may_advance(&forward, stop) {
             return None;

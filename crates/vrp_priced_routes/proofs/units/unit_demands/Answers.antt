@@ -2,7 +2,7 @@ use Rattle.std.proofs.Common.{◌≤◌, ◌<◌, ℕ, List, get_or, length, ap,
 use Rattle.std.proofs.lemmas.List.{length_push}
 use Rattle.vrp_bound_prices.specs.Units.{units_of}
 use Rattle.vrp_duals.proofs.Pushed.{each_push}
-use Rattle.vrp_model.specs.Problem.{customers, demand_of}
+use Rattle.vrp_model.specs.Problem.{demand_of}
 use Rattle.vrp_priced_routes.proofs.Carried.{carries}
 use Rattle.vrp_priced_routes.proofs.units.unit_demands.Goals as goal
 

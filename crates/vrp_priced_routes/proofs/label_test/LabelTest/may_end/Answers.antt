@@ -1,4 +1,4 @@
-use Rattle.std.proofs.Common.{rules, ◌≡◌, ◌∙◌, ◌≤◌, ◌≤ℤ◌, ◌+ℤ◌, ℤ, arith, ap, sym, subst, to_z, of_z, w64}
+use Rattle.std.proofs.Common.{rules, ◌≡◌, ◌∙◌, ◌≤ℤ◌, ◌+ℤ◌, ℤ, arith, ap, sym, subst, to_z, of_z, w64}
 use Rattle.std.proofs.lemmas.Int.{ints}
 use Rattle.vrp_duals.specs.Folding.{arc_of}
 use Rattle.vrp_labels.specs.Graph.{Follows, GraphOf}

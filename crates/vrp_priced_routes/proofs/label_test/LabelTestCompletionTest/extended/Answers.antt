@@ -1,8 +1,8 @@
-use Rattle.std.proofs.Common.{◌≡◌, ◌∙◌, ◌^◌, ◌+◌, List, [], ◌∷◌, ◌++◌, ℕ, length, length-append, arith, ap, sym, subst, reverse, true, false, bit_or}
+use Rattle.std.proofs.Common.{◌≡◌, ◌∙◌, ◌^◌, List, [], ◌∷◌, ◌++◌, ℕ, length, length-append, arith, ap, sym, subst, reverse, bit_or}
 use Rattle.std.proofs.lemmas.Bool.{false≢true}
 use Rattle.std.specs.List.{Contains}
 use Rattle.vrp_labels.specs.Completion.{IsForward, MayAdvance}
-use Rattle.vrp_labels.specs.Graph.{GraphOf}
+use Rattle.vrp_labels.specs.Graph.{Follows, GraphOf}
 use Rattle.vrp_labels.specs.Label.{IsLabelOf}
 use Rattle.vrp_labels.specs.Route.{IsCheap, joined}
 use Rattle.vrp_labels.specs.declared.label.Label.{Label}
@@ -16,6 +16,31 @@ use Rattle.vrp_priced_routes.proofs.label_test.LabelTestCompletionTest.extended.
 
 last_customer : (p : Problem) (stops : List ℕ) (stop : ℕ) → IsBeginning p (stops ++ stop ∷ []) → Contains (customers p) stop
 last_customer p stops stop longer = subst (Contains (customers p)) (at_end stops stop 0) (longer.known (length stops) 0 (omega (arith, length-append stops (stop ∷ []))))
+
+pub follows-requires-clause-from : goal.follows-requires-clause-from
+follows-requires-clause-from c =
+    let (stops, is, longer, counted) = c.requires in
+    let t = c.args.self.now in
+    let known : IsLabelTest t c.self.inside.graph.now c.self.inside.gap = subst (λ (u : LabelTestOf). IsLabelTest u c.self.inside.graph.now c.self.inside.gap) c.self.view_is c.self.invariant in
+    let both = forward_of t.completions.graph c.args.resources.now stops c.args.set c.args.last is.set_is is.last_is counted in
+    omega (arith, both.1.place, ap (λ (g : GraphOf). g.folded.places) known.graph_is)
+
+pub follows-requires-clause-to : goal.follows-requires-clause-to
+follows-requires-clause-to c =
+    let (stops, is, longer, counted) = c.requires in
+    let below = customer_below c.args.self.now.problem c.args.stop (last_customer c.args.self.now.problem stops c.args.stop longer) in
+    let known : IsLabelTest c.args.self.now c.self.inside.graph.now c.self.inside.gap = subst (λ (t : LabelTestOf). IsLabelTest t c.self.inside.graph.now c.self.inside.gap) c.self.view_is c.self.invariant in
+    omega (arith, below, known.places, ap (λ (g : GraphOf). g.folded.places) known.graph_is)
+
+pub returns-then-not-follows-clause-none : goal.returns-then-not-follows-clause-none
+returns-then-not-follows-clause-none c = λ stops is counted useful.
+    let t = c.args.self.now in
+    let known : IsLabelTest t c.self.inside.graph.now c.self.inside.gap = subst (λ (u : LabelTestOf). IsLabelTest u c.self.inside.graph.now c.self.inside.gap) c.self.view_is c.self.invariant in
+    let (more, cheap) = cheap_from t c.self.inside.graph.now c.self.inside.gap stops c.args.stop known useful in
+    let both = forward_of t.completions.graph c.args.resources.now stops c.args.set c.args.last is.set_is is.last_is counted in
+    let may : MayAdvance t.completions.graph (label_by c.args.resources.now c.args.set c.args.last) c.args.stop = advances t.completions.graph (label_by c.args.resources.now c.args.set c.args.last) (reverse stops) c.args.stop more both.0 cheap.is_route in
+    let alive : Follows c.self.inside.graph.now c.args.last c.args.stop = subst (λ (g : GraphOf). Follows g c.args.last c.args.stop) (sym known.graph_is) may.alive in
+    false≢true (sym c.if-not-follows.true ∙ c.follows.ensures.1 alive)
 
 pub may_advance-requires-clause-some : goal.may_advance-requires-clause-some
 may_advance-requires-clause-some c =

@@ -1,4 +1,4 @@
-use Rattle.std.proofs.Common.{rules, to_z, of_z, w64, ◌≡◌, ◌∙◌, ℤ, ◌≤ℤ◌, ap, sym, subst, unsigned_abs}
+use Rattle.std.proofs.Common.{rules, to_z, of_z, w64, ◌≡◌, ◌∙◌, ◌≤ℤ◌, ap, sym, subst, unsigned_abs}
 use Rattle.std.proofs.lemmas.Int.{ints}
 use Rattle.vrp_duals.specs.Folding.{folded_cost}
 use Rattle.vrp_labels.specs.Graph.{GraphOf}
