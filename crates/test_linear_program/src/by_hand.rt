@@ -12,7 +12,11 @@ const ONE: i64 = 1 << 36;
 #[test]
 fn two_rows(rt: HostRuntime) {
     // The costs of the three columns, and the optimum.
-    for &(both, first, second, optimum) in &[(5i64, 3i64, 3i64, 5_000i64), (7, 3, 3, 6_000), (5, 1, 9, 5_000)] {
+    for &(both, first, second, optimum) in &[
+        (5i64, 3i64, 3i64, 5_000i64),
+        (7, 3, 3, 6_000),
+        (5, 1, 9, 5_000),
+    ] {
         let columns: &[(&[u16], i64)] = &[(&[0, 1], both), (&[0], first), (&[1], second)];
         assert_two_rows(&rt, rt.alloc(), columns, optimum);
     }
@@ -70,5 +74,9 @@ fn no_solution(rt: HostRuntime) {
     is_near(&rt, program.artificial_value(), 0, ONE >> 10);
     is_near(&rt, objective(&program), 3_000, 3);
     let _ = solve_with_row(&rt, &mut program, Sense::AtMost, 1, &[1, 1, 1]);
-    holds(&rt, program.artificial_value() > ONE / 4, "artificial columns are used");
+    holds(
+        &rt,
+        program.artificial_value() > ONE / 4,
+        "artificial columns are used",
+    );
 }

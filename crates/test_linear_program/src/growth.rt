@@ -1,5 +1,7 @@
 //! Programs that get columns, rows and branches as they go.
-use crate::calls::{holds, is_near, lower, objective, program_of, random_cover, solve_again, solve_with_row, used};
+use crate::calls::{
+    holds, is_near, lower, objective, program_of, random_cover, solve_again, solve_with_row, used,
+};
 use crate::cover::{Cover, Dice};
 use crate::optimal::{assert_optimal, cost_of_used};
 use std::alloc::Global;
@@ -41,7 +43,13 @@ fn rows_after_solving(rt: HostRuntime) {
 }
 
 // Adds a random row that cuts the solution off, and asserts that it holds then.
-fn cut(rt: &impl Abort, alloc: Global, program: &mut LinearProgram, dice: &mut Dice, is_above: bool) {
+fn cut(
+    rt: &impl Abort,
+    alloc: Global,
+    program: &mut LinearProgram,
+    dice: &mut Dice,
+    is_above: bool,
+) {
     let counts = dice.counts(alloc, 200).expect(rt, "memory");
     let whole = sum_of(rt, program, counts.as_slice()) >> 36;
     let (sense, side) = if is_above {
@@ -86,7 +94,11 @@ fn removed_columns(rt: HostRuntime) {
     let before = objective(&program);
     branch(&rt, rt.alloc(), &mut program);
     let _ = cost_of_used(&rt, &program, &cover);
-    holds(&rt, objective(&program) >= before.wrapping_sub(2), "the cost falls");
+    holds(
+        &rt,
+        objective(&program) >= before.wrapping_sub(2),
+        "the cost falls",
+    );
     is_near(&rt, objective(&copy), before, 0);
     assert_optimal(&rt, &copy, &cover, 1_000);
 }

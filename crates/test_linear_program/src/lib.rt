@@ -9,6 +9,8 @@ mod calls;
 #[cfg(test)]
 mod cover;
 #[cfg(test)]
+mod exact;
+#[cfg(test)]
 mod growth;
 #[cfg(test)]
 mod limits;

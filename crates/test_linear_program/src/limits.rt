@@ -44,7 +44,7 @@ fn most_rows(rt: HostRuntime) {
         add(&rt, &mut program, u32::from(row), 2, &[row]);
     }
     lower(&rt, &mut program);
-    is_near(&rt, objective(&program), 2_001_000, 1_500);
+    is_near(&rt, objective(&program), 1_999_000, 1_500);
     let row = program.add_row(Sense::AtLeast, 1, &[]);
     holds(&rt, row.expect(&rt, "memory").is_none(), "no room");
 }
@@ -73,7 +73,11 @@ fn no_steps(rt: HostRuntime) {
     let mut program = program_of(&rt, rt.alloc(), &cover, 50, 1_000);
     program.lower_cost(0).expect(&rt, "memory");
     holds(&rt, program.steps() == 0, "no steps");
-    holds(&rt, program.artificial_value() > 9 << 36, "nothing is covered");
+    holds(
+        &rt,
+        program.artificial_value() > 9 << 36,
+        "nothing is covered",
+    );
 }
 
 // Rows that the program does not have are left out of a column.

@@ -63,8 +63,8 @@ fn covered(used: &[UsedColumn], cover: &Cover, row: u16) -> i64 {
     sum
 }
 
-// One as a value, less a thousandth.
-const ENOUGH: i64 = 68_652_367_872;
+// One as a value, less a five-hundredth.
+const ENOUGH: i64 = 68_585_259_008;
 
 // A number with so many bits behind the point, in thousandths.
 fn thousandths(number: i64, bits: u32) -> i64 {

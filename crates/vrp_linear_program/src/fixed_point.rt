@@ -67,6 +67,12 @@ pub(crate) fn product(left: i64, right: i64) -> i64 {
     narrow(wide_product(left, right))
 }
 
+/// A product, rounded. It fits, since one number is about 8 at most and the other an entry of a factor.
+#[inline(always)]
+pub(crate) fn small_product(left: i64, right: i64) -> i64 {
+    low_half(wide_product(left, right).wrapping_add(HALF) >> 36)
+}
+
 /// A quotient, clamped; 0 for a division by 0.
 pub(crate) fn quotient(upper: i64, lower: i64) -> i64 {
     if lower == ONE {

@@ -50,13 +50,13 @@ pub(crate) struct Matrix {
 }
 
 impl Matrix {
-    /// So many rows that are at least 1, or a little more against ties, and no column.
+    /// So many rows that are at least 1, or a little less against ties, and no column.
     pub(crate) fn new(alloc: Global, rows: u16, random: &mut Random) -> Result<Matrix, AllocError>
         ensures { IfOk result (λ m. (length m.senses.items ≡ rows) × (m.names.items ≡ [])) }
     {
         let mut sides = vec![in alloc; ONE; usize::from(rows)]?;
         for side in sides.iter_mut() {
-            *side = side.wrapping_add(random.next());
+            *side = side.wrapping_sub(random.next());
         }
         Ok(Matrix {
             senses: vec![in alloc; Sense::AtLeast; usize::from(rows)]?,

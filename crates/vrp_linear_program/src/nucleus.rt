@@ -1,7 +1,7 @@
 //! The nucleus of a factorization: what no singleton takes, in a square of its own, with pivots of small Markowitz counts.
 use crate::entries::at;
 use crate::factors::Factors;
-use crate::fixed_point::{clamped_entry, is_tiny, product, quotient, whole};
+use crate::fixed_point::{clamped_entry, is_tiny, quotient, small_product, whole};
 use crate::workspace::{Unmatched, Workspace, is_set};
 use std::alloc::{AllocError, Global};
 
@@ -269,13 +269,14 @@ impl Workspace {
     }
 }
 
-// Subtracts a pivot row times a factor. Answers by how many the cells of the row that are not 0 have grown.
+// Subtracts a pivot row times a factor, which is about 8 at most by the choice of the pivot. Answers by how many the cells of the row that
+// are not 0 have grown.
 fn subtract_row(line: &mut [i64], pivot_row: &[Cell], factor: i64, counts: &mut [i64]) -> i64 {
     let mut grown = 0i64;
     for cell in pivot_row {
         if let Some(number) = line.get_mut(cell.column) {
             let old = *number;
-            let rest = clamped_entry(old.wrapping_sub(product(factor, cell.number)));
+            let rest = clamped_entry(old.wrapping_sub(small_product(factor, cell.number)));
             let new = if is_tiny(rest) { 0 } else { rest };
             *number = new;
             if (old == 0) != (new == 0) {

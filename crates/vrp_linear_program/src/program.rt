@@ -22,7 +22,7 @@ pub struct Settings {
     pub penalty: i64,
     /// No column costs more. Above 2^20 prices have fewer bits behind the point.
     pub greatest_cost: i64,
-    /// Right-hand sides are changed by less than so many millionths, against ties. 1,000 is usual; with 0 the methods may take many idle
+    /// Right-hand sides are relaxed by less than so many millionths, against ties. 1,000 is usual; with 0 the methods may take many idle
     /// steps.
     pub perturbation: u32,
 }
