@@ -60,7 +60,7 @@ impl Model for LinearProgram {
 impl LinearProgram {
     /// A program with rows that are at least 1 each, and without columns of the caller's.
     pub fn new(alloc: Global, rows: u16, settings: Settings) -> Result<LinearProgram, AllocError>
-        requires { rows ≤ 1000 }
+        requires { rows ≤ MOST_ROWS }
         ensures { IfOk result (λ p. (p.rows ≡ rows) × (p.names ≡ [])) }
     {
         let costs = Costs::new(alloc, settings.penalty, settings.greatest_cost)?;
@@ -128,11 +128,11 @@ impl LinearProgram {
     ) -> Result<Option<u16>, AllocError>
         ensures names { self.new.names ≡ self.old.names }
         ensures answered { IfOk result (λ row. MatchOption row
-            ((self.old.rows ≡ 1000) × (self.new.rows ≡ self.old.rows))
+            ((self.old.rows ≡ MOST_ROWS) × (self.new.rows ≡ self.old.rows))
             (λ number. (number ≡ self.old.rows) × (self.new.rows ≡ self.old.rows + 1))) }
     {
         let count = self.matrix.height();
-        if count >= 1_000 {
+        if count >= usize::from(MOST_ROWS) {
             return Ok(None);
         }
         let row = count as u16;
