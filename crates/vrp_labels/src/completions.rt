@@ -1,5 +1,5 @@
 //! What completes a beginning of a route.
-ghost use Rattle.std.specs.Prelude.{◌≡◌, ◌⊎◌, ◌≤◌, ◌<◌, ◌≤ℤ◌, ◌^◌, pos, ℕ, List, IfOk, IsTrue, unsigned_abs};
+ghost use Rattle.std.specs.Prelude.{◌≡◌, ◌⊎◌, ◌≤◌, ◌<◌, ◌≤ℤ◌, ◌^◌, pos, ℕ, List, ◌∷◌, IfOk, IsTrue, unsigned_abs};
 ghost use Rattle.vrp_duals.specs.Folding.{folded_cost};
 ghost use Rattle.vrp_labels.specs.Closing.{AreKept};
 ghost use Rattle.vrp_labels.specs.Completion.{BoundsCompletions, IsForward, IsLinkCost, Links};
@@ -139,6 +139,21 @@ impl<'a> Completions<'a> {
             }
         }
         false
+    }
+
+    /// Whether a customer may come next on a cheap route that begins so: true for each such route, and only where some label of the customer
+    /// links to the beginning.
+    #[inline(always)]
+    pub fn may_continue(&self, forward: &Label, customer: u16) -> bool
+        requires place { customer < self.now.graph.folded.places }
+        requires label { IsLabelOf self.now.graph forward.now }
+        ensures continues { (beginning ending : List ℕ) → IsForward self.now.graph beginning forward.now
+            → IsCheap self.now.graph self.now.gap (joined beginning (customer ∷ ending)) → IsTrue result }
+        ensures found { IsTrue result → Links self.now forward.now customer }
+    {
+        // What is known of every graph comes with its places.
+        let _places = self.graph.places();
+        self.links(forward, customer)
     }
 
     // Whether there is such a place, and it may follow a beginning in a cheap route.

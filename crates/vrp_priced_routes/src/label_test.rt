@@ -148,11 +148,10 @@ impl<'a> CompletionTest for LabelTest<'a> {
         if !self.graph.may_advance(&forward, stop) {
             return None;
         }
-        let longer = self.graph.advanced(&forward, stop);
-        if !self.completions.may_begin(&longer) {
+        if !self.completions.may_continue(&forward, stop) {
             return None;
         }
-        Some(LabelResources::of(&longer))
+        Some(LabelResources::of(&self.graph.advanced(&forward, stop)))
     }
 
     #[inline(always)]
