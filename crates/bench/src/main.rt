@@ -1,9 +1,10 @@
 //! The benches. The first word of the command line names one of them: `search`, `heuristic`, `prices`, `routes`,
-//! `partition`, `pass` or `passes`. The other words are the bench's own, and its module says what they are. Without any words, each line of
+//! `partition`, `pass`, `passes` or `columns`. The other words are the bench's own, and its module says what they are. Without any words, each line of
 //! standard input is such a command line, and the lines are run in turn. Results go to standard output, and times to standard
 //! error.
 #![tactic(auto)]
 
+mod columns;
 mod heuristic;
 mod instance;
 mod partition;
@@ -63,6 +64,7 @@ fn run_arguments<R: Files + Clock + Print + Eprint + AllocGlobal + Threads + Syn
         "partition" => partition::run(rt, words),
         "pass" => pass::run(rt, words),
         "passes" => passes::run(rt, words),
+        "columns" => columns::run(rt, words),
         other => bail!("no bench has the name {other}"),
     }
 }

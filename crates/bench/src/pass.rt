@@ -1,12 +1,11 @@
 //! How long passes by dual prices take, and the list of routes after the last one. The words are FILE[:TRUCKS] WORKERS PRICES..: an
 //! instance, maybe with a limit on trucks, the number of workers, and files of dual prices, one for each pass. Each pass goes along the
 //! arcs that the one before it left.
-ghost use Rattle.std.specs.Prelude.{◌≡◌, ◌<◌, IfOk};
 
 mod price_file;
 
 use self::price_file::{PriceFile, read_prices};
-use crate::instance::read;
+use crate::instance::instance_of;
 use crate::passed::pass_over;
 use crate::times::print_time;
 use anyhow::{Result, bail, ensure};
@@ -16,7 +15,7 @@ use std::thread::Threads;
 use std::time::Instant;
 use vrp_customers::{CustomerSet, PLACES};
 use vrp_duals::Duals;
-use vrp_model::{Crew, Instance, MAX_NODES, NO_COST, Unhurried};
+use vrp_model::{Crew, NO_COST, Unhurried};
 use vrp_priced_routes::{AliveArcs, Pass, PricedLabels, nearest_sets};
 use vrp_routes::Listed;
 
@@ -55,16 +54,6 @@ pub(crate) fn run<R: Files + Clock + Print + Eprint + AllocGlobal + Threads + Sy
         arcs = run_one(&crew, name, arcs, file, is_last)?;
     }
     Ok(())
-}
-
-// The instance that a word names, with its limit on trucks.
-fn instance_of<R: Files + AllocGlobal>(rt: &R, word: &str) -> Result<Instance> {
-    let Some((name, trucks)) = word.split_once(':') else {
-        return read(rt, word);
-    };
-    let trucks = trucks.parse::<u16>()?;
-    ensure!(1 <= trucks && trucks <= MAX_NODES, "{trucks} trucks");
-    Ok(read(rt, name)?.with_trucks(trucks))
 }
 
 // Runs a pass by the prices of a file, and lists the routes if it is the last one. The arcs that it leaves.

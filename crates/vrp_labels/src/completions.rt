@@ -118,29 +118,6 @@ impl<'a> Completions<'a> {
         best
     }
 
-    /// Whether a cheap route may begin so: true for each beginning of one, and only where some label, or the depot, links to it.
-    pub fn may_begin(&self, forward: &Label) -> bool
-        requires { IsLabelOf self.now.graph forward.now }
-        ensures begins { (beginning ending : List ℕ) → IsForward self.now.graph beginning forward.now
-            → IsCheap self.now.graph self.now.gap (joined beginning ending) → IsTrue result }
-        ensures found { IsTrue result → (place : ℕ) × Links self.now forward.now place }
-    {
-        // What is known of every graph comes with its places.
-        let _places = self.graph.places();
-        if self.links(forward, 0) {
-            return true;
-        }
-        // A label remembers its own place, so no label is looked up at a place that the beginning remembers.
-        let followers = self.graph.followers(forward.at);
-        let mut others = followers.difference(forward.visited);
-        while let Some(place) = others.take_first() {
-            if self.may_follow(forward, place) {
-                return true;
-            }
-        }
-        false
-    }
-
     /// Whether a customer may come next on a cheap route that begins so: true for each such route, and only where some label of the customer
     /// links to the beginning.
     #[inline(always)]
@@ -154,18 +131,6 @@ impl<'a> Completions<'a> {
         // What is known of every graph comes with its places.
         let _places = self.graph.places();
         self.links(forward, customer)
-    }
-
-    // Whether there is such a place, and it may follow a beginning in a cheap route.
-    #[inline(always)]
-    fn may_follow(&self, forward: &Label, place: u16) -> bool
-        requires at { forward.now.at < self.now.graph.folded.places }
-        requires light { forward.now.load ≤ self.now.graph.capacity }
-        requires small { unsigned_abs forward.now.cost ≤ 2 ^ 62 }
-        ensures none { place < self.now.graph.folded.places → Links self.now forward.now place → IsTrue result }
-        ensures found { IsTrue result → Links self.now forward.now place }
-    {
-        place < self.graph.places() && self.links(forward, place)
     }
 
     // Whether a place may follow a beginning in a cheap route.

@@ -283,15 +283,6 @@ impl RouteGraph {
         }
     }
 
-    /// The places to which an arc from this place is alive.
-    #[inline(always)]
-    pub fn followers(&self, place: u16) -> CustomerSet
-        requires { place < self.now.folded.places }
-        ensures { result ≡ slice_index self.now.followers place }
-    {
-        self.followers[usize::from(place)]
-    }
-
     /// Whether each triangle with the depot costs the same either way round, and each arc is alive both ways, if one.
     pub fn is_even(&self) -> bool
         ensures { IsTrue result ↔ IsEven self.now }

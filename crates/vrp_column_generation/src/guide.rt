@@ -1,0 +1,334 @@
+//! What guides the passes: rounds of pricing and of separation, to dual prices that are worth a pass. Nothing rests on it.
+ghost use Rattle.std.specs.Prelude.{◌≡◌, ◌≤◌, IfOk, IfSome, length};
+ghost use Rattle.vrp_customers.specs.declared.customer_set.TheConstants.{PLACES};
+ghost use Rattle.vrp_duals.specs.Duals.{AreDualsOf};
+ghost use Rattle.vrp_model.specs.Problem.{place_count};
+
+use crate::master::Master;
+use crate::pace::Decision;
+use crate::program_rows::ProgramRow;
+use crate::progress::PassLimits;
+use std::alloc::Global;
+use std::thread::Threads;
+use vrp_customers::{CustomerSet, Fleet, all_customers};
+use vrp_duals::{Duals, EntryRow};
+use vrp_model::{Crew, Instance, NoMemory, Watch};
+use vrp_priced_routes::unit_demands;
+use vrp_pricing::{Effort, Priced, PricedRoutes, RoutePricer};
+use vrp_separation::{CutSearch, RowSearch, violated_entries, violated_rows};
+
+/// What may be spent on dual prices, and on the list of routes.
+#[derive(Clone, Copy, Debug)]
+pub struct Settings {
+    /// The most labels of a pricing, and of a pass.
+    pub most_labels: usize,
+    /// The most labels of the list of routes.
+    pub most_listed: u32,
+    /// A list of at most so many labels is taken before the prices are as good as can be.
+    pub enough_listed: u32,
+    /// The most subset rows of the program.
+    pub most_rows: usize,
+}
+
+/// Dual prices, and how far below 0 some route costs by them.
+#[derive(Drop)]
+pub(crate) struct Prices {
+    pub(crate) duals: Duals,
+    // In price units.
+    pub(crate) least: i64,
+}
+
+// Rounds of pricing, and steps of the simplex methods, after which it is taken as it is.
+const MOST_ROUNDS: u32 = 2_000;
+
+const STEPS_DOWN: u64 = 5_000;
+
+const STEPS_UP: u64 = 4_000;
+
+// The most rounds of capacity cuts for one pass, and how many of them price by few labels alone.
+const MOST_CUT_ROUNDS: u32 = 250;
+
+const MOST_QUICK_ROUNDS: u32 = 60;
+
+// The most columns of the program, and how many stay when it has more.
+const MOST_COLUMNS: usize = 5_000;
+
+const COLUMNS_LEFT: usize = 2_500;
+
+// Capacity cuts of a round, and subset rows of a round and with one customer.
+const CUTS_AT_ONCE: usize = 30;
+
+const ROWS_AT_ONCE: usize = 40;
+
+const ROWS_WITH_A_CUSTOMER: u8 = 6;
+
+// How many customers are moved in or out of a set where routes are short.
+const CUT_MOVES: u32 = 20;
+
+// Routes with at most so many customers on average are short.
+const SHORT_ROUTE: u64 = 14;
+
+/// The program, and what finds its columns and rows.
+#[derive(Drop)]
+pub(crate) struct Guide {
+    alloc: Global,
+    customers: CustomerSet,
+    fleet: Fleet,
+    master: Master,
+    pricer: RoutePricer,
+    settings: Settings,
+    // In price units: a reduced cost above its negative counts as none.
+    tolerance: i64,
+    has_short_routes: bool,
+}
+
+// How many routes a pricing is to find.
+fn wanted(effort: Effort) -> usize {
+    match effort {
+        Effort::OneLabel => 60,
+        Effort::FewLabels => 80,
+        Effort::AllLabels => 150,
+    }
+}
+
+// What comes after a pricing that found so many columns, unless it was the last that is wanted and found none.
+fn next_effort(effort: Effort, added: usize) -> Effort {
+    match effort {
+        Effort::OneLabel if added == 0 => Effort::FewLabels,
+        Effort::FewLabels if added == 0 => Effort::AllLabels,
+        Effort::FewLabels if added > 30 => Effort::OneLabel,
+        Effort::AllLabels if added > 20 => Effort::FewLabels,
+        other => other,
+    }
+}
+
+impl Guide {
+    /// A program over the routes of one customer and these, with so many price units in a unit of cost, for plans up to a limit, and ng-sets
+    /// by place. None if the pricing can't use the instance's demands.
+    pub(crate) fn new(
+        alloc: Global,
+        instance: &Instance,
+        scale: u32,
+        limit: u64,
+        near: &[CustomerSet],
+        routes: &[Vec<u16>],
+        settings: Settings,
+    ) -> Result<Option<Guide>, NoMemory>
+        requires { place_count instance.now ≤ PLACES }
+    {
+        let Some(units) = unit_demands(alloc, instance)? else {
+            return Ok(None);
+        };
+        let Some(pricer) = RoutePricer::new(alloc, &units.demands, units.capacity, near)? else {
+            return Ok(None);
+        };
+        let customers = u64::from(instance.customers());
+        let room = customers.saturating_mul(instance.capacity());
+        Ok(Some(Guide {
+            alloc,
+            customers: all_customers(instance),
+            fleet: Fleet::of_instance(alloc, instance)?,
+            master: Master::new(alloc, instance, scale, limit, routes)?,
+            pricer,
+            settings,
+            tolerance: i64::from(scale / 4_000).max(10),
+            has_short_routes: room <= instance.whole_demand().saturating_mul(SHORT_ROUTE),
+        }))
+    }
+
+    /// Adds a row for a limit on trucks, if there is one.
+    pub(crate) fn limit_trucks(&mut self, instance: &Instance) -> Result<(), NoMemory> {
+        if let Some(trucks) = instance.trucks() {
+            let row = EntryRow {
+                customers: self.customers,
+                count: trucks,
+                price: 0,
+            };
+            self.master.add_row(ProgramRow::AtMost(row))?;
+            self.master.program.regain_feasibility(STEPS_UP)?;
+        }
+        Ok(())
+    }
+
+    /// The next prices that are worth a pass: no route over these arcs has a negative reduced cost, and no capacity cut is found that their
+    /// solution violates. None if a limit is met.
+    pub(crate) fn next_prices<R: Threads + Sync, W: Watch + Sync>(
+        &mut self,
+        crew: &Crew<'_, R, W>,
+        instance: &Instance,
+        followers: &[CustomerSet],
+    ) -> Result<Option<Prices>, NoMemory>
+        ensures { IfOk result (λ found. IfSome found (λ prices. AreDualsOf instance.now prices.duals)) }
+    {
+        for round in 0..MOST_CUT_ROUNDS {
+            let quick = self.generate(crew, instance, followers, Effort::FewLabels)?;
+            if quick.is_none() {
+                return Ok(None);
+            }
+            if self.cut()? > 0 && round < MOST_QUICK_ROUNDS {
+                continue;
+            }
+            let Some(prices) = self.generate(crew, instance, followers, Effort::AllLabels)? else {
+                return Ok(None);
+            };
+            if self.cut()? == 0 {
+                return Ok(Some(prices));
+            }
+        }
+        Ok(None)
+    }
+
+    // Adds columns until pricing finds none over these arcs, by all labels if that is wanted and else by few. The prices then; none if a
+    // limit is met.
+    fn generate<R: Threads + Sync, W: Watch + Sync>(
+        &mut self,
+        crew: &Crew<'_, R, W>,
+        instance: &Instance,
+        followers: &[CustomerSet],
+        last: Effort,
+    ) -> Result<Option<Prices>, NoMemory>
+        ensures { IfOk result (λ found. IfSome found (λ prices. AreDualsOf instance.now prices.duals)) }
+    {
+        let mut effort = Effort::OneLabel;
+        for _ in 0..MOST_ROUNDS {
+            if !crew.watch.should_continue() {
+                return Ok(None);
+            }
+            self.master.program.lower_cost(STEPS_DOWN)?;
+            let Some(duals) = self.master.duals(instance)? else {
+                return Ok(None);
+            };
+            let Some(routes) = self.price(crew, instance, &duals, followers, effort)? else {
+                return Ok(None);
+            };
+            let added = self.add_columns(instance, &routes)?;
+            if added == 0 && effort == last {
+                let least = routes.least().unwrap_or(0);
+                return Ok(Some(Prices { duals, least }));
+            }
+            effort = next_effort(effort, added);
+        }
+        Ok(None)
+    }
+
+    // Routes of negative reduced cost by these prices; none if a limit is met.
+    fn price<R: Threads + Sync, W: Watch + Sync>(
+        &self,
+        crew: &Crew<'_, R, W>,
+        instance: &Instance,
+        duals: &Duals,
+        followers: &[CustomerSet],
+        effort: Effort,
+    ) -> Result<Option<PricedRoutes>, NoMemory>
+        requires { AreDualsOf instance.now duals.now }
+    {
+        let folded = duals.fold(self.alloc, instance)?;
+        let priced = self.pricer.find_routes(
+            crew,
+            &folded,
+            followers,
+            effort,
+            wanted(effort),
+            self.settings.most_labels,
+            self.tolerance,
+        )?;
+        match priced {
+            Priced::Routes(routes) => Ok(Some(routes)),
+            Priced::Met(_) => Ok(None),
+        }
+    }
+
+    // Adds the columns of the routes whose reduced cost is below 0. How many.
+    fn add_columns(
+        &mut self,
+        instance: &Instance,
+        routes: &PricedRoutes,
+    ) -> Result<usize, NoMemory> {
+        let mut added: usize = 0;
+        for number in 0..routes.len() {
+            if self.master.offer(instance, routes.stops(number))? {
+                added = added.saturating_add(1);
+            }
+        }
+        if self.master.program.column_count() > MOST_COLUMNS {
+            self.master.program.remove_costly_columns(COLUMNS_LEFT)?;
+        }
+        Ok(added)
+    }
+
+    /// Takes out the columns of routes that use other arcs than these.
+    pub(crate) fn drop_columns(&mut self, followers: &[CustomerSet]) -> Result<(), NoMemory> {
+        self.master.drop_columns(followers)?;
+        self.master.program.regain_feasibility(STEPS_UP)?;
+        Ok(())
+    }
+
+    /// Adds the capacity cuts that the solution violates, and takes out rows that are slack. How many are added.
+    pub(crate) fn cut(&mut self) -> Result<usize, NoMemory> {
+        self.master.remove_slack_rows()?;
+        let used = self.master.used()?;
+        let known = self.master.cut_sets()?;
+        let search = CutSearch {
+            most: CUTS_AT_ONCE,
+            moves: if self.has_short_routes { CUT_MOVES } else { 0 },
+        };
+        let fleet = self.fleet.lent();
+        let found = violated_entries(self.alloc, self.customers, fleet, &used, &known, search)?;
+        for row in &found {
+            self.master.add_row(ProgramRow::AtLeast(*row))?;
+        }
+        if !found.is_empty() {
+            self.master.program.regain_feasibility(STEPS_UP)?;
+        }
+        Ok(found.len())
+    }
+
+    /// Adds the subset rows that the solution violates, as many as there is room for. How many.
+    pub(crate) fn add_subset_rows(&mut self) -> Result<usize, NoMemory> {
+        let used = self.master.used()?;
+        let known = self.master.subset_rows()?;
+        let room = self.settings.most_rows.saturating_sub(known.len());
+        let search = RowSearch {
+            most: ROWS_AT_ONCE.min(room),
+            most_each: ROWS_WITH_A_CUSTOMER,
+            fives: self.has_short_routes,
+        };
+        let found = violated_rows(self.alloc, self.customers, &used, &known, search)?;
+        for row in &found {
+            self.master.add_row(ProgramRow::Subset(*row))?;
+        }
+        if !found.is_empty() {
+            self.master.program.regain_feasibility(STEPS_UP)?;
+        }
+        Ok(found.len())
+    }
+
+    /// A cost in price units.
+    pub(crate) fn in_price_units(&self, cost: u64) -> i64 {
+        let units = cost.saturating_mul(u64::from(self.master.scale));
+        i64::try_from(units).unwrap_or(i64::MAX)
+    }
+
+    /// About what these prices bound, in price units.
+    pub(crate) fn bound_by(&self, prices: &Prices) -> i64 {
+        let depth = prices.least.min(self.tolerance.wrapping_neg());
+        let customers = i64::from(self.customers.len());
+        prices
+            .duals
+            .low()
+            .saturating_add(depth.saturating_mul(customers))
+    }
+
+    /// What a pass may use.
+    pub(crate) fn pass_limits(&self, decision: Decision) -> PassLimits {
+        PassLimits {
+            guess: self.tolerance.unsigned_abs(),
+            most_labels: self.settings.most_labels,
+            most_listed: match decision {
+                Decision::PassAndList => self.settings.enough_listed,
+                Decision::End => self.settings.most_listed,
+                Decision::GoOn | Decision::Pass => 0,
+            },
+        }
+    }
+}

@@ -1,0 +1,15 @@
+//! Dual prices by column generation (Desrosiers and Lübbecke 2005): a linear program over routes, whose columns are found by pricing and
+//! whose rows by separation, and the passes by its prices, down to a pool of useful routes. The answer rests on the passes alone: whatever
+//! the prices are, the lower bound is true and the pool is complete.
+#![tactic(auto)]
+
+mod columns;
+mod generation;
+mod guide;
+mod master;
+mod pace;
+mod program_rows;
+mod progress;
+
+pub use generation::{Generation, generate_routes};
+pub use guide::Settings;
