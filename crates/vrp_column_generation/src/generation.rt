@@ -24,8 +24,8 @@ use vrp_routes::RoutePool;
 pub struct Generation {
     /// No feasible plan within the limit costs less.
     pub bound: u64,
-    /// The routes that may be in the canonical plan, if that costs no more than the limit; none if a limit on labels was met, or the caller
-    /// stopped it.
+    /// The routes that may be in the canonical plan, if that costs no more than the limit. None if a limit on labels was met, the caller
+    /// stopped it, or pricing can't use the instance's demands.
     pub pool: Option<RoutePool>,
 }
 
