@@ -1,14 +1,11 @@
-//! The benches. The first word of the command line names one of them: `search`, `heuristic`, `prices`, `routes`,
-//! `partition`, `pass`, `passes` or `columns`. The other words are the bench's own, and its module says what they are. Without any words, each line of
-//! standard input is such a command line, and the lines are run in turn. Results go to standard output, and times to standard
-//! error.
+//! The benches. The first word of the command line names one of them: `search`, `heuristic`, `prices`, `routes`, `partition` or `passes`.
+//! The other words are the bench's own, and its module says what they are. Without any words, each line of standard input is such a
+//! command line, and the lines are run in turn. Results go to standard output, and times to standard error.
 #![tactic(auto)]
 
-mod columns;
 mod heuristic;
 mod instance;
 mod partition;
-mod pass;
 mod passed;
 mod passes;
 mod prices;
@@ -62,9 +59,7 @@ fn run_arguments<R: Files + Clock + Print + Eprint + AllocGlobal + Threads + Syn
         "prices" => prices::run(rt, words),
         "routes" => routes::run(rt, words),
         "partition" => partition::run(rt, words),
-        "pass" => pass::run(rt, words),
         "passes" => passes::run(rt, words),
-        "columns" => columns::run(rt, words),
         other => bail!("no bench has the name {other}"),
     }
 }

@@ -4,14 +4,16 @@ ghost use Rattle.std.specs.Prelude.{None};
 use std::fmt;
 use vrp_bound::LowerBound;
 
-/// The stages of a run, in their order. A run may leave stages out.
+/// The stages of a run, in their order. A run may leave stages out, and choose among routes twice.
 #[derive(Clone, Copy, Debug, PartialEq, Eq)]
 pub enum Stage {
     /// A look at the whole tree, before anything else.
     FirstLook,
     /// The search for a start plan.
     StartPlan,
-    /// The search for prices.
+    /// Column generation: dual prices of routes, and the list of the useful routes that they leave.
+    Columns,
+    /// The search for prices by ascent.
     Prices,
     /// The enumeration of useful routes: those that may be in the canonical plan.
     Routes,
@@ -27,9 +29,10 @@ pub enum Stage {
 
 impl Stage {
     /// All stages: each stands at its own number.
-    pub const ALL: [Stage; 8] = [
+    pub const ALL: [Stage; 9] = [
         Stage::FirstLook,
         Stage::StartPlan,
+        Stage::Columns,
         Stage::Prices,
         Stage::Routes,
         Stage::Choice,
@@ -47,6 +50,7 @@ impl fmt::Display for Stage {
         f.write_str(match self {
             Stage::FirstLook => "first look",
             Stage::StartPlan => "first plan",
+            Stage::Columns => "columns",
             Stage::Prices | Stage::PiecePrices => "prices",
             Stage::Routes => "routes",
             Stage::Choice => "choice",

@@ -14,7 +14,7 @@ use crate::progress::{AfterPass, Progress};
 use std::thread::Threads;
 use vrp_customers::CustomerSet;
 use vrp_duals::MAX_SCALE;
-use vrp_model::{Crew, Instance, NoMemory, Watch};
+use vrp_model::{Crew, Instance, News, NoMemory, Watch};
 use vrp_priced_routes::{AliveArcs, nearest_sets};
 use vrp_pricing::Effort;
 use vrp_routes::RoutePool;
@@ -74,6 +74,16 @@ pub fn generate_routes<R: Threads + Sync, W: Watch + Sync>(
     run_rounds(crew, instance, limit, progress, &mut guide, &near)
 }
 
+// What the watch hears of a lower bound: column generation works on one node, the root.
+fn root_news(limit: u64, lower_bound: u64) -> News {
+    News::Nodes {
+        done: 0,
+        open: 1,
+        incumbent: limit,
+        lower_bound,
+    }
+}
+
 // Makes passes by better and better prices, until the routes are listed or a limit is met.
 fn run_rounds<'a, R: Threads + Sync, W: Watch + Sync>(
     crew: &Crew<'_, R, W>,
@@ -93,16 +103,22 @@ fn run_rounds<'a, R: Threads + Sync, W: Watch + Sync>(
         let Some(prices) = guide.next_prices(crew, instance, progress.arcs.followers())? else {
             break;
         };
-        let decision = pace.decide(guide.bound_by(&prices), guide.in_price_units(1));
+        let bound = guide.bound_by(&prices);
+        let decision = if prices.are_final {
+            pace.decide(bound, guide.in_price_units(1))
+        } else {
+            pace.decide_on_the_way(bound)
+        };
         let after = progress.pass_if_decided(crew, guide, &prices, near, decision)?;
         progress = after.progress;
+        crew.watch.on_news(root_news(limit, progress.bound));
         if after.pool.is_some() || decision == Decision::End {
             return Ok(Generation {
                 bound: progress.bound,
                 pool: after.pool,
             });
         }
-        if guide.add_subset_rows()? == 0 {
+        if prices.are_final && guide.add_subset_rows()? == 0 {
             pace.finish();
         }
     }

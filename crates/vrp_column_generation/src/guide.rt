@@ -22,6 +22,8 @@ use vrp_separation::{CutSearch, RowSearch, violated_entries, violated_rows};
 pub struct Settings {
     /// The most labels of a pricing, and of a pass.
     pub most_labels: usize,
+    /// The most labels of all pricings together, about.
+    pub most_priced: u64,
     /// The most labels of the list of routes.
     pub most_listed: u32,
     /// A list of at most so many labels is taken before the prices are as good as can be.
@@ -36,6 +38,8 @@ pub(crate) struct Prices {
     pub(crate) duals: Duals,
     // In price units.
     pub(crate) least: i64,
+    // Whether neither a route nor a capacity cut would change them.
+    pub(crate) are_final: bool,
 }
 
 // Rounds of pricing, and steps of the simplex methods, after which it is taken as it is.
@@ -49,6 +53,9 @@ const STEPS_UP: u64 = 4_000;
 const MOST_CUT_ROUNDS: u32 = 250;
 
 const MOST_QUICK_ROUNDS: u32 = 60;
+
+// After so many quick rounds of cuts, and twice as many, and so on, prices are worth a pass: it leaves fewer arcs, and a bound.
+const FIRST_INTERIM: u32 = 8;
 
 // The most columns of the program, and how many stay when it has more.
 const MOST_COLUMNS: usize = 5_000;
@@ -77,6 +84,11 @@ pub(crate) struct Guide {
     master: Master,
     pricer: RoutePricer,
     settings: Settings,
+    // The labels of all pricings so far.
+    priced: u64,
+    // The rounds of capacity cuts since the last final prices, and after how many of them prices are worth a pass.
+    cut_rounds: u32,
+    next_interim: u32,
     // In price units: a reduced cost above its negative counts as none.
     tolerance: i64,
     has_short_routes: bool,
@@ -131,6 +143,9 @@ impl Guide {
             master: Master::new(alloc, instance, scale, limit, routes)?,
             pricer,
             settings,
+            priced: 0,
+            cut_rounds: 0,
+            next_interim: FIRST_INTERIM,
             tolerance: i64::from(scale / 4_000).max(10),
             has_short_routes: room <= instance.whole_demand().saturating_mul(SHORT_ROUTE),
         }))
@@ -150,8 +165,8 @@ impl Guide {
         Ok(())
     }
 
-    /// The next prices that are worth a pass: no route over these arcs has a negative reduced cost, and no capacity cut is found that their
-    /// solution violates. None if a limit is met.
+    /// The next prices that are worth a pass. Final ones: no route over these arcs has a negative reduced cost, and no capacity cut is found
+    /// that their solution violates. Now and then others on the way to them, for which few labels find no such route. None if a limit is met.
     pub(crate) fn next_prices<R: Threads + Sync, W: Watch + Sync>(
         &mut self,
         crew: &Crew<'_, R, W>,
@@ -160,19 +175,27 @@ impl Guide {
     ) -> Result<Option<Prices>, NoMemory>
         ensures { IfOk result (λ found. IfSome found (λ prices. AreDualsOf instance.now prices.duals)) }
     {
-        for round in 0..MOST_CUT_ROUNDS {
-            let quick = self.generate(crew, instance, followers, Effort::FewLabels)?;
-            if quick.is_none() {
+        for _ in 0..MOST_CUT_ROUNDS {
+            let Some(quick) = self.generate(crew, instance, followers, Effort::FewLabels)? else {
                 return Ok(None);
-            }
-            if self.cut()? > 0 && round < MOST_QUICK_ROUNDS {
+            };
+            self.cut_rounds = self.cut_rounds.saturating_add(1);
+            if self.cut()? > 0 && self.cut_rounds < MOST_QUICK_ROUNDS {
+                if self.cut_rounds == self.next_interim {
+                    self.next_interim = self.next_interim.saturating_mul(2);
+                    return Ok(Some(quick));
+                }
                 continue;
             }
             let Some(prices) = self.generate(crew, instance, followers, Effort::AllLabels)? else {
                 return Ok(None);
             };
             if self.cut()? == 0 {
-                return Ok(Some(prices));
+                self.cut_rounds = 0;
+                return Ok(Some(Prices {
+                    are_final: true,
+                    ..prices
+                }));
             }
         }
         Ok(None)
@@ -191,7 +214,7 @@ impl Guide {
     {
         let mut effort = Effort::OneLabel;
         for _ in 0..MOST_ROUNDS {
-            if !crew.watch.should_continue() {
+            if !crew.watch.should_continue() || self.priced > self.settings.most_priced {
                 return Ok(None);
             }
             self.master.program.lower_cost(STEPS_DOWN)?;
@@ -201,10 +224,15 @@ impl Guide {
             let Some(routes) = self.price(crew, instance, &duals, followers, effort)? else {
                 return Ok(None);
             };
+            self.priced = self.priced.saturating_add(routes.labels as u64);
             let added = self.add_columns(instance, &routes)?;
             if added == 0 && effort == last {
                 let least = routes.least().unwrap_or(0);
-                return Ok(Some(Prices { duals, least }));
+                return Ok(Some(Prices {
+                    duals,
+                    least,
+                    are_final: false,
+                }));
             }
             effort = next_effort(effort, added);
         }

@@ -49,7 +49,17 @@ impl Pace {
         self.is_over = true;
     }
 
-    /// What to do with prices that give this lower bound, where so many price units are a unit of cost.
+    /// What to do with prices on the way to final ones, which give about this lower bound.
+    pub(crate) fn decide_on_the_way(&mut self, bound: i64) -> Decision {
+        let gap = self.limit.saturating_sub(bound);
+        if gap < self.passed_at / 10 * 9 {
+            self.passed_at = gap;
+            return Decision::Pass;
+        }
+        Decision::GoOn
+    }
+
+    /// What to do with final prices that give this lower bound, where so many price units are a unit of cost.
     pub(crate) fn decide(&mut self, bound: i64, unit: i64) -> Decision {
         let gap = self.limit.saturating_sub(bound);
         let enough = gap.max(unit / 2).saturating_mul(3) / 200;
@@ -70,10 +80,6 @@ impl Pace {
             self.passed_at = gap;
             return Decision::PassAndList;
         }
-        if gap < self.passed_at / 10 * 9 {
-            self.passed_at = gap;
-            return Decision::Pass;
-        }
-        Decision::GoOn
+        self.decide_on_the_way(bound)
     }
 }

@@ -15,6 +15,8 @@ pub struct PricedRoutes {
     pub stops: Vec<u16>,
     /// Where the stops of each route end.
     pub ends: Vec<usize>,
+    /// The number of labels that were kept to find them.
+    pub labels: usize,
     ghost customers: { All (λ stop. (1 ≤ stop) × (stop < places)) stops.items },
 }
 
@@ -28,6 +30,7 @@ impl PricedRoutes {
             costs: Vec::new(alloc),
             stops: Vec::new(alloc),
             ends: Vec::new(alloc),
+            labels: 0,
         }
     }
 

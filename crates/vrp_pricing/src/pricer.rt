@@ -196,7 +196,9 @@ impl RoutePricer {
         match joiner.join_all(alloc, crew.watch, most_cost)? {
             Joining::Joined(joins) => {
                 let choice = RouteChoice::new(alloc, closed, self.places, most_routes)?;
-                Ok(Priced::Routes(choice.choose(&joins, self.places)?))
+                let mut routes = choice.choose(&joins, self.places)?;
+                routes.labels = closed.all().len();
+                Ok(Priced::Routes(routes))
             }
             Joining::Met(limit) => Ok(Priced::Met(limit)),
         }

@@ -165,5 +165,6 @@ fn checked(
         costs,
         stops,
         ends,
+        labels: 0,
     }
 }

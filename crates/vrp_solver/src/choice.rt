@@ -108,9 +108,9 @@ fn listed<R: Threads + Sync, G: Gate + Sync>(
     list_routes_by_tables(&crew, relaxation, &tables, limit, most_labels)
 }
 
-// The first of the cheapest choices of a pool, which was listed for the cost of the known plan, by all workers, with the prices of linear
-// programs as their guide.
-fn chosen_plan<R: Threads + Sync, G: Gate + Sync>(
+/// The first of the cheapest choices of a pool, which was listed for the cost of the known plan, by all workers, with the prices of linear
+/// programs as their guide.
+pub(crate) fn chosen_plan<R: Threads + Sync, G: Gate + Sync>(
     shared: &Shared<'_, R, G>,
     pool: &RoutePool,
     known: &Plan,
@@ -141,8 +141,8 @@ fn chosen_plan<R: Threads + Sync, G: Gate + Sync>(
     found
 }
 
-// No plan was found, and nothing is known.
-fn nothing() -> RoutesOutcome
+/// No plan was found, and nothing is known.
+pub(crate) fn nothing() -> RoutesOutcome
     ensures canonical { IfCanonical (λ _. ⊥) result }
     ensures better { IfBetter (λ _. ⊥) result }
     ensures bound { IfBound (λ bound. bound ≡ 0) result }

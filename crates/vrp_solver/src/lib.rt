@@ -3,6 +3,7 @@
 
 mod better_plan;
 mod choice;
+mod columns;
 mod draws;
 mod look;
 mod pieces;

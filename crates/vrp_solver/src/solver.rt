@@ -13,10 +13,12 @@ ghost use Rattle.vrp_solver.specs.declared.pieces.TheConstants.{MAX_WORKERS};
 
 use crate::better_plan::better_plan;
 use crate::choice::{copied_ng_sets, plan_by_routes};
+use crate::columns::plan_by_columns;
 use crate::look::looked_at;
 use crate::pieces::{answer_by_pieces, report_plan};
 use crate::preparation::{heuristic_plan, prices_for_pieces, prices_found};
 use crate::price_bound::bound_by_prices;
+use crate::stages::MANY_CUSTOMERS;
 use std::alloc::Global;
 use std::sync::Wait;
 use std::thread::Threads;
@@ -58,16 +60,17 @@ pub fn solve<'a, R: Threads + Wait + Sync, G: Gate + Sync>(
 /// Budgets below 1,000 skip the following steps. First one worker looks at the whole tree, at no more than 20,000 partial plans and
 /// no more than the budget; if that suffices, nothing else is done, and the gate hears only of the plan. Otherwise a heuristic plan is
 /// sought: by savings, and also by ruin and recreate if there are at most 255 customers, or all pieces together may look at 100,000
-/// partial plans or more. Then prices are sought, if there is a plan; the search of a piece prunes by them. With at most 255 customers a
-/// budget below the default one is saved on the pieces alone.
+/// partial plans or more. With at most 255 customers a budget below the default one is saved on the pieces alone.
 ///
-/// With prices and at most 255 customers, the routes that may be in the canonical plan are listed next, and that plan is chosen among
-/// them. If this ends, no piece is searched. If it doesn't, the pieces begin with the better plan that it found, if any. If the gate
-/// has a time, better plans are sought first, for most of the remaining time.
+/// With a plan and at most 255 customers, dual prices are found by column generation, the routes that may be in the canonical plan are
+/// listed by them, and that plan is chosen among these. If this ends, nothing else is done. If it meets a limit, prices are sought by ascent;
+/// the routes are listed by these, and the plan is chosen, once more. If that ends, no piece is searched; the search of a piece prunes by the
+/// prices. The pieces begin with the better plan that the routes gave, if any. If the gate has a time, better plans are sought first, for
+/// most of the remaining time.
 ///
 /// Before the pieces are searched, the start plan is offered, if one is given, or the heuristic plan if that is before it. The
-/// answer's plan costs no more than the start plan. No feasible plan costs less than the lower bound, which is the higher of the
-/// bounds by prices and by the choice among routes.
+/// answer's plan costs no more than the start plan. No feasible plan costs less than the lower bound, which is the highest of those by
+/// column generation, by prices and by the choice among routes.
 pub fn solve_from<'a, R: Threads + Wait + Sync, G: Gate + Sync>(
     rt: &'a R,
     alloc: Global,
@@ -99,8 +102,7 @@ pub fn solve_from<'a, R: Threads + Wait + Sync, G: Gate + Sync>(
     Ok(solved?)
 }
 
-// Answers by a look at the whole tree if that is enough, else by a heuristic plan and prices, or by the pieces alone if no prices are
-// found.
+// Answers by a look at the whole tree if that is enough, else with a heuristic plan.
 fn solve_shared<R: Threads + Wait + Sync, G: Gate + Sync>(
     shared: &Shared<'_, R, G>,
     cutting: Cutting,
@@ -119,24 +121,95 @@ fn solve_shared<R: Threads + Wait + Sync, G: Gate + Sync>(
     }
     let made = heuristic_plan(shared, workers)?;
     let begun = shared.with_plan(made.as_ref());
-    let solved = match prices_found(&begun)? {
+    let solved = solve_by_columns(&begun, cutting, workers);
+    drop(made);
+    Ok(solved?)
+}
+
+// Answers by column generation if that finds the canonical plan, else by prices and pieces.
+fn solve_by_columns<R: Threads + Wait + Sync, G: Gate + Sync>(
+    shared: &Shared<'_, R, G>,
+    cutting: Cutting,
+    workers: u32,
+) -> Result<Solved, NoMemory>
+    requires { CanSolve shared.now cutting workers }
+    ensures { IfOk result (IsSolved shared.now cutting) }
+{
+    match plan_by_columns(shared, workers)? {
+        RoutesOutcome::Canonical(plan) => {
+            report_plan(shared.gate, Some(&plan));
+            Ok(Solved {
+                answer: Answer::Proven(plan),
+                lower_bound: 0,
+            })
+        }
+        RoutesOutcome::Unfinished {
+            better,
+            lower_bound,
+        } => solve_after_columns(shared, better, lower_bound, cutting, workers),
+    }
+}
+
+// Answers by prices and pieces, beginning with a better plan, if there is one, where no plan costs less than a lower bound.
+fn solve_after_columns<R: Threads + Wait + Sync, G: Gate + Sync>(
+    shared: &Shared<'_, R, G>,
+    better: Option<Plan>,
+    lower_bound: u64,
+    cutting: Cutting,
+    workers: u32,
+) -> Result<Solved, NoMemory>
+    requires better { IfSome better (IsPlanOf shared.now.problem) }
+    requires bound { NoneCheaper shared.now.problem lower_bound }
+    requires can { CanSolve shared.now cutting workers }
+    ensures { IfOk result (IsSolved shared.now cutting) }
+{
+    let begun = shared.with_plan(better.as_ref());
+    let solved = solve_by_ascent(&begun, lower_bound > 0, cutting, workers);
+    drop(better);
+    let Solved {
+        answer,
+        lower_bound: bound,
+    } = solved?;
+    Ok(Solved {
+        answer,
+        lower_bound: lower_bound.max(bound),
+    })
+}
+
+// Answers by prices that ascent finds, or else by the pieces alone. With many customers, or where the time is short, ascent serves for a
+// bound alone: it is left out if there is one.
+fn solve_by_ascent<R: Threads + Wait + Sync, G: Gate + Sync>(
+    shared: &Shared<'_, R, G>,
+    has_bound: bool,
+    cutting: Cutting,
+    workers: u32,
+) -> Result<Solved, NoMemory>
+    requires { CanSolve shared.now cutting workers }
+    ensures { IfOk result (IsSolved shared.now cutting) }
+{
+    let for_bound = shared.instance.customers() >= MANY_CUSTOMERS
+        || shared.gate.milliseconds_left().is_some();
+    let found = if has_bound && for_bound {
+        None
+    } else {
+        prices_found(shared)?
+    };
+    match found {
         Some(
             FoundPrices {
                 relaxation,
                 ng_sets,
             },
         ) => {
-            let solved = solve_by_prices(&begun, &relaxation, ng_sets, cutting, workers);
+            let solved = solve_by_prices(shared, &relaxation, ng_sets, cutting, workers);
             drop(relaxation);
-            solved?
+            Ok(solved?)
         }
-        None => Solved {
-            answer: solve_pieces(&begun, cutting, workers)?,
+        None => Ok(Solved {
+            answer: solve_pieces(shared, cutting, workers)?,
             lower_bound: 0,
-        },
-    };
-    drop(made);
-    Ok(solved)
+        }),
+    }
 }
 
 // Answers by the useful routes if there are few of them, else by the pieces.

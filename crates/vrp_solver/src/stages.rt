@@ -34,7 +34,7 @@ pub(crate) struct Share {
 }
 
 /// What a stage may use in a run with this many customers and this budget for each piece: the one place that says so. Work is counted in
-/// partial plans, in steps of ascent for prices, in labels for routes, and in reduced costs for the choice. A partial plan takes the time
+/// partial plans, in steps of ascent for prices, in labels for columns and routes, and in reduced costs for the choice. A partial plan takes the time
 /// of some twenty steps. So where routes can be listed, a small budget is saved on the pieces: what comes before them gets as much work as
 /// by default. No clause pins the rows.
 pub(crate) fn share_of(stage: Stage, customers: u16, budget: u64) -> Share {
@@ -45,6 +45,8 @@ pub(crate) fn share_of(stage: Stage, customers: u16, budget: u64) -> Share {
         // Small trees end there.
         Stage::FirstLook => row(12, 1, 0, 20_000),
         Stage::StartPlan => row(12, 1, usual, u64::MAX),
+        Stage::Columns if many => row(4, 1, usual, USUAL),
+        Stage::Columns => row(10, 1, usual, USUAL),
         // Steps beyond these are not worth their time, however large the budget.
         Stage::Prices if few => row(6, 1, usual, USUAL),
         Stage::Prices if many => row(4, 5, 5 * usual, u64::MAX),

@@ -12,20 +12,20 @@ use std::thread::Threads;
 use std::time::Clock;
 use vrp_command::{Event, Gate, Resources, Stage, run_arguments};
 
-// Stops the search when routes are to be listed: prices are found by then, and each piece ends after one partial plan.
+// Stops the search when it is to choose among routes: column generation has its bound by then, and each piece ends after one partial plan.
 #[derive(Drop)]
-struct StopsAtRoutes {
+struct StopsAtChoice {
     // 1 from then on.
     stopped: AtomicU64,
 }
 
-impl Gate for StopsAtRoutes {
+impl Gate for StopsAtChoice {
     ghost may_stop = { λ _. true };
 
     fn begins(&self, _worker: u32, _piece: u32) {}
 
     fn on_event(&self, news: Event) {
-        if let Event::Begins(Stage::Routes) = news {
+        if let Event::Begins(Stage::Choice) = news {
             self.stopped.store(1, Ordering::SeqCst);
         }
     }
@@ -42,7 +42,7 @@ const PAIRS: &str =
 
 const LEAST_COST: u64 = 84;
 
-// With such a small budget the plan comes from savings alone, and prices are found in a moment.
+// With such a small budget the pieces know little.
 const JSON: &[&str] = &["--budget", "1000", "--format", "json"];
 
 const REPORT: &[&str] = &["--budget", "1000"];
@@ -88,13 +88,13 @@ fn best_bound_alone(rt: HostRuntime) {
     assert_same(&rt, open, best, "the report");
 }
 
-// The output for the pairs, with these words, when the search stops at routes.
+// The output for the pairs, with these words, when the search stops at the choice.
 fn printed<R: Abort + Files + Threads + Wait + Clock + Eprint + Sync>(
     rt: &R,
     alloc: Global,
     words: &[&str],
 ) -> String {
-    let gate = StopsAtRoutes {
+    let gate = StopsAtChoice {
         stopped: AtomicU64::new(0),
     };
     let mut input = PAIRS.as_bytes();

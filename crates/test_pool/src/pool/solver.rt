@@ -15,6 +15,7 @@ use vrp_solver::{Answer, Gate, MAX_WORKERS, NoGate, solve};
 
 mod by_routes;
 mod choices_with_ties;
+mod columns;
 mod gated;
 mod stopped;
 mod timed;

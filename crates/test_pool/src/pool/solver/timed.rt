@@ -26,6 +26,8 @@ const BETTER_PLANS: u64 = 4;
 
 const PIECES: u64 = 5;
 
+const COLUMNS: u64 = 6;
+
 const END: u64 = 0;
 
 // A gate whose clock goes by its questions. It stops the start plan and the pieces by its answers; any other stage sees from the
@@ -79,6 +81,7 @@ impl Clock {
 fn digit_of(stage: Stage) -> u64 {
     match stage {
         Stage::StartPlan => START_PLAN,
+        Stage::Columns => COLUMNS,
         Stage::Prices | Stage::PiecePrices => PRICES,
         Stage::Routes => ROUTES,
         Stage::BetterPlans => BETTER_PLANS,
