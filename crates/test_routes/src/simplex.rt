@@ -1,4 +1,4 @@
 //! Tests of `vrp_simplex` by values from outside.
 
 mod choices;
-mod programs;
+mod offers;

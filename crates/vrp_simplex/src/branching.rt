@@ -2,7 +2,7 @@
 ghost use Rattle.std.specs.Prelude.{◌<◌};
 
 use crate::fixed_point::{ONE, at};
-use crate::program::Program;
+use crate::program::RouteProgram;
 use crate::subset_rows::{pair_sums, places_of, sums_of};
 use std::alloc::AllocError;
 use vrp_customers::{CustomerSet, PLACES};
@@ -18,10 +18,10 @@ struct RankedPair {
     set: CustomerSet,
 }
 
-impl Program {
+impl RouteProgram {
     /// The two customers for whom the solution is least decided whether they share a route; if possible a pair by which
     /// both branches lose a route. No clause pins them, since they are not trusted.
-    pub fn pair(&self, pool: &[Route]) -> Result<CustomerSet, AllocError> {
+    pub(crate) fn pair(&self, pool: &[Route]) -> Result<CustomerSet, AllocError> {
         let used = self.used()?;
         let places = places_of(self.customers);
         let pairs = pair_sums(self.alloc, places, used.as_slice())?;

@@ -1,6 +1,6 @@
 //! Cuts of the program, by the sets of their customers.
-use crate::fixed_point::ONE;
 use vrp_customers::CustomerSet;
+use vrp_linear_program::Sense;
 
 /// The kind of a cut: its statement about the routes of a choice.
 #[derive(Clone, Copy, Debug, PartialEq, Eq)]
@@ -40,24 +40,19 @@ impl Cut {
         }
     }
 
-    /// The entry of the slack's column in the cut's row.
-    pub(crate) fn slack(&self) -> i64 {
+    /// Whether the row is at least, or at most, its right-hand side.
+    pub(crate) fn sense(&self) -> Sense {
         match self.kind {
-            CutKind::Capacity(_) => -1,
-            _ => 1,
+            CutKind::Capacity(_) => Sense::AtLeast,
+            _ => Sense::AtMost,
         }
     }
 
-    /// The price nearest to this one whose sign fits the cut.
-    pub(crate) fn fit(&self, price: i64) -> i64 {
+    /// The size of a price, 0 if its sign does not fit the cut.
+    pub(crate) fn size(&self, price: i64) -> u64 {
         match self.kind {
-            CutKind::Capacity(_) => price.max(0),
-            _ => price.min(0),
+            CutKind::Capacity(_) => price.max(0).unsigned_abs(),
+            _ => price.min(0).unsigned_abs(),
         }
-    }
-
-    /// The right-hand side as a value.
-    pub(crate) fn wide_side(&self) -> i64 {
-        self.side().wrapping_mul(ONE)
     }
 }

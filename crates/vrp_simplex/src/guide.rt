@@ -1,9 +1,10 @@
 //! The guide of a search: it answers with prices and with customers to branch on, by the linear program.
-use crate::bound::NO_BOUND;
 use crate::fixed_point::UNIT;
 use crate::inherited::Inherited;
-use crate::node::{MOST_IN_SIGHT, Node, Progress};
-use crate::program::Program;
+use crate::node::{NO_BOUND, Node};
+use crate::program::RouteProgram;
+use crate::progress::Progress;
+use crate::start::{Start, first_program};
 use std::alloc::{AllocError, Global};
 use vrp_customers::{CustomerSet, FleetView};
 use vrp_model::Watch;
@@ -15,16 +16,16 @@ pub struct ProgramGuide<'a, W: Watch> {
     alloc: Global,
     fleet: FleetView<'a>,
     watch: &'a W,
-    // The sets of routes that are in sight from the start.
+    // The sets of routes that have columns from the start.
     known: Vec<CustomerSet>,
-    program: Option<Program>,
+    program: Option<RouteProgram>,
     // The last offer.
     last: Option<Inherited>,
     progress: Progress,
 }
 
 impl<'a, W: Watch> ProgramGuide<'a, W> {
-    /// A new guide. The routes of a known plan are in sight from the start; they are given as sets of customers, and may be empty.
+    /// A new guide. The routes of a known plan have columns from the start; they are given as sets of customers, and may be empty.
     pub fn new(alloc: Global, fleet: FleetView<'a>, known: Vec<CustomerSet>, watch: &'a W) -> Self {
         ProgramGuide {
             alloc,
@@ -40,28 +41,23 @@ impl<'a, W: Watch> ProgramGuide<'a, W> {
     /// The numbers of primal and dual steps of the program so far; no clause pins them.
     pub fn steps(&self) -> (u64, u64) {
         match &self.program {
-            Some(program) => program.steps(),
+            Some(program) => (program.primal_steps, program.dual_steps),
             None => (0, 0),
         }
     }
 
-    // The program over a node's pool, and the rest of the pool.
+    // A node with the program over its pool.
     fn node(
         &mut self,
         pool: &[Route],
         customers: CustomerSet,
-        limit: i64,
+        limit: u64,
     ) -> Result<Node<'a, W>, AllocError> {
-        let (program, rest) = match self.program.take() {
-            Some(mut program) if program.customers == customers => {
-                let rest = program.align(pool)?;
-                (program, rest)
-            }
-            _ => {
-                self.progress = Progress::new(true);
-                self.first_program(pool, customers)?
-            }
+        let mut program = match self.program.take() {
+            Some(program) if program.customers == customers => program,
+            other => self.first_program(pool, customers, limit, other)?,
         };
+        let names = program.align(pool)?;
         let (best, best_bound) = match self.last.take() {
             Some(last) if last.holds_for(customers, pool.len()) => {
                 (Some(last.prices), last.bound)
@@ -73,8 +69,9 @@ impl<'a, W: Watch> ProgramGuide<'a, W> {
             watch: self.watch,
             fleet: self.fleet,
             program,
-            rest,
-            limit,
+            names,
+            reduced: Vec::new(self.alloc),
+            limit: i64::try_from(limit.saturating_mul(SCALE)).unwrap_or(i64::MAX / 4),
             progress: self.progress,
             best,
             best_bound,
@@ -82,36 +79,30 @@ impl<'a, W: Watch> ProgramGuide<'a, W> {
         })
     }
 
-    // The program over a sample of a pool, and the rest of the pool.
+    // The first program over a pool, after one for other customers.
     fn first_program(
-        &self,
+        &mut self,
         pool: &[Route],
         customers: CustomerSet,
-    ) -> Result<(Program, Vec<Route>), AllocError> {
-        let every = pool.len() / (MOST_IN_SIGHT / 4) + 1;
-        let mut sample = Vec::new(self.alloc);
-        let mut rest = Vec::new(self.alloc);
-        for (index, route) in pool.iter().enumerate() {
-            if route.set.is_subset(customers) && !route.set.is_empty() {
-                if index % every == 0 || self.known.contains(&route.set) {
-                    sample.push(*route)?;
-                } else {
-                    rest.push(*route)?;
-                }
-            }
-        }
-        let cuts = match &self.last {
-            Some(last) => last.cuts(self.alloc, customers, &self.fleet)?,
-            None => Vec::new(self.alloc),
+        limit: u64,
+        other: Option<RouteProgram>,
+    ) -> Result<RouteProgram, AllocError> {
+        self.progress = Progress::new(true);
+        let mut likely = match &other {
+            Some(program) => program.used_sets()?,
+            None => self.known.clone()?,
         };
-        let program = Program::with_cuts(
-            self.alloc,
+        likely.sort_unstable();
+        let last = self.last.as_ref();
+        let likely = likely.as_slice();
+        let start = Start {
             customers,
-            self.fleet.trucks,
-            cuts.as_slice(),
-            sample.as_slice(),
-        )?;
-        Ok((program, rest))
+            pool,
+            likely,
+            last,
+            limit,
+        };
+        first_program(self.alloc, &self.fleet, &start)
     }
 }
 
@@ -127,11 +118,10 @@ impl<W: Watch> Guide for ProgramGuide<'_, W> {
         if !self.progress.is_paused {
             self.progress = Progress::new(false);
         }
-        let limit = task.incumbent.saturating_sub(1).saturating_mul(SCALE);
-        let limit = i64::try_from(limit).unwrap_or(i64::MAX / 4);
+        let limit = task.incumbent.saturating_sub(1);
         let mut node = self.node(pool, task.customers, limit)?;
-        let before = node.program.looked_at();
-        node.run()?;
+        let before = node.program.looked_at;
+        node.run(pool)?;
         self.keep(node, before, pool.len())
     }
 
@@ -146,7 +136,7 @@ impl<W: Watch> Guide for ProgramGuide<'_, W> {
 
     fn fork(&self) -> Result<Self, AllocError> {
         let program = match &self.program {
-            Some(program) if !self.progress.is_paused => Some(program.clone()?),
+            Some(program) if !self.progress.is_paused => Some(program.copy()?),
             _ => None,
         };
         let last = match &self.last {
@@ -183,7 +173,7 @@ impl<'a, W: Watch> ProgramGuide<'a, W> {
             own_bound,
             ..
         } = node;
-        let work = program.looked_at().saturating_sub(before);
+        let work = program.looked_at.saturating_sub(before);
         let customers = program.customers;
         let is_stuck = own_bound < best_bound.saturating_sub(UNIT) && !progress.is_root;
         self.progress = progress;

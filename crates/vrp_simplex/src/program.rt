@@ -1,257 +1,269 @@
-//! The linear program, and its rows.
+//! The program over the routes of a pool: rows for the customers, each served at least once, and then the rows of cuts.
 use crate::cut::{Cut, CutKind};
-use crate::exchange::Touched;
-use crate::fixed_point::at;
-use crate::raises::Raise;
-use crate::rows::{MOST_ROWS, Quad};
-use crate::shortlist::Shortlist;
+use crate::separation::Used;
 use std::alloc::{AllocError, Global};
 use vrp_customers::CustomerSet;
+use vrp_linear_program::{LinearProgram, MOST_ROWS, Settings};
 use vrp_partition::Route;
 
-/// A column of the basis. The last two kinds have to leave it.
-#[derive(Clone, Copy, Debug)]
-pub(crate) enum Basic {
-    Route(usize),
-    Slack(usize),
-    Artificial(usize),
-    Gone(Route),
-}
+// Right-hand sides are changed by less than so many millionths, against ties.
+const PERTURBATION: u32 = 1_000;
 
-impl Basic {
-    /// The set of the route, if it is one.
-    pub(crate) fn set(&self, routes: &[Route]) -> Option<CustomerSet> {
-        match *self {
-            Basic::Route(index) => routes.get(index).map(|route| route.set),
-            Basic::Gone(route) => Some(route.set),
-            _ => None,
-        }
-    }
+// A route is used with a value above this, in units of 1/2^36.
+const USED: i64 = 1 << 23;
 
-    /// Whether it has to leave.
-    pub(crate) fn has_to_leave(&self) -> bool {
-        matches!(*self, Basic::Artificial(_) | Basic::Gone(_))
-    }
+// A step takes the time of about four looks at a reduced cost for each row, and one for eight columns.
+const LOOKS_A_ROW: u64 = 4;
 
-    /// Whether it is the slack of a cut.
-    pub(crate) fn is_slack_of(&self, cut: usize) -> bool {
-        match *self {
-            Basic::Slack(index) => index == cut,
-            _ => false,
-        }
-    }
-}
+const COLUMNS_A_LOOK: u64 = 8;
 
-/// The position of a route's rows in the list of all, and its cost as a price.
-#[derive(Clone, Copy, Debug)]
-pub(crate) struct Column {
-    pub(crate) start: usize,
-    pub(crate) end: usize,
-    pub(crate) cost: i64,
-}
-
-impl Column {
-    /// The rows of the column.
-    #[inline(always)]
-    pub(crate) fn of<'a>(&self, quads: &'a [Quad]) -> &'a [Quad] {
-        quads.get(self.start..self.end).unwrap_or(&[])
-    }
-}
-
-/// A linear program over routes. Its rows are the customers, each served once, plus a small raise against ties, and then the cuts. No
-/// clause pins its answers, since they are not trusted.
-#[derive(Clone, Debug, Drop)]
-pub struct Program {
+/// A linear program, and the routes and cuts that its columns and rows stand for. No clause pins its answers, since they are not trusted.
+#[derive(Debug, Drop)]
+pub(crate) struct RouteProgram {
     pub(crate) alloc: Global,
     pub(crate) customers: CustomerSet,
-    customer_count: usize,
+    pub(crate) linear: LinearProgram,
+    // The routes by the names of their columns, also of those that have no column any more.
     pub(crate) routes: Vec<Route>,
-    pub(crate) columns: Vec<Column>,
-    // The row numbers of the routes, four by four, column by column.
-    pub(crate) quads: Vec<Quad>,
-    pub(crate) reduced: Vec<i64>,
-    // The columns that the dual simplex looks at.
-    pub(crate) shortlist: Shortlist,
+    // Whether the route of each name has a column.
+    has_column: Vec<bool>,
     pub(crate) cuts: Vec<Cut>,
-    // The right-hand sides.
-    pub(crate) sides: Vec<i64>,
-    pub(crate) basis: Vec<Basic>,
-    // The costs of the columns in the basis.
-    pub(crate) costs: Vec<i64>,
-    pub(crate) values: Vec<i64>,
-    // The inverse of the basis by columns, each as long as the stride, padded with zeros after the last row.
-    pub(crate) inverse: Vec<i64>,
-    pub(crate) stride: usize,
-    pub(crate) prices: Vec<i64>,
-    // The values in units of 1/2^40, when the inverse last changed.
-    pub(crate) wide_prices: Vec<i128>,
-    pub(crate) artificial_cost: i64,
-    pub(crate) dearest: i64,
     pub(crate) primal_steps: u64,
     pub(crate) dual_steps: u64,
+    // About the number of reduced costs that steps could have looked at in their time.
     pub(crate) looked_at: u64,
-    // The number of exchanges since the inverse was computed.
-    pub(crate) exchanges: u64,
-    // The rows that the last exchange changed.
-    pub(crate) touched: Vec<Touched>,
-    // The raises of the right-hand sides.
-    pub(crate) raises: Vec<Raise>,
-    pub(crate) random: u64,
-    // The number of bits by which the raises are smaller than at first.
-    pub(crate) raise_shift: u32,
 }
 
-impl Program {
-    /// The program over the routes that serve only these customers with at most this many trucks. It has no other cut, and
-    /// only artificial columns in its basis. No clause pins its contents, since they are not trusted.
-    pub fn new(
+impl RouteProgram {
+    /// The program without routes, with at most this many trucks. An artificial column costs as much as the penalty.
+    pub(crate) fn new(
         alloc: Global,
         customers: CustomerSet,
         trucks: u8,
-        pool: &[Route],
-    ) -> Result<Program, AllocError> {
-        Program::with_cuts(alloc, customers, trucks, &[], pool)
-    }
-
-    /// Adds cuts, as many as there is room for.
-    pub(crate) fn with_cuts(
-        alloc: Global,
-        customers: CustomerSet,
-        trucks: u8,
-        cuts: &[Cut],
-        pool: &[Route],
-    ) -> Result<Program, AllocError> {
-        let mut program = Program::empty(alloc, customers);
-        if u16::from(trucks) < customers.len() {
-            program.cuts.push(Cut {
-                set: customers,
-                kind: CutKind::Trucks(u32::from(trucks)),
-            })?;
-        }
-        for cut in cuts {
-            if program.has_room() {
-                program.cuts.push(*cut)?;
-            }
-        }
-        program.add_routes(pool)?;
-        program.begin()?;
-        Ok(program)
-    }
-
-    // An empty program.
-    fn empty(alloc: Global, customers: CustomerSet) -> Program {
-        Program {
+        penalty: i64,
+        greatest_cost: i64,
+    ) -> Result<RouteProgram, AllocError> {
+        let settings = Settings {
+            penalty,
+            greatest_cost,
+            perturbation: PERTURBATION,
+        };
+        let mut program = RouteProgram {
             alloc,
             customers,
-            customer_count: usize::from(customers.len()),
+            linear: LinearProgram::new(alloc, customers.len().min(MOST_ROWS), settings)?,
             routes: Vec::new(alloc),
-            columns: Vec::new(alloc),
-            quads: Vec::new(alloc),
-            reduced: Vec::new(alloc),
-            shortlist: Shortlist::new(alloc),
+            has_column: Vec::new(alloc),
             cuts: Vec::new(alloc),
-            sides: Vec::new(alloc),
-            basis: Vec::new(alloc),
-            costs: Vec::new(alloc),
-            values: Vec::new(alloc),
-            inverse: Vec::new(alloc),
-            stride: 0,
-            prices: Vec::new(alloc),
-            wide_prices: Vec::new(alloc),
-            artificial_cost: 4,
-            dearest: 1,
             primal_steps: 0,
             dual_steps: 0,
             looked_at: 0,
-            exchanges: 0,
-            touched: Vec::new(alloc),
-            raises: Vec::new(alloc),
-            random: 12345,
-            raise_shift: 0,
+        };
+        if u16::from(trucks) < customers.len() {
+            let kind = CutKind::Trucks(u32::from(trucks));
+            program.add_cut(Cut {
+                set: customers,
+                kind,
+            })?;
+        }
+        Ok(program)
+    }
+
+    /// A copy.
+    pub(crate) fn copy(&self) -> Result<RouteProgram, AllocError> {
+        Ok(RouteProgram {
+            alloc: self.alloc,
+            customers: self.customers,
+            linear: self.linear.copy()?,
+            routes: self.routes.clone()?,
+            has_column: self.has_column.clone()?,
+            cuts: self.cuts.clone()?,
+            primal_steps: self.primal_steps,
+            dual_steps: self.dual_steps,
+            looked_at: self.looked_at,
+        })
+    }
+
+    /// Names a route that has no name yet.
+    pub(crate) fn name(&mut self, route: &Route) -> Result<u32, AllocError> {
+        let name = u32::try_from(self.routes.len()).unwrap_or(u32::MAX);
+        self.routes.push(*route)?;
+        self.has_column.push(false)?;
+        Ok(name)
+    }
+
+    /// Gives the route of a name a column.
+    pub(crate) fn add_column(&mut self, name: u32) -> Result<(), AllocError> {
+        let Some(route) = self.routes.get(name as usize).copied() else {
+            return Ok(());
+        };
+        let mut rows = Vec::new(self.alloc);
+        for customer in route.set.iter() {
+            rows.push(self.customers.rank(customer))?;
+        }
+        self.push_cut_rows(&mut rows, route.set)?;
+        self.linear
+            .add_column(name, i64::from(route.cost), rows.as_slice())?;
+        self.note_column(name);
+        Ok(())
+    }
+
+    // Adds the rows of the cuts in which a route counts.
+    fn push_cut_rows(&self, rows: &mut Vec<u16>, set: CustomerSet) -> Result<(), AllocError> {
+        let mut row = self.customers.len();
+        for cut in &self.cuts {
+            if cut.has(set) {
+                rows.push(row)?;
+            }
+            row = row.saturating_add(1);
+        }
+        Ok(())
+    }
+
+    /// Whether the route of a name has a column.
+    #[inline(always)]
+    pub(crate) fn has_column(&self, name: u32) -> bool {
+        self.has_column.get(name as usize).copied().unwrap_or(false)
+    }
+
+    fn note_column(&mut self, name: u32) {
+        if let Some(has_column) = self.has_column.get_mut(name as usize) {
+            *has_column = true;
         }
     }
 
-    /// Adds the routes that serve only the program's customers.
-    pub(crate) fn add_routes(&mut self, pool: &[Route]) -> Result<(), AllocError> {
-        let mut rows = Vec::new(self.alloc);
-        for route in pool {
-            if route.set.is_subset(self.customers) && !route.set.is_empty() {
-                self.add_route(*route, &mut rows)?;
+    // Notes which names have a column.
+    fn note_columns(&mut self) -> Result<(), AllocError> {
+        let mut has_column = vec![in self.alloc; false; self.routes.len()]?;
+        for &name in self.linear.names() {
+            if let Some(has_column) = has_column.as_mut_slice().get_mut(name as usize) {
+                *has_column = true;
             }
         }
+        self.has_column = has_column;
         Ok(())
     }
 
-    /// Adds a route, which serves only the program's customers. `rows` is overwritten.
-    pub(crate) fn add_route(
-        &mut self,
-        route: Route,
-        rows: &mut Vec<u16>,
-    ) -> Result<(), AllocError> {
-        self.dearest = self.dearest.max(i64::from(route.cost));
-        self.artificial_cost = self.artificial_cost.max(self.first_artificial_cost());
-        self.push_column(&route, rows)?;
-        self.routes.push(route)?;
-        Ok(())
-    }
-
-    /// Sets an entry of the inverse by column and row.
-    pub(crate) fn put_inverse(&mut self, column: usize, row: usize, value: i64) {
-        let place = column.saturating_mul(self.stride).saturating_add(row);
-        if let Some(cell) = self.inverse.as_mut_slice().get_mut(place) {
-            *cell = value;
+    /// Removes the columns of the names that are not marked. One in the basis has to leave it.
+    pub(crate) fn retain(&mut self, marks: &[bool]) -> Result<(), AllocError> {
+        let mut stays = Vec::with_capacity(self.alloc, self.linear.column_count())?;
+        for &name in self.linear.names() {
+            stays.push(marks.get(name as usize).copied().unwrap_or(false))?;
         }
+        if stays.iter().any(|&stays| !stays) {
+            self.linear.retain_columns(stays.as_slice())?;
+            self.note_columns()?;
+        }
+        Ok(())
     }
 
-    /// A column of the inverse.
-    pub(crate) fn inverse_column(&self, column: usize) -> &[i64] {
-        let start = column.saturating_mul(self.stride);
-        let end = start.saturating_add(self.stride);
-        self.inverse.as_slice().get(start..end).unwrap_or(&[])
+    /// Removes the columns with the greatest reduced costs, so that so many stay.
+    pub(crate) fn trim(&mut self, most: usize) -> Result<(), AllocError> {
+        self.linear.remove_costly_columns(most)?;
+        self.note_columns()
     }
 
-    /// The tolerance for negative reduced costs: rounding errors grow with the costs.
-    pub(crate) fn tolerance(&self) -> i64 {
-        (self.dearest / 2).max(64)
+    /// Adds the row of a cut, if there is room for it.
+    pub(crate) fn add_cut(&mut self, cut: Cut) -> Result<(), AllocError> {
+        let mut counts = Vec::with_capacity(self.alloc, self.linear.column_count())?;
+        for &name in self.linear.names() {
+            let has = match self.routes.get(name as usize) {
+                Some(route) => cut.has(route.set),
+                None => false,
+            };
+            counts.push(u32::from(has))?;
+        }
+        let row = self
+            .linear
+            .add_row(cut.sense(), cut.side(), counts.as_slice())?;
+        if row.is_some() {
+            self.cuts.push(cut)?;
+        }
+        Ok(())
     }
 
-    /// The number of rows of customers.
-    pub(crate) fn customer_rows(&self) -> usize {
-        self.customer_count
+    /// Removes the rows of cuts that are not tight, except that of the trucks.
+    pub(crate) fn remove_slack_rows(&mut self) -> Result<(), AllocError> {
+        let customers = usize::from(self.customers.len());
+        let mut may_go = vec![in self.alloc; false; customers]?;
+        for cut in &self.cuts {
+            may_go.push(!matches!(cut.kind, CutKind::Trucks(_)))?;
+        }
+        let gone = self.linear.remove_slack_rows(may_go.as_slice())?;
+        self.drop_cuts(gone.as_slice())
     }
 
-    /// The number of rows.
-    pub(crate) fn height(&self) -> usize {
-        self.customer_rows().saturating_add(self.cuts.len())
+    // Removes the cuts whose rows are gone.
+    fn drop_cuts(&mut self, gone: &[u16]) -> Result<(), AllocError> {
+        let mut row = self.customers.len();
+        let mut cuts = Vec::with_capacity(self.alloc, self.cuts.len())?;
+        for cut in &self.cuts {
+            if !gone.contains(&row) {
+                cuts.push(*cut)?;
+            }
+            row = row.saturating_add(1);
+        }
+        self.cuts = cuts;
+        Ok(())
     }
 
-    /// Whether there is room for one more row.
-    pub(crate) fn has_room(&self) -> bool {
-        self.height() < MOST_ROWS
+    /// Lowers the cost of the solution in about so many steps at most.
+    pub(crate) fn lower_cost(&mut self, most_steps: u64) -> Result<(), AllocError> {
+        let before = self.linear.steps();
+        self.linear.lower_cost(most_steps)?;
+        let steps = self.counted_steps(before);
+        self.primal_steps = self.primal_steps.saturating_add(steps);
+        Ok(())
     }
 
-    /// The row of a cut.
-    pub(crate) fn cut_row(&self, cut: usize) -> usize {
-        self.customer_rows().saturating_add(cut)
-    }
-
-    /// The price of a cut.
-    pub(crate) fn cut_price(&self, cut: usize) -> i64 {
-        at(self.prices.as_slice(), self.cut_row(cut))
-    }
-
-    /// The numbers of primal and dual steps; no clause pins them.
-    pub fn steps(&self) -> (u64, u64) {
-        (self.primal_steps, self.dual_steps)
-    }
-
-    /// About the number of reduced costs that were looked at; no clause pins it.
-    pub fn looked_at(&self) -> u64 {
-        self.looked_at
+    /// Makes the solution feasible again, after a change of the rows or columns, in so many steps at most.
+    pub(crate) fn regain_feasibility(&mut self, most_steps: u64) -> Result<(), AllocError> {
+        let before = self.linear.steps();
+        self.linear.regain_feasibility(most_steps)?;
+        let steps = self.counted_steps(before);
+        self.dual_steps = self.dual_steps.saturating_add(steps);
+        Ok(())
     }
 
     /// Counts reduced costs that were looked at.
     pub(crate) fn count_looks(&mut self, count: usize) {
         self.looked_at = self.looked_at.saturating_add(count as u64);
+    }
+
+    // The number of steps since there were so many, which are counted.
+    fn counted_steps(&mut self, before: u64) -> u64 {
+        let steps = self.linear.steps().saturating_sub(before);
+        let rows = self.linear.row_count() as u64;
+        let columns = self.linear.column_count() as u64;
+        let looks = rows
+            .saturating_mul(LOOKS_A_ROW)
+            .saturating_add(columns / COLUMNS_A_LOOK);
+        self.looked_at = self.looked_at.saturating_add(steps.saturating_mul(looks));
+        steps
+    }
+
+    /// The routes that the solution uses.
+    pub(crate) fn used(&self) -> Result<Vec<Used>, AllocError> {
+        let mut used = Vec::new(self.alloc);
+        for column in &self.linear.used_columns()? {
+            if column.value > USED {
+                if let Some(route) = self.routes.get(column.name as usize) {
+                    used.push(Used {
+                        set: route.set,
+                        value: column.value,
+                    })?;
+                }
+            }
+        }
+        Ok(used)
+    }
+
+    /// The sets of the routes that the solution uses.
+    pub(crate) fn used_sets(&self) -> Result<Vec<CustomerSet>, AllocError> {
+        let mut sets = Vec::new(self.alloc);
+        for used in &self.used()? {
+            sets.push(used.set)?;
+        }
+        Ok(sets)
     }
 }

@@ -1,7 +1,7 @@
-//! The prices of the rows by their customers and cuts, for routes that have no column.
+//! The prices of the rows by their customers and cuts: the reduced costs of routes, and the bound.
 use crate::cut::CutKind;
-use crate::fixed_point::price_of;
-use crate::program::Program;
+use crate::fixed_point::{in_units, price_of, wide_product};
+use crate::program::RouteProgram;
 use std::alloc::{AllocError, Global};
 use vrp_customers::{CustomerSet, PLACES};
 use vrp_partition::{Cut, PriceOffer, Route};
@@ -14,7 +14,7 @@ const MOST_DUAL: i64 = 1 << 52;
 
 const MOST_CUT_PRICE: u64 = 1 << 50;
 
-/// The prices of a program's rows.
+/// The prices of a program's rows. Those of the subset rows fall.
 #[derive(Clone, Debug, Drop)]
 pub(crate) struct RowPrices {
     duals: [i64; PLACES],
@@ -25,23 +25,35 @@ pub(crate) struct RowPrices {
 
 impl RowPrices {
     /// The prices of a program, with the signs that a bound needs.
-    pub(crate) fn new(program: &Program) -> Result<RowPrices, AllocError> {
+    pub(crate) fn new(program: &RouteProgram) -> Result<RowPrices, AllocError> {
         let mut prices = RowPrices {
             duals: [SHUT_OUT; PLACES],
             truck_price: 0,
             subset_rows: Vec::new(program.alloc),
             capacity_cuts: Vec::new(program.alloc),
         };
-        for (customer, &price) in program.customers.iter().zip(&program.prices) {
-            prices.duals[usize::from(customer)] = price.clamp(-MOST_DUAL, MOST_DUAL);
+        let bits = program.linear.price_bits();
+        for (customer, &price) in program.customers.iter().zip(program.linear.prices()) {
+            let price = in_units(price, bits).clamp(-MOST_DUAL, MOST_DUAL);
+            prices.duals[usize::from(customer)] = price;
         }
-        for (index, cut) in program.cuts.iter().enumerate() {
-            let price = program.cut_price(index).unsigned_abs().min(MOST_CUT_PRICE);
+        prices.push_cuts(program)?;
+        prices.subset_rows.sort_by_key(|cut| u64::MAX - cut.price)?;
+        Ok(prices)
+    }
+
+    // Adds the cuts that have a price.
+    fn push_cuts(&mut self, program: &RouteProgram) -> Result<(), AllocError> {
+        let bits = program.linear.price_bits();
+        let customers = usize::from(program.customers.len());
+        let prices = program.linear.prices().iter().skip(customers);
+        for (cut, &price) in program.cuts.iter().zip(prices) {
+            let price = cut.size(in_units(price, bits)).min(MOST_CUT_PRICE);
             if price > 0 {
-                prices.push_cut(cut.set, cut.kind, price)?;
+                self.push_cut(cut.set, cut.kind, price)?;
             }
         }
-        Ok(prices)
+        Ok(())
     }
 
     fn push_cut(&mut self, set: CustomerSet, kind: CutKind, price: u64) -> Result<(), AllocError> {
@@ -57,6 +69,17 @@ impl RowPrices {
         Ok(())
     }
 
+    /// What these customers pay at least for so many trucks, in price units, if no reduced cost is negative.
+    pub(crate) fn sum(&self, customers: CustomerSet, trucks: u8) -> i64 {
+        let mut sum = 0i64;
+        for customer in customers.iter() {
+            sum = sum.saturating_add(self.duals[usize::from(customer)]);
+        }
+        sum.saturating_add(sum_of(self.capacity_cuts.as_slice()))
+            .saturating_sub(sum_of(self.subset_rows.as_slice()))
+            .saturating_sub_unsigned(self.truck_price.saturating_mul(u64::from(trucks)))
+    }
+
     /// The reduced cost of a route, unless it is above this mark.
     #[inline(always)]
     pub(crate) fn reduced_cost(&self, route: &Route, mark: i64) -> Option<i64> {
@@ -69,10 +92,10 @@ impl RowPrices {
                 rest = rest.wrapping_sub_unsigned(cut.price);
             }
         }
-        if rest > mark {
-            return None;
-        }
         for cut in &self.subset_rows {
+            if rest > mark {
+                return None;
+            }
             if cut.set.intersection(route.set).has_two() {
                 rest = rest.wrapping_add_unsigned(cut.price);
             }
@@ -100,4 +123,14 @@ impl RowPrices {
             work,
         })
     }
+}
+
+// The sum of the prices of cuts, each times its count.
+fn sum_of(cuts: &[Cut]) -> i64 {
+    let mut sum = 0i64;
+    for cut in cuts {
+        let price = wide_product(i64::from(cut.count), cut.price.cast_signed());
+        sum = sum.saturating_add(i64::try_from(price).unwrap_or(i64::MAX));
+    }
+    sum
 }
