@@ -81,17 +81,17 @@ fn random_instance(rt: &impl Abort, alloc: Global, random: &mut Random, arcs: Ar
             let weight = u64::from(random.next() % 1_000);
             let back = u64::from(random.next() % 1_000);
             let reverse = if arcs == Arcs::Directed { back } else { weight };
-            put(&mut weights, from, to, weight);
-            put(&mut weights, to, from, reverse);
+            put(&mut weights, from, to, PLACES, weight);
+            put(&mut weights, to, from, PLACES, reverse);
         }
     }
     let demands = one_each(alloc, PLACES).expect(rt, "demands");
     with_arcs(alloc, &weights, &demands, 6).expect(rt, "an instance")
 }
 
-// Sets the weight of an arc.
-fn put(weights: &mut [u64], from: usize, to: usize, weight: u64) {
-    let at = from.wrapping_mul(PLACES).wrapping_add(to);
+/// Sets the weight of an arc among so many places.
+pub(crate) fn put(weights: &mut [u64], from: usize, to: usize, places: usize, weight: u64) {
+    let at = from.wrapping_mul(places).wrapping_add(to);
     if let Some(cell) = weights.get_mut(at) {
         *cell = weight;
     }

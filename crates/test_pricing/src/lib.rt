@@ -9,4 +9,6 @@ mod fixture;
 #[cfg(test)]
 mod limits;
 #[cfg(test)]
+mod shared;
+#[cfg(test)]
 mod slow;

@@ -44,6 +44,12 @@ impl ClosedLabels {
         self.labels.as_slice()
     }
 
+    /// So many labels from a number on, or as many as there are.
+    pub fn labels_from(&self, first: usize, most: usize) -> &[Label] {
+        let end = first.saturating_add(most).min(self.labels.len());
+        self.between(first, end)
+    }
+
     /// A label by its number.
     #[inline(always)]
     pub fn get(&self, number: u32) -> Option<&Label> {
@@ -96,9 +102,8 @@ impl ClosedLabels {
         }
     }
 
-    /// The labels of the newest bucket.
-    #[inline(always)]
-    pub fn newest(&self) -> &[Label] {
+    // The labels of the newest bucket.
+    fn newest(&self) -> &[Label] {
         let start = self.starts.last().copied().unwrap_or(0);
         self.between(start, self.labels.len())
     }
@@ -117,6 +122,12 @@ impl ClosedLabels {
     pub fn start(&self, load: u16, place: u16) -> usize {
         let at = self.bucket_at(load, place);
         self.starts.get(at).copied().unwrap_or(self.labels.len())
+    }
+
+    /// The number of labels of a load.
+    pub fn count(&self, load: u16) -> usize {
+        let end = self.start(load.saturating_add(1), 0);
+        end.saturating_sub(self.start(load, 0))
     }
 
     /// The least cost of a load and a place.

@@ -2,15 +2,20 @@
 
 use crate::closed_labels::ClosedLabels;
 use crate::label::{Label, NO_LABEL};
+use crate::label_shares::{KeptLabels, LabelShare, new_label_shares};
 use crate::onward::OnwardTable;
 use crate::price_table::PriceTable;
 use crate::pricer::{Effort, Limit, RoutePricer};
-use std::alloc::Global;
+use crate::turns::Turns;
+use std::thread::{Threads, for_each_mut};
 use vrp_duals::RowSet;
-use vrp_model::{NoMemory, Watch};
+use vrp_model::{Crew, NoMemory, Watch};
 
 // The number of labels that are kept at a place and load with little effort.
 const FEW: usize = 6;
+
+// A worker is called for so many labels to extend: with fewer the new thread would cost more than it saves.
+const LABELS_EACH: usize = 2_048;
 
 /// The closed labels, or the limit that was met.
 #[derive(Drop)]
@@ -46,42 +51,68 @@ struct Step {
 impl Closer<'_> {
     /// The labels that no other dominates, as many at a place and load as the effort says. If routes cost the same either way, only labels
     /// of at most half the capacity, or that exceed it by their last customer alone, are made: two of them make a route. At most about
-    /// `most_labels` labels are kept. Once for each load the watch is asked whether to go on.
-    pub fn close<W: Watch>(
+    /// `most_labels` labels are kept. Once for each load the watch is asked whether to go on. The labels are the same for any number of
+    /// workers.
+    pub fn close<R: Threads + Sync, W: Watch>(
         &self,
-        alloc: Global,
-        watch: &W,
+        crew: &Crew<'_, R, W>,
         most_labels: usize,
     ) -> Result<Closing, NoMemory> {
-        let mut closed = ClosedLabels::new(alloc, self.pricer.places());
-        let mut candidates = Vec::new(alloc);
+        let mut closed = ClosedLabels::new(crew.alloc, self.pricer.places());
+        let mut shares = new_label_shares(crew.alloc, crew.workers)?;
         for load in 0..self.pricer.loads() {
-            if !watch.should_continue() {
+            if !crew.watch.should_continue() {
                 return Ok(Closing::Met(Limit::Stopped));
             }
-            if !self.close_load(&mut closed, &mut candidates, load, most_labels)? {
+            self.share_load(crew, &closed, shares.as_mut_slice(), load);
+            if !self.close_load(&mut closed, shares.as_mut_slice(), load, most_labels)? {
                 return Ok(Closing::Met(Limit::Labels));
             }
         }
         Ok(Closing::Closed(closed))
     }
 
-    // Closes the labels of a load. False if there are too many labels then.
+    // Has the workers make the labels of a load, each those of the places that it takes. They depend on smaller loads alone.
+    fn share_load<R: Threads + Sync, W>(
+        &self,
+        crew: &Crew<'_, R, W>,
+        closed: &ClosedLabels,
+        shares: &mut [LabelShare],
+        load: u16,
+    ) {
+        let turns = Turns::new(0, usize::from(self.pricer.places()));
+        let enough = self.count_extended(closed, load) / LABELS_EACH;
+        for_each_mut(
+            crew.rt,
+            shares,
+            enough.min(usize::from(crew.workers)).max(1),
+            &|_, share: &mut LabelShare| share.work(self, closed, load, &turns),
+        );
+    }
+
+    // How many labels there are where labels of a load come from.
+    fn count_extended(&self, closed: &ClosedLabels, load: u16) -> usize {
+        let mut extended = 0usize;
+        for place in 0..self.pricer.places() {
+            if self.has_labels(load, place) {
+                let before = load.saturating_sub(self.pricer.demand(place));
+                extended = extended.saturating_add(closed.count(before));
+            }
+        }
+        extended
+    }
+
+    // Closes the labels that the workers made of a load. False if there are too many labels then.
     fn close_load(
         &self,
         closed: &mut ClosedLabels,
-        candidates: &mut Vec<Label>,
+        shares: &mut [LabelShare],
         load: u16,
         most_labels: usize,
     ) -> Result<bool, NoMemory> {
         for place in 0..self.pricer.places() {
             closed.begin_bucket()?;
-            if self.has_labels(load, place) {
-                candidates.clear();
-                self.find_candidates(closed, candidates, load, place)?;
-                candidates.sort_unstable_by_key(|label| label.cost);
-                self.keep_undominated(closed, candidates, load, place)?;
-            }
+            give_place(closed, shares, place)?;
             closed.end_bucket(load, place)?;
             if closed.all().len() > most_labels {
                 return Ok(false);
@@ -89,6 +120,23 @@ impl Closer<'_> {
         }
         closed.end_load()?;
         Ok(true)
+    }
+
+    /// Keeps the labels of a load at a place.
+    pub fn close_place(
+        &self,
+        closed: &ClosedLabels,
+        candidates: &mut Vec<Label>,
+        kept: &mut KeptLabels,
+        load: u16,
+        place: u16,
+    ) -> Result<(), NoMemory> {
+        if self.has_labels(load, place) {
+            self.find_candidates(closed, candidates, load, place)?;
+            candidates.sort_unstable_by_key(|label| label.cost);
+            self.keep_undominated(closed, candidates, kept, load, place)?;
+        }
+        Ok(())
     }
 
     // Whether labels of a load are made at a place.
@@ -236,8 +284,9 @@ impl Closer<'_> {
     // Keeps each candidate that no kept label dominates, while the effort allows more.
     fn keep_undominated(
         &self,
-        closed: &mut ClosedLabels,
+        closed: &ClosedLabels,
         candidates: &[Label],
+        kept: &mut KeptLabels,
         load: u16,
         place: u16,
     ) -> Result<(), NoMemory> {
@@ -247,11 +296,11 @@ impl Closer<'_> {
             Effort::AllLabels => (usize::MAX, i64::MAX),
         };
         for label in candidates {
-            if closed.newest().len() >= most || label.cost >= cheaper {
+            if kept.newest().len() >= most || label.cost >= cheaper {
                 break;
             }
-            if !self.is_dominated(closed, label) {
-                closed.push(*label)?;
+            if !self.is_dominated(closed, kept.newest(), label) {
+                kept.push(*label)?;
             }
         }
         Ok(())
@@ -259,8 +308,8 @@ impl Closer<'_> {
 
     // Whether a kept label of the same place and no greater load dominates a label. The newest are looked at first, since they are most
     // like it.
-    fn is_dominated(&self, closed: &ClosedLabels, label: &Label) -> bool {
-        if self.is_dominated_in(closed.newest(), label) {
+    fn is_dominated(&self, closed: &ClosedLabels, newest: &[Label], label: &Label) -> bool {
+        if self.is_dominated_in(newest, label) {
             return true;
         }
         if self.effort == Effort::OneLabel
@@ -291,4 +340,16 @@ impl Closer<'_> {
         }
         false
     }
+}
+
+// Closes the labels of a place, which the worker has who took it.
+fn give_place(
+    closed: &mut ClosedLabels,
+    shares: &mut [LabelShare],
+    place: u16,
+) -> Result<(), NoMemory> {
+    for index in 0..shares.len() {
+        shares[index].give(closed, place)?;
+    }
+    Ok(())
 }

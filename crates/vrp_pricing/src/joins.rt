@@ -2,19 +2,20 @@
 
 use crate::bands::{BestPartner, LabelBands, Partner};
 use crate::closed_labels::ClosedLabels;
+use crate::join_shares::{JoinShare, LABELS_OF_BLOCK, gather, new_join_shares, turns_of_block};
 use crate::label::{Label, NO_LABEL};
 use crate::price_table::PriceTable;
 use crate::pricer::{Limit, RoutePricer};
-use std::alloc::Global;
-use vrp_model::{NoMemory, Watch};
+use std::thread::{Threads, for_each_mut};
+use vrp_model::{Crew, NoMemory, Watch};
 
 // The number of joins at which the costlier ones are dropped, and the number that are left then.
 const MANY: usize = 20_000;
 
 const ENOUGH: usize = 2_000;
 
-// The watch is asked once for this many labels.
-const LABELS_BETWEEN_ASKS: usize = 4_096;
+// A worker is called for so many labels: with fewer the new thread would cost more than it saves.
+const LABELS_EACH: usize = 128;
 
 /// A route: a label, and the label that it meets, or `NO_LABEL` if it goes home. They are compared by cost.
 #[derive(Clone, Copy, Debug, PartialEq, Eq, PartialOrd, Ord)]
@@ -43,31 +44,50 @@ pub struct Joiner<'a> {
 }
 
 impl Joiner<'_> {
-    /// For each label the cheapest route that it begins, if that costs at most this much. Of very many only the cheapest stay.
-    pub fn join_all<W: Watch>(
+    /// For each label the cheapest route that it begins, if that costs at most this much. Of very many only the cheapest stay. The joins are
+    /// the same for any number of workers.
+    pub fn join_all<R: Threads + Sync, W: Watch>(
         &self,
-        alloc: Global,
-        watch: &W,
+        crew: &Crew<'_, R, W>,
         most_cost: i64,
     ) -> Result<Joining, NoMemory> {
-        let mut joins = Vec::new(alloc);
+        let mut joins = Vec::new(crew.alloc);
+        let mut fresh = Vec::new(crew.alloc);
+        let mut shares = new_join_shares(crew.alloc, crew.workers)?;
         let mut most = most_cost;
-        for (index, label) in self.closed.all().iter().enumerate() {
-            if index % LABELS_BETWEEN_ASKS == 0 && !watch.should_continue() {
+        for block in 0..self.closed.all().len().div_ceil(LABELS_OF_BLOCK) {
+            if !crew.watch.should_continue() {
                 return Ok(Joining::Met(Limit::Stopped));
             }
-            let head = u32::try_from(index).unwrap_or(NO_LABEL);
-            if let Some(join) = self.cheapest_join(label, head, most) {
-                joins.push(join)?;
-                most = most_kept(&mut joins, most);
-            }
+            self.share_block(crew, shares.as_mut_slice(), block, most);
+            gather(&mut fresh, shares.as_slice())?;
+            most = add_joins(&mut joins, &fresh, most)?;
         }
         joins.sort_unstable();
         Ok(Joining::Joined(joins))
     }
 
-    // The cheapest route that a label begins, if that costs at most this much.
-    fn cheapest_join(&self, label: &Label, head: u32, most_cost: i64) -> Option<Join> {
+    // Has the workers join the labels of a block, each those that it takes.
+    fn share_block<R: Threads + Sync, W>(
+        &self,
+        crew: &Crew<'_, R, W>,
+        shares: &mut [JoinShare],
+        block: usize,
+        most_cost: i64,
+    ) {
+        let first = block.saturating_mul(LABELS_OF_BLOCK);
+        let enough = self.closed.labels_from(first, LABELS_OF_BLOCK).len() / LABELS_EACH;
+        let turns = turns_of_block(block);
+        for_each_mut(
+            crew.rt,
+            shares,
+            enough.min(usize::from(crew.workers)).max(1),
+            &|_, share: &mut JoinShare| share.work(self, most_cost, &turns),
+        );
+    }
+
+    /// The cheapest route that a label begins, if that costs at most this much.
+    pub fn cheapest_join(&self, label: &Label, head: u32, most_cost: i64) -> Option<Join> {
         let mut best = None;
         let mut below = most_cost.saturating_add(1);
         let followers = self.prices.followers(label.at);
@@ -132,6 +152,19 @@ impl Joiner<'_> {
         }
         Some((before.wrapping_add(found.cost), found.number))
     }
+}
+
+// Adds those of the fresh joins that cost at most this much, and drops the costlier ones if there are very many. What a further join may
+// cost at most.
+fn add_joins(joins: &mut Vec<Join>, fresh: &[Join], most_cost: i64) -> Result<i64, NoMemory> {
+    let mut most = most_cost;
+    for join in fresh {
+        if join.cost <= most {
+            joins.push(*join)?;
+            most = most_kept(joins, most);
+        }
+    }
+    Ok(most)
 }
 
 // Drops the costlier joins if there are very many. What a further join may cost at most.

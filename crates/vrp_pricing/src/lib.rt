@@ -5,8 +5,10 @@
 mod bands;
 mod closed_labels;
 mod closing;
+mod join_shares;
 mod joins;
 mod label;
+mod label_shares;
 mod near_masks;
 mod onward;
 mod price_table;
@@ -14,6 +16,7 @@ mod priced_routes;
 mod pricer;
 mod route_choice;
 mod symmetry;
+mod turns;
 
 pub use priced_routes::PricedRoutes;
 pub use pricer::{Effort, Limit, Priced, RoutePricer};

@@ -131,7 +131,7 @@ impl RoutePricer {
             effort,
             most_cost,
         };
-        let closed = match closer.close(crew.alloc, crew.watch, most_labels)? {
+        let closed = match closer.close(crew, most_labels)? {
             Closing::Closed(closed) => closed,
             Closing::Met(limit) => return Ok(Priced::Met(limit)),
         };
@@ -171,7 +171,7 @@ impl RoutePricer {
     }
 
     // The routes that closed labels make.
-    fn join_routes<R, W: Watch>(
+    fn join_routes<R: Threads + Sync, W: Watch>(
         &self,
         crew: &Crew<'_, R, W>,
         prices: &PriceTable<'_>,
@@ -193,7 +193,7 @@ impl RoutePricer {
             closed,
             bands,
         };
-        match joiner.join_all(alloc, crew.watch, most_cost)? {
+        match joiner.join_all(crew, most_cost)? {
             Joining::Joined(joins) => {
                 let choice = RouteChoice::new(alloc, closed, self.places, most_routes)?;
                 let mut routes = choice.choose(&joins, self.places)?;
