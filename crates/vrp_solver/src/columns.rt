@@ -21,7 +21,7 @@ use vrp_answer::{Event, Gate, Shared, Stage};
 use vrp_bound::LowerBound;
 use vrp_canonical::RoutesOutcome;
 use vrp_column_generation::{Generation, Settings, generate_routes};
-use vrp_model::{NoMemory, Plan, canonical_is_cheapest, plans_cost_less};
+use vrp_model::{Instance, NoMemory, Plan, canonical_is_cheapest, plans_cost_less};
 use vrp_routes::can_list;
 
 // The most labels of a pricing and of a pass: with more, a round takes too long.
@@ -80,8 +80,7 @@ fn plan_from<R: Threads + Sync, G: Gate + Sync>(
     plans_cost_less();
     let _customers = shared.instance.customers();
     let Generation { bound, pool } = generated(shared, workers, known)?;
-    // A bound on the plans that cost no more than the known one says nothing of the others.
-    let bound = bound.min(known.cost());
+    let bound = bound_on_all(shared.instance, known, bound);
     shared.gate.on_event(Event::Bound(LowerBound::of_cost(bound)));
     match pool {
         Some(pool) => {
@@ -94,6 +93,14 @@ fn plan_from<R: Threads + Sync, G: Gate + Sync>(
             lower_bound: bound,
         }),
     }
+}
+
+// A bound on all plans, from one on those that cost no more than the known one: it says nothing of the others.
+fn bound_on_all(instance: &Instance, known: &Plan, bound: u64) -> u64
+    requires { BoundsPlans instance.now known.now.cost bound }
+    ensures { NoneCheaper instance.now result }
+{
+    bound.min(known.cost())
 }
 
 // The outcome with the higher of its bound and this one, if it is unfinished.

@@ -4,7 +4,7 @@ ghost use Rattle.std.specs.Prelude.{true};
 use super::*;
 use crate::pool::fixture::{four_trucks, grid, ten_nodes};
 use std::sync::atomic::{AtomicU64, Ordering};
-use vrp_solver::Event;
+use vrp_solver::{Event, Stage};
 
 // The stage up to which a gate continues.
 #[derive(Clone, Copy, PartialEq)]
@@ -12,7 +12,7 @@ enum Until {
     TheEnd,
     // Until the choice among routes begins.
     Choice,
-    // Until the choice finds a plan cheaper than any before.
+    // Until the choice finds a plan cheaper than any before, and not while columns are generated: so the routes are listed by prices.
     CheaperChoice,
 }
 
@@ -30,6 +30,8 @@ struct ContinuesLater {
     routes: AtomicU64,
     // The number of finished pieces.
     done: AtomicU64,
+    // 1 while columns are generated.
+    at_columns: AtomicU64,
 }
 
 impl ContinuesLater {
@@ -42,6 +44,7 @@ impl ContinuesLater {
             cheaper: AtomicU64::new(0),
             routes: AtomicU64::new(0),
             done: AtomicU64::new(0),
+            at_columns: AtomicU64::new(0),
         }
     }
 }
@@ -53,6 +56,10 @@ impl Gate for ContinuesLater {
 
     fn on_event(&self, news: Event) {
         match news {
+            Event::Begins(stage) => {
+                let is_columns = u64::from(stage == Stage::Columns);
+                self.at_columns.store(is_columns, Ordering::SeqCst);
+            }
             Event::UsefulRoutes(routes) => {
                 self.routes.fetch_max(routes, Ordering::SeqCst);
             }
@@ -75,7 +82,10 @@ impl Gate for ContinuesLater {
         let has_come = match self.until {
             Until::TheEnd => false,
             Until::Choice => 0 < self.routes.load(Ordering::SeqCst),
-            Until::CheaperChoice => 0 < self.cheaper.load(Ordering::SeqCst),
+            Until::CheaperChoice => {
+                0 < self.cheaper.load(Ordering::SeqCst)
+                    || 0 < self.at_columns.load(Ordering::SeqCst)
+            }
         };
         self.from <= asked && !has_come
     }
