@@ -10,7 +10,7 @@ use Rattle.vrp_model.specs.Route.{PricedPlan}
 use Rattle.vrp_model.specs.declared.memory.NoMemory.{NoMemory}
 use Rattle.vrp_solver.specs.Inner.Solving.{IsSolved}
 use Rattle.vrp_solver.specs.Inner.Pieces.{IsAnswered}
-use Rattle.vrp_answer.specs.Answer.{IsAnswer, known_plan}
+use Rattle.vrp_answer.specs.Answer.{IsAnswer}
 use Rattle.vrp_answer.specs.Outcomes.{Search}
 use Rattle.vrp_answer.specs.declared.answers.Answer.{Answer}
 use Rattle.vrp_answer.specs.declared.answers.Answer.TheVariants.{Proven}

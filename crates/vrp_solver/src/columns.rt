@@ -81,7 +81,9 @@ fn plan_from<R: Threads + Sync, G: Gate + Sync>(
     let _customers = shared.instance.customers();
     let Generation { bound, pool } = generated(shared, workers, known)?;
     let bound = bound_on_all(shared.instance, known, bound);
-    shared.gate.on_event(Event::Bound(LowerBound::of_cost(bound)));
+    shared
+        .gate
+        .on_event(Event::Bound(LowerBound::of_cost(bound)));
     match pool {
         Some(pool) => {
             let outcome = chosen_plan(shared, &pool, known, workers);

@@ -1,4 +1,4 @@
-use Rattle.std.proofs.Common.{◌≡◌, ◌≤◌, ℕ, [], refl, subst, sym}
+use Rattle.std.proofs.Common.{◌≤◌, ℕ, [], refl, subst, sym}
 use Rattle.vrp_canonical.specs.Ending.{IfBound}
 use Rattle.vrp_model.specs.Cheapest.{NoneCheaper}
 use Rattle.vrp_model.specs.Problem.{Problem}

@@ -1,9 +1,8 @@
-use Rattle.std.proofs.Common.{◌≤◌, Option, subst, sym, arith}
+use Rattle.std.proofs.Common.{◌≤◌, Option, subst, arith}
 use Rattle.std.specs.Prelude.{IfSome}
 use Rattle.vrp_model.specs.Cheapest.{cost_of}
 use Rattle.vrp_answer.specs.Answer.{AnswersAll, known_plan}
 use Rattle.vrp_answer.specs.declared.answers.Answer.{Answer}
-use Rattle.vrp_solver.specs.Inner.Solving.{IsSolved}
 use Rattle.vrp_solver.proofs.Solvings.{solved_from}
 use Rattle.vrp_solver.proofs.solver.solve_shared.Goals as goal
 
