@@ -1,4 +1,4 @@
-//! The benches. The first word of the command line names one of them: `search`, `heuristic`, `prices`, `routes`, `partition` or `passes`.
+//! The benches. The first word of the command line names one of them: `search`, `heuristic`, `prices`, `partition` or `passes`.
 //! The other words are the bench's own, and its module says what they are. Without any words, each line of standard input is such a
 //! command line, and the lines are run in turn. Results go to standard output, and times to standard error.
 #![tactic(auto)]
@@ -9,7 +9,6 @@ mod partition;
 mod passed;
 mod passes;
 mod prices;
-mod routes;
 mod search;
 mod times;
 
@@ -57,7 +56,6 @@ fn run_arguments<R: Files + Clock + Print + Eprint + AllocGlobal + Threads + Syn
         "search" => search::run(rt, words),
         "heuristic" => heuristic::run(rt, words),
         "prices" => prices::run(rt, words),
-        "routes" => routes::run(rt, words),
         "partition" => partition::run(rt, words),
         "passes" => passes::run(rt, words),
         other => bail!("no bench has the name {other}"),

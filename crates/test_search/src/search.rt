@@ -1,6 +1,5 @@
 //! Tests of `vrp_search_tree` and `vrp_search` by values from outside.
 
-mod by_prices;
 mod cutting;
 mod depth_first;
 mod fixture;

@@ -4,7 +4,7 @@ ghost use Rattle.std.specs.Prelude.{None};
 use std::fmt;
 use vrp_bound::LowerBound;
 
-/// The stages of a run, in their order. A run may leave stages out, and choose among routes twice.
+/// The stages of a run, in their order. A run may leave stages out.
 #[derive(Clone, Copy, Debug, PartialEq, Eq)]
 pub enum Stage {
     /// A look at the whole tree, before anything else.
@@ -13,14 +13,10 @@ pub enum Stage {
     StartPlan,
     /// Column generation: dual prices of routes, and the list of the useful routes that they leave.
     Columns,
-    /// The search for prices by ascent.
-    Prices,
-    /// The enumeration of useful routes: those that may be in the canonical plan.
-    Routes,
     /// The choice among the useful routes.
     Choice,
-    /// The search for prices that serve the search of the pieces.
-    PiecePrices,
+    /// The search for prices by ascent, for a lower bound.
+    Prices,
     /// The search for better plans, as long as there is time.
     BetterPlans,
     /// The search of the pieces.
@@ -29,14 +25,12 @@ pub enum Stage {
 
 impl Stage {
     /// All stages: each stands at its own number.
-    pub const ALL: [Stage; 9] = [
+    pub const ALL: [Stage; 7] = [
         Stage::FirstLook,
         Stage::StartPlan,
         Stage::Columns,
-        Stage::Prices,
-        Stage::Routes,
         Stage::Choice,
-        Stage::PiecePrices,
+        Stage::Prices,
         Stage::BetterPlans,
         Stage::Pieces,
     ];
@@ -51,9 +45,8 @@ impl fmt::Display for Stage {
             Stage::FirstLook => "first look",
             Stage::StartPlan => "first plan",
             Stage::Columns => "columns",
-            Stage::Prices | Stage::PiecePrices => "prices",
-            Stage::Routes => "routes",
             Stage::Choice => "choice",
+            Stage::Prices => "prices",
             Stage::BetterPlans => "better plans",
             Stage::Pieces => "search",
         })

@@ -10,7 +10,6 @@ use std::alloc::Global;
 use std::marker::Model;
 use vrp_bound::Tables;
 use vrp_model::{Instance, Plan, plans_cost_less};
-use vrp_search_tree::PriceTables;
 
 /// The search and what was prepared for it, the budget of each piece, the number of pieces, and the gate that hears of each.
 /// Public for the crates of vrp_solver alone.
@@ -24,8 +23,6 @@ pub struct Shared<'a, R, G: Gate> {
     pub tables: &'a Tables<'a>,
     /// The plan that is offered before the search.
     pub start_plan: Option<&'a Plan>,
-    /// If there are prices, the search prunes by them alone.
-    pub prices: Option<&'a PriceTables<'a>>,
     /// The number of pieces.
     pub pieces: u32,
     /// The budget of each piece, at least 1.
@@ -54,14 +51,13 @@ impl<'a, R, G: Gate> Model for Shared<'a, R, G> {
     ghost invariant = { λ s.
         (s.tables.now ≡ record { problem = s.instance.now; among = customers s.instance.now })
         × (1 ≤ s.budget)
-        × ForSome (option_map (λ plan. plan.now) s.start_plan) (IsPlanOf s.instance.now)
-        × ForSome (option_map (λ prices. prices.now) s.prices) (λ prices. prices.problem ≡ s.instance.now) };
+        × ForSome (option_map (λ plan. plan.now) s.start_plan) (IsPlanOf s.instance.now) };
 }
 
 impl<'a, R, G: Gate> Shared<'a, R, G> {
     ghost use Rattle.vrp_model.specs.Problem.{customers};
 
-    /// A search without prices.
+    /// A search of an instance, with its tables over all customers.
     pub fn new(
         resources: &Resources<'a, R, G>,
         instance: &'a Instance,
@@ -88,7 +84,6 @@ impl<'a, R, G: Gate> Shared<'a, R, G> {
             instance,
             tables,
             start_plan,
-            prices: None,
             pieces,
             budget,
             gate,
@@ -104,17 +99,6 @@ impl<'a, R, G: Gate> Shared<'a, R, G> {
         let start_plan = earlier_of(self.instance, self.start_plan, plan);
         Shared {
             start_plan,
-            ..*self
-        }
-    }
-
-    /// The same search with pruning by these prices.
-    pub fn by_prices<'b>(&'b self, prices: &'b PriceTables<'b>) -> Shared<'b, R, G>
-        requires { prices.now.problem ≡ self.now.problem }
-        ensures { result ≡ self.entry.now }
-    {
-        Shared {
-            prices: Some(prices),
             ..*self
         }
     }

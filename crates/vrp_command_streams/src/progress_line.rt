@@ -105,7 +105,7 @@ impl Line {
 
     // The number of labels, while routes are listed, once there are any.
     fn write_labels<W: fmt::Write>(&self, f: &mut fmt::Formatter<W>) -> fmt::Result {
-        if self.state != RunState::At(Stage::Routes) || self.labels == 0 {
+        if self.state != RunState::At(Stage::Columns) || self.labels == 0 {
             return Ok(());
         }
         write!(f, ", {} labels", self.labels)

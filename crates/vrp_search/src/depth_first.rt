@@ -7,17 +7,14 @@ ghost use Rattle.vrp_search_tree.specs.Pruned.{AllCostMore};
 ghost use Rattle.vrp_search.specs.Inner.Under.{EndsUnder};
 
 use crate::board::Board;
-use crate::bounds::Bounds;
-use crate::by_prices::ByPrices;
 use crate::found::LastOffer;
-use crate::pruning::Pruning;
 use crate::spending::Spending;
 use std::alloc::Global;
 use vrp_bound::{Tables, bounds_hold};
 use vrp_model::{
     Instance, NoMemory, Plan, plans_cost_less, prefixes_without_completion, words_are_plans,
 };
-use vrp_search_tree::{Partial, Piece, PriceTables};
+use vrp_search_tree::{Partial, Piece};
 
 /// How the search of a piece ended.
 #[derive(Debug, Drop)]
@@ -34,8 +31,8 @@ pub enum Ended {
 /// Searches the plans under a piece, and offers those to the board that may be before all that it knows. It looks at no more
 /// partial plans than the budget allows, each at most once: first at the piece's own word, and at children by rising symbol.
 /// It prunes a partial plan if its cost plus bound is above the board's answer, or not below the cost of the last plan that
-/// it offered; if the bound says that no plan is under it; if it is without completion; or if the tree bound prunes it. It
-/// asks the board from time to time whether to continue. The tables cover all unserved customers of the piece, and may cover
+/// it offered; if the bound says that no plan is under it; or if it is without completion. It asks the board from time to time
+/// whether to continue. The tables cover all unserved customers of the piece, and may cover
 /// more. If memory is refused, the board has the offers made before.
 pub fn search<B: Board>(
     alloc: Global,
@@ -62,49 +59,7 @@ pub fn search<B: Board>(
             first: None,
         });
     };
-    let mut bounds = Bounds::new(alloc, instance, tables)?;
-    search_under(alloc, &mut partial, &mut bounds, low, budget, board)
-}
-
-/// What a search by prices looks into: tables that bound a piece as a whole, and prices that prune.
-#[derive(Clone, Copy)]
-pub struct Lookups<'a> {
-    pub tables: &'a Tables<'a>,
-    pub prices: &'a PriceTables<'a>,
-}
-
-/// Searches the plans under a piece with the contract of `search`, and prunes by prices. It prunes a partial plan if the
-/// prices show that each plan under it costs more than the board's answer, or no less than the last plan that it offered; if
-/// it is without completion; or if too few trucks are left. The tables bound the piece as a whole, and give its `low`.
-pub fn search_by_prices<B: Board>(
-    alloc: Global,
-    instance: &Instance,
-    lookups: Lookups<'_>,
-    piece: &Piece,
-    budget: u64,
-    board: &mut B,
-) -> Result<Ended, NoMemory>
-    requires tables { lookups.tables.now.problem ≡ instance.now }
-    requires prices { lookups.prices.now.problem ≡ instance.now }
-    requires covered { AreCovered instance.now lookups.tables.now.among piece.now.word }
-    requires piece { IsPrefix instance.now piece.now.word }
-    requires board { B.serves board.old instance.now }
-    requires budget { 1 ≤ budget }
-    ensures serves { B.serves board.new instance.now }
-    ensures keeps { (earlier : B) → B.keeps earlier board.old → B.keeps earlier board.new }
-    ensures falls { B.floor board.new ≤ B.floor board.old }
-    ensures ended { IfOk result (EndsSearch instance.now lookups.entry.tables.now.among piece.now.word
-        budget (B.may_stop board.new) (B.floor board.new)) }
-{
-    let Lookups { tables, prices } = lookups;
-    let Some(Root { mut partial, low }) = open_root(alloc, instance, tables, piece, board)? else {
-        return Ok(Ended::Finished {
-            spent: 1,
-            first: None,
-        });
-    };
-    let mut by_prices = ByPrices::at(alloc, prices, &partial)?;
-    search_under(alloc, &mut partial, &mut by_prices, low, budget, board)
+    search_under(alloc, &mut partial, tables, low, budget, board)
 }
 
 // A partial plan at a piece's word, and a lower bound on the plans under it.
@@ -154,17 +109,18 @@ fn open_root<'a, B: Board>(
     Ok(Some(Root { partial, low }))
 }
 
-/// Searches the plans under the current word of a partial plan, its root, with the contract of `search`, using this pruning
-/// rule. No plan under the root costs less than `low`, which is the answer if the search is left unfinished.
-pub(crate) fn search_under<B: Board, P: Pruning>(
+/// Searches the plans under the current word of a partial plan, its root, with the contract of `search`. No plan under the root costs
+/// less than `low`, which is the answer if the search is left unfinished.
+pub(crate) fn search_under<B: Board>(
     alloc: Global,
     partial: &mut Partial<'_>,
-    pruning: &mut P,
+    tables: &Tables<'_>,
     low: u64,
     budget: u64,
     board: &mut B,
 ) -> Result<Ended, NoMemory>
-    requires step { P.in_step pruning.old partial.old.word partial.old }
+    requires tables { tables.now.problem ≡ partial.old.problem }
+    requires covered { AreCovered partial.old.problem tables.now.among partial.old.word }
     requires low { NoneCheaperUnder partial.old.problem partial.old.word low }
     requires board { B.serves board.old partial.old.problem }
     requires budget { 1 ≤ budget }
@@ -191,14 +147,10 @@ pub(crate) fn search_under<B: Board, P: Pruning>(
             Some(symbol) => {
                 spending.look();
                 let incumbent = board.least();
-                if let Some(counted) = pruning.promising(partial, symbol, incumbent, found.cost()) {
-                    pruning.push(partial, symbol, counted);
-                    if pruning.prunes(partial, incumbent, found.cost()) {
-                        next = pruning.pop(partial) + 1;
-                    } else {
-                        found.offer_complete(alloc, partial, board)?;
-                        next = 0;
-                    }
+                if let Some(tally) = partial.promising(tables, symbol, incumbent, found.cost()) {
+                    partial.push_counted(symbol, tally);
+                    found.offer_complete(alloc, partial, board)?;
+                    next = 0;
                 } else {
                     next = symbol + 1;
                 }
@@ -208,7 +160,7 @@ pub(crate) fn search_under<B: Board, P: Pruning>(
                 let first = found.into_plan();
                 return Ok(Ended::Finished { spent, first });
             }
-            None => next = pruning.pop(partial) + 1,
+            None => next = partial.pop() + 1,
         }
     }
 }

@@ -9,7 +9,6 @@ pub mod LowBounds
 pub mod OneLow
 pub mod OnePlace
 pub mod OwnLows
-pub mod PricedTallyAlong
 pub mod PartialViews
 pub mod PieceRefined
 pub mod Promising

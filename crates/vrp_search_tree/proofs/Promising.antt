@@ -1,16 +1,10 @@
--- When a plan under a prefix may be of use, by what its bound answers; and when none is under it.
-use Rattle.std.proofs.Common.{◌≡◌, ◌⊎◌, inl, inr, ℕ, ◌-◌, ◌≤◌, ◌<◌, ◌++◌, true, false, true≢false, Option, None, Some, List, refl, sym, subst, arith}
-use Rattle.std.specs.Prelude.{◌↔◌, IsTrue, MatchOption}
-use Rattle.std.specs.Option.{option_map}
-use Rattle.vrp_model.specs.Prefix.{open_load, routes_left}
+-- When a plan under a prefix may be of use, by what its bound answers.
+use Rattle.std.proofs.Common.{◌≡◌, ◌⊎◌, inl, inr, ℕ, ◌≤◌, ◌<◌, true, false, true≢false, Option, Some, List, refl, sym, arith}
+use Rattle.std.specs.Prelude.{◌↔◌, IsTrue}
 use Rattle.vrp_model.specs.Problem.{IsProblem, Problem}
-use Rattle.vrp_model.specs.Route.{load_of}
-use Rattle.vrp_model.specs.Word.{BeginsWith, HasNoCompletion, IsLawfulWord, last_symbol, unserved_in}
-use Rattle.vrp_bound.specs.Capacity.{CanCarry}
+use Rattle.vrp_model.specs.Word.{HasNoCompletion}
 use Rattle.vrp_search_tree.specs.Low.{IsLow}
-use Rattle.vrp_search_tree.specs.Pruned.{IsPromising, MayBeOfUse}
-use Rattle.vrp_search_tree.specs.Tally.{IsTally}
-use Rattle.vrp_search_tree.specs.declared.tally.Tally.{Tally}
+use Rattle.vrp_search_tree.specs.Pruned.{MayBeOfUse}
 use Rattle.vrp_search_tree.proofs.OneLow.{one_low}
 
 -- the same fact on either side of a test that failed, or held
@@ -36,18 +30,3 @@ costly_of_no_use p among prefix low least own problem is costly = never (MayBeOf
 
 pub may_be_of_use : (p : Problem) (among prefix : List ℕ) (low least own : ℕ) → (HasNoCompletion p prefix → ⊥) → IsLow p among prefix (Some low) → low ≤ least → low < own → IsTrue true ↔ MayBeOfUse p among prefix least own
 may_be_of_use p among prefix low least own alive is no_more cheaper = (λ yes. record { alive = alive; low = low; is_low = is; no_more = no_more; cheaper = cheaper }, λ may. refl)
-
--- what is counted along a prefix that may be of use
-pub counted_of : (p : Problem) (prefix : List ℕ) (own : ℕ) (none : Type 0) (result : Option Tally) → MatchOption result none (IsPromising p prefix own) → MatchOption result none (IsTally p prefix)
-counted_of p prefix own none None is = is
-counted_of p prefix own none (Some tally) is = is.counted
-
--- ---- prefixes under which too few trucks are left
-
-abbrev pub TrucksLeftCarry : Type 0
-TrucksLeftCarry = (p : Problem) (prefix more : List ℕ) → IsProblem p → IsLawfulWord p (prefix ++ more) → CanCarry p (last_symbol prefix) (open_load p prefix) (load_of p (unserved_in p prefix)) (routes_left p prefix)
-
--- where a plan is under a prefix, the trucks that are left carry what is left, by what is counted along it
-pub carried : TrucksLeftCarry → (p : Problem) (prefix : List ℕ) (t : Tally) → IsProblem p → IsTally p prefix t → (w : List ℕ) → IsLawfulWord p w → BeginsWith w prefix
-    → CanCarry p (last_symbol prefix) t.load t.rest (option_map (λ trucks. trucks - t.routes) p.trucks)
-carried law p prefix t problem tally w lawful begins = rw (tally.load, tally.rest, tally.routes) (law p prefix begins.0 problem (subst (IsLawfulWord p) begins.1 lawful))

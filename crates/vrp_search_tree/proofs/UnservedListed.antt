@@ -1,10 +1,13 @@
--- The unserved customers, told flag by flag.
+-- The unserved customers, told flag by flag. They rise.
 use Rattle.std.proofs.Common.{◌≡◌, ◌∙◌, ℕ, ◌+◌, ◌-◌, ◌<◌, Bool, false, true, List, [], ◌∷◌, ◌++◌, append-nil, ap, sym, refl, arith}
 use Rattle.std.specs.List.{filter, range_with_len}
+use Rattle.std.specs.List.Sorted.{IsStrictlyIncreasing}
+use Rattle.std.proofs.lemmas.List.Kept.{IsStrictlyIncreasing-filter}
 use Rattle.std.specs.Prelude.{not, slice_index_or}
 use Rattle.std.proofs.lemmas.List.Elements.{filter-append}
-use Rattle.vrp_model.specs.Problem.{Problem, place_count}
-use Rattle.vrp_model.specs.Word.{stands_in}
+use Rattle.vrp_model.specs.Problem.{Problem, customers, place_count}
+use Rattle.vrp_model.specs.Word.{stands_in, unserved_in}
+use Rattle.vrp_model.proofs.DistinctLists.{customers_rise}
 use Rattle.vrp_model.proofs.PlacesLemmas.{range_with_len_more}
 use Rattle.vrp_search_tree.specs.Inner.Tallied.{AreFlags}
 
@@ -32,3 +35,6 @@ pub flagged : (p : Problem) (word : List ℕ) (flags : List Bool) (customer : �
 flagged p word flags customer are some below is =
     let stands : stands_in word customer ≡ true = sym (are customer some below) ∙ is in
     one_more word customer some ∙ (rw stands (append-nil (unserved_below word customer)))
+
+pub unserved_rise : (p : Problem) (word : List ℕ) → IsStrictlyIncreasing (unserved_in p word)
+unserved_rise p word = IsStrictlyIncreasing-filter (λ k. not (stands_in word k)) (customers p) (customers_rise p)

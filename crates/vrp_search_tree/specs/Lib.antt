@@ -2,8 +2,6 @@ pub mod Child
 pub mod Cutting
 pub mod Inner
 pub mod Low
-pub mod PricedTally
 pub mod Partial
 pub mod Pruned
-pub mod Reached
 pub mod Tally

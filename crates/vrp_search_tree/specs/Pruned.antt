@@ -15,10 +15,6 @@ AllCostMore p prefix cost = (word : List ℕ) → IsLawfulWord p word → Begins
 abbrev pub NoneOfUse : Problem → List ℕ → ℕ → ℕ → Type 0
 NoneOfUse p prefix incumbent own_best = (word : List ℕ) → IsLawfulWord p word → BeginsWith word prefix → (incumbent < word_cost p word) ⊎ (own_best ≤ word_cost p word)
 
--- no plan is under the prefix
-abbrev pub NoPlanUnder : Problem → List ℕ → Type 0
-NoPlanUnder p prefix = (word : List ℕ) → IsLawfulWord p word → BeginsWith word prefix → ⊥
-
 -- the prefix is not known to be without completion, and its bound is no more than what was answered, and below the plan that this
 -- search has found
 pub record MayBeOfUse (p : Problem) (among prefix : List ℕ) (incumbent own_best : ℕ) : Type 0 where

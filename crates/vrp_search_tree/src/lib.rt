@@ -7,8 +7,6 @@ mod law;
 mod lawful;
 mod partial;
 mod piece;
-mod priced_tally;
-mod prices;
 mod tally;
 
 pub use cutting::{Cutting, MAX_PIECES, MAX_REFINED};
@@ -16,6 +14,4 @@ pub use law::{one_low, one_piece, own_low_no_lower};
 pub use lawful::{cheaper_plan, lawful_plan};
 pub use partial::{Partial, Reserved};
 pub use piece::Piece;
-pub use priced_tally::PricedTally;
-pub use prices::PriceTables;
 pub use tally::Tally;

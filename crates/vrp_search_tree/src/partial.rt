@@ -95,7 +95,7 @@ impl<'a> Partial<'a> {
         self.push_counted(symbol, tally);
     }
 
-    /// Adds a symbol at the end. The tally of the longer word is given, as `promising` and `alive_after` answer it.
+    /// Adds a symbol at the end. The tally of the longer word is given, as `promising` answers it.
     #[inline(always)]
     pub fn push_counted(&mut self, symbol: u16, tally: Tally)
         requires child { IsPrefix self.old.problem (self.old.word ++ symbol ∷ []) }
@@ -187,13 +187,6 @@ impl<'a> Partial<'a> {
         ensures { result ≡ load_of self.now.problem (unserved_in self.now.problem self.now.word) }
     {
         self.tally.rest
-    }
-
-    /// The number of unserved customers, at most 1,199.
-    pub fn unserved(&self) -> u16
-        ensures { result + length (served_in self.now.word) + 1 ≡ place_count self.now.problem }
-    {
-        self.tally.unserved
     }
 
     /// The number of symbols, and of earlier tallies, that fit without another allocation. No clause says how many that is.

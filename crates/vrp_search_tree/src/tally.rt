@@ -1,13 +1,13 @@
 //! The tally of a word, and the lower bound on plans under it.
 ghost use Rattle.std.specs.Prelude.{◌≡◌, ◌↔◌, ◌⊎◌, ◌-◌, ◌*◌, ◌≤◌, ◌<◌, [], IsTrue};
-ghost use Rattle.vrp_bound.specs.Capacity.{CanCarry, IsInboundSumOf};
+ghost use Rattle.vrp_bound.specs.Capacity.{IsInboundSumOf};
 ghost use Rattle.vrp_model.specs.Problem.{HasTrucks, customers, place_count};
 ghost use Rattle.vrp_model.specs.Route.{load_of};
 ghost use Rattle.vrp_model.specs.declared.limits.TheConstants.{MAX_ARCS};
 ghost use Rattle.vrp_search_tree.specs.Inner.Tallied.{IsLowOf, routes_by};
 ghost use Rattle.vrp_search_tree.specs.Tally.{IsTally};
 
-use vrp_bound::{Tables, bound, can_carry};
+use vrp_bound::{Tables, bound};
 use vrp_model::Instance;
 
 /// The tally of a word, in the units of the instance.
@@ -85,18 +85,6 @@ impl Tally {
             left,
         )?;
         Some(self.cost + more)
-    }
-
-    /// Whether the trucks that are left can carry the rest, if the word ends at this place.
-    #[inline(always)]
-    pub(crate) fn can_carry(self, instance: &Instance, at: u16) -> bool
-        requires load { self.load ≤ instance.now.capacity }
-        requires trucks { HasTrucks instance.now self.routes }
-        ensures { IsTrue result
-            ↔ CanCarry instance.now at self.load self.rest (routes_by instance.now self) }
-    {
-        let left = self.routes_left(instance);
-        can_carry(instance, at, self.load, self.rest, left)
     }
 
     // The number of routes that may still be opened; `None` if trucks are not limited.

@@ -11,7 +11,7 @@ ghost use Rattle.vrp_model.specs.declared.limits.TheConstants.{NO_COST};
 ghost use Rattle.vrp_priced_routes.specs.Priced.{BoundsPlans};
 ghost use Rattle.vrp_routes.specs.Pool.{IsPool};
 
-use crate::choice::{chosen_plan, nothing};
+use crate::choice::chosen_plan;
 use crate::look::LEAST_PREPARED_BUDGET;
 use crate::stage_watch::{StageWatch, crew_of};
 use crate::stages::share_of;
@@ -160,4 +160,16 @@ fn routes_of(alloc: Global, plan: &Plan) -> Result<Vec<Vec<u16>>, NoMemory> {
         routes.push(Vec::from_slice(alloc, plan.route(index))?)?;
     }
     Ok(routes)
+}
+
+// No plan was found, and nothing is known.
+fn nothing() -> RoutesOutcome
+    ensures canonical { IfCanonical (λ _. ⊥) result }
+    ensures better { IfBetter (λ _. ⊥) result }
+    ensures bound { IfBound (λ bound. bound ≡ 0) result }
+{
+    RoutesOutcome::Unfinished {
+        better: None,
+        lower_bound: 0,
+    }
 }

@@ -1,18 +1,18 @@
 //! Answers an instance cut into pieces: by useful routes if there are few, else by several workers who search the pieces.
 #![tactic(auto)]
 
+mod ascent_bound;
 mod better_plan;
 mod choice;
 mod columns;
 mod draws;
 mod look;
 mod pieces;
-mod preparation;
-mod price_bound;
 mod seat_board;
 mod solver;
 mod stage_watch;
 mod stages;
+mod start_plan;
 mod team;
 mod worker;
 

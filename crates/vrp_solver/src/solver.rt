@@ -11,24 +11,20 @@ ghost use Rattle.vrp_answer.specs.Answer.{IsAnswer, known_plan};
 ghost use Rattle.vrp_solver.specs.Inner.Pieces.{CanSolve, IsAnswered};
 ghost use Rattle.vrp_solver.specs.declared.pieces.TheConstants.{MAX_WORKERS};
 
+use crate::ascent_bound::bound_by_ascent;
 use crate::better_plan::better_plan;
-use crate::choice::{copied_ng_sets, plan_by_routes};
 use crate::columns::plan_by_columns;
 use crate::look::looked_at;
 use crate::pieces::{answer_by_pieces, report_plan};
-use crate::preparation::{heuristic_plan, prices_for_pieces, prices_found};
-use crate::price_bound::bound_by_prices;
-use crate::stages::MANY_CUSTOMERS;
+use crate::start_plan::heuristic_plan;
 use std::alloc::Global;
 use std::sync::Wait;
 use std::thread::Threads;
-use vrp_answer::{Answer, Event, Gate, Resources, Shared, SolveError, Solved};
+use vrp_answer::{Answer, Gate, Resources, Shared, SolveError, Solved};
 use vrp_bound::Tables;
-use vrp_bound_ascent::FoundPrices;
-use vrp_bound_prices::Relaxation;
 use vrp_canonical::RoutesOutcome;
-use vrp_model::{Instance, NgSets, NoMemory, Plan, plans_have_words};
-use vrp_search_tree::{Cutting, PriceTables};
+use vrp_model::{Instance, NoMemory, Plan};
+use vrp_search_tree::Cutting;
 
 /// Searches all pieces of a cutting, each with this budget, by this many workers: `solve_from` without a start plan.
 pub fn solve<'a, R: Threads + Wait + Sync, G: Gate + Sync>(
@@ -63,14 +59,13 @@ pub fn solve<'a, R: Threads + Wait + Sync, G: Gate + Sync>(
 /// partial plans or more. With at most 255 customers a budget below the default one is saved on the pieces alone.
 ///
 /// With a plan and at most 255 customers, dual prices are found by column generation, the routes that may be in the canonical plan are
-/// listed by them, and that plan is chosen among these. If this ends, nothing else is done. If it meets a limit, prices are sought by ascent;
-/// the routes are listed by these, and the plan is chosen, once more. If that ends, no piece is searched; the search of a piece prunes by the
-/// prices. The pieces begin with the better plan that the routes gave, if any. If the gate has a time, better plans are sought first, for
-/// most of the remaining time.
+/// listed by them, and that plan is chosen among these. If this ends, nothing else is done. If it meets a limit, the pieces begin with the
+/// better plan that the choice found, if any. Where column generation gave no lower bound, or there are more customers, ascent finds one. If
+/// the gate has a time, better plans are sought before the pieces, for most of the remaining time.
 ///
 /// Before the pieces are searched, the start plan is offered, if one is given, or the heuristic plan if that is before it. The
-/// answer's plan costs no more than the start plan. No feasible plan costs less than the lower bound, which is the highest of those by
-/// column generation, by prices and by the choice among routes.
+/// answer's plan costs no more than the start plan. No feasible plan costs less than the lower bound, which comes of column
+/// generation and the choice among routes, or else of ascent.
 pub fn solve_from<'a, R: Threads + Wait + Sync, G: Gate + Sync>(
     rt: &'a R,
     alloc: Global,
@@ -126,7 +121,7 @@ fn solve_shared<R: Threads + Wait + Sync, G: Gate + Sync>(
     Ok(solved?)
 }
 
-// Answers by column generation if that finds the canonical plan, else by prices and pieces.
+// Answers by column generation if that finds the canonical plan, else by the pieces.
 fn solve_by_columns<R: Threads + Wait + Sync, G: Gate + Sync>(
     shared: &Shared<'_, R, G>,
     cutting: Cutting,
@@ -150,7 +145,8 @@ fn solve_by_columns<R: Threads + Wait + Sync, G: Gate + Sync>(
     }
 }
 
-// Answers by prices and pieces, beginning with a better plan, if there is one, where no plan costs less than a lower bound.
+// Answers by the pieces, beginning with a better plan, if there is one, where no plan costs less than a lower bound. If that is 0, ascent
+// finds one.
 fn solve_after_columns<R: Threads + Wait + Sync, G: Gate + Sync>(
     shared: &Shared<'_, R, G>,
     better: Option<Plan>,
@@ -164,149 +160,31 @@ fn solve_after_columns<R: Threads + Wait + Sync, G: Gate + Sync>(
     ensures { IfOk result (IsSolved shared.now cutting) }
 {
     let begun = shared.with_plan(better.as_ref());
-    let solved = solve_by_ascent(&begun, lower_bound > 0, cutting, workers);
+    let solved = solve_with_bound(&begun, lower_bound, cutting, workers);
     drop(better);
-    let Solved {
-        answer,
-        lower_bound: bound,
-    } = solved?;
+    Ok(solved?)
+}
+
+// Answers by the pieces, where no plan costs less than a lower bound. If that is 0, ascent finds one.
+fn solve_with_bound<R: Threads + Wait + Sync, G: Gate + Sync>(
+    shared: &Shared<'_, R, G>,
+    lower_bound: u64,
+    cutting: Cutting,
+    workers: u32,
+) -> Result<Solved, NoMemory>
+    requires bound { NoneCheaper shared.now.problem lower_bound }
+    requires can { CanSolve shared.now cutting workers }
+    ensures { IfOk result (IsSolved shared.now cutting) }
+{
+    let lower_bound = if lower_bound == 0 {
+        bound_by_ascent(shared)?
+    } else {
+        lower_bound
+    };
     Ok(Solved {
-        answer,
-        lower_bound: lower_bound.max(bound),
+        answer: solve_pieces(shared, cutting, workers)?,
+        lower_bound,
     })
-}
-
-// Answers by prices that ascent finds, or else by the pieces alone. With many customers, or where the time is short, ascent serves for a
-// bound alone: it is left out if there is one.
-fn solve_by_ascent<R: Threads + Wait + Sync, G: Gate + Sync>(
-    shared: &Shared<'_, R, G>,
-    has_bound: bool,
-    cutting: Cutting,
-    workers: u32,
-) -> Result<Solved, NoMemory>
-    requires { CanSolve shared.now cutting workers }
-    ensures { IfOk result (IsSolved shared.now cutting) }
-{
-    let for_bound = shared.instance.customers() >= MANY_CUSTOMERS
-        || shared.gate.milliseconds_left().is_some();
-    let found = if has_bound && for_bound {
-        None
-    } else {
-        prices_found(shared)?
-    };
-    match found {
-        Some(
-            FoundPrices {
-                relaxation,
-                ng_sets,
-            },
-        ) => {
-            let solved = solve_by_prices(shared, &relaxation, ng_sets, cutting, workers);
-            drop(relaxation);
-            Ok(solved?)
-        }
-        None => Ok(Solved {
-            answer: solve_pieces(shared, cutting, workers)?,
-            lower_bound: 0,
-        }),
-    }
-}
-
-// Answers by the useful routes if there are few of them, else by the pieces.
-fn solve_by_prices<R: Threads + Wait + Sync, G: Gate + Sync>(
-    shared: &Shared<'_, R, G>,
-    relaxation: &Relaxation<'_>,
-    ng_sets: NgSets,
-    cutting: Cutting,
-    workers: u32,
-) -> Result<Solved, NoMemory>
-    requires problem { relaxation.now.problem ≡ shared.now.problem }
-    requires places { ng_sets.places ≡ place_count shared.now.problem }
-    requires can { CanSolve shared.now cutting workers }
-    ensures { IfOk result (IsSolved shared.now cutting) }
-{
-    let copy = copied_ng_sets(shared.alloc, shared.instance, &ng_sets)?;
-    let prices = PriceTables::new(shared.alloc, relaxation, ng_sets)?;
-    // A bound on all words is a bound on all plans.
-    plans_have_words();
-    let bound = bound_by_prices(shared.alloc, relaxation, &prices, copy.as_ref())?;
-    shared.gate.on_event(Event::Bound(bound));
-    let by_prices = bound.rounded_up();
-    let solved = match plan_by_routes(shared, relaxation, copy, workers)? {
-        RoutesOutcome::Canonical(plan) => {
-            report_plan(shared.gate, Some(&plan));
-            Solved {
-                answer: Answer::Proven(plan),
-                lower_bound: by_prices,
-            }
-        }
-        RoutesOutcome::Unfinished {
-            better,
-            lower_bound,
-        } => Solved {
-            answer: answer_after_routes(shared, better, &prices, cutting, workers)?,
-            lower_bound: lower_bound.max(by_prices),
-        },
-    };
-    drop(prices);
-    Ok(solved)
-}
-
-// Answers by the pieces, beginning with a better plan, if there is one; the search prunes by prices if they have a completion table.
-fn answer_after_routes<R: Threads + Wait + Sync, G: Gate + Sync>(
-    shared: &Shared<'_, R, G>,
-    better: Option<Plan>,
-    prices: &PriceTables<'_>,
-    cutting: Cutting,
-    workers: u32,
-) -> Result<Answer, NoMemory>
-    requires problem { prices.now.problem ≡ shared.now.problem }
-    requires better { IfSome better (IsPlanOf shared.now.problem) }
-    requires can { CanSolve shared.now cutting workers }
-    ensures { IfOk result (IsAnswered shared.now cutting) }
-{
-    let begun = shared.with_plan(better.as_ref());
-    // Without a completion table each look-up would take long.
-    let answer = if prices.has_completion_table() {
-        solve_pieces(&begun.by_prices(prices), cutting, workers)?
-    } else {
-        let coarse = prices_for_pieces(shared)?;
-        solve_by_coarse_prices(&begun, coarse, cutting, workers)?
-    };
-    drop(better);
-    Ok(answer)
-}
-
-// Answers by the pieces, and by these prices if they have a completion table.
-fn solve_by_coarse_prices<R: Threads + Wait + Sync, G: Gate + Sync>(
-    shared: &Shared<'_, R, G>,
-    found: Option<FoundPrices<'_>>,
-    cutting: Cutting,
-    workers: u32,
-) -> Result<Answer, NoMemory>
-    requires relaxation { IfSome found (λ prices. prices.relaxation.problem ≡ shared.now.problem) }
-    requires ng_sets { IfSome found (λ prices. prices.ng_sets.places ≡ place_count shared.now.problem) }
-    requires can { CanSolve shared.now cutting workers }
-    ensures { IfOk result (IsAnswered shared.now cutting) }
-{
-    let Some(
-        FoundPrices {
-            relaxation,
-            ng_sets,
-        },
-    ) = found
-    else {
-        return solve_pieces(shared, cutting, workers);
-    };
-    let prices = PriceTables::new(shared.alloc, &relaxation, ng_sets)?;
-    let answer = if prices.has_completion_table() {
-        solve_pieces(&shared.by_prices(&prices), cutting, workers)
-    } else {
-        solve_pieces(shared, cutting, workers)
-    };
-    drop(prices);
-    drop(relaxation);
-    answer
 }
 
 // Searches all pieces of a cutting by this many workers. If a time is set, they look for better plans first.

@@ -8,8 +8,7 @@ use vrp_customers::MOST_CUSTOMERS;
 // Time is divided into twelfths.
 const PARTS: u64 = 12;
 
-/// From this many customers on, a run with a time looks for better plans in a stage of its own, prices have less time, and only files
-/// with few useful routes are listed.
+/// From this many customers on, a run with a time looks for better plans in a stage of its own, and columns and prices have less time.
 pub(crate) const MANY_CUSTOMERS: u16 = 126;
 
 // From this many customers on there are enough useful routes that better prices pay.
@@ -34,7 +33,7 @@ pub(crate) struct Share {
 }
 
 /// What a stage may use in a run with this many customers and this budget for each piece: the one place that says so. Work is counted in
-/// partial plans, in steps of ascent for prices, in labels for columns and routes, and in reduced costs for the choice. A partial plan takes the time
+/// partial plans, in labels for columns, in reduced costs for the choice, and in steps of ascent for prices. A partial plan takes the time
 /// of some twenty steps. So where routes can be listed, a small budget is saved on the pieces: what comes before them gets as much work as
 /// by default. No clause pins the rows.
 pub(crate) fn share_of(stage: Stage, customers: u16, budget: u64) -> Share {
@@ -51,12 +50,7 @@ pub(crate) fn share_of(stage: Stage, customers: u16, budget: u64) -> Share {
         Stage::Prices if few => row(6, 1, usual, USUAL),
         Stage::Prices if many => row(4, 5, 5 * usual, u64::MAX),
         Stage::Prices => row(6, 5, 5 * usual, u64::MAX),
-        // The labels take less than three gigabytes.
-        Stage::Routes if many => row(2, 1, usual.min(10_000_000), 10_000_000),
-        Stage::Routes => row(6, 1, usual.min(40_000_000), 40_000_000),
         Stage::Choice => row(12, 1, usual, u64::MAX),
-        Stage::PiecePrices if few => row(6, 1, usual, USUAL),
-        Stage::PiecePrices => row(6, 5, 5 * usual, u64::MAX),
         Stage::BetterPlans => row(9, 1, 0, u64::MAX),
         Stage::Pieces => row(12, 1, 0, u64::MAX),
     }

@@ -16,7 +16,7 @@ use std::sync::Wait;
 use std::sync::ledger::Ledger;
 use vrp_answer::{Event, Finished, Gate, OpenPiece, PieceOutcome, Searched, Shared};
 use vrp_model::{NoMemory, Plan, plans_cost_less};
-use vrp_search::{Board, Ended, LOOKS_BEFORE_ASKING, Lookups, search, search_by_prices};
+use vrp_search::{Board, Ended, LOOKS_BEFORE_ASKING, search};
 use vrp_search_tree::Piece;
 use vrp_sharing::{Caller, Drawn, Owner, Register, Thief};
 
@@ -245,19 +245,14 @@ fn end_of_search<R: Wait, L: Ledger, G: Gate>(
     ensures later { IsLater board.old board.new }
     ensures ended { IfOk result (EndsPiece shared.now piece.now.word (floor_of board.new)) }
 {
-    let (alloc, instance, tables) = (shared.alloc, shared.instance, shared.tables);
-    let budget = shared.piece_budget();
-    match shared.prices {
-        Some(prices) => search_by_prices(
-            alloc,
-            instance,
-            Lookups { tables, prices },
-            piece,
-            budget,
-            board,
-        ),
-        None => search(alloc, instance, tables, piece, budget, board),
-    }
+    search(
+        shared.alloc,
+        shared.instance,
+        shared.tables,
+        piece,
+        shared.piece_budget(),
+        board,
+    )
 }
 
 // Reports to the gate how the search of a piece ended, and the partial plans that the board has not reported.

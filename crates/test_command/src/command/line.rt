@@ -68,23 +68,23 @@ const LINES: &[(Line, &str)] = &[
     ),
     (
         Line {
-            state: RunState::At(Stage::Routes),
+            state: RunState::At(Stage::Columns),
             cost: Some(521),
             bound: Some(LowerBound { hundredths: 51_718 }),
             ..NOTHING
         },
-        "0 s, routes, cost 521, lower bound 517.18, gap 0.58%",
+        "0 s, columns, cost 521, lower bound 517.18, gap 0.58%",
     ),
     (
         Line {
-            state: RunState::At(Stage::Routes),
+            state: RunState::At(Stage::Columns),
             seconds: Some(4),
             cost: Some(521),
             bound: Some(LowerBound { hundredths: 51_718 }),
             labels: 1_234_567,
             ..NOTHING
         },
-        "4 s, routes, cost 521, lower bound 517.18, gap 0.58%, 1234567 labels",
+        "4 s, columns, cost 521, lower bound 517.18, gap 0.58%, 1234567 labels",
     ),
     (
         CHOSEN,

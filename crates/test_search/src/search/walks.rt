@@ -3,13 +3,11 @@ ghost use Rattle.std.specs.Option.{ForSome};
 ghost use Rattle.vrp_model.specs.Route.{IsPlanOf};
 
 use crate::assertion::assert_same;
-use crate::search::by_prices::search_all_by_prices;
 use crate::search::depth_first::search_all;
 use crate::search::fixture::{board_with, cut_into, singles};
 use crate::search::slow::{Case, NODES, Small, begins_with, push_copy, routes};
 use std::alloc::Global;
 use std::process::Abort;
-use vrp_bound_prices::Relaxation;
 use vrp_model::{Instance, Plan};
 use vrp_search::{Cutting, Ended, Local, MAX_PIECES, Partial};
 
@@ -34,21 +32,6 @@ const CASES: &[Case] = &[
     (3, [0, 1, 0, 2], 2),
     (3, [0, 0, 0, 0], 1),
 ];
-
-// Prices on the places, the depot's first, which is ignored, and a unit for the demands.
-type Priced = ([i64; 4], u64);
-
-const PRICES: &[Priced] = &[
-    ([0, 0, 0, 0], 1),
-    ([9, 40, 10, 25], 1),
-    ([0, 35, 75, 20], 2),
-    ([0, 1_000, 0, 500], 3),
-    ([0, -8, -3, 12], 1),
-    ([0, -25, 90, 5], 2),
-];
-
-// The factor on the cost of each arc before prices.
-const SCALE: u64 = 10;
 
 // The instances of all cases.
 fn smalls(rt: &impl Abort, alloc: Global) -> Vec<Small> {
@@ -133,43 +116,6 @@ fn the_canonical_word_is_found(rt: HostRuntime) {
     }
 }
 
-// The search by prices also finds the first word of all, for any prices and any unit. Rebates may make an arc negative; then
-// there are no prices.
-#[test]
-fn the_canonical_word_is_found_by_prices(rt: HostRuntime) {
-    let mut found = 0u32;
-    for small in &smalls(&rt, rt.alloc()) {
-        let instance = small.instance(&rt, rt.alloc());
-        for &priced in PRICES {
-            let has_prices = assert_canonical_by_prices(&rt, rt.alloc(), small, &instance, priced);
-            found = found.saturating_add(u32::from(has_prices));
-        }
-    }
-    assert!(rt; found > 200);
-}
-
-// Answers whether there are prices.
-fn assert_canonical_by_prices(
-    rt: &impl Abort,
-    alloc: Global,
-    small: &Small,
-    instance: &Instance,
-    priced: Priced,
-) -> bool {
-    let (prices, unit) = priced;
-    assert!(rt; unit >= 1 && instance.customers() <= 3);
-    let among = &prices[..usize::from(instance.customers()) + 1];
-    let made = Relaxation::new(alloc, instance, SCALE, unit, among, &[]).expect(rt, "memory");
-    let Some(relaxation) = made else {
-        assert!(rt; prices.iter().any(|&price| price < 0));
-        return false;
-    };
-    let mut board = board_with(instance, singles(rt, alloc, instance));
-    let ended = search_all_by_prices(alloc, instance, &relaxation, u64::MAX, &mut board);
-    assert_found(rt, alloc, small, &ended.expect(rt, "memory"), &board);
-    true
-}
-
 // A board that was opened with this plan, or with none, finally has the first one.
 fn assert_canonical(
     rt: &impl Abort,
@@ -226,9 +172,9 @@ fn assert_values(small: &Small, rt: &impl Abort, partial: &Partial<'_>) {
         (small.is_complete(word), small.has_no_completion(word)),
         word,
     );
-    let priced_tally = (partial.cost(), partial.load(), partial.rest());
+    let tally = (partial.cost(), partial.load(), partial.rest());
     let wanted = (small.cost(word), small.open_load(word), small.rest(word));
-    assert_same(rt, priced_tally, wanted, word);
+    assert_same(rt, tally, wanted, word);
     let places = (partial.routes(), partial.at());
     let last = word.last().copied().unwrap_or(0);
     assert_same(rt, places, (routes(word), last), word);

@@ -3,12 +3,12 @@ ghost use Rattle.std.specs.Prelude.{◌≡◌, ◌↔◌, [], ◌∷◌, ◌++�
 ghost use Rattle.vrp_model.specs.Problem.{IsProblem};
 ghost use Rattle.vrp_model.specs.Word.{HasNoCompletion, IsPrefix};
 ghost use Rattle.vrp_search_tree.specs.Low.{AreCovered, IsLow};
-ghost use Rattle.vrp_search_tree.specs.Pruned.{IsPromising, MayBeOfUse, NoPlanUnder, NoneOfUse, with_symbol};
+ghost use Rattle.vrp_search_tree.specs.Pruned.{IsPromising, MayBeOfUse, NoneOfUse, with_symbol};
 ghost use Rattle.vrp_search_tree.specs.Tally.{IsTally};
 
 use crate::partial::Partial;
 use crate::tally::Tally;
-use vrp_bound::{Tables, bounds_hold, trucks_left_carry};
+use vrp_bound::{Tables, bounds_hold};
 use vrp_model::prefixes_without_completion;
 
 impl<'a> Partial<'a> {
@@ -69,24 +69,6 @@ impl<'a> Partial<'a> {
         } else {
             None
         }
-    }
-
-    /// What is counted along a child's word. `None` where no plan is under it: the child is without completion, or the trucks that
-    /// are left can't carry what is left.
-    #[inline(always)]
-    pub fn alive_after(&self, symbol: u16) -> Option<Tally>
-        requires { IsPrefix self.now.problem (self.now.word ++ symbol ∷ []) }
-        ensures { let child = with_symbol self.now symbol
-            in MatchOption result (NoPlanUnder child.problem child.word)
-            (IsTally child.problem child.word) }
-    {
-        prefixes_without_completion();
-        trucks_left_carry();
-        let tally = self.tally_after(symbol);
-        if self.child_has_no_completion(symbol, tally) || !tally.can_carry(self.instance, symbol) {
-            return None;
-        }
-        Some(tally)
     }
 
     // Whether a child's word is a partial plan without completion, where this is counted along it.

@@ -20,8 +20,6 @@ const START_PLAN: u64 = 1;
 
 const PRICES: u64 = 2;
 
-const ROUTES: u64 = 3;
-
 const BETTER_PLANS: u64 = 4;
 
 const PIECES: u64 = 5;
@@ -82,8 +80,7 @@ fn digit_of(stage: Stage) -> u64 {
     match stage {
         Stage::StartPlan => START_PLAN,
         Stage::Columns => COLUMNS,
-        Stage::Prices | Stage::PiecePrices => PRICES,
-        Stage::Routes => ROUTES,
+        Stage::Prices => PRICES,
         Stage::BetterPlans => BETTER_PLANS,
         Stage::Pieces => PIECES,
         Stage::FirstLook | Stage::Choice => END,

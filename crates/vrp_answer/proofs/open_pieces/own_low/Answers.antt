@@ -7,7 +7,7 @@ use Rattle.vrp_model.specs.Problem.{customers}
 use Rattle.vrp_model.specs.Word.{NoneCheaperUnder, unserved_in}
 use Rattle.vrp_model.proofs.UnservedCustomers.{unserved_are_customers}
 use Rattle.vrp_search_tree.specs.Low.{AreCovered, IsLow}
-use Rattle.vrp_search.proofs.TreePruned.{unserved_rise}
+use Rattle.vrp_search_tree.proofs.UnservedListed.{unserved_rise}
 use Rattle.vrp_answer.specs.Outcomes.{IsOpenPiece, Search}
 use Rattle.vrp_answer.proofs.open_pieces.own_low.Goals as goal
 

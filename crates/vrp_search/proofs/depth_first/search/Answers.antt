@@ -1,4 +1,4 @@
-use Rattle.std.proofs.Common.{◌≡◌, ◌∙◌, ℕ, Option, Some, List, [], append-nil, sym, subst, ap, arith}
+use Rattle.std.proofs.Common.{◌≡◌, ◌∙◌, ℕ, Option, Some, List, sym, subst, ap, arith}
 use Rattle.std.specs.Prelude.{IfNone, IfSome}
 use Rattle.std.proofs.lemmas.Result.{IfOk-weaker}
 use Rattle.vrp_model.specs.Word.{NoneCheaperUnder}
@@ -42,19 +42,19 @@ returns-clause-ended g c =
     (λ ended ends. subst (λ (v : PartialPlan). (among : List ℕ) → IsLow v.problem among v.word (Some one.low) → EndsSearch v.problem among v.word budget may_stop floor ended) at ends among is_low)
     c.search_under.ensures.ended
 
-pub search_under-requires-clause-step : goal.search_under-requires-clause-step
-search_under-requires-clause-step g c =
+pub search_under-requires-clause-tables : goal.search_under-requires-clause-tables
+search_under-requires-clause-tables g c =
     let p = c.args.instance.now in
     let root = c.args.piece.now.word in
-    let one = c.in-Some.field-0.partial in
-    let at : one ≡ record { problem = p; word = root } = subst (λ (o : Option Root). IfSome o (λ one. one.partial ≡ record { problem = p; word = root })) c.in-Some.is c.in_ok-partial.ensures.at in
-    let problem : one.problem ≡ p = ap (λ (v : PartialPlan). v.problem) at in
-    record {
-      tables = ap (λ v. v.problem) c.in_ok-bounds.ensures.tables ∙ c.requires.tables ∙ sym problem;
-      trees = c.in_ok-bounds.ensures.trees ∙ sym problem;
-      covered = subst (λ v. AreCovered one.problem v one.word) (sym (ap (λ v. v.among) c.in_ok-bounds.ensures.tables)) (subst (λ (v : PartialPlan). AreCovered v.problem c.args.tables.now.among v.word) (sym at) c.requires.covered);
-      under = ([], sym (append-nil one.word));
-    }
+    let at : c.in-Some.field-0.partial ≡ record { problem = p; word = root } = subst (λ (o : Option Root). IfSome o (λ one. one.partial ≡ record { problem = p; word = root })) c.in-Some.is c.in_ok-partial.ensures.at in
+    c.requires.tables ∙ sym (ap (λ (v : PartialPlan). v.problem) at)
+
+pub search_under-requires-clause-covered : goal.search_under-requires-clause-covered
+search_under-requires-clause-covered g c =
+    let p = c.args.instance.now in
+    let root = c.args.piece.now.word in
+    let at : c.in-Some.field-0.partial ≡ record { problem = p; word = root } = subst (λ (o : Option Root). IfSome o (λ one. one.partial ≡ record { problem = p; word = root })) c.in-Some.is c.in_ok-partial.ensures.at in
+    subst (λ (v : PartialPlan). AreCovered v.problem c.args.tables.now.among v.word) (sym at) c.requires.covered
 
 pub open_root-requires-clause-tables : goal.open_root-requires-clause-tables
 open_root-requires-clause-tables g c = c.requires.tables
@@ -85,15 +85,6 @@ returns-in_default-clause-keeps g c = c.open_root.ensures.keeps
 
 pub returns-in_default-clause-falls : goal.returns-in_default-clause-falls
 returns-in_default-clause-falls g c = c.open_root.ensures.falls
-
-pub returns-in_err-bounds-clause-serves : goal.returns-in_err-bounds-clause-serves
-returns-in_err-bounds-clause-serves g c = c.open_root.ensures.serves
-
-pub returns-in_err-bounds-clause-keeps : goal.returns-in_err-bounds-clause-keeps
-returns-in_err-bounds-clause-keeps g c = c.open_root.ensures.keeps
-
-pub returns-in_err-bounds-clause-falls : goal.returns-in_err-bounds-clause-falls
-returns-in_err-bounds-clause-falls g c = c.open_root.ensures.falls
 
 pub search_under-requires-clause-board : goal.search_under-requires-clause-board
 search_under-requires-clause-board g c =

@@ -1,14 +1,15 @@
 use Rattle.std.proofs.Common.{◌≡◌, ◌-◌, ◌*◌, ◌≢◌, ◌⊎◌, IsTrue, ◌∙◌, ℕ, ◌+◌, ◌≤◌, ◌<◌, List, [], ◌∷◌, ◌++◌, length, length-append, refl, sym, subst, ap, arith}
 use Rattle.vrp_model.specs.Problem.{Problem}
 use Rattle.vrp_model.specs.declared.limits.TheConstants.{NO_COST}
-use Rattle.vrp_model.specs.Word.{BeginsWith, TreeHasAtLeast, word_cost}
+use Rattle.vrp_model.specs.Word.{TreeHasAtLeast, word_cost}
 use Rattle.vrp_search_tree.specs.Child.{IsNextChild, NoChildFrom}
 use Rattle.vrp_search.specs.Inner.LastOffer.{IsLastOffer}
+use Rattle.vrp_search_tree.specs.Low.{AreCovered}
 use Rattle.vrp_search_tree.specs.Pruned.{NoneOfUse}
+use Rattle.vrp_search_tree.proofs.LowBounds.{covered_under}
 use Rattle.vrp_search_tree.specs.Partial.{PartialPlan}
 use Rattle.vrp_search.specs.Search.{IsFinished}
 use Rattle.vrp_search.proofs.SearchProgress.{Progress, descended, ends_at_last, no_use, opened, pruned, returned, unfinished}
-use Rattle.vrp_search.proofs.WordOrder.{without_last}
 use Rattle.vrp_search.proofs.depth_first.search_under.Goals as goal
 
 -- one more is spent, and the word has at most one symbol more
@@ -31,7 +32,6 @@ loop-spending-init g c =
     omega (arith, c.plans_cost_less.ensures p plan.0 c.depth-root.ensures.problem plan.2, plan.5)) kept in
     record {
       problem = refl;
-      step = c.requires.step;
       progress = subst (λ n. Progress p root root 0 n floor c.offer_complete.new.self.plan) (sym c.first-spending.ensures.spent) progress;
       serves = c.offer_complete.ensures.serves;
       keeps = c.offer_complete.ensures.keeps;
@@ -55,80 +55,35 @@ returns-in-Some-clause-ended g c = λ among is_low.
       none_cheaper = c.requires.low;
     }
 
-pub promising-requires-clause-step : goal.promising-requires-clause-step
-promising-requires-clause-step g c = (c.args.partial.now.word, c.loop-spending.invariant.step)
-
-pub prunes-requires : goal.prunes-requires
-prunes-requires g c =
+pub promising-requires-clause-covered : goal.promising-requires-clause-covered
+promising-requires-clause-covered g c =
+    let among = c.args.tables.now.among in
     let root = c.args.partial.now.word in
-    record {
-      step = (root, c.push.ensures.step root c.loop-spending.invariant.step);
-    }
+    covered_under c.loop-spending.partial.problem among root c.loop-spending.partial.word (subst (λ (q : Problem). AreCovered q among root) (sym c.loop-spending.invariant.problem) c.requires.covered) c.loop-spending.invariant.progress.under
 
-pub pop-next-requires-clause-step : goal.pop-next-requires-clause-step
-pop-next-requires-clause-step g c =
-    let root = c.args.partial.now.word in
-    (root, c.prunes.ensures.step root (c.push.ensures.step root c.loop-spending.invariant.step))
-
-pub loop-spending-preserved-then-prunes : goal.loop-spending-preserved-then-prunes
-loop-spending-preserved-then-prunes g c =
-    let p = c.args.partial.now.problem in
-    let root = c.args.partial.now.word in
-    let word = c.loop-spending.partial.word in
-    let k = c.in-Some.field-0 in
-    let old = g.B.Board.floor c.loop-spending.board in
-    let floor = g.B.Board.floor c.least-incumbent.new.self in
-    let last_offer = c.loop-spending.found.plan in
-    let child = subst (λ (q : Problem). IsNextChild q word c.loop-spending.next k) c.loop-spending.invariant.problem c.in-Some.ensures.next in
-    let problem : c.push.new.partial.problem ≡ p = ap (λ (v : PartialPlan). v.problem) c.push.ensures.partial ∙ c.loop-spending.invariant.problem in
-    let longer : c.push.new.partial.word ≡ word ++ k ∷ [] = ap (λ (v : PartialPlan). v.word) c.push.ensures.partial in
-    let none = subst (λ (w : List ℕ). NoneOfUse p w c.least-incumbent.result c.cost-in-Some-promising.result) longer
-    (subst (λ (q : Problem). NoneOfUse q c.push.new.partial.word c.least-incumbent.result c.cost-in-Some-promising.result) problem (c.prunes.ensures.none c.if-prunes.true)) in
-    let parts = without_last c.pop-next.new.partial.word word c.pop-next.result k (sym c.pop-next.ensures.word ∙ longer) in
-    let under = subst (λ (w : List ℕ). BeginsWith w root) (sym parts.0) c.loop-spending.invariant.progress.under in
-    let progress = pruned p root word c.loop-spending.next k c.loop-spending.spending.spent old floor last_offer c.loop-spending.invariant.progress child c.least-incumbent.ensures.falls
-    (λ w lawful from begins.
-    let plan = c.words_are_plans.ensures p w lawful in
-    let small : word_cost p w < NO_COST = omega (arith, c.plans_cost_less.ensures p plan.0 c.depth-root.ensures.problem plan.2, plan.5) in
-    no_use p (word ++ c.loop-spending.next ∷ []) floor c.least-incumbent.result c.cost-in-Some-promising.result last_offer w c.least-incumbent.ensures.answered c.cost-in-Some-promising.ensures small c.loop-spending.invariant.progress.behind from (none w lawful begins)) in
-    let spent = c.look.ensures.spent ∙ ap (λ n. n + 1) c.is_over.ensures.spent in
-    record {
-      problem = c.pop-next.ensures.problem ∙ problem;
-      step = c.pop-next.ensures.step root (c.prunes.ensures.step root (c.push.ensures.step root c.loop-spending.invariant.step)) under;
-      progress = subst (λ (w : List ℕ). Progress p root w (c.pop-next.result + 1) c.look.new.self.spent floor last_offer) (sym parts.0)
-          (subst (λ n. Progress p root word (n + 1) c.look.new.self.spent floor last_offer) (sym parts.1)
-          (subst (λ n. Progress p root word (k + 1) n floor last_offer) (sym spent) progress));
-      serves = c.least-incumbent.ensures.serves p c.loop-spending.invariant.serves;
-      keeps = λ earlier kept. c.least-incumbent.ensures.keeps earlier (c.loop-spending.invariant.keeps earlier kept);
-      falls = omega (arith, c.least-incumbent.ensures.falls, c.loop-spending.invariant.falls);
-      some = omega (arith, spent);
-      budget = c.look.ensures.budget ∙ c.is_over.ensures.budget ∙ c.loop-spending.invariant.budget;
-      within = omega (arith, spent, c.is_over.ensures.more c.if-is_over.false, c.is_over.ensures.spent, c.is_over.new.self.until, c.is_over.new.self.within, c.is_over.ensures.budget, c.loop-spending.invariant.budget);
-    }
-
-pub offer_complete-requires-else-prunes : goal.offer_complete-requires-else-prunes
-offer_complete-requires-else-prunes g c =
-    let problem : c.push.new.partial.problem ≡ c.args.partial.now.problem = ap (λ (v : PartialPlan). v.problem) c.push.ensures.partial ∙ c.loop-spending.invariant.problem in
+pub offer_complete-requires-in-Some-promising : goal.offer_complete-requires-in-Some-promising
+offer_complete-requires-in-Some-promising g c =
+    let problem : c.push_counted.new.self.problem ≡ c.args.partial.now.problem = ap (λ (v : PartialPlan). v.problem) c.push_counted.ensures ∙ c.loop-spending.invariant.problem in
     subst (λ (q : Problem). g.B.Board.serves c.least-incumbent.new.self q) (sym problem) (c.least-incumbent.ensures.serves c.args.partial.now.problem c.loop-spending.invariant.serves)
 
 pub returns-in_err-offer_complete-in-Some-2-clause-keeps : goal.returns-in_err-offer_complete-in-Some-2-clause-keeps
-returns-in_err-offer_complete-in-Some-2-clause-keeps g c = λ earlier kept. c.offer_complete-else-prunes.ensures.keeps earlier (c.least-incumbent.ensures.keeps earlier (c.loop-spending.invariant.keeps earlier kept))
+returns-in_err-offer_complete-in-Some-2-clause-keeps g c = λ earlier kept. c.offer_complete-in-Some-promising.ensures.keeps earlier (c.least-incumbent.ensures.keeps earlier (c.loop-spending.invariant.keeps earlier kept))
 
-pub loop-spending-preserved-else-prunes : goal.loop-spending-preserved-else-prunes
-loop-spending-preserved-else-prunes g c =
+pub loop-spending-preserved-in-Some-promising : goal.loop-spending-preserved-in-Some-promising
+loop-spending-preserved-in-Some-promising g c =
     let p = c.args.partial.now.problem in
     let root = c.args.partial.now.word in
     let word = c.loop-spending.partial.word in
     let k = c.in-Some.field-0 in
     let old = g.B.Board.floor c.loop-spending.board in
-    let floor = g.B.Board.floor c.offer_complete-else-prunes.new.board in
+    let floor = g.B.Board.floor c.offer_complete-in-Some-promising.new.board in
     let last_offer = c.loop-spending.found.plan in
-    let new = c.offer_complete-else-prunes.new.self.plan in
+    let new = c.offer_complete-in-Some-promising.new.self.plan in
     let child = subst (λ (q : Problem). IsNextChild q word c.loop-spending.next k) c.loop-spending.invariant.problem c.in-Some.ensures.next in
-    let problem : c.push.new.partial.problem ≡ p = ap (λ (v : PartialPlan). v.problem) c.push.ensures.partial ∙ c.loop-spending.invariant.problem in
-    let longer : c.push.new.partial.word ≡ word ++ k ∷ [] = ap (λ (v : PartialPlan). v.word) c.push.ensures.partial in
-    let falls : floor ≤ old = omega (arith, c.offer_complete-else-prunes.ensures.falls, c.least-incumbent.ensures.falls) in
-    let kept = subst (λ (w : List ℕ). IsLastOffer p w floor last_offer new) longer (subst (λ (q : Problem). IsLastOffer q c.push.new.partial.word floor last_offer new) problem c.in_ok-offer_complete-in-Some-2.ensures.kept) in
+    let problem : c.push_counted.new.self.problem ≡ p = ap (λ (v : PartialPlan). v.problem) c.push_counted.ensures ∙ c.loop-spending.invariant.problem in
+    let longer : c.push_counted.new.self.word ≡ word ++ k ∷ [] = ap (λ (v : PartialPlan). v.word) c.push_counted.ensures in
+    let falls : floor ≤ old = omega (arith, c.offer_complete-in-Some-promising.ensures.falls, c.least-incumbent.ensures.falls) in
+    let kept = subst (λ (w : List ℕ). IsLastOffer p w floor last_offer new) longer (subst (λ (q : Problem). IsLastOffer q c.push_counted.new.self.word floor last_offer new) problem c.in_ok-offer_complete-in-Some-2.ensures.kept) in
     let spent = c.look.ensures.spent ∙ ap (λ n. n + 1) c.is_over.ensures.spent in
     let progress = descended p root word c.loop-spending.next k c.loop-spending.spending.spent old floor last_offer new c.loop-spending.invariant.progress child falls
     (λ w lawful.
@@ -136,11 +91,10 @@ loop-spending-preserved-else-prunes g c =
     omega (arith, c.plans_cost_less.ensures p plan.0 c.depth-root.ensures.problem plan.2, plan.5)) kept in
     record {
       problem = problem;
-      step = c.prunes.ensures.step root (c.push.ensures.step root c.loop-spending.invariant.step);
       progress = subst (λ (w : List ℕ). Progress p root w 0 c.look.new.self.spent floor new) (sym longer)
           (subst (λ n. Progress p root (word ++ k ∷ []) 0 n floor new) (sym spent) progress);
-      serves = subst (λ (q : Problem). g.B.Board.serves c.offer_complete-else-prunes.new.board q) problem c.offer_complete-else-prunes.ensures.serves;
-      keeps = λ earlier kept. c.offer_complete-else-prunes.ensures.keeps earlier (c.least-incumbent.ensures.keeps earlier (c.loop-spending.invariant.keeps earlier kept));
+      serves = subst (λ (q : Problem). g.B.Board.serves c.offer_complete-in-Some-promising.new.board q) problem c.offer_complete-in-Some-promising.ensures.serves;
+      keeps = λ earlier kept. c.offer_complete-in-Some-promising.ensures.keeps earlier (c.least-incumbent.ensures.keeps earlier (c.loop-spending.invariant.keeps earlier kept));
       falls = omega (arith, falls, c.loop-spending.invariant.falls);
       some = omega (arith, spent);
       budget = c.look.ensures.budget ∙ c.is_over.ensures.budget ∙ c.loop-spending.invariant.budget;
@@ -166,7 +120,6 @@ loop-spending-preserved-in_default g c =
     no_use p (word ++ c.loop-spending.next ∷ []) floor c.least-incumbent.result c.cost.result last_offer w c.least-incumbent.ensures.answered c.cost.ensures small c.loop-spending.invariant.progress.behind from (none w lawful begins)) in
     record {
       problem = c.loop-spending.invariant.problem;
-      step = c.loop-spending.invariant.step;
       progress = subst (λ n. Progress p root word (k + 1) n floor last_offer) (sym spent) progress;
       serves = c.least-incumbent.ensures.serves p c.loop-spending.invariant.serves;
       keeps = λ earlier kept. c.least-incumbent.ensures.keeps earlier (c.loop-spending.invariant.keeps earlier kept);
@@ -186,16 +139,13 @@ returns-in-None-clause-ended g c = λ among is_low.
     subst (IsFinished p root c.args.budget (g.B.Board.floor c.loop-spending.board) c.loop-spending.spending.spent) (sym c.into_plan-first.ensures)
     (ends_at_last p root word c.loop-spending.next c.loop-spending.spending.spent (g.B.Board.floor c.loop-spending.board) c.args.budget c.loop-spending.found.plan c.loop-spending.invariant.progress none as_long c.loop-spending.invariant.some c.loop-spending.invariant.within)
 
-pub pop-next-requires-in-None-2-clause-some : goal.pop-next-requires-in-None-2-clause-some
-pop-next-requires-in-None-2-clause-some g c =
+pub pop-next-requires : goal.pop-next-requires
+pop-next-requires g c =
     let word = c.loop-spending.partial.word in
     let root = c.args.partial.now.word in
     let under = c.loop-spending.invariant.progress.under in
     let differs : length word ≢ length root = λ same. c.if-depth-root.false (c.depth.ensures.value ∙ same ∙ sym c.depth-root.ensures.value) in
     omega (arith, differs, ap length under.1, length-append root under.0)
-
-pub pop-next-requires-in-None-2-clause-step : goal.pop-next-requires-in-None-2-clause-step
-pop-next-requires-in-None-2-clause-step g c = (c.args.partial.now.word, c.loop-spending.invariant.step)
 
 pub loop-spending-preserved : goal.loop-spending-preserved
 loop-spending-preserved g c =
@@ -204,9 +154,9 @@ loop-spending-preserved g c =
     let floor = g.B.Board.floor c.loop-spending.board in
     let last_offer = c.loop-spending.found.plan in
     let none = subst (λ (q : Problem). NoChildFrom q c.loop-spending.partial.word c.loop-spending.next) c.loop-spending.invariant.problem c.in-None.ensures.next in
-    let popped = c.pop-next-in-None-2.new.partial.word in
-    let last = c.pop-next-in-None-2.result in
-    let word = c.pop-next-in-None-2.ensures.word in
+    let popped = c.pop-next.new.self.word in
+    let last = c.pop-next.result in
+    let word = c.pop-next.ensures.word in
     let differs : length c.loop-spending.partial.word ≢ length root = λ same. c.if-depth-root.false (c.depth.ensures.value ∙ same ∙ sym c.depth-root.ensures.value) in
     let under = c.loop-spending.invariant.progress.under in
     let longer : length root ≤ length popped = omega (arith, differs, ap length under.1, length-append root under.0, ap length word, length-append popped (last ∷ [])) in
@@ -214,8 +164,7 @@ loop-spending-preserved g c =
     (subst (λ (w : List ℕ). Progress p root w c.loop-spending.next c.loop-spending.spending.spent floor last_offer) word c.loop-spending.invariant.progress)
     (subst (λ (w : List ℕ). NoChildFrom p w c.loop-spending.next) word none) longer in
     record {
-      problem = c.pop-next-in-None-2.ensures.problem ∙ c.loop-spending.invariant.problem;
-      step = c.pop-next-in-None-2.ensures.step root c.loop-spending.invariant.step progress.under;
+      problem = c.pop-next.ensures.problem ∙ c.loop-spending.invariant.problem;
       progress = progress;
       serves = c.loop-spending.invariant.serves;
       keeps = c.loop-spending.invariant.keeps;
@@ -225,20 +174,12 @@ loop-spending-preserved g c =
       within = c.loop-spending.invariant.within;
     }
 
-pub loop-spending-smaller-then-prunes : goal.loop-spending-smaller-then-prunes
-loop-spending-smaller-then-prunes g c =
+pub loop-spending-smaller-in-Some-promising : goal.loop-spending-smaller-in-Some-promising
+loop-spending-smaller-in-Some-promising g c =
     let word = c.loop-spending.partial.word in
     let k = c.in-Some.field-0 in
-    let longer : c.push.new.partial.word ≡ word ++ k ∷ [] = ap (λ (v : PartialPlan). v.word) c.push.ensures.partial in
-    let parts = without_last c.pop-next.new.partial.word word c.pop-next.result k (sym c.pop-next.ensures.word ∙ longer) in
-    spent_more c.args.budget c.loop-spending.spending.spent c.look.new.self.spent (length word) (length c.pop-next.new.partial.word) (c.look.ensures.spent ∙ ap (λ n. n + 1) c.is_over.ensures.spent) (omega (arith, c.look.ensures.spent, c.is_over.ensures.more c.if-is_over.false, c.is_over.new.self.until, c.is_over.new.self.within, c.is_over.ensures.budget, c.loop-spending.invariant.budget)) (omega (arith, ap length parts.0))
-
-pub loop-spending-smaller-else-prunes : goal.loop-spending-smaller-else-prunes
-loop-spending-smaller-else-prunes g c =
-    let word = c.loop-spending.partial.word in
-    let k = c.in-Some.field-0 in
-    let longer : c.push.new.partial.word ≡ word ++ k ∷ [] = ap (λ (v : PartialPlan). v.word) c.push.ensures.partial in
-    spent_more c.args.budget c.loop-spending.spending.spent c.look.new.self.spent (length word) (length c.push.new.partial.word) (c.look.ensures.spent ∙ ap (λ n. n + 1) c.is_over.ensures.spent) (omega (arith, c.look.ensures.spent, c.is_over.ensures.more c.if-is_over.false, c.is_over.new.self.until, c.is_over.new.self.within, c.is_over.ensures.budget, c.loop-spending.invariant.budget)) (omega (arith, ap length longer, length-append word (k ∷ [])))
+    let longer : c.push_counted.new.self.word ≡ word ++ k ∷ [] = ap (λ (v : PartialPlan). v.word) c.push_counted.ensures in
+    spent_more c.args.budget c.loop-spending.spending.spent c.look.new.self.spent (length word) (length c.push_counted.new.self.word) (c.look.ensures.spent ∙ ap (λ n. n + 1) c.is_over.ensures.spent) (omega (arith, c.look.ensures.spent, c.is_over.ensures.more c.if-is_over.false, c.is_over.new.self.until, c.is_over.new.self.within, c.is_over.ensures.budget, c.loop-spending.invariant.budget)) (omega (arith, ap length longer, length-append word (k ∷ [])))
 
 pub loop-spending-smaller-in_default : goal.loop-spending-smaller-in_default
 loop-spending-smaller-in_default g c =
@@ -247,7 +188,7 @@ loop-spending-smaller-in_default g c =
 
 pub loop-spending-smaller : goal.loop-spending-smaller
 loop-spending-smaller g c =
-    one_fewer (2 * (c.args.budget - c.loop-spending.spending.spent)) c.loop-spending.partial.word c.pop-next-in-None-2.new.partial.word c.pop-next-in-None-2.result c.pop-next-in-None-2.ensures.word
+    one_fewer (2 * (c.args.budget - c.loop-spending.spending.spent)) c.loop-spending.partial.word c.pop-next.new.self.word c.pop-next.result c.pop-next.ensures.word
 
 pub returns-in-Some-clause-serves : goal.returns-in-Some-clause-serves
 returns-in-Some-clause-serves g c = c.loop-spending.invariant.serves
@@ -278,19 +219,11 @@ returns-in_err-offer_complete-clause-falls g c = c.offer_complete.ensures.falls
 
 pub returns-in_err-offer_complete-in-Some-2-clause-serves : goal.returns-in_err-offer_complete-in-Some-2-clause-serves
 returns-in_err-offer_complete-in-Some-2-clause-serves g c =
-    let problem : c.push.new.partial.problem ≡ c.args.partial.now.problem = ap (λ (v : PartialPlan). v.problem) c.push.ensures.partial ∙ c.loop-spending.invariant.problem in
-    subst (λ (q : Problem). g.B.Board.serves c.offer_complete-else-prunes.new.board q) problem c.offer_complete-else-prunes.ensures.serves
+    let problem : c.push_counted.new.self.problem ≡ c.args.partial.now.problem = ap (λ (v : PartialPlan). v.problem) c.push_counted.ensures ∙ c.loop-spending.invariant.problem in
+    subst (λ (q : Problem). g.B.Board.serves c.offer_complete-in-Some-promising.new.board q) problem c.offer_complete-in-Some-promising.ensures.serves
 
 pub returns-in_err-offer_complete-in-Some-2-clause-falls : goal.returns-in_err-offer_complete-in-Some-2-clause-falls
-returns-in_err-offer_complete-in-Some-2-clause-falls g c = omega (arith, c.offer_complete-else-prunes.ensures.falls, c.least-incumbent.ensures.falls, c.loop-spending.invariant.falls)
-
-pub pop-next-requires-clause-some : goal.pop-next-requires-clause-some
-pop-next-requires-clause-some g c =
-    let longer : c.push.new.partial.word ≡ c.loop-spending.partial.word ++ c.in-Some.field-0 ∷ [] = ap (λ (v : PartialPlan). v.word) c.push.ensures.partial in
-    omega (arith, ap length longer, length-append c.loop-spending.partial.word (c.in-Some.field-0 ∷ []))
+returns-in_err-offer_complete-in-Some-2-clause-falls g c = omega (arith, c.offer_complete-in-Some-promising.ensures.falls, c.least-incumbent.ensures.falls, c.loop-spending.invariant.falls)
 
 pub offer_complete-requires : goal.offer_complete-requires
 offer_complete-requires g c = c.requires.board
-
-pub push-requires-clause-step : goal.push-requires-clause-step
-push-requires-clause-step g c = (c.args.partial.now.word, c.loop-spending.invariant.step)

@@ -5,7 +5,6 @@ use Rattle.vrp_search.proofs.depth_first.search_under.Given as goal
 abbrev pub invariant-loop-spending : goal.invariant-loop-spending
 invariant-loop-spending g l = record {
   problem : l.partial.problem ≡ l.fn.partial.problem;
-  step : g.P.Pruning.in_step l.pruning l.fn.partial.word l.partial;
   progress : Progress l.fn.partial.problem l.fn.partial.word l.partial.word l.next l.spending.spent (g.B.Board.floor l.board) l.found.plan;
   serves : g.B.Board.serves l.board l.fn.partial.problem;
   keeps : (earlier : _) → g.B.Board.keeps earlier l.fn.board → g.B.Board.keeps earlier l.board;

@@ -13,18 +13,6 @@ use Rattle.vrp_solver.proofs.Floors.{later_itself}
 use Rattle.vrp_answer.proofs.Outcomes.{ends_within}
 use Rattle.vrp_solver.proofs.worker.end_of_search.Goals as goal
 
-pub search_by_prices-requires-clause-prices : goal.search_by_prices-requires-clause-prices
-search_by_prices-requires-clause-prices g c = c.shared.invariant.3 c.in-Some.prices.now (ap (option_map (λ prices. prices.now)) c.in-Some.is)
-
-pub search_by_prices-requires-clause-covered : goal.search_by_prices-requires-clause-covered
-search_by_prices-requires-clause-covered g c =
-    let p = c.shared.inside.instance.now in
-    let prefix = c.args.piece.now.word in
-    subst (λ (tables : TablesOf). AreCovered p tables.among prefix) (sym c.shared.invariant.0) (unserved_are_customers p prefix)
-
-pub search_by_prices-requires-clause-board : goal.search_by_prices-requires-clause-board
-search_by_prices-requires-clause-board g c = subst (λ (s : Search). ForSome c.args.board.now.best (IsPlanOf s.problem)) (sym c.shared.view_is) c.requires.serves
-
 pub search-requires-clause-covered : goal.search-requires-clause-covered
 search-requires-clause-covered g c =
     let p = c.shared.inside.instance.now in
@@ -34,48 +22,25 @@ search-requires-clause-covered g c =
 pub search-requires-clause-board : goal.search-requires-clause-board
 search-requires-clause-board g c = subst (λ (s : Search). ForSome c.args.board.now.best (IsPlanOf s.problem)) (sym c.shared.view_is) c.requires.serves
 
-pub returns-in-Some-clause-serves : goal.returns-in-Some-clause-serves
-returns-in-Some-clause-serves g c = subst (λ (s : Search). ForSome c.search_by_prices.new.board.best (IsPlanOf s.problem)) c.shared.view_is c.search_by_prices.ensures.serves
+pub returns-clause-serves : goal.returns-clause-serves
+returns-clause-serves g c = subst (λ (s : Search). ForSome c.search.new.board.best (IsPlanOf s.problem)) c.shared.view_is c.search.ensures.serves
 
-pub returns-in-Some-clause-later : goal.returns-in-Some-clause-later
-returns-in-Some-clause-later g c = c.search_by_prices.ensures.keeps c.args.board.now (later_itself c.args.board.now)
+pub returns-clause-later : goal.returns-clause-later
+returns-clause-later g c = c.search.ensures.keeps c.args.board.now (later_itself c.args.board.now)
 
-pub returns-in-None-clause-serves : goal.returns-in-None-clause-serves
-returns-in-None-clause-serves g c = subst (λ (s : Search). ForSome c.search.new.board.best (IsPlanOf s.problem)) c.shared.view_is c.search.ensures.serves
-
-pub returns-in-None-clause-later : goal.returns-in-None-clause-later
-returns-in-None-clause-later g c = c.search.ensures.keeps c.args.board.now (later_itself c.args.board.now)
-
-pub returns-in-Some-clause-ended : goal.returns-in-Some-clause-ended
-returns-in-Some-clause-ended g c =
-    let p = c.shared.inside.instance.now in
-    let s : Search = record { problem = p; start_plan = option_map (λ plan. plan.now) c.shared.inside.start_plan; pieces = c.shared.inside.pieces; budget = c.shared.inside.budget; may_stop = g.G.Gate.may_stop c.shared.inside.gate.now } in
-    let floor = floor_of c.search_by_prices.new.board in
-    let stops = c.search_by_prices.new.board.may_stop in
-    let budget = c.piece_budget-budget.result in
-    let word = c.args.piece.now.word in
-    let same : stops ≡ c.args.shared.now.may_stop = (c.search_by_prices.ensures.keeps c.args.board.now (later_itself c.args.board.now)).may_stop ∙ c.requires.gate in
-    IfOk-weaker c.search_by_prices.result (EndsSearch p c.shared.inside.tables.now.among word budget stops floor) (EndsPiece c.args.shared.now word floor)
-    (λ ended ends. subst (λ (s : Search). EndsPiece s word floor ended) c.shared.view_is
-    (ends_within p (customers p) word budget s.budget floor s.may_stop ended
-    (subst (λ (s : Search). budget ≤ s.budget) (sym c.shared.view_is) c.piece_budget-budget.ensures.within)
-    (subst (λ (s : Search). (budget ≡ s.budget) ⊎ IsTrue s.may_stop) (sym c.shared.view_is) c.piece_budget-budget.ensures.all)
-    (subst (λ (stops : Bool). EndsSearch p (customers p) word budget stops floor ended) (same ∙ ap (λ (s : Search). s.may_stop) (sym c.shared.view_is))
-    (subst (λ (tables : TablesOf). EndsSearch p tables.among word budget stops floor ended) c.shared.invariant.0 ends)))) c.search_by_prices.ensures.ended
-
-pub returns-in-None-clause-ended : goal.returns-in-None-clause-ended
-returns-in-None-clause-ended g c =
+pub returns-clause-ended : goal.returns-clause-ended
+returns-clause-ended g c =
     let p = c.shared.inside.instance.now in
     let s : Search = record { problem = p; start_plan = option_map (λ plan. plan.now) c.shared.inside.start_plan; pieces = c.shared.inside.pieces; budget = c.shared.inside.budget; may_stop = g.G.Gate.may_stop c.shared.inside.gate.now } in
     let floor = floor_of c.search.new.board in
     let stops = c.search.new.board.may_stop in
-    let budget = c.piece_budget-budget.result in
+    let budget = c.piece_budget.result in
     let word = c.args.piece.now.word in
     let same : stops ≡ c.args.shared.now.may_stop = (c.search.ensures.keeps c.args.board.now (later_itself c.args.board.now)).may_stop ∙ c.requires.gate in
     IfOk-weaker c.search.result (EndsSearch p c.shared.inside.tables.now.among word budget stops floor) (EndsPiece c.args.shared.now word floor)
     (λ ended ends. subst (λ (s : Search). EndsPiece s word floor ended) c.shared.view_is
     (ends_within p (customers p) word budget s.budget floor s.may_stop ended
-    (subst (λ (s : Search). budget ≤ s.budget) (sym c.shared.view_is) c.piece_budget-budget.ensures.within)
-    (subst (λ (s : Search). (budget ≡ s.budget) ⊎ IsTrue s.may_stop) (sym c.shared.view_is) c.piece_budget-budget.ensures.all)
+    (subst (λ (s : Search). budget ≤ s.budget) (sym c.shared.view_is) c.piece_budget.ensures.within)
+    (subst (λ (s : Search). (budget ≡ s.budget) ⊎ IsTrue s.may_stop) (sym c.shared.view_is) c.piece_budget.ensures.all)
     (subst (λ (stops : Bool). EndsSearch p (customers p) word budget stops floor ended) (same ∙ ap (λ (s : Search). s.may_stop) (sym c.shared.view_is))
     (subst (λ (tables : TablesOf). EndsSearch p tables.among word budget stops floor ended) c.shared.invariant.0 ends)))) c.search.ensures.ended

@@ -3,7 +3,7 @@ use Rattle.std.specs.List.{All, Contains}
 use Rattle.std.specs.List.Sorted.{IsStrictlyIncreasing}
 use Rattle.vrp_model.specs.Problem.{customers}
 use Rattle.vrp_model.proofs.UnservedCustomers.{unserved_are_customers}
-use Rattle.vrp_search.proofs.TreePruned.{unserved_rise}
+use Rattle.vrp_search_tree.proofs.UnservedListed.{unserved_rise}
 use Rattle.bench.proofs.search.pieces.own_tables.Goals as goal
 
 pub build-requires-clause-rising : goal.build-requires-clause-rising
