@@ -11,7 +11,7 @@ use Rattle.vrp_model.specs.Problem.{IsProblem, Problem, customers, place_count}
 use Rattle.vrp_model.specs.declared.limits.TheConstants.{NO_COST}
 use Rattle.vrp_model.proofs.CustomerPlaces.{customer_below, is_customer}
 use Rattle.vrp_model.proofs.Recalled.{contained_stands}
-use Rattle.vrp_routes.proofs.CheapBeginnings.{are_routes}
+use Rattle.vrp_routes.proofs.FeasibleRoutes.{are_routes}
 use Rattle.vrp_priced_routes.specs.Arcs.{GoesAlong, HoldPlans, IsAlive}
 
 -- the set of all places

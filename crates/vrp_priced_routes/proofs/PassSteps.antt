@@ -20,7 +20,7 @@ use Rattle.vrp_labels.proofs.FewerArcs.{closed_fewer, kept_fewer, route_more}
 use Rattle.vrp_model.specs.Problem.{Problem, customers, place_count}
 use Rattle.vrp_model.specs.Route.{IsLawful, plan_cost}
 use Rattle.vrp_model.proofs.CustomerPlaces.{customer_below, customer_is_some}
-use Rattle.vrp_routes.proofs.CheapBeginnings.{IsRoute, are_routes}
+use Rattle.vrp_routes.proofs.FeasibleRoutes.{IsRoute, are_routes}
 use Rattle.vrp_routes.specs.Pool.{IsListed, IsPool}
 use Rattle.vrp_routes.specs.Useful.{IsUseful}
 use Rattle.vrp_priced_routes.specs.Arcs.{ArcsOf, GoesAlong, HoldPlans}

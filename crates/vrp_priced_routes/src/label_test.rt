@@ -8,6 +8,7 @@ ghost use Rattle.vrp_routes.specs.Useful.{IsUseful};
 ghost use Rattle.vrp_priced_routes.specs.LabelTest.{AreLabelled, label_by};
 
 use std::marker::Model;
+use std::mem::size_of;
 use vrp_customers::CustomerSet;
 use vrp_duals::RowSet;
 use vrp_labels::{Completions, Label, RouteGraph};
@@ -21,6 +22,8 @@ pub struct LabelResources {
     pub cost: i64,
     pub load: u32,
 }
+
+const _: () = prove!(size_of::<vrp_routes::Label<LabelResources>>() == 112);
 
 impl LabelResources {
     // The resources of a label.

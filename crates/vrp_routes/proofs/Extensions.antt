@@ -23,7 +23,7 @@ use Rattle.vrp_routes.specs.declared.label.Label.{Label}
 use Rattle.vrp_routes.specs.declared.candidates.Candidates.{Candidates}
 use Rattle.vrp_routes.specs.declared.candidates.KeptLabel.{KeptLabel}
 use Rattle.vrp_routes.specs.declared.share.Share.{Share}
-use Rattle.vrp_routes.proofs.CheapBeginnings.{ends_at, useful_begins}
+use Rattle.vrp_routes.proofs.FeasibleRoutes.{ends_at, useful_begins}
 use Rattle.vrp_routes.proofs.Replaced.{earlier_longer, no_better_beginning}
 use Rattle.vrp_routes.proofs.Rests.{none_between}
 use Rattle.vrp_routes.proofs.SharesSteps.{element}

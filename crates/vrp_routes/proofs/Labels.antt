@@ -26,7 +26,7 @@ use Rattle.vrp_routes.specs.Label.{IsBeginning, IsBeginningWith, IsLabel, Settin
 use Rattle.vrp_routes.specs.Level.{IsLevel}
 use Rattle.vrp_routes.specs.Useful.{BeginsUseful, IsUseful}
 use Rattle.vrp_routes.specs.declared.label.Label.{Label}
-use Rattle.vrp_routes.proofs.CheapBeginnings.{useful_begins}
+use Rattle.vrp_routes.proofs.FeasibleRoutes.{useful_begins}
 use Rattle.vrp_routes.proofs.CanonicalPlanRoutes.{useful_runs_forward}
 
 -- a label that was read is that of its stops

@@ -17,7 +17,7 @@ use Rattle.vrp_routes.specs.declared.label.Label.{Label}
 use Rattle.vrp_routes.specs.declared.level.Extended.{Extended}
 use Rattle.vrp_routes.specs.declared.level.Extended.TheVariants.{Labels}
 use Rattle.vrp_routes.specs.declared.listing.Listing.{Listing}
-use Rattle.vrp_routes.proofs.CheapBeginnings.{IsRoute, are_routes, useful_begins}
+use Rattle.vrp_routes.proofs.FeasibleRoutes.{IsRoute, are_routes, useful_begins}
 use Rattle.vrp_routes.proofs.Extensions.{root_level}
 use Rattle.vrp_routes.proofs.Labels.{short_beginning}
 
@@ -96,12 +96,6 @@ whole_pool p limit k stops routes pool are problem all pool_is =
           let mapped : get_or (map (route_by stops) routes) at no_route ≡ route_by stops route = get_or-map (route_by stops) routes at route no_route lt ∙ ap (route_by stops) there in
           (route_by stops route, subst (Contains (map (route_by stops) routes)) mapped (Contains-get_or (map (route_by stops) routes) at no_route (omega (arith, lt, length-map routes (route_by stops)))), own);
     })
-
-pub empty_pool : (p : Problem) (limit : ℕ) (pool : List RouteOf) → ((stops : List ℕ) → BeginsUseful p limit stops → ⊥) → pool ≡ [] → IsPool p limit pool
-empty_pool p limit pool none is = subst (IsPool p limit) (sym is) (record {
-  routes = All-nil _;
-  complete = λ xs useful. absurd (none xs ([], subst (IsUseful p limit) (sym (append-nil xs)) useful));
-})
 
 -- what is known of the labels, where there are some
 pub of_labels : {X : Type 0} (extended : Extended X) (labels : Vec (Label X) Global) (P : List (Label X) → Type 0) → extended ≡ Labels labels → IfLabels extended P → P labels.items

@@ -8,11 +8,11 @@ use Rattle.std.proofs.lemmas.List.Sorted.{IsPermutation-append_left, IsPermutati
 use Rattle.std.proofs.lemmas.List.Sums.{sum_by-append, sum_by-cons}
 use Rattle.vrp_model.specs.Order.{ComesBefore, IsEarlier, IsCanonical}
 use Rattle.vrp_model.specs.Problem.{HasTrucks, Problem, demand_of}
-use Rattle.vrp_model.specs.Route.{IsLawful, PricedPlan, load_of, plan_cost, route_cost}
+use Rattle.vrp_model.specs.Route.{IsLawful, PricedPlan, cost_along, load_of, plan_cost, route_cost}
 use Rattle.vrp_model.specs.Word.{last_symbol, word_cost, word_of}
 use Rattle.vrp_model.proofs.Ordered.{earlier_behind}
-use Rattle.vrp_model.proofs.Words.{word_of-append}
-use Rattle.vrp_bound.proofs.ServedBehind.{cost_behind}
+use Rattle.vrp_model.proofs.PlanWords.{cost_parts}
+use Rattle.vrp_model.proofs.Words.{last_is, word_of-append}
 use Rattle.vrp_routes.specs.Useful.{BeginsUseful, IsUseful}
 
 -- what stands before an element and behind it
@@ -82,6 +82,9 @@ lawful_in_place p before after stops others more moved lawful =
       fits = in_place (λ r. load_of p r ≤ p.capacity) before after (stops ++ more) (others ++ more) lawful.fits (omega (arith, light, load_in_place p stops others more moved));
       few = subst (HasTrucks p) many lawful.few;
     }
+
+cost_behind : (p : Problem) (stops more : List ℕ) (at : ℕ) → at ≡ last_symbol stops → word_cost p (stops ++ more) ≡ word_cost p stops + cost_along p at more
+cost_behind p stops more at is = cost_parts p 0 stops more ∙ ap (λ n. word_cost p stops + cost_along p n more) (sym (is ∙ last_is stops))
 
 -- what is paid for a route that begins so
 cost_of_beginning : (p : Problem) (stops others more : List ℕ) → last_symbol others ≡ last_symbol stops → route_cost p (others ++ more) + word_cost p stops ≡ route_cost p (stops ++ more) + word_cost p others

@@ -1,15 +1,7 @@
 -- Which customers leave a rest.
 use Rattle.std.proofs.Common.{◌≡◌, ◌∙◌, ℕ, ◌+◌, ◌*◌, ◌/◌, ◌%◌, ◌<◌, ◌≤◌, inl, inr, arith}
 use Rattle.std.proofs.lemmas.Bool.{cases_lt}
-use Rattle.std.proofs.Math.Nat.{add-mod_right, mod-add-div, mod-eq_of_lt, mul-le-mul_left}
-
--- a customer with the rest 0 has no lower number than there are shares
-pub none_below_shares : (shares n : ℕ) → 1 ≤ n → n < shares → n % shares ≡ 0 → ⊥
-none_below_shares shares n some below rest = let same = mod-eq_of_lt below in omega (arith, same, rest, some)
-
--- and one with another rest none lower than that
-pub none_below_rest : (shares rest n : ℕ) → rest < shares → n < rest → n % shares ≡ rest → ⊥
-none_below_rest shares rest n within below is = let same = mod-eq_of_lt {n = n} {m = shares} (omega (arith, within, below)) in omega (arith, same, is, below)
+use Rattle.std.proofs.Math.Nat.{add-mod_right, mod-add-div, mul-le-mul_left}
 
 -- the next one of a share
 pub next_of_share : (shares rest n : ℕ) → n % shares ≡ rest → (n + shares) % shares ≡ rest

@@ -4,7 +4,7 @@ ghost use Rattle.std.specs.Prelude.{◌≡◌, ◌==◌, if◌then◌else◌};
 use vrp_customers::CustomerSet;
 
 /// The label of a beginning of a route, which the field calls a partial path from the depot.
-// Wider fields come first, and loads are at most MAX_CAPACITY: so a label with resources by tables takes 64 bytes.
+// Wider fields come first, and loads are at most MAX_CAPACITY: both keep labels small.
 #[derive(Clone, Copy, Debug)]
 pub struct Label<X> {
     pub set: CustomerSet,

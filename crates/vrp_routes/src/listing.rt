@@ -1,7 +1,6 @@
 //! The list of useful routes, level by level: the enumeration of routes of Baldacci, Christofides and Mingozzi (2008).
 ghost use Rattle.std.specs.Prelude.{◌≡◌, ◌+◌, ◌<◌, ◌≤◌, ◌↔◌, ℕ, IfNone, IfOk, IsTrue};
 ghost use Rattle.vrp_model.specs.Problem.{IsProblem, Problem, place_count};
-ghost use Rattle.vrp_model.specs.declared.limits.TheConstants.{NO_COST};
 ghost use Rattle.vrp_customers.specs.declared.customer_set.TheConstants.{PLACES};
 ghost use Rattle.vrp_routes.specs.Listing.{AreListed, IfPool, IsListing};
 ghost use Rattle.vrp_routes.specs.Pool.{IsPool};
@@ -14,12 +13,9 @@ use crate::level::{Extended, Limit, extend_level};
 use crate::pool::RoutePool;
 use crate::sequences::Sequences;
 use crate::setting::Setting;
-use crate::table_test::TableTest;
 use crate::tally::LabelTally;
 use std::alloc::Global;
 use std::thread::Threads;
-use vrp_bound::NgTables;
-use vrp_bound_prices::Relaxation;
 use vrp_customers::MOST_CUSTOMERS;
 use vrp_model::{Crew, Instance, NoMemory, Watch};
 
@@ -59,27 +55,6 @@ pub fn list_routes<R: Threads + Sync, W: Watch + Sync, T: CompletionTest + Sync>
         }
     }
     Ok(Listed::Pool(listing.into_pool()))
-}
-
-/// The routes that may be in the canonical plan of the relaxation's instance, if that plan costs no more than the limit, by the test by
-/// tables (`TableTest`): a label is dropped if its cost and its least completion by the tables exceed the limit. The tables are those of
-/// the relaxed instance, for any near customers. The rest is as in `list_routes`, and the contract leaves open the same.
-pub fn list_routes_by_tables<R: Threads + Sync, W: Watch + Sync>(
-    crew: &Crew<'_, R, W>,
-    relaxation: &Relaxation<'_>,
-    tables: &NgTables<'_>,
-    limit: u64,
-    most_labels: u32,
-) -> Result<Listed, NoMemory>
-    requires tables { tables.now.problem ≡ relaxation.now.relaxed }
-    requires few { place_count relaxation.now.problem ≤ PLACES }
-    requires limit { limit ≤ NO_COST }
-    ensures { IfOk result (λ listed. IfPool listed (IsPool relaxation.now.problem limit)) }
-{
-    let Some(test) = TableTest::new(crew.alloc, relaxation, tables, limit)? else {
-        return Ok(Listed::Pool(RoutePool::empty(crew.alloc)));
-    };
-    list_routes(crew, &test, most_labels)
 }
 
 // The state of the list: the labels of one length, the sequences of all labels so far, and the routes up to that length.
