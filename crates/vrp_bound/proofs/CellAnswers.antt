@@ -9,24 +9,25 @@ use Rattle.vrp_bound.specs.declared.completions.CompletionCells.{CompletionCells
 use Rattle.vrp_bound.specs.declared.completions.Shape.{Shape}
 use Rattle.vrp_bound.specs.Inner.CompletionCells.{HasRelaxed, HasTours, IsLeastCell, mark}
 use Rattle.vrp_bound.specs.Inner.Filled.{AreCells, AreCellsMade, AreFilled}
-use Rattle.vrp_bound.specs.Tables.{AreMade}
-use Rattle.vrp_bound.specs.NgWalks.{IsNgBound}
+use Rattle.vrp_bound.specs.Tables.{AreMade, IsBound}
+use Rattle.vrp_bound.specs.NgWalks.{nothing_near}
 use Rattle.vrp_bound.specs.Inner.Units.{IsUnit, in_units}
 use Rattle.vrp_bound.proofs.FirstTour.{bound_of_cell, least_at_depot, none_of_cell}
 use Rattle.vrp_bound.proofs.InUnits.{IsLoadIn, least_in_units, load_floored, none_in_units}
 use Rattle.vrp_bound.proofs.WholeUnits.{same_units, units_rise, whole_load}
+use Rattle.vrp_bound.proofs.WithoutNgSets.{least_without, none_without}
 
-pub filled_same : (p q : Problem) (near : ℕ → List ℕ) (among others : List ℕ) (cells : Option CompletionCells) → q ≡ p → others ≡ among → IsStrictlyIncreasing others → All (Contains (customers q)) others → MatchOption cells (AreMade q others → ⊥) (AreCellsMade q near others) → AreFilled p near among cells
-filled_same p q near among others cells same_problem same_list rising known filled =
-    let there : AreFilled q near others cells = record { rising = rising; known = known; filled = filled } in
-    subst (λ a. AreFilled p near a cells) same_list (subst (λ b. AreFilled b near others cells) same_problem there)
+pub filled_same : (p q : Problem) (among others : List ℕ) (cells : Option CompletionCells) → q ≡ p → others ≡ among → IsStrictlyIncreasing others → All (Contains (customers q)) others → MatchOption cells (AreMade q others → ⊥) (AreCellsMade q others) → AreFilled p among cells
+filled_same p q among others cells same_problem same_list rising known filled =
+    let there : AreFilled q others cells = record { rising = rising; known = known; filled = filled } in
+    subst (λ a. AreFilled p a cells) same_list (subst (λ b. AreFilled b others cells) same_problem there)
 
 -- there is a shape exactly where tables are made
-pub shape_made : (p : Problem) (near : ℕ → List ℕ) (among : List ℕ) (cells : Option CompletionCells) (shape : Option Shape) → is_some shape ≡ is_some cells → AreFilled p near among cells → MatchOption shape (AreMade p among → ⊥) (λ _. AreMade p among)
-shape_made p near among None None same held = held.filled
-shape_made p near among None (Some shape) same held = absurd (cc)
-shape_made p near among (Some cells) None same held = absurd (cc)
-shape_made p near among (Some cells) (Some shape) same held = held.filled.made
+pub shape_made : (p : Problem) (among : List ℕ) (cells : Option CompletionCells) (shape : Option Shape) → is_some shape ≡ is_some cells → AreFilled p among cells → MatchOption shape (AreMade p among → ⊥) (λ _. AreMade p among)
+shape_made p among None None same held = held.filled
+shape_made p among None (Some shape) same held = absurd (cc)
+shape_made p among (Some cells) None same held = absurd (cc)
+shape_made p among (Some cells) (Some shape) same held = held.filled.made
 
 pub least_same_list : (p q : Problem) (near : ℕ → List ℕ) (among others : List ℕ) (at load rest cell : ℕ) → q ≡ p → others ≡ among → IsLeastCell (HasRelaxed q near others at load rest) cell → IsLeastCell (HasRelaxed p near among at load rest) cell
 least_same_list p q near among others at load rest cell same_problem same_list least =
@@ -79,14 +80,14 @@ least_from_customer p q near among others unit other at load free rest carried w
     (subst (λ n. IsLeastCell (HasRelaxed (in_units unit p) near among at (p.capacity / unit - n) carried) cell) left moved) in
     least_in_units unit p near among at load (p.capacity / unit - (p.capacity - load) / unit) rest cell is (load_floored unit p.capacity load is.some light) (whole_rest unit other rest carried whole same_unit carried_is whole_is all) here
 
-pub answer_some : (p : Problem) (near : ℕ → List ℕ) (among : List ℕ) (cells : CompletionCells) (at load rest cell : ℕ) → AreCellsMade p near among cells → IsLeastCell (HasRelaxed p near among at load rest) cell → cell < mark → IsNgBound p near among at load rest (Some cell)
-answer_some p near among cells at load rest cell are least small = record {
-  made = λ _. bound_of_cell p near among at load rest cell least small;
+pub answer_some : (p : Problem) (among : List ℕ) (cells : CompletionCells) (at load rest cell : ℕ) → AreCellsMade p among cells → IsLeastCell (HasRelaxed p nothing_near among at load rest) cell → cell < mark → IsBound p among at load rest (Some cell)
+answer_some p among cells at load rest cell are least small = record {
+  made = λ _. least_without p among at load rest cell (bound_of_cell p nothing_near among at load rest cell least small);
   none_made = λ none. absurd (none are.made);
 }
 
-pub answer_none : (p : Problem) (near : ℕ → List ℕ) (among : List ℕ) (cells : CompletionCells) (at load rest cell : ℕ) → AreCellsMade p near among cells → rest ≤ load_of p among → IsLeastCell (HasRelaxed p near among at load rest) cell → mark ≤ cell → IsNgBound p near among at load rest None
-answer_none p near among cells at load rest cell are within least large = record {
-  made = λ _. none_of_cell p near among at load rest cell are.are_cells.scope within least large;
+pub answer_none : (p : Problem) (among : List ℕ) (cells : CompletionCells) (at load rest cell : ℕ) → AreCellsMade p among cells → rest ≤ load_of p among → IsLeastCell (HasRelaxed p nothing_near among at load rest) cell → mark ≤ cell → IsBound p among at load rest None
+answer_none p among cells at load rest cell are within least large = record {
+  made = λ _. none_without p among at load rest (none_of_cell p nothing_near among at load rest cell are.are_cells.scope within least large);
   none_made = λ none. absurd (none are.made);
 }

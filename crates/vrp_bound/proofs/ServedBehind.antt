@@ -7,12 +7,11 @@ use Rattle.std.proofs.lemmas.Bool.{cases_lt}
 use Rattle.std.proofs.lemmas.List.Elements.{All-contains, filter-append}
 use Rattle.std.proofs.lemmas.List.Sorted.{sum_by-IsPermutation}
 use Rattle.std.proofs.lemmas.List.Sums.{sum_by-append}
-use Rattle.vrp_model.specs.Problem.{Problem, customers, place_count}
+use Rattle.vrp_model.specs.Problem.{Problem, customers}
 use Rattle.vrp_model.specs.Prefix.{open_load}
 use Rattle.vrp_model.specs.Route.{cost_along, load_of}
 use Rattle.vrp_model.specs.Word.{IsPrefix, IsLawfulWord, last_symbol, routes_of, served_in, word_cost}
-use Rattle.vrp_model.proofs.CustomerPlaces.{customer_below}
-use Rattle.vrp_model.proofs.PrefixWithSymbol.{added_is_customer, unserved_if_added}
+use Rattle.vrp_model.proofs.PrefixWithSymbol.{unserved_if_added}
 use Rattle.vrp_model.proofs.UnservedCustomers.{unserved_differs}
 use Rattle.vrp_model.proofs.PrefixesBefore.{prefixes_before}
 use Rattle.vrp_model.proofs.PlanWords.{cost_parts}
@@ -61,9 +60,6 @@ differs_from_last p prefix k some after same =
     let above : 0 < last_behind 0 prefix = omega (arith, some, same, last_is prefix) in
     let served = last_served 0 prefix (some_length prefix above) above in
     All-contains (λ s. s ≢ k) (served_in prefix) (last_behind 0 prefix) (unserved_differs p prefix k unserved) served (sym (last_is prefix) ∙ same)
-
-pub customer_is_place : (p : Problem) (prefix : List ℕ) (k : ℕ) → 0 < k → IsPrefix p (prefix ++ k ∷ []) → k < place_count p
-customer_is_place p prefix k some after = customer_below p k (added_is_customer p prefix k some after)
 
 last_fits : (p : Problem) (routes : List (List ℕ)) → All (λ r. load_of p r ≤ p.capacity) routes → load_of p (slice_index_or routes (length routes - 1) []) ≤ p.capacity
 last_fits p [] all = omega arith

@@ -4,13 +4,10 @@ use Rattle.std.specs.List.{All, Contains}
 use Rattle.std.specs.List.Sorted.{IsStrictlyIncreasing}
 use Rattle.std.proofs.lemmas.Bool.{cases_lt}
 use Rattle.std.proofs.lemmas.List.FromFn.{get_or-range_with_len, length-range_with_len}
-use Rattle.std.proofs.lemmas.List.Kept.{AllPairs-from_increasing}
 use Rattle.std.proofs.lemmas.List.Sums.{sum_by-cons}
 use Rattle.std.proofs.lemmas.Nat.{mul-le}
 use Rattle.vrp_model.specs.Problem.{IsProblem, Problem, customers, demand_of, place_count}
 use Rattle.vrp_model.specs.Route.{load_of}
-use Rattle.vrp_model.proofs.DistinctLists.{AreDistinct}
-use Rattle.vrp_model.proofs.DistinctWithin.{length_among}
 use Rattle.vrp_bound.specs.Inner.Scope.{IsScope}
 use Rattle.vrp_bound.specs.Tables.{AreMadeWithin, room_of}
 
@@ -41,11 +38,6 @@ few_customers p among problem rising known =
           omega (arith, low, high, some, problem.few_places)
       | inr none ↦ omega (arith, none)
     ]
-
-pub fewer_than_places : (p : Problem) (among : List ℕ) → IsProblem p → IsStrictlyIncreasing among → All (Contains (customers p)) among → length among < place_count p
-fewer_than_places p among problem rising known =
-    let distinct : AreDistinct among = λ i j d below within same. absurd (omega (arith, AllPairs-from_increasing among rising i j d below within, same)) in
-    omega (arith, length_among among (customers p) distinct known, length-range_with_len 1 (place_count p - 1), problem.some_places)
 
 light_of : (most : ℕ) (p : Problem) (among : List ℕ) → IsProblem p → AreMadeWithin most p among → load_of p among ≤ 200000000
 light_of most p [] problem made = omega arith

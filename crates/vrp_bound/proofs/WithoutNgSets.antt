@@ -1,12 +1,11 @@
 -- Walks without ng-sets are the q-routes, and what a feasible word adds to a prefix is a completion by them.
-use Rattle.std.proofs.Common.{◌≡◌, ℕ, ◌+◌, Option, None, Some, MatchOption, List, ◌++◌, get_or}
+use Rattle.std.proofs.Common.{◌≡◌, ℕ, ◌+◌, List, ◌++◌, get_or}
 use Rattle.std.specs.List.{All, Contains}
 use Rattle.vrp_model.specs.Prefix.{open_load}
 use Rattle.vrp_model.specs.Problem.{IsProblem, Problem}
 use Rattle.vrp_model.specs.Route.{load_of}
 use Rattle.vrp_model.specs.Word.{IsLawfulWord, last_symbol, unserved_in, word_cost}
-use Rattle.vrp_bound.specs.NgWalks.{IsLeastNgRelaxed, IsNgBound, IsNgRelaxed, IsNgTour, IsNgWalk, NoneNgRelaxed, nothing_near}
-use Rattle.vrp_bound.specs.Tables.{IsBound}
+use Rattle.vrp_bound.specs.NgWalks.{IsLeastNgRelaxed, IsNgRelaxed, IsNgTour, IsNgWalk, NoneNgRelaxed, nothing_near}
 use Rattle.vrp_bound.specs.Walk.{IsLeastRelaxed, IsRelaxed, IsTour, IsWalk, NoneRelaxed, relaxed_cost}
 use Rattle.vrp_bound.proofs.NothingNear.{differ_from_fresh, fresh_from_differ}
 use Rattle.vrp_bound.proofs.NgCompletions.{ng_completion}
@@ -43,27 +42,16 @@ relaxed_is_ng p among at load rest home tours is = record {
   whole = is.whole;
 }
 
-none_without : (p : Problem) (among : List ℕ) (at load rest : ℕ) → NoneNgRelaxed p nothing_near among at load rest → NoneRelaxed p among at load rest
+pub none_without : (p : Problem) (among : List ℕ) (at load rest : ℕ) → NoneNgRelaxed p nothing_near among at load rest → NoneRelaxed p among at load rest
 none_without p among at load rest none = λ home tours is. none home tours (relaxed_is_ng p among at load rest home tours is)
 
-least_without : (p : Problem) (among : List ℕ) (at load rest cost : ℕ) → IsLeastNgRelaxed p nothing_near among at load rest cost → IsLeastRelaxed p among at load rest cost
+pub least_without : (p : Problem) (among : List ℕ) (at load rest cost : ℕ) → IsLeastNgRelaxed p nothing_near among at load rest cost → IsLeastRelaxed p among at load rest cost
 least_without p among at load rest cost least =
     let (home, tours, is, costs) = least.met in
     record {
       met = (home, tours, ng_is_relaxed p nothing_near among at load rest home tours is, costs);
       least = λ home tours is. least.least home tours (relaxed_is_ng p among at load rest home tours is);
     }
-
-answer_without : (p : Problem) (among : List ℕ) (at load rest : ℕ) (answer : Option ℕ) → MatchOption answer (NoneNgRelaxed p nothing_near among at load rest) (IsLeastNgRelaxed p nothing_near among at load rest) → MatchOption answer (NoneRelaxed p among at load rest) (IsLeastRelaxed p among at load rest)
-answer_without p among at load rest None none = none_without p among at load rest none
-answer_without p among at load rest (Some cost) least = least_without p among at load rest cost least
-
--- so what such tables answer is the bound by q-routes
-pub bound_without_ng_sets : (p : Problem) (among : List ℕ) (at load rest : ℕ) (answer : Option ℕ) → IsNgBound p nothing_near among at load rest answer → IsBound p among at load rest answer
-bound_without_ng_sets p among at load rest answer bound = record {
-  made = λ made. answer_without p among at load rest answer (bound.made made);
-  none_made = bound.none_made;
-}
 
 pub completion : (p : Problem) (prefix more among : List ℕ) → IsProblem p → IsLawfulWord p (prefix ++ more) → All (Contains among) (unserved_in p prefix)
     → (home : List ℕ) × (tours : List (List ℕ)) × IsRelaxed p among (last_symbol prefix) (open_load p prefix) (load_of p (unserved_in p prefix)) home tours

@@ -6,9 +6,8 @@ use Rattle.vrp_model.specs.Route.{load_of}
 use Rattle.vrp_model.specs.Word.{last_symbol, unserved_in, word_cost}
 use Rattle.vrp_bound.specs.Bound.{IsLowerBound}
 use Rattle.vrp_bound.specs.Capacity.{CanCarry, IsCapacityBound}
-use Rattle.vrp_bound.specs.NgWalks.{IsNgBound, IsNgRelaxed}
+use Rattle.vrp_bound.specs.NgWalks.{IsNgRelaxed}
 use Rattle.vrp_bound.specs.Tables.{IsBound}
-use Rattle.vrp_bound.specs.TreeBound.{IsTreeBound}
 use Rattle.vrp_bound.specs.Walk.{IsRelaxed, relaxed_cost}
 
 -- the total demand of a prefix's unserved customers
@@ -32,11 +31,6 @@ completed_cost p prefix home tours = word_cost p prefix + relaxed_cost p (last_s
 abbrev pub IsBoundAt : Problem → List ℕ → List ℕ → Option ℕ → Type 0
 IsBoundAt p among prefix answer = IsBound p among (last_symbol prefix) (open_load p prefix) (rest_at p prefix) answer
 
--- the answer at a prefix of tables of ng-walks
-abbrev pub IsNgBoundAt : Problem → (ℕ → List ℕ) → List ℕ → List ℕ → Option ℕ → Type 0
-IsNgBoundAt p near among prefix answer =
-    IsNgBound p near among (last_symbol prefix) (open_load p prefix) (rest_at p prefix) answer
-
 abbrev pub IsCapacityBoundAt : Problem → List ℕ → ℕ → ℕ → Type 0
 IsCapacityBoundAt p prefix inbound_sum bound =
     IsCapacityBound p (last_symbol prefix) (open_load p prefix) inbound_sum (rest_at p prefix) bound
@@ -45,10 +39,6 @@ IsCapacityBoundAt p prefix inbound_sum bound =
 abbrev pub IsLowerBoundAt : Problem → List ℕ → List ℕ → ℕ → Option ℕ → Type 0
 IsLowerBoundAt p among prefix inbound_sum answer =
     IsLowerBound p among (last_symbol prefix) (open_load p prefix) inbound_sum (rest_at p prefix) (routes_left p prefix) answer
-
-abbrev pub IsTreeBoundAt : Problem → List ℕ → ℕ → Type 0
-IsTreeBoundAt p prefix bound =
-    IsTreeBound p (last_symbol prefix) (open_load p prefix) (unserved_in p prefix) (rest_at p prefix) bound
 
 -- the trucks that a prefix leaves can carry its rest
 abbrev pub CanCarryAt : Problem → List ℕ → Type 0

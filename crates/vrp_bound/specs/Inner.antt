@@ -6,4 +6,3 @@ pub mod NgScaled
 pub mod Scaled
 pub mod Scope
 pub mod Units
-pub mod Arcs

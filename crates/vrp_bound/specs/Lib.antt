@@ -4,7 +4,5 @@ pub mod Capacity
 pub mod Inner
 pub mod LowerBound
 pub mod NgWalks
-pub mod SpanningTree
 pub mod Tables
-pub mod TreeBound
 pub mod Walk

@@ -1,12 +1,11 @@
 -- Ng-walks, as in the ng-routes of Baldacci, Mingozzi and Roberti (2011): a walk may visit a customer again, but none that it
 -- remembers.
-use Rattle.std.specs.Prelude.{◌≡◌, ◌≢◌, ℕ, ◌+◌, ◌≤◌, Option, Some, MatchOption, List, []}
+use Rattle.std.specs.Prelude.{◌≡◌, ◌≢◌, ℕ, ◌+◌, ◌≤◌, List, []}
 use Rattle.std.specs.List.{All, Contains, sum_by}
 use Rattle.vrp_model.specs.Problem.{Problem, customers}
 use Rattle.vrp_model.specs.Route.{load_of}
 use Rattle.vrp_model.specs.Near.{NearOf, near_in}
 use Rattle.vrp_model.specs.NgWalks.{NoneRemembered}
-use Rattle.vrp_bound.specs.Tables.{AreMade, NgTablesOf}
 use Rattle.vrp_bound.specs.Walk.{relaxed_cost}
 
 -- no customer is near any place, so a walk remembers only its next stop
@@ -40,17 +39,6 @@ pub record IsLeastNgRelaxed (p : Problem) (near : ℕ → List ℕ) (among : Lis
 -- nothing carries exactly the rest
 abbrev pub NoneNgRelaxed : Problem → (ℕ → List ℕ) → List ℕ → ℕ → ℕ → ℕ → Type 0
 NoneNgRelaxed p near among at load rest = (home : List ℕ) (tours : List (List ℕ)) → IsNgRelaxed p near among at load rest home tours → ⊥
-
--- The answer of tables of ng-walks: the least cost of a relaxed completion, or None if there is none. If no tables are made,
--- the answer is 0, which is no more than any cost.
-pub record IsNgBound (p : Problem) (near : ℕ → List ℕ) (among : List ℕ) (at load rest : ℕ) (answer : Option ℕ) : Type 0 where
-  pub made : AreMade p among → MatchOption answer (NoneNgRelaxed p near among at load rest) (IsLeastNgRelaxed p near among at load rest)
-  pub none_made : (AreMade p among → ⊥) → answer ≡ Some 0
-
--- the answer of such tables, over all customers
-abbrev pub IsNgTablesBound : NgTablesOf → ℕ → ℕ → ℕ → Option ℕ → Type 0
-IsNgTablesBound tables at load rest answer =
-    IsNgBound tables.problem (near_in tables.near) (customers tables.problem) at load rest answer
 
 -- the least cost of tours that carry together what all customers demand
 abbrev pub AreLeastNgTours : Problem → NearOf → ℕ → Type 0

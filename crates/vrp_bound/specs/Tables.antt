@@ -3,7 +3,6 @@ use Rattle.std.specs.Prelude.{◌≡◌, ℕ, ◌+◌, ◌*◌, ◌≤◌, min, 
 use Rattle.std.specs.List.{All}
 use Rattle.vrp_model.specs.Problem.{Problem, demand_of}
 use Rattle.vrp_model.specs.Route.{load_of}
-use Rattle.vrp_model.specs.Near.{NearOf}
 use Rattle.vrp_bound.specs.Walk.{IsLeastRelaxed, NoneRelaxed}
 
 pub record TablesOf : Type 0 where
@@ -12,11 +11,6 @@ pub record TablesOf : Type 0 where
 
 abbrev pub tables_over : Problem → List ℕ → TablesOf
 tables_over problem among = record { problem = problem; among = among }
-
--- tables of ng-walks, over all customers
-pub record NgTablesOf : Type 0 where
-  pub problem : Problem
-  pub near : NearOf
 
 -- the lesser of these customers' total demand and the capacity
 abbrev pub room_of : Problem → List ℕ → ℕ

@@ -54,24 +54,22 @@ pub struct Shape {
 }
 
 impl<'a> Completions<'a> {
-    /// Completions over these customers, by rising place, for this many looks. Walks have these ng-sets, if any.
+    /// Completions over these customers, by rising place, for this many looks.
     pub(crate) fn new(
         alloc: Global,
         instance: &'a Instance,
         customers: &[u16],
-        ng_sets: Option<&NgSets>,
         looks: Looks,
     ) -> Result<Completions<'a>, NoMemory>
         requires rising { IsStrictlyIncreasing customers.now }
         requires customers { All (Contains (customers_of instance.now)) customers.now }
-        requires places { IsOfPlaces ng_sets (place_count instance.now) }
-        ensures held { IfOk result (λ held. AreHeld (near_with ng_sets.entry) held) }
+        ensures held { IfOk result (λ held. AreHeld held) }
         ensures instance { IfOk result (λ held. held.instance.now ≡ instance.now) }
         ensures customers { IfOk result (λ held. held.customers.items ≡ customers.now) }
     {
         let scope = Scope::new(instance, customers);
         let cells = if are_made(scope, MOST_STEPS) {
-            Some(CompletionCells::fill(alloc, scope, ng_sets, looks)?)
+            Some(CompletionCells::fill(alloc, scope, None, looks)?)
         } else {
             None
         };
@@ -83,29 +81,22 @@ impl<'a> Completions<'a> {
     }
 
     /// The least cost of carrying the rest from a place, when the open truck has this load. `None` if nothing carries exactly
-    /// the rest; 0 if there are no cells. The ng-sets are those of the walks.
+    /// the rest; 0 if there are no cells.
     #[inline(always)]
-    pub(crate) fn bound(
-        &self,
-        ng_sets: Option<&NgSets>,
-        at: u16,
-        load: u64,
-        rest: u64,
-    ) -> Option<u64>
-        requires held { AreHeld (near_with ng_sets) self.now }
-        requires places { IsOfPlaces ng_sets (place_count self.now.instance.now) }
+    pub(crate) fn bound(&self, at: u16, load: u64, rest: u64) -> Option<u64>
+        requires held { AreHeld self.now }
         requires place { at < place_count self.now.instance.now }
         requires load { load ≤ self.now.instance.now.capacity }
         requires depot { at ≡ 0 → load ≡ 0 }
         requires rest { rest ≤ load_of self.now.instance.now self.now.customers.items }
-        ensures bound { IsHeldBound (near_with ng_sets.entry) self.now at load rest result }
+        ensures bound { IsHeldBound self.now at load rest result }
         ensures small { IfSome result (λ least. least < 4000000000000000000) }
     {
         let Some(cells) = &self.cells else {
             return Some(0);
         };
         let scope = Scope::new(self.instance, self.customers.as_slice());
-        let least = cells.least(scope, ng_sets, at, load, rest);
+        let least = cells.least(scope, None, at, load, rest);
         if least < MARK { Some(least) } else { None }
     }
 
@@ -125,7 +116,7 @@ impl<'a> Completions<'a> {
 }
 
 impl CompletionCells {
-    // The cells over customers who demand something each, and not too much together.
+    // The cells over customers who demand something each, and not too much together. Walks have these ng-sets, if any.
     pub(crate) fn fill(
         alloc: Global,
         scope: Scope<'_>,
@@ -155,7 +146,8 @@ impl CompletionCells {
     }
 
     // The least cost of carrying the rest from a place, or the mark or more if nothing does. The load of every walk is a
-    // whole number of units. So nothing carries a rest that is not whole, and the room of the open truck is rounded down.
+    // whole number of units. So nothing carries a rest that is not whole, and the room of the open truck is rounded down. The
+    // ng-sets are those of the walks.
     #[inline(always)]
     pub(crate) fn least(
         &self,

@@ -3,10 +3,9 @@ ghost use Rattle.std.specs.Prelude.{◌≡◌, ℕ, ◌+◌, ◌≤◌, Option, 
 ghost use Rattle.std.specs.List.{All, Contains};
 ghost use Rattle.vrp_model.specs.Problem.{IsProblem, Problem, customers};
 ghost use Rattle.vrp_model.specs.Word.{IsPrefix, IsLawfulWord, unserved_in, word_cost};
-ghost use Rattle.vrp_bound.specs.AtPrefix.{CanCarryAt, Completes, CompletesByNgWalks, IsBoundAt, IsCapacityBoundAt, IsLowerBoundAt, IsTreeBoundAt, completed_cost};
+ghost use Rattle.vrp_bound.specs.AtPrefix.{CanCarryAt, Completes, CompletesByNgWalks, IsBoundAt, IsCapacityBoundAt, IsLowerBoundAt, completed_cost};
 ghost use Rattle.vrp_bound.specs.Capacity.{IsInboundSumOf};
 ghost use Rattle.vrp_bound.specs.NgWalks.{IsNgRelaxed, IsNgWalk, nothing_near};
-ghost use Rattle.vrp_bound.specs.TreeBound.{IsTreeBound};
 ghost use Rattle.vrp_bound.specs.Walk.{IsRelaxed, IsWalk};
 
 /// The part of a feasible word behind a partial plan is a relaxed completion of that plan, of the same cost, over any
@@ -55,20 +54,6 @@ pub fn capacity_bounds()
         → IsProblem p → IsLawfulWord p (prefix ++ more)
         → IsInboundSumOf p prefix inbound_sum → IsCapacityBoundAt p prefix inbound_sum bound
         → word_cost p prefix + bound ≤ word_cost p (prefix ++ more) }
-{}
-
-/// No feasible word that begins with a partial plan adds less to it than the tree bound.
-pub fn tree_bounds()
-    ensures { (p : Problem) (prefix more : List ℕ) (bound : ℕ)
-        → IsProblem p → IsLawfulWord p (prefix ++ more) → IsTreeBoundAt p prefix bound
-        → word_cost p prefix + bound ≤ word_cost p (prefix ++ more) }
-{}
-
-/// The tree bound is unique.
-pub fn one_tree_bound()
-    ensures { (p : Problem) (at load : ℕ) (unserved : List ℕ) (rest bound other : ℕ)
-        → IsTreeBound p at load unserved rest bound → IsTreeBound p at load unserved rest other
-        → bound ≡ other }
 {}
 
 /// If a feasible word begins with a partial plan, the trucks that are left there can carry the rest.

@@ -20,13 +20,12 @@ pub struct Tables<'a> {
 impl<'a> Model for Tables<'a> {
     ghost use Rattle.vrp_bound.specs.Tables.{TablesOf};
     ghost use Rattle.vrp_bound.specs.Inner.Filled.{AreHeld, tables_held};
-    ghost use Rattle.vrp_bound.specs.NgWalks.{nothing_near};
 
     ghost Value = { TablesOf };
 
     ghost view = { λ a. tables_held a.completions };
 
-    ghost invariant = { λ a. AreHeld nothing_near a.completions };
+    ghost invariant = { λ a. AreHeld a.completions };
 }
 
 impl<'a> Tables<'a> {
@@ -40,7 +39,7 @@ impl<'a> Tables<'a> {
         requires customers { All (Contains (customers instance.now)) unserved.now }
         ensures { IfOk result (λ made. made ≡ tables_over instance.now unserved.now) }
     {
-        let completions = Completions::new(alloc, instance, unserved, None, Looks::Many)?;
+        let completions = Completions::new(alloc, instance, unserved, Looks::Many)?;
         Ok(Tables { completions })
     }
 
@@ -54,7 +53,7 @@ impl<'a> Tables<'a> {
         requires customers { All (Contains (customers instance.now)) unserved.now }
         ensures { IfOk result (λ made. made ≡ tables_over instance.now unserved.now) }
     {
-        let completions = Completions::new(alloc, instance, unserved, None, Looks::Few)?;
+        let completions = Completions::new(alloc, instance, unserved, Looks::Few)?;
         Ok(Tables { completions })
     }
 
@@ -79,7 +78,7 @@ impl<'a> Tables<'a> {
         ensures bound { IsBound self.now.problem self.now.among at load rest result }
         ensures small { IfSome result (λ least. least < 4000000000000000000) }
     {
-        self.completions.bound(None, at, load, rest)
+        self.completions.bound(at, load, rest)
     }
 
     /// How the tables are kept, if they are made.

@@ -9,8 +9,8 @@ use Rattle.vrp_bound.specs.declared.scope.Scope.{Scope}
 use Rattle.vrp_bound.specs.Inner.CompletionCells.{IsCompletionTable, AreTours, AreWalks, HasRelaxed, IsLeastCell}
 use Rattle.vrp_bound.specs.Inner.Scope.{IsScope}
 use Rattle.vrp_bound.specs.Inner.Units.{IsUnit, in_units}
-use Rattle.vrp_bound.specs.NgWalks.{IsNgBound}
-use Rattle.vrp_bound.specs.Tables.{AreMade, TablesOf, room_of, tables_over}
+use Rattle.vrp_bound.specs.NgWalks.{nothing_near}
+use Rattle.vrp_bound.specs.Tables.{AreMade, IsBound, TablesOf, room_of, tables_over}
 
 pub record AreCells (p : Problem) (near : ℕ → List ℕ) (among : List ℕ) (cells : CompletionCells) : Type 0 where
   pub scope : IsScope p among
@@ -22,10 +22,10 @@ pub record AreCells (p : Problem) (near : ℕ → List ℕ) (among : List ℕ) (
   pub room : cells.room ≡ room_of (in_units cells.unit p) among
   pub completion_table : IfSome cells.completion_table (λ completion_table. IsCompletionTable (in_units cells.unit p) near among completion_table.items)
 
--- cells of tables that are made
-pub record AreCellsMade (p : Problem) (near : ℕ → List ℕ) (among : List ℕ) (cells : CompletionCells) : Type 0 where
+-- cells of tables that are made, of walks that remember only their next stop
+pub record AreCellsMade (p : Problem) (among : List ℕ) (cells : CompletionCells) : Type 0 where
   pub made : AreMade p among
-  pub are_cells : AreCells p near among cells
+  pub are_cells : AreCells p nothing_near among cells
 
 -- the cells over the customers of a scope
 abbrev pub AreCellsOver : Scope → (ℕ → List ℕ) → CompletionCells → Type 0
@@ -36,21 +36,20 @@ abbrev pub IsLeastOver : Scope → (ℕ → List ℕ) → ℕ → ℕ → ℕ �
 IsLeastOver scope near at load rest cell =
     IsLeastCell (HasRelaxed scope.instance.now near scope.customers.now at load rest) cell
 
-pub record AreFilled (p : Problem) (near : ℕ → List ℕ) (among : List ℕ) (cells : Option CompletionCells) : Type 0 where
+pub record AreFilled (p : Problem) (among : List ℕ) (cells : Option CompletionCells) : Type 0 where
   pub rising : IsStrictlyIncreasing among
   pub known : All (Contains (customers p)) among
   -- there are cells exactly if tables are made
-  pub filled : MatchOption cells (AreMade p among → ⊥) (AreCellsMade p near among)
+  pub filled : MatchOption cells (AreMade p among → ⊥) (AreCellsMade p among)
 
--- the contents of completions, for walks with these near customers
-abbrev pub AreHeld : (ℕ → List ℕ) → Completions → Type 0
-AreHeld near held = AreFilled held.instance.now near held.customers.items held.cells
+-- the contents of completions
+abbrev pub AreHeld : Completions → Type 0
+AreHeld held = AreFilled held.instance.now held.customers.items held.cells
 
 -- the answer of completions
-abbrev pub IsHeldBound : (ℕ → List ℕ) → Completions → ℕ → ℕ → ℕ → Option ℕ → Type 0
-IsHeldBound near held at load rest answer =
-    IsNgBound held.instance.now near held.customers.items at load rest answer
+abbrev pub IsHeldBound : Completions → ℕ → ℕ → ℕ → Option ℕ → Type 0
+IsHeldBound held at load rest answer = IsBound held.instance.now held.customers.items at load rest answer
 
--- the tables of completions when no customer is near any place
+-- the tables of completions
 abbrev pub tables_held : Completions → TablesOf
 tables_held held = tables_over held.instance.now held.customers.items

@@ -1,11 +1,11 @@
-use Rattle.std.proofs.Common.{◌≤◌, ◌<◌, List, MatchOption, Option, ℕ, ap, refl, ◌∙◌, subst, sym}
+use Rattle.std.proofs.Common.{◌≤◌, ◌<◌, List, MatchOption, Option, ℕ, refl, ◌∙◌, subst, sym}
 use Rattle.std.specs.List.{All, Contains}
 use Rattle.std.specs.List.Sorted.{IsStrictlyIncreasing}
 use Rattle.vrp_model.specs.Problem.{Problem, customers, place_count}
 use Rattle.vrp_model.specs.Route.{load_of}
 use Rattle.vrp_bound.specs.declared.completions.CompletionCells.{CompletionCells}
 use Rattle.vrp_bound.specs.Inner.Filled.{AreCells, AreCellsMade}
-use Rattle.vrp_bound.specs.Inner.Scaled.{near_with}
+use Rattle.vrp_bound.specs.NgWalks.{nothing_near}
 use Rattle.vrp_bound.specs.Tables.{AreMade}
 use Rattle.vrp_bound.proofs.CellAnswers.{answer_none, answer_some, least_same_list}
 use Rattle.vrp_bound.proofs.WholeUnits.{same_scope}
@@ -15,7 +15,7 @@ pub returns-in_default-clause-bound : goal.returns-in_default-clause-bound
 returns-in_default-clause-bound c =
     let p = c.args.self.now.instance.now in
     let among = c.args.self.now.customers.items in
-    let none : AreMade p among → ⊥ = subst (λ (o : Option CompletionCells). MatchOption o (AreMade p among → ⊥) (AreCellsMade p (near_with c.args.ng_sets) among)) c.in_default.is c.requires.held.filled in
+    let none : AreMade p among → ⊥ = subst (λ (o : Option CompletionCells). MatchOption o (AreMade p among → ⊥) (AreCellsMade p among)) c.in_default.is c.requires.held.filled in
     record { made = λ made. absurd (none made); none_made = λ _. refl }
 
 pub new-scope-requires-clause-rising : goal.new-scope-requires-clause-rising
@@ -29,12 +29,8 @@ least-least-requires-clause-cells c =
     let scope = c.new-scope.result in
     let p = c.args.self.now.instance.now in
     let among = c.args.self.now.customers.items in
-    let near = near_with c.args.ng_sets in
-    let are : AreCellsMade p near among c.in-Some.cells = subst (λ (o : Option CompletionCells). MatchOption o (AreMade p among → ⊥) (AreCellsMade p near among)) c.in-Some.is c.requires.held.filled in
-    same_scope (λ b a. AreCells b near a c.in-Some.cells) scope.instance.now p scope.customers.now among (sym c.new-scope.ensures.instance) (sym (c.new-scope.ensures.customers ∙ c.as_slice.ensures.value)) are.are_cells
-
-pub least-least-requires-clause-places : goal.least-least-requires-clause-places
-least-least-requires-clause-places c = λ ng_sets is. c.requires.places ng_sets is ∙ sym (c.new-scope.result.counted ∙ ap place_count c.new-scope.ensures.instance)
+    let are : AreCellsMade p among c.in-Some.cells = subst (λ (o : Option CompletionCells). MatchOption o (AreMade p among → ⊥) (AreCellsMade p among)) c.in-Some.is c.requires.held.filled in
+    same_scope (λ b a. AreCells b nothing_near a c.in-Some.cells) scope.instance.now p scope.customers.now among (sym c.new-scope.ensures.instance) (sym (c.new-scope.ensures.customers ∙ c.as_slice.ensures.value)) are.are_cells
 
 pub least-least-requires-clause-place : goal.least-least-requires-clause-place
 least-least-requires-clause-place c = subst (λ (p : Problem). c.args.at < place_count p) (sym c.new-scope.ensures.instance) c.requires.place
@@ -58,17 +54,15 @@ returns-then-least-lt-MARK-clause-bound c =
     let scope = c.new-scope.result in
     let p = c.args.self.now.instance.now in
     let among = c.args.self.now.customers.items in
-    let near = near_with c.args.ng_sets in
-    let are : AreCellsMade p near among c.in-Some.cells = subst (λ (o : Option CompletionCells). MatchOption o (AreMade p among → ⊥) (AreCellsMade p near among)) c.in-Some.is c.requires.held.filled in
-    let here = least_same_list p scope.instance.now near among scope.customers.now c.args.at c.args.load c.args.rest c.least-least.result c.new-scope.ensures.instance (c.new-scope.ensures.customers ∙ c.as_slice.ensures.value) c.least-least.ensures in
-    answer_some p near among c.in-Some.cells c.args.at c.args.load c.args.rest c.least-least.result are here c.if-least-lt-MARK.true
+    let are : AreCellsMade p among c.in-Some.cells = subst (λ (o : Option CompletionCells). MatchOption o (AreMade p among → ⊥) (AreCellsMade p among)) c.in-Some.is c.requires.held.filled in
+    let here = least_same_list p scope.instance.now nothing_near among scope.customers.now c.args.at c.args.load c.args.rest c.least-least.result c.new-scope.ensures.instance (c.new-scope.ensures.customers ∙ c.as_slice.ensures.value) c.least-least.ensures in
+    answer_some p among c.in-Some.cells c.args.at c.args.load c.args.rest c.least-least.result are here c.if-least-lt-MARK.true
 
 pub returns-else-least-lt-MARK-clause-bound : goal.returns-else-least-lt-MARK-clause-bound
 returns-else-least-lt-MARK-clause-bound c =
     let scope = c.new-scope.result in
     let p = c.args.self.now.instance.now in
     let among = c.args.self.now.customers.items in
-    let near = near_with c.args.ng_sets in
-    let are : AreCellsMade p near among c.in-Some.cells = subst (λ (o : Option CompletionCells). MatchOption o (AreMade p among → ⊥) (AreCellsMade p near among)) c.in-Some.is c.requires.held.filled in
-    let here = least_same_list p scope.instance.now near among scope.customers.now c.args.at c.args.load c.args.rest c.least-least.result c.new-scope.ensures.instance (c.new-scope.ensures.customers ∙ c.as_slice.ensures.value) c.least-least.ensures in
-    answer_none p near among c.in-Some.cells c.args.at c.args.load c.args.rest c.least-least.result are c.requires.rest here c.if-least-lt-MARK.false
+    let are : AreCellsMade p among c.in-Some.cells = subst (λ (o : Option CompletionCells). MatchOption o (AreMade p among → ⊥) (AreCellsMade p among)) c.in-Some.is c.requires.held.filled in
+    let here = least_same_list p scope.instance.now nothing_near among scope.customers.now c.args.at c.args.load c.args.rest c.least-least.result c.new-scope.ensures.instance (c.new-scope.ensures.customers ∙ c.as_slice.ensures.value) c.least-least.ensures in
+    answer_none p among c.in-Some.cells c.args.at c.args.load c.args.rest c.least-least.result are c.requires.rest here c.if-least-lt-MARK.false

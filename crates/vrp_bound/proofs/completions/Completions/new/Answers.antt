@@ -4,7 +4,6 @@ use Rattle.std.specs.List.Sorted.{IsStrictlyIncreasing}
 use Rattle.vrp_model.specs.Problem.{Problem, customers}
 use Rattle.vrp_bound.specs.declared.completions.CompletionCells.{CompletionCells}
 use Rattle.vrp_bound.specs.Inner.Filled.{AreCellsMade}
-use Rattle.vrp_bound.specs.Inner.Scaled.{near_with}
 use Rattle.vrp_bound.specs.Tables.{AreMade}
 use Rattle.vrp_bound.proofs.CellAnswers.{filled_same}
 use Rattle.vrp_bound.proofs.TableSizes.{light_where_made}
@@ -21,17 +20,16 @@ returns-clause-held c =
     let scope = c.new-scope.result in
     let p = c.args.instance.now in
     let q = scope.instance.now in
-    let near = near_with c.args.ng_sets in
     let others = scope.customers.now in
     let same = c.new-scope.ensures.instance in
     let listed = c.new-scope.ensures.customers in
     let rising : IsStrictlyIncreasing others = subst IsStrictlyIncreasing (sym listed) c.requires.rising in
     let known : All (Contains (customers q)) others = subst (λ (a : List ℕ). All (Contains (customers q)) a) (sym listed) (subst (λ (b : Problem). All (Contains (customers b)) c.args.customers.now) (sym same) c.requires.customers) in
-    filled_same p q near c.in_ok-from_slice.field-0.items others c.if-are_made.cells same (listed ∙ sym c.in_ok-from_slice.ensures.items) rising known
+    filled_same p q c.in_ok-from_slice.field-0.items others c.if-are_made.cells same (listed ∙ sym c.in_ok-from_slice.ensures.items) rising known
     (elim c.if-are_made.branch [
       | then-are_made+in_ok-fill w ↦
-          subst (λ (o : Option CompletionCells). MatchOption o (AreMade q others → ⊥) (AreCellsMade q near others)) (sym w.cells-is) (record { made = c.are_made.ensures.0 w.if-are_made.true; are_cells = w.in_ok-fill.ensures })
+          subst (λ (o : Option CompletionCells). MatchOption o (AreMade q others → ⊥) (AreCellsMade q others)) (sym w.cells-is) (record { made = c.are_made.ensures.0 w.if-are_made.true; are_cells = w.in_ok-fill.ensures })
       | else-are_made w ↦
-          subst (λ (o : Option CompletionCells). MatchOption o (AreMade q others → ⊥) (AreCellsMade q near others)) (sym w.cells-is)
+          subst (λ (o : Option CompletionCells). MatchOption o (AreMade q others → ⊥) (AreCellsMade q others)) (sym w.cells-is)
           (λ made. absurd (let yes = c.are_made.ensures.1 made in cc (yes, w.if-are_made.false)))
     ])

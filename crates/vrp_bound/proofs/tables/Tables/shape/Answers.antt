@@ -1,5 +1,4 @@
 use Rattle.std.proofs.Common.{subst, MatchOption}
-use Rattle.vrp_bound.specs.NgWalks.{nothing_near}
 use Rattle.vrp_bound.specs.Tables.{AreMade, TablesOf}
 use Rattle.vrp_bound.proofs.CellAnswers.{shape_made}
 use Rattle.vrp_bound.proofs.tables.Tables.shape.Goals as goal
@@ -8,4 +7,4 @@ pub returns : goal.returns
 returns c =
     let held = c.self.inside.completions in
     subst (λ (t : TablesOf). MatchOption c.shape.result (AreMade t.problem t.among → ⊥) (λ _. AreMade t.problem t.among)) c.self.view_is
-    (shape_made held.instance.now nothing_near held.customers.items held.cells c.shape.result c.shape.ensures c.self.invariant)
+    (shape_made held.instance.now held.customers.items held.cells c.shape.result c.shape.ensures c.self.invariant)
