@@ -1,15 +1,14 @@
 -- Prefixes stay prefixes, and feasible words feasible, where demands and what a truck can carry are counted in units.
-use Rattle.std.proofs.Common.{◌≡◌, ℕ, ◌+◌, ◌*◌, ◌-◌, ◌/◌, ◌≤◌, ◌<◌, max, true, false, if◌then◌else◌, nat_lt, inl, inr, List, [], ◌∷◌, length, get_or, refl, sym, ap, subst, ◌∙◌, arith}
-use Rattle.std.specs.List.{All, Contains, filter, range_with_len, sum_by}
+use Rattle.std.proofs.Common.{◌≡◌, ℕ, ◌+◌, ◌*◌, ◌-◌, ◌/◌, ◌≤◌, ◌<◌, max, true, false, if◌then◌else◌, nat_lt, inl, inr, List, [], ◌∷◌, length, get_or, sym, ap, subst, ◌∙◌, arith}
+use Rattle.std.specs.List.{All, Contains, range_with_len, sum_by}
 use Rattle.std.proofs.lemmas.Bool.{cases_lt}
 use Rattle.std.proofs.lemmas.Bool.Decides.{nat_tests}
 use Rattle.std.proofs.lemmas.List.Elements.{All-tail}
 use Rattle.std.proofs.lemmas.List.Sums.{sum_by-cons}
 use Rattle.std.proofs.lemmas.Nat.{div-add-mod', div-mul-add}
-use Rattle.vrp_model.specs.Prefix.{routes_left}
 use Rattle.vrp_model.specs.Problem.{IsSymmetric, Problem, customers, demand_of, place_count}
 use Rattle.vrp_model.specs.Route.{load_of}
-use Rattle.vrp_model.specs.Word.{IsPrefix, IsLawfulWord, routes_of, served_in, unserved_in}
+use Rattle.vrp_model.specs.Word.{IsPrefix, IsLawfulWord, routes_of, served_in}
 use Rattle.vrp_model.proofs.DistinctLists.{member_at}
 use Rattle.vrp_model.proofs.DistinctWithin.{sum_among}
 use Rattle.vrp_bound.proofs.WholeUnits.{units_within}
@@ -87,10 +86,3 @@ lawful_rounded p q unit word rounded symmetric lawful = record {
   every = subst (λ (xs : List ℕ). All (Contains (served_in word)) xs) (sym (same_customers p q rounded.same_places)) lawful.every;
   closed = lawful.closed;
 }
-
--- what a prefix leaves is the same
-pub unserved_alike : (p q : Problem) (prefix : List ℕ) → place_count q ≡ place_count p → unserved_in q prefix ≡ unserved_in p prefix
-unserved_alike p q prefix places = ap (filter _) (same_customers p q places)
-
-pub left_alike : (p q : Problem) (prefix : List ℕ) → q.trucks ≡ p.trucks → routes_left q prefix ≡ routes_left p prefix
-left_alike p q prefix trucks = rw trucks refl

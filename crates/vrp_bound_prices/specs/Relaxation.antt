@@ -1,5 +1,5 @@
 -- A problem whose plans bound those of another.
-use Rattle.std.specs.Prelude.{◌≡◌, ℕ, ◌+◌, ◌*◌, ◌≤◌, ◌<◌, Option, MatchOption, List, ⊤}
+use Rattle.std.specs.Prelude.{◌≡◌, ℕ, ◌+◌, ◌*◌, ◌≤◌, List}
 use Rattle.vrp_model.specs.Problem.{Problem, place_count}
 use Rattle.vrp_model.specs.Word.{IsPrefix, IsLawfulWord, word_cost}
 
@@ -28,12 +28,3 @@ relaxation_of problem relaxed scale charges rewards =
 -- an invariant of every relaxation that is made
 abbrev pub Bounds : RelaxationOf → Type 0
 Bounds r = IsRelaxation r.problem r.relaxed r.scale r.charges r.rewards
-
--- The greatest cost in the relaxation of a feasible word that costs at most this in the problem. None: no feasible word costs
--- so little.
-abbrev pub IsLimit : RelaxationOf → ℕ → Option ℕ → Type 0
-IsLimit r cost limit = MatchOption limit (r.scale * cost + r.charges < r.rewards) (λ most. most + r.rewards ≡ r.scale * cost + r.charges)
-
--- a cost is above a limit
-abbrev pub IsAbove : Option ℕ → ℕ → Type 0
-IsAbove limit cost = MatchOption limit ⊤ (λ most. most < cost)

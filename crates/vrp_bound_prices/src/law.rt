@@ -1,74 +1,24 @@
 //! Laws about the definitions: a relaxation bounds the cost of a plan, and prices and cut prices make one.
-ghost use Rattle.std.specs.Prelude.{◌≡◌, ℕ, Bool, false, ◌+◌, ◌*◌, ◌≤◌, ◌<◌, ◌↔◌, Option, None, Some, MatchOption, List, ◌++◌};
-ghost use Rattle.std.specs.List.{All, Contains, filter, sum_by};
-ghost use Rattle.vrp_model.specs.Prefix.{routes_left};
+ghost use Rattle.std.specs.Prelude.{◌≡◌, ℕ, Bool, false, ◌+◌, ◌*◌, ◌≤◌, ◌<◌, ◌↔◌, List};
+ghost use Rattle.std.specs.List.{filter, sum_by};
 ghost use Rattle.vrp_model.specs.Problem.{IsProblem, IsSymmetric, Problem, customers, place_count};
 ghost use Rattle.vrp_model.specs.Route.{load_of};
-ghost use Rattle.vrp_model.specs.Word.{IsPrefix, IsLawfulWord, stands_in, unserved_in, word_cost};
-ghost use Rattle.vrp_bound.specs.AtPrefix.{IsLowerBoundAt, IsNgBoundAt};
-ghost use Rattle.vrp_bound.specs.Capacity.{IsInboundSumOf, IsTrucks};
+ghost use Rattle.vrp_model.specs.Word.{IsPrefix, IsLawfulWord, stands_in, word_cost};
+ghost use Rattle.vrp_bound.specs.Capacity.{IsTrucks};
 ghost use Rattle.vrp_bound.specs.NgWalks.{AreLeastNgTours};
 ghost use Rattle.vrp_model.specs.Near.{NearOf};
 ghost use Rattle.vrp_bound_prices.specs.CapacityCut.{CapacityCut, IsCut, crossings, cut_prices_along};
 ghost use Rattle.vrp_bound_prices.specs.Priced.{HasPrices, IsPriced, charges_of, rewards_of};
-ghost use Rattle.vrp_bound_prices.specs.Relaxation.{Bounds, IsAbove, IsLimit, IsRelaxation, RelaxationOf};
+ghost use Rattle.vrp_bound_prices.specs.Relaxation.{Bounds, IsRelaxation, RelaxationOf};
 ghost use Rattle.vrp_bound_prices.specs.Units.{IsRounded};
 
-/// No feasible word of the problem that begins with a partial plan adds less to it than the relaxation's lower bound there;
-/// if that is `None`, there is no such word.
-pub fn relaxations_bound()
-    ensures { (p q : Problem) (scale charges rewards : ℕ)
-        → (prefix more among : List ℕ) (inbound_sum : ℕ) (answer : Option ℕ)
-        → IsRelaxation p q scale charges rewards → IsProblem q
-        → IsLawfulWord p (prefix ++ more) → All (Contains among) (unserved_in q prefix)
-        → IsInboundSumOf q prefix inbound_sum → IsLowerBoundAt q among prefix inbound_sum answer
-        → MatchOption answer ⊥ (λ least.
-        word_cost q prefix + least + rewards ≤ scale * word_cost p (prefix ++ more) + charges) }
-{}
-
-/// No feasible word of the problem that begins with a partial plan adds less to it than the least completion by ng-walks in
-/// the relaxation, for any lists of near customers; if there is no completion, there is no such word.
-pub fn walks_bound()
-    ensures { (p q : Problem) (scale charges rewards : ℕ)
-        → (near : ℕ → List ℕ) (prefix more among : List ℕ) (answer : Option ℕ)
-        → IsRelaxation p q scale charges rewards → IsProblem q
-        → IsLawfulWord p (prefix ++ more) → All (Contains among) (unserved_in q prefix)
-        → IsNgBoundAt q near among prefix answer
-        → MatchOption answer ⊥ (λ least.
-        word_cost q prefix + least + rewards ≤ scale * word_cost p (prefix ++ more) + charges) }
-{}
-
-/// If a partial plan and its least completion by ng-walks cost more in the relaxation than the limit for a cost, each
-/// feasible word of the problem that begins with the partial plan costs more than that cost; if there is no completion, there
-/// is no such word.
-pub fn costly_prefixes()
-    ensures costly { (r : RelaxationOf) (cost : ℕ) (limit : Option ℕ)
-        → (near : ℕ → List ℕ) (prefix more : List ℕ) (least : ℕ)
-        → Bounds r → IsProblem r.relaxed → IsLawfulWord r.problem (prefix ++ more)
-        → IsLimit r cost limit
-        → IsNgBoundAt r.relaxed near (customers r.relaxed) prefix (Some least)
-        → IsAbove limit (word_cost r.relaxed prefix + least)
-        → cost < word_cost r.problem (prefix ++ more) }
-    ensures none { (r : RelaxationOf) (near : ℕ → List ℕ) (prefix more : List ℕ)
-        → Bounds r → IsProblem r.relaxed → IsLawfulWord r.problem (prefix ++ more)
-        → IsNgBoundAt r.relaxed near (customers r.relaxed) prefix None → ⊥ }
-{}
-
-/// So a feasible word of the problem costs no less than the least ng-tours allow that carry all demands in the relaxation, for any
+/// A feasible word of the problem costs no less than the least ng-tours allow that carry all demands in the relaxation, for any
 /// near customers.
 pub fn tours_bound()
     ensures { (r : RelaxationOf) (near : NearOf) (word : List ℕ) (least : ℕ)
         → Bounds r → IsProblem r.relaxed → IsLawfulWord r.problem word
         → AreLeastNgTours r.relaxed near least
         → least + r.rewards ≤ r.scale * word_cost r.problem word + r.charges }
-{}
-
-/// A partial plan has the same unserved customers in the relaxation, and as many routes may still be opened.
-pub fn relaxed_prefixes()
-    ensures unserved { (p q : Problem) (scale charges rewards : ℕ) (prefix : List ℕ)
-        → IsRelaxation p q scale charges rewards → unserved_in q prefix ≡ unserved_in p prefix }
-    ensures left { (p q : Problem) (scale charges rewards : ℕ) (prefix : List ℕ)
-        → IsRelaxation p q scale charges rewards → routes_left q prefix ≡ routes_left p prefix }
 {}
 
 /// A feasible word crosses the border of a cut at least twice for each truck that its customers' demand needs.

@@ -14,8 +14,8 @@ mod relaxation;
 pub use amounts::{capacity_in_units, demand_in_units};
 pub use cut::CapacityCut;
 pub use law::{
-    costly_prefixes, costs_with_prices, cuts_are_crossed, cuts_by_test, prices_relax,
-    relaxations_bound, relaxed_prefixes, rounded_words, same_symmetry, tours_bound, walks_bound,
+    costs_with_prices, cuts_are_crossed, cuts_by_test, prices_relax, rounded_words, same_symmetry,
+    tours_bound,
 };
 pub use limits::{MAX_CUT_PRICE, MAX_CUTS, MAX_SCALE};
 pub use relaxation::Relaxation;

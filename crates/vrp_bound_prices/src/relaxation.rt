@@ -8,7 +8,7 @@ ghost use Rattle.vrp_bound.specs.Tables.{AreMadeWithin};
 ghost use Rattle.vrp_model.specs.declared.limits.TheConstants.{MAX_CAPACITY, NO_COST};
 ghost use Rattle.vrp_bound_prices.specs.CapacityCut.{IsCut};
 ghost use Rattle.vrp_bound_prices.specs.Priced.{AreLawfulPrices, IsByPrices};
-ghost use Rattle.vrp_bound_prices.specs.Relaxation.{Bounds, IsLimit};
+ghost use Rattle.vrp_bound_prices.specs.Relaxation.{Bounds};
 ghost use Rattle.vrp_bound_prices.specs.Units.{rounded_capacity};
 
 use crate::amounts::{capacity_in_units, demands_in_units};
@@ -114,22 +114,6 @@ impl<'a> Relaxation<'a> {
         ensures small { result ≤ MAX_SCALE }
     {
         self.scale
-    }
-
-    /// The greatest cost in the relaxed instance of a feasible word that costs at most this in the instance. `None`: no
-    /// feasible word costs so little.
-    pub fn limit(&self, cost: u64) -> Option<u64>
-        requires { cost ≤ NO_COST }
-        ensures limit { IsLimit self.now cost result }
-        // An invariant of every relaxation.
-        ensures bounds { Bounds self.now }
-    {
-        let costly = self.scale * cost + self.charges;
-        if costly < self.rewards {
-            None
-        } else {
-            Some(costly - self.rewards)
-        }
     }
 
     /// What a plan costs at least that costs no less than this in the relaxed instance: rounded up to a hundredth, and `NO_COST`
