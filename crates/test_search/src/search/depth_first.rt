@@ -12,7 +12,6 @@ use crate::search::fixture::{
 use crate::search::piece::own_tables;
 use std::alloc::Global;
 use std::process::Abort;
-use test_fixtures::at_points;
 use vrp_bound::Tables;
 use vrp_model::{Instance, MAX_NODES, NO_COST, NoMemory, Plan};
 use vrp_search::{Board, Cutting, Ended, Local, Piece, search};
@@ -83,55 +82,6 @@ fn opened_with_a_costly_plan(rt: HostRuntime) {
         assert_search(&rt, rt.alloc(), &instance, Some(plan), budget, (end, cost));
     }
 }
-
-// One truck around the circle is the cheapest, and no other plan is of use. The count is that of the plain kernel of bench/,
-// which needs more than 200,000 without the tree bound, or if that is tried only below 20 unserved customers.
-#[test]
-fn pruned_by_trees(rt: HostRuntime) {
-    let instance = at_points(rt.alloc(), CIRCLE, ONE_EACH, 24).expect(&rt, "an instance");
-    let plan = plan_of(&rt, rt.alloc(), &instance, ROUND);
-    assert_same(&rt, plan.cost(), 309, "the plan");
-    let end = End::Finished(325, ROUND);
-    assert_search(&rt, rt.alloc(), &instance, Some(plan), 10_000, (end, 309));
-}
-
-// The plan of one truck around the circle.
-const ROUND: &[u16] = &[
-    1, 2, 3, 4, 5, 6, 7, 8, 9, 10, 11, 12, 13, 14, 15, 16, 17, 18, 19, 20, 21, 22, 23, 24, 0,
-];
-
-// The depot and 24 customers on a circle, unevenly apart; all of them fit on a truck.
-const CIRCLE: &[(i64, i64)] = &[
-    (90, 79),
-    (49, 99),
-    (47, 99),
-    (40, 99),
-    (33, 97),
-    (31, 96),
-    (8, 78),
-    (6, 73),
-    (0, 58),
-    (0, 57),
-    (0, 48),
-    (0, 46),
-    (6, 24),
-    (13, 16),
-    (29, 4),
-    (43, 0),
-    (51, 0),
-    (52, 0),
-    (60, 1),
-    (68, 3),
-    (90, 20),
-    (90, 21),
-    (91, 22),
-    (92, 23),
-    (99, 44),
-];
-
-const ONE_EACH: &[u64] = &[
-    0, 1, 1, 1, 1, 1, 1, 1, 1, 1, 1, 1, 1, 1, 1, 1, 1, 1, 1, 1, 1, 1, 1, 1, 1,
-];
 
 // Of 1,199 customers at the places 1 to 1,199 of a line, all but the last two have a truck, there and back. The last two are
 // still to be carried: in the tables that costs no more than twice to the first customer and back.
