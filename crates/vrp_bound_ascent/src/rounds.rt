@@ -5,7 +5,7 @@ ghost use Rattle.vrp_model.specs.Problem.{place_count};
 ghost use Rattle.vrp_bound_prices.specs.CapacityCut.{IsCut};
 ghost use Rattle.vrp_bound_prices.specs.declared.limits.TheConstants.{MAX_CUTS, MAX_SCALE};
 
-use crate::purpose::{Purpose, sparse_neighbors};
+use crate::guide::{Guide, MOST_ROUNDS, sparse_neighbors};
 use crate::remembered::Remembered;
 use crate::shares::Shares;
 use crate::size::Size;
@@ -34,11 +34,11 @@ pub struct FoundPrices<'a> {
 /// from one cell of a table at another, and looks at an arc for a cut with a price. Up to `near` customers are near each place, fewer if
 /// rounds would be long or few. The watch is asked before each round.
 ///
-/// With up to 125 customers the prices serve a search, so demands are counted in a unit that is coarse enough for a completion table.
-/// With more they only bound, in finer units; if costs are symmetric, rounds are then over the arcs between near places, and one over
-/// all arcs follows in any case. `None` if the steps don't suffice for a hundred rounds without ng-sets (if prices only bound, for
-/// twelve over all arcs, or for twenty if costs are not symmetric), if no unit makes the tables small enough, or if the prices are out
-/// of range. The contract leaves open which prices and ng-sets are found: any prices bound.
+/// Demands are counted in the finest unit that the steps allow. If costs are symmetric, steps go by the least route through each
+/// customer; with many customers, rounds are then over the arcs between near places, and one over all arcs follows in any case. `None`
+/// if the steps don't suffice for twelve rounds over all arcs without ng-sets (for twenty if costs are not symmetric), if no unit makes
+/// the tables small enough, or if the prices are out of range. The contract leaves open which prices and ng-sets are found: any prices
+/// bound.
 pub fn find_prices<'a, W: Watch>(
     alloc: Global,
     instance: &'a Instance,
@@ -53,69 +53,18 @@ pub fn find_prices<'a, W: Watch>(
     ensures ng_sets { IfOk result (λ found.
         IfSome found (λ prices. prices.ng_sets.places ≡ place_count instance.now)) }
 {
-    let aim = Aim { cost, near, steps };
-    prices_for(alloc, instance, Purpose::of(instance), aim, watch)
-}
-
-/// Finds prices and cut prices for listing the routes of an instance of at most 125 customers, with the ng-sets of the walks in the
-/// rounds. The arguments are those of `find_prices`. If the steps suffice for 300 rounds, demands are counted in finer units than there,
-/// since no completion table is needed. `None` if the steps don't suffice for a hundred rounds, if no unit makes the tables small
-/// enough, or if the prices are out of range. The contract leaves open which prices, units and ng-sets are found: any prices bound.
-pub fn find_prices_for_routes<'a, W: Watch>(
-    alloc: Global,
-    instance: &'a Instance,
-    cost: u64,
-    near: usize,
-    steps: u64,
-    watch: &W,
-) -> Result<Option<FoundPrices<'a>>, NoMemory>
-    requires near { near ≤ MOST_NEAR }
-    ensures relaxation { IfOk result (λ found.
-        IfSome found (λ prices. prices.relaxation.problem ≡ instance.now)) }
-    ensures ng_sets { IfOk result (λ found.
-        IfSome found (λ prices. prices.ng_sets.places ≡ place_count instance.now)) }
-{
-    let aim = Aim { cost, near, steps };
-    prices_for(alloc, instance, Purpose::Routes, aim, watch)
-}
-
-// The aim of a search for prices, and its limits.
-#[derive(Clone, Copy)]
-struct Aim {
-    // The cost of a plan.
-    cost: u64,
-    // The most customers near each place.
-    near: usize,
-    steps: u64,
-    ghost few: { near ≤ MOST_NEAR },
-}
-
-// Prices and cuts for a purpose.
-fn prices_for<'a, W: Watch>(
-    alloc: Global,
-    instance: &'a Instance,
-    purpose: Purpose,
-    aim: Aim,
-    watch: &W,
-) -> Result<Option<FoundPrices<'a>>, NoMemory>
-    ensures relaxation { IfOk result (λ found.
-        IfSome found (λ prices. prices.relaxation.problem ≡ instance.now)) }
-    ensures ng_sets { IfOk result (λ found.
-        IfSome found (λ prices. prices.ng_sets.places ≡ place_count instance.now)) }
-{
-    let Some(unit) = unit_for(instance, purpose, aim.steps) else {
+    let guide = Guide::of(instance);
+    let Some(unit) = unit_for(instance, guide, steps) else {
         return Ok(None);
     };
-    let scale = (SCALED_COST / aim.cost.max(1)).clamp(1, MAX_SCALE);
+    let scale = (SCALED_COST / cost.max(1)).clamp(1, MAX_SCALE);
     let size = Size::in_units(instance, unit);
-    if aim.steps / size.steps().max(1) < purpose.least_rounds() {
-        return Ok(None);
-    }
+    let near = guide.near_customers(size, near, steps);
     let Remembered {
         ng_sets,
         looks,
         size,
-    } = Remembered::for_purpose(alloc, instance, purpose, size, aim.near, aim.steps)?;
+    } = Remembered::new(alloc, instance, size, near)?;
     let walks = Walks::new(alloc, instance, scale, unit, size, looks)?;
     let mut rounds = Rounds {
         instance,
@@ -123,7 +72,7 @@ fn prices_for<'a, W: Watch>(
         size,
         scale,
     };
-    let best = rounds.best_prices(alloc, aim, watch)?;
+    let best = rounds.best_prices(alloc, guide, Aim { cost, steps }, watch)?;
     match Relaxation::new(alloc, instance, scale, unit, &best.prices, &best.cuts)? {
         Some(relaxation) => Ok(Some(FoundPrices {
             relaxation,
@@ -131,6 +80,13 @@ fn prices_for<'a, W: Watch>(
         })),
         None => Ok(None),
     }
+}
+
+// The cost of a plan, at which the bound aims, and the most steps.
+#[derive(Clone, Copy)]
+struct Aim {
+    cost: u64,
+    steps: u64,
 }
 
 // A price for each place, and cuts with their prices.
@@ -154,6 +110,7 @@ impl Rounds<'_> {
     fn best_prices<W: Watch>(
         &mut self,
         alloc: Global,
+        guide: Guide,
         aim: Aim,
         watch: &W,
     ) -> Result<BestPrices, NoMemory>
@@ -161,7 +118,7 @@ impl Rounds<'_> {
         ensures cuts { IfOk result (λ best. All (IsCut self.old.instance.now) best.cuts.items) }
         ensures few { IfOk result (λ best. vec_len best.cuts ≤ MAX_CUTS) }
     {
-        let mut ascent = self.new_ascent(alloc, aim.cost)?;
+        let mut ascent = self.new_ascent(alloc, guide, aim.cost)?;
         // The last round is over all arcs.
         let steps = aim.steps.saturating_sub(self.size.steps());
         self.ascend(alloc, &mut ascent, steps, watch)?;
@@ -171,17 +128,16 @@ impl Rounds<'_> {
         Ok(BestPrices { prices, cuts })
     }
 
-    // Starts without prices. If prices only bound, and costs are symmetric, steps go by the least route through each customer, and
-    // rounds are over a sparse graph.
-    fn new_ascent(&mut self, alloc: Global, cost: u64) -> Result<Ascent, NoMemory>
+    // Starts without prices. If steps go by the least route through each customer, and there are many, rounds are over a sparse graph.
+    fn new_ascent(&mut self, alloc: Global, guide: Guide, cost: u64) -> Result<Ascent, NoMemory>
         ensures { IfOk result (λ _. self.new.instance ≡ self.old.instance) }
     {
         let places = usize::from(self.instance.customers()) + 1;
         let scale = i64::try_from(self.scale).unwrap_or(1);
         let aim = i64::try_from(cost).unwrap_or(i64::MAX);
-        let shares = match Purpose::of(self.instance) {
-            Purpose::Bound => Some(Shares::new(alloc, &self.walks)?),
-            _ => None,
+        let shares = match guide {
+            Guide::Routes => Some(Shares::new(alloc, &self.walks)?),
+            Guide::Tours => None,
         };
         if let (Some(_), Some(count)) = (&shares, sparse_neighbors(places)) {
             self.walks.keep_nearest(alloc, count)?;
@@ -201,7 +157,7 @@ impl Rounds<'_> {
     {
         let mut left = steps;
         let filling = self.size.steps_over(self.walks.arcs_looked_at());
-        for _ in 0..Purpose::of(self.instance).most_rounds() {
+        for _ in 0..MOST_ROUNDS {
             let round = filling.saturating_add(self.size.cut_prices(ascent.priced_cuts()));
             if left < round || !watch.should_continue() {
                 break;
