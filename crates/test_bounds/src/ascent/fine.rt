@@ -1,10 +1,10 @@
-//! Prices for a list of routes: demands are counted in finer units than for a search, if there are enough steps.
+//! The unit in which demands are counted: the finest that the steps allow.
 use crate::assertion::assert_same;
 use std::alloc::Global;
 use std::process::Abort;
 use test_fixtures::at_points;
-use vrp_bound_ascent::{FoundPrices, find_prices, find_prices_for_routes};
-use vrp_model::{Instance, NoMemory, Unhurried};
+use vrp_bound_ascent::find_prices;
+use vrp_model::{Instance, Watch};
 
 // The capacity, in units of 1.
 const CAPACITY: u64 = 100;
@@ -12,25 +12,28 @@ const CAPACITY: u64 = 100;
 // More than the cost of a plan.
 const COST: u64 = 20_000;
 
-// A round in units of 1 takes about 1,500,000 steps: so these suffice for more than 300 rounds, and for fewer.
-const MANY_STEPS: u64 = 600_000_000;
-
-const FEW_STEPS: u64 = 200_000_000;
+// Steps, and the capacity in the unit that they allow: twelve rounds take 18,126,672 steps in units of 1, 7,621,848 in units of 2, and
+// 4,740,960 in units of 3. The numbers are from a program outside.
+const CAPACITIES: &[(u64, u64)] = &[
+    (u64::MAX, CAPACITY),
+    (18_126_672, CAPACITY),
+    (18_126_671, 50),
+    (7_621_848, 50),
+    (7_621_847, 33),
+    (4_740_960, 33),
+    (4_740_959, 25),
+];
 
 #[test]
 fn finer_units(rt: HostRuntime) {
-    let alloc = rt.alloc();
-    let instance = demanding(&rt, alloc);
-    let search = find_prices(alloc, &instance, COST, 3, FEW_STEPS, &Unhurried);
-    let coarse = capacity_by(&rt, search);
-    assert!(&rt; 1 < coarse && coarse < CAPACITY, "{coarse}");
-    let fine = find_prices_for_routes(alloc, &instance, COST, 3, MANY_STEPS, &Unhurried);
-    assert_same(&rt, capacity_by(&rt, fine), CAPACITY, "many steps");
-    let few = find_prices_for_routes(alloc, &instance, COST, 3, FEW_STEPS, &Unhurried);
-    assert_same(&rt, capacity_by(&rt, few), coarse, "few steps");
+    let instance = demanding(&rt, rt.alloc());
+    for &(steps, capacity) in CAPACITIES {
+        let found = capacity_in(&rt, rt.alloc(), &instance, steps);
+        assert_same(&rt, found, capacity, steps);
+    }
 }
 
-// Ninety-nine customers with demands of 30 to 70, so that a table by place, room and rest has 50,000,000 cells in units of 1.
+// Ninety-nine customers with demands of 30 to 70, whose only common divisor is 1.
 fn demanding(rt: &impl Abort, alloc: Global) -> Instance {
     let mut points = vec![in alloc; (0, 0); 1].expect(rt, "memory");
     let mut demands = vec![in alloc; 0; 1].expect(rt, "memory");
@@ -44,8 +47,19 @@ fn demanding(rt: &impl Abort, alloc: Global) -> Instance {
     at_points(alloc, &points, &demands, CAPACITY).expect(rt, "an instance")
 }
 
-// The capacity in the units of the prices.
-fn capacity_by(rt: &impl Abort, found: Result<Option<FoundPrices<'_>>, NoMemory>) -> u64 {
-    let found = found.expect(rt, "memory").expect(rt, "prices");
+// A watch that stops before the first round: the unit is chosen before.
+#[derive(Drop)]
+struct Stopped;
+
+impl Watch for Stopped {
+    fn should_continue(&self) -> bool {
+        false
+    }
+}
+
+// The capacity in the unit of the prices that so many steps find.
+fn capacity_in(rt: &impl Abort, alloc: Global, instance: &Instance, steps: u64) -> u64 {
+    let found = find_prices(alloc, instance, COST, 3, steps, &Stopped).expect(rt, "memory");
+    let found = found.expect(rt, "prices");
     found.relaxation.relaxed().capacity()
 }

@@ -5,7 +5,7 @@ ghost use Rattle.vrp_model.specs.Problem.{place_count};
 use crate::assertion::assert_same;
 use std::alloc::Global;
 use std::process::Abort;
-use test_fixtures::{FOUR, at_points};
+use test_fixtures::{FOUR, at_points, with_arcs};
 use vrp_bound::Tables;
 use vrp_bound_ascent::{FoundPrices, NearLooks, Size, Walks, find_prices};
 use vrp_bound_prices::Relaxation;
@@ -52,8 +52,9 @@ fn least_of_tours(rt: &impl Abort, alloc: Global, instance: &Instance) -> u64 {
 
 // Tours of this total cost in a relaxation of the four points show that no plan costs 44, and allow a cost of 46.
 fn assert_bounds(rt: &impl Abort, relaxation: &Relaxation<'_>, least: u64) {
-    assert!(rt; relaxation.limit(44).is_some_and(|limit| limit < least));
-    assert!(rt; relaxation.limit(46).is_some_and(|limit| least <= limit));
+    assert!(rt; least < 4_000_000_000_000_000_000);
+    let bound = relaxation.lower_bound_by(least).rounded_up();
+    assert!(rt; 44 < bound && bound <= 46, "{bound}");
 }
 
 // The prices found bound the ng-walks too, which bound as well as plain walks.
@@ -77,15 +78,31 @@ fn least_of_walks(rt: &impl Abort, alloc: Global, instance: &Instance, looks: Ne
     u64::try_from(least).unwrap_or(0)
 }
 
-// When stopped before the first round, it has found no prices: arcs cost what they do in the instance.
+// A different weight for each reverse arc.
+const ONE_DIRECTION: &[u64] = &[0, 3, 9, 4, 8, 0, 2, 7, 5, 6, 0, 1, 9, 3, 8, 0];
+
+// When stopped before the first round, it has found no prices, if costs are not symmetric: arcs cost what they do in the instance.
 #[test]
 fn stopped_before_the_first_round(rt: HostRuntime) {
-    let instance = at_points(rt.alloc(), FOUR, &[0, 1, 2, 1], 3).expect(&rt, "an instance");
+    let instance = with_arcs(rt.alloc(), ONE_DIRECTION, &[0, 1, 2, 1], 3);
+    let instance = instance.expect(&rt, "an instance");
     let relaxation = found_prices(&rt, rt.alloc(), &instance, false).relaxation;
     assert!(rt; relaxation.relaxed().customers() == 3 && instance.customers() == 3);
     for customer in 1..4 {
         assert_scaled(&rt, &instance, &relaxation, customer);
     }
+}
+
+// If costs are symmetric, one round is made all the same, in which each customer pays its share of the least route through it: 20/3,
+// 40/3 and 43/3. Then the least tours visit the first and the second customer, and the first again, for 10/3.
+#[test]
+fn shares_without_a_round(rt: HostRuntime) {
+    let instance = at_points(rt.alloc(), FOUR, &[0, 1, 2, 1], 3).expect(&rt, "an instance");
+    let found = found_prices(&rt, rt.alloc(), &instance, false);
+    let least = least_of_tours(&rt, rt.alloc(), found.relaxation.relaxed());
+    assert!(rt; least < 4_000_000_000_000_000_000);
+    let bound = found.relaxation.lower_bound_by(least);
+    assert_same(&rt, bound.rounded_up(), 38, "20/3 + 40/3 + 43/3 + 10/3");
 }
 
 // The arc to a customer costs `scale` times its cost in the instance.

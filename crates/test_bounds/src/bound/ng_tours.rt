@@ -1,4 +1,5 @@
-//! Bounds by ng-walks: by hand, compared with a slow program that tries every walk, and at the limits of an instance.
+//! The least ng-tours that carry all demands: by hand, compared with a slow program that tries every walk, and at the limits of an
+//! instance.
 ghost use Rattle.std.specs.Prelude.{◌≡◌};
 ghost use Rattle.vrp_model.specs.Problem.{place_count};
 
@@ -7,28 +8,8 @@ use crate::bound::slow_walks::{Stand, Walkers, every_walk};
 use std::alloc::Global;
 use std::process::Abort;
 use test_fixtures::{at_points, one_each, with_arcs};
-use vrp_bound::{NgTables, least_ng_tours};
+use vrp_bound::least_ng_tours;
 use vrp_model::{Instance, MAX_NODES, NgSets};
-
-// A place, a load, a rest, and the answer.
-type Asked = (u16, u64, u64, Option<u64>);
-
-fn assert_answers(rt: &impl Abort, tables: &NgTables<'_>, instance: &Instance, asked: &[Asked])
-    requires { tables.now.problem ≡ instance.now }
-{
-    for &asked in asked {
-        assert_answer(rt, tables, instance, asked);
-    }
-}
-
-fn assert_answer(rt: &impl Abort, tables: &NgTables<'_>, instance: &Instance, asked: Asked)
-    requires { tables.now.problem ≡ instance.now }
-{
-    let (at, load, rest, answer) = asked;
-    assert!(rt; at <= instance.customers() && load <= instance.capacity());
-    assert!(rt; (at != 0 || load == 0) && rest <= instance.whole_demand());
-    assert_same(rt, tables.bound(at, load, rest), answer, (at, load, rest));
-}
 
 // The ng-sets of walks through this many places, with `size` near customers for each place, listed one place after another.
 fn ng_sets_of(rt: &impl Abort, alloc: Global, places: usize, size: usize, near: &[u16]) -> NgSets
@@ -40,25 +21,18 @@ fn ng_sets_of(rt: &impl Abort, alloc: Global, places: usize, size: usize, near: 
     NgSets::new(alloc, places, size, near).expect(rt, "memory")
 }
 
-const TO_AND_FRO: &[Asked] = &[
-    (0, 0, 3, Some(40)),
-    (1, 1, 2, Some(30)),
-    (2, 1, 2, Some(40)),
-];
+// The cost of the least tours if the first customer is not near the second.
+const TO_AND_FRO: u64 = 40;
 
-const NEAR_THE_SECOND: &[Asked] = &[
-    (0, 0, 3, Some(60)),
-    (1, 1, 2, Some(50)),
-    (2, 1, 2, Some(40)),
-];
+const NEAR_THE_SECOND: u64 = 60;
 
 // The loads from 0 to 3, and the arcs between three customers.
 const THREE_STEPS: u64 = 4 * 9;
 
 const MANY_STEPS: u64 = 200_000_000;
 
-// The number of near customers of each place, these customers, one place after another, and the questions.
-type Three<'a> = (usize, &'a [u16], &'a [Asked]);
+// The number of near customers of each place, these customers, one place after another, and the cost of the least tours.
+type Three<'a> = (usize, &'a [u16], u64);
 
 const THREE: &[Three<'_>] = &[
     (0, &[], TO_AND_FRO),
@@ -80,14 +54,11 @@ fn three_on_a_line(rt: HostRuntime) {
 }
 
 fn assert_three(rt: &impl Abort, alloc: Global, instance: &Instance, three: Three<'_>) {
-    let (size, near, asked) = three;
+    let (size, near, cost) = three;
     assert!(rt; instance.customers() == 3);
     let ng_sets = ng_sets_of(rt, alloc, 4, size, near);
-    let (_, _, _, tours) = *asked.first().expect(rt, "a question");
-    assert_tours(rt, alloc, instance, &ng_sets, (THREE_STEPS, tours));
+    assert_tours(rt, alloc, instance, &ng_sets, (THREE_STEPS, Some(cost)));
     assert_tours(rt, alloc, instance, &ng_sets, (THREE_STEPS - 1, None));
-    let tables = NgTables::new(alloc, instance, ng_sets).expect(rt, "memory");
-    assert_answers(rt, &tables, instance, asked);
 }
 
 // The least tours of all demands by tables that may take so many steps.
@@ -118,7 +89,13 @@ fn tours_with_a_customer_without_demand(rt: HostRuntime) {
 type Loaded = ([u64; 5], u64);
 
 const EVERY_WALK: &[Loaded] = &[
+    ([0, 1, 1, 1, 1], 1),
+    ([0, 1, 1, 1, 1], 2),
+    ([0, 1, 1, 1, 1], 3),
     ([0, 1, 1, 1, 1], 4),
+    ([0, 3, 1, 2, 2], 3),
+    ([0, 1, 3, 1, 2], 4),
+    ([0, 2, 1, 3, 1], 5),
     ([0, 1, 2, 1, 3], 6),
     // counted in units of 2
     ([0, 2, 4, 2, 2], 7),
@@ -201,43 +178,7 @@ fn assert_size(rt: &impl Abort, alloc: Global, instance: &Instance, near: Near<'
     };
     let slow = every_walk(walkers, Stand::begun(0, 0, instance.whole_demand()), 20);
     assert_tours(rt, alloc, instance, &ng_sets, (MANY_STEPS, slow));
-    let tables = NgTables::new(alloc, instance, ng_sets).expect(rt, "memory");
-    assert_every_walk(rt, &tables, walkers);
 }
-
-// At every place.
-fn assert_every_walk(rt: &impl Abort, tables: &NgTables<'_>, walkers: Walkers<'_>)
-    requires { tables.now.problem ≡ walkers.instance.now }
-{
-    for at in 0..walkers.instance.customers() + 1 {
-        assert_loads(rt, tables, walkers, at);
-    }
-}
-
-// For each load; at the depot there is none.
-fn assert_loads(rt: &impl Abort, tables: &NgTables<'_>, walkers: Walkers<'_>, at: u16)
-    requires { tables.now.problem ≡ walkers.instance.now }
-{
-    let most = if at == 0 {
-        0
-    } else {
-        walkers.instance.capacity()
-    };
-    for load in 0..most + 1 {
-        assert_rests(rt, tables, walkers, at, load);
-    }
-}
-
-fn assert_rests(rt: &impl Abort, tables: &NgTables<'_>, walkers: Walkers<'_>, at: u16, load: u64)
-    requires { tables.now.problem ≡ walkers.instance.now }
-{
-    for rest in 0..walkers.instance.whole_demand() + 1 {
-        let slow = every_walk(walkers, Stand::begun(at, load, rest), 20);
-        assert_answer(rt, tables, walkers.instance, (at, load, rest, slow));
-    }
-}
-
-const CROWDED: &[Asked] = &[(0, 0, 1_199, Some(8_000)), (1, 1, 1_198, Some(7_990))];
 
 // Customers at one point, 10 from the depot: three fit on each truck.
 #[test]
@@ -251,9 +192,6 @@ fn assert_crowded(rt: &impl Abort, alloc: Global, instance: &Instance, size: usi
     assert!(rt; size <= 4);
     let ng_sets = NgSets::nearest(alloc, instance, size).expect(rt, "memory");
     assert_tours(rt, alloc, instance, &ng_sets, (MANY_STEPS, Some(8_000)));
-    let tables = NgTables::new(alloc, instance, ng_sets).expect(rt, "memory");
-    assert!(rt; tables.shape().is_some());
-    assert_answers(rt, &tables, instance, CROWDED);
 }
 
 fn crowded(rt: &impl Abort, alloc: Global) -> Instance {

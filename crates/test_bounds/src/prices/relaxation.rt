@@ -45,7 +45,7 @@ const PRICES: &[[i64; 4]] = &[
 ];
 
 #[test]
-fn every_word_within_its_limit(rt: HostRuntime) {
+fn every_word_costs_at_least_its_bound(rt: HostRuntime) {
     let mut words = 0u64;
     for (demands, capacity) in DEMANDS {
         let near = at_points(rt.alloc(), FOUR, demands, *capacity).expect(&rt, "an instance");
@@ -124,8 +124,8 @@ fn words_of(rt: &impl Abort, made: Option<Relaxation<'_>>) -> u64 {
     words_under(rt, &relaxation, prefix, 20)
 }
 
-// The number of words that continue a partial plan with at most this many symbols. Each is feasible in the relaxation, and
-// costs there no more than its limit.
+// The number of words that continue a partial plan with at most this many symbols. Each is feasible in the relaxation, and its
+// cost there bounds its cost.
 fn words_under(rt: &impl Abort, relaxation: &Relaxation<'_>, prefix: Prefix, steps: u16) -> u64 {
     let room = relaxation.relaxed().capacity();
     assert_same(rt, prefix.relaxed_load <= room, true, prefix);
@@ -133,7 +133,7 @@ fn words_under(rt: &impl Abort, relaxation: &Relaxation<'_>, prefix: Prefix, ste
         return 0;
     }
     if prefix.at == 0 && prefix.left == 0 {
-        assert_within_limit(rt, relaxation, prefix);
+        assert_bounded(rt, relaxation, prefix);
         return 1;
     }
     let mut words = 0u64;
@@ -150,11 +150,10 @@ fn words_under(rt: &impl Abort, relaxation: &Relaxation<'_>, prefix: Prefix, ste
     words
 }
 
-fn assert_within_limit(rt: &impl Abort, relaxation: &Relaxation<'_>, prefix: Prefix) {
-    assert!(rt; prefix.cost <= NO_COST);
-    let limit = relaxation.limit(prefix.cost);
-    let is_within = limit.is_some_and(|limit| prefix.relaxed_cost <= limit);
-    assert_same(rt, is_within, true, prefix);
+fn assert_bounded(rt: &impl Abort, relaxation: &Relaxation<'_>, prefix: Prefix) {
+    assert!(rt; prefix.relaxed_cost < 4_000_000_000_000_000_000);
+    let bound = relaxation.lower_bound_by(prefix.relaxed_cost);
+    assert_same(rt, bound.rounded_up() <= prefix.cost, true, prefix);
 }
 
 // The partial plan with one more symbol.
@@ -208,15 +207,6 @@ const PRICED_ARCS: &[(u16, u16, u64)] = &[
     (2, 1, 54),
 ];
 
-// Costs of plans, and the highest costs of such plans in the relaxation.
-const WITH_CHARGES: &[(u64, Option<u64>)] = &[
-    (20, Some(208)),
-    (0, Some(8)),
-    (NO_COST, Some(40_000_000_000_008)),
-];
-
-const WITH_REBATES: &[(u64, Option<u64>)] = &[(0, None), (1, Some(2))];
-
 // Costs in the relaxation, and what a plan that costs no less there costs at least, in hundredths.
 const BOUNDS_WITH_CHARGES: &[(u64, u64)] = &[
     (0, 0),
@@ -240,13 +230,11 @@ fn values_on_three_nodes(rt: HostRuntime) {
     let charged = charged.expect(rt, "a relaxation");
     assert_same(rt, charged.scale(), 10, "the scale");
     assert_arcs(rt, charged.relaxed(), 2, PRICED_ARCS);
-    assert_limits(rt, &charged, WITH_CHARGES);
     assert_bounds(rt, &charged, BOUNDS_WITH_CHARGES);
     // The least tour serves both customers, and costs 57, 54 and 97.
     assert_tours_bound(rt, alloc, &charged, Some(2_000));
     let rebated = relaxed(rt, alloc, &instance, (10, 1), &[0, -7, 3], &[]);
     let rebated = rebated.expect(rt, "a relaxation");
-    assert_limits(rt, &rebated, WITH_REBATES);
     assert_bounds(rt, &rebated, BOUNDS_WITH_REBATES);
     let thirds = relaxed(rt, alloc, &instance, (3, 1), &[0, 0, 0], &[]);
     assert_bounds(rt, &thirds.expect(rt, "a relaxation"), BOUNDS_IN_THIRDS);
@@ -283,24 +271,17 @@ fn assert_arcs(rt: &impl Abort, instance: &Instance, customers: u16, arcs: &[(u1
     }
 }
 
-fn assert_limits(rt: &impl Abort, relaxation: &Relaxation<'_>, limits: &[(u64, Option<u64>)]) {
-    for &(cost, limit) in limits {
-        assert!(rt; cost <= NO_COST);
-        assert_same(rt, relaxation.limit(cost), limit, cost);
-    }
-}
-
 // A set of customers, the capacity, the arcs from the depot to each and between them, and the highest cost in the relaxation
 // of a plan of cost 0.
-type PricedCut = (u8, u64, [u64; 3], Option<u64>);
+type PricedCut = (u8, u64, [u64; 3], u64);
 
 const PRICED_CUTS: &[PricedCut] = &[
-    (0, 2, [50, 100, 50], Some(40)),
-    (1, 2, [47, 100, 47], Some(34)),
-    (2, 2, [50, 97, 47], Some(34)),
-    (3, 2, [47, 97, 50], Some(34)),
-    (3, 1, [47, 97, 50], Some(28)),
-    (2, 1, [50, 97, 47], Some(34)),
+    (0, 2, [50, 100, 50], 40),
+    (1, 2, [47, 100, 47], 34),
+    (2, 2, [50, 97, 47], 34),
+    (3, 2, [47, 97, 50], 34),
+    (3, 1, [47, 97, 50], 28),
+    (2, 1, [50, 97, 47], 34),
 ];
 
 #[test]
@@ -311,7 +292,7 @@ fn cut_prices_on_three_nodes(rt: HostRuntime) {
 }
 
 fn assert_priced_cut(rt: &impl Abort, alloc: Global, priced_cuts: PricedCut) {
-    let (set, capacity, [first, second, between], limit) = priced_cuts;
+    let (set, capacity, [first, second, between], most) = priced_cuts;
     let instance = three_nodes(rt, alloc, &[0, 1, 1], capacity);
     let cuts = [cut(rt, alloc, &instance, set, 3)];
     let made = relaxed(rt, alloc, &instance, (10, 1), &[0, 10, 10], &cuts);
@@ -322,7 +303,8 @@ fn assert_priced_cut(rt: &impl Abort, alloc: Global, priced_cuts: PricedCut) {
         (2, 1, between.saturating_add(20)),
     ];
     assert_arcs(rt, relaxation.relaxed(), 2, &arcs);
-    assert_limits(rt, &relaxation, &[(0, limit)]);
+    let more = most.saturating_add(1);
+    assert_bounds(rt, &relaxation, &[(most, 0), (more, 10)]);
 }
 
 // A set of customers, a cut price, and whether there is a relaxation.
@@ -400,11 +382,14 @@ fn assert_counted(rt: &impl Abort, alloc: Global, counted: Counted) {
     assert_same(rt, priced.capacity(), room, unit);
 }
 
+// Nothing is paid up to the charges: 500,000,000 on each of the two arcs of 1,199 customers.
+const BOUNDS_OF_THE_MOST_NODES: &[(u64, u64)] = &[(1_199_000_000_000, 0), (1_199_000_000_001, 100)];
+
 #[test]
 fn the_most_nodes(rt: HostRuntime) {
     let instance = most_nodes(&rt, rt.alloc());
     let relaxation = charged(&rt, rt.alloc(), &instance, &[]);
-    assert_limits(&rt, &relaxation, &[(0, Some(1_199_000_000_000))]);
+    assert_bounds(&rt, &relaxation, BOUNDS_OF_THE_MOST_NODES);
     // No tables are made over customers without demand.
     assert_tours_bound(&rt, rt.alloc(), &relaxation, None);
 }
@@ -438,7 +423,7 @@ fn a_cut_of_the_most_customers(rt: HostRuntime) {
     let relaxation = charged(&rt, rt.alloc(), &instance, &cuts);
     let arcs = [(0, 1_199, 499_999_000), (1, 1_199, 1_000_000_000)];
     assert_arcs(&rt, relaxation.relaxed(), 1_199, &arcs);
-    assert_limits(&rt, &relaxation, &[(0, Some(1_199_000_000_000))]);
+    assert_bounds(&rt, &relaxation, BOUNDS_OF_THE_MOST_NODES);
 }
 
 // The cut of all customers, none of whom has a demand.
