@@ -11,10 +11,7 @@
 //! dead child, one whose unserved customers are all below the first customer of the last route, so that no route can be opened
 //! any more, and which leaves some unserved or has an open route whose last customer is below its first.
 //! Demands are divided by their greatest common divisor. The bound is looked up in one flat table by place, room and rest; where
-//! a customer demands nothing, or the numbers are large, there is no such table and the capacity bound stands alone. Where these
-//! bounds don't prune a child, a least spanning tree and the least arcs home may: with at least 5 customers unserved where no route
-//! is open and a truck carries three customers or more on average, and with at least 4 at an open route where it carries four or
-//! more; not with more than 100.
+//! a customer demands nothing, or the numbers are large, there is no such table and the capacity bound stands alone.
 mod problem;
 
 use problem::{Problem, read};
@@ -53,34 +50,6 @@ fn tables(p: &Problem) -> Option<Tables> {
     Some(Tables { rest, room, from, tours: tours.iter().map(|&x| x as u32).collect(), home_for })
 }
 
-/// the weight of a least spanning tree over the last place, the unserved customers and the depot, and the least arcs home for the
-/// routes that must still be opened; `room` holds a place and its lesser arc to those that are taken in
-fn tree(p: &Problem, at: usize, load: usize, rest: usize, free: &[bool], room: &mut Vec<(usize, u64)>) -> u64 {
-    let link = |a: usize, b: usize| p.weight[a * p.n + b].min(p.weight[b * p.n + a]);
-    room.clear();
-    if at != 0 { room.push((0, link(at, 0))) }
-    for c in 1..p.n { if free[c] && c != at { room.push((c, link(at, c))) } }
-    let mut weight = 0;
-    while !room.is_empty() {
-        let mut nearest = 0;
-        for i in 1..room.len() { if room[i].1 < room[nearest].1 { nearest = i } }
-        let (place, arc) = room.swap_remove(nearest);
-        weight += arc;
-        for other in room.iter_mut() { other.1 = other.1.min(link(place, other.0)) }
-    }
-    let space = if at == 0 { 0 } else { p.capacity - load };
-    let over = rest.saturating_sub(space);
-    let mut later = over.div_ceil(p.capacity.max(1));
-    for c in 1..p.n { if free[c] && c != at { room.push((c, p.weight[c * p.n])) } }
-    if at == 0 && !room.is_empty() { later = later.max(1) }
-    for _ in 0..later.min(room.len()) {
-        let mut nearest = 0;
-        for i in 1..room.len() { if room[i].1 < room[nearest].1 { nearest = i } }
-        weight += room.swap_remove(nearest).1;
-    }
-    weight
-}
-
 /// the last route, before each symbol; `high` is the highest unserved customer, 0 where there is none
 #[derive(Clone, Copy)]
 struct Step { symbol: usize, load: usize, first: usize, high: usize, cost: u64, inbound_sum: u64, rest: usize }
@@ -95,9 +64,6 @@ fn search(p: &Problem, t: Option<&Tables>, budget: u64, forward: bool, past_dead
     let mut next = 0;
     let mut left = m;
     let mut looked = 1;
-    let mut room = Vec::with_capacity(p.n);
-    let demand = p.demand.iter().sum::<usize>();
-    let (for_closed, for_open) = (3 * demand <= m * p.capacity, 4 * demand <= m * p.capacity);
     // an open route is one whose last symbol is a customer
     loop {
         let here = *stack.last().unwrap();
@@ -134,11 +100,6 @@ fn search(p: &Problem, t: Option<&Tables>, budget: u64, forward: bool, past_dead
             };
             if child.cost + bound > floor || child.cost + bound >= own { continue }
             if !is_open && left == 0 { own = child.cost; continue }
-            let unserved = left - is_open as usize;
-            if unserved <= 100 && if is_open { for_open && unserved >= 4 } else { for_closed && unserved >= 5 } {
-                let low = child.cost + tree(p, child.symbol, child.load, child.rest, &free, &mut room);
-                if low > floor || low >= own { continue }
-            }
             if is_open { free[child.symbol] = false; left -= 1 }
             stack.push(child);
             next = 0;

@@ -1,6 +1,6 @@
 #!/usr/bin/env bash
 # Times the proved search (`bench search`) beside a plain kernel in Rust (bench/kernel.rs), with the same budget.
-# Prints for each file how many million partial plans each looks at in a second, and the ratio. Both prune by the same three bounds,
+# Prints for each file how many million partial plans each looks at in a second, and the ratio. Both prune by the same bounds,
 # keep ties and, in symmetric instances, close routes in one direction alone and stop at partial plans without completion, so the two look at the
 # same ones.
 # Needs the Rattle kit's command rt, rustc and awk.

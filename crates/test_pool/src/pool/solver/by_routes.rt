@@ -4,7 +4,7 @@ ghost use Rattle.std.specs.Prelude.{true};
 use super::*;
 use crate::pool::fixture::{four_trucks, grid, ten_nodes};
 use std::sync::atomic::{AtomicU64, Ordering};
-use vrp_solver::{Event, Stage};
+use vrp_solver::Event;
 
 // The stage up to which a gate continues.
 #[derive(Clone, Copy, PartialEq)]
@@ -12,7 +12,7 @@ enum Until {
     TheEnd,
     // Until the choice among routes begins.
     Choice,
-    // Until the choice finds a plan cheaper than any before, and not while columns are generated: so the routes are listed by prices.
+    // Until the choice finds a plan cheaper than any before.
     CheaperChoice,
 }
 
@@ -30,8 +30,6 @@ struct ContinuesLater {
     routes: AtomicU64,
     // The number of finished pieces.
     done: AtomicU64,
-    // 1 while columns are generated.
-    at_columns: AtomicU64,
 }
 
 impl ContinuesLater {
@@ -44,7 +42,6 @@ impl ContinuesLater {
             cheaper: AtomicU64::new(0),
             routes: AtomicU64::new(0),
             done: AtomicU64::new(0),
-            at_columns: AtomicU64::new(0),
         }
     }
 }
@@ -56,10 +53,6 @@ impl Gate for ContinuesLater {
 
     fn on_event(&self, news: Event) {
         match news {
-            Event::Begins(stage) => {
-                let is_columns = u64::from(stage == Stage::Columns);
-                self.at_columns.store(is_columns, Ordering::SeqCst);
-            }
             Event::UsefulRoutes(routes) => {
                 self.routes.fetch_max(routes, Ordering::SeqCst);
             }
@@ -82,10 +75,7 @@ impl Gate for ContinuesLater {
         let has_come = match self.until {
             Until::TheEnd => false,
             Until::Choice => 0 < self.routes.load(Ordering::SeqCst),
-            Until::CheaperChoice => {
-                0 < self.cheaper.load(Ordering::SeqCst)
-                    || 0 < self.at_columns.load(Ordering::SeqCst)
-            }
+            Until::CheaperChoice => 0 < self.cheaper.load(Ordering::SeqCst),
         };
         self.from <= asked && !has_come
     }
@@ -125,14 +115,12 @@ const GRIDS: &[((u16, u16), u64, (u32, u64), u64, &[u16])] = &[
     ),
 ];
 
-// The gate stops the four runs of ruin and recreate at once, so the heuristic plan comes from savings alone; if it continues
-// only a question later, there are no rounds for prices either, and many more routes are useful.
+// The gate stops the four runs of ruin and recreate at once, so the heuristic plan comes from savings alone.
 #[test]
 fn ties_by_any_number_of_workers(rt: HostRuntime) {
     for &(size, capacity, given, cost, word) in GRIDS {
         let instance = grid(&rt, rt.alloc(), size, capacity);
         assert_canonical_by_all(&rt, rt.alloc(), &instance, (given, 4), cost, word);
-        assert_canonical_by_all(&rt, rt.alloc(), &instance, (given, 5), cost, word);
     }
 }
 
@@ -156,7 +144,7 @@ fn scattered_by_any_number_of_workers(rt: HostRuntime) {
 fn stopped_choice(rt: HostRuntime) {
     let instance = grid(&rt, rt.alloc(), (5, 3), 4);
     for workers in [1, 2, 8] {
-        let gate = ContinuesLater::from(5, Until::Choice);
+        let gate = ContinuesLater::from(4, Until::Choice);
         let asked = (workers, 64, 10_000_000);
         let answer = answer_behind(&rt, rt.alloc(), &instance, asked, &gate);
         let is_left =

@@ -74,8 +74,8 @@ impl Gate for Continues {
 
 // The numbers between which the gate continues, and how many partial plans are looked at in all. With a budget of 999 nothing
 // precedes the pieces, and each takes more. With a larger one the gate is asked once in each of four runs of ruin and
-// recreate, which it stops, once before columns are generated, once before the rounds for prices, and once before useful routes are listed.
-// Column generation and a list that are begun and stopped leave everything to the pieces.
+// recreate, which it stops, once before columns are generated, and once before the rounds for prices. Column generation that is begun and
+// stopped leaves everything to the pieces.
 const STOPPED: &[(Asked, (u64, u64), u64)] = &[
     ((1, 21, 999), (0, 0), 21),
     ((2, 21, 999), (0, 0), 21),
@@ -85,11 +85,11 @@ const STOPPED: &[(Asked, (u64, u64), u64)] = &[
     ((8, 21, 999), (0, 1), 1_019),
     ((1, 21, AMPLE), (0, 0), 21),
     ((1, 1, 100_000_000), (4, 5), 1),
-    ((1, 1, 100_000_000), (6, 7), 1),
-    ((1, 1, 100_000_000), (7, 7), 1),
-    ((1, 1, 100_000_000), (7, 8), 65_536),
-    ((1, 1, 100_000_000), (7, 9), 131_072),
-    ((1, 1, 120_000), (7, 9), 120_000),
+    ((1, 1, 100_000_000), (5, 6), 1),
+    ((1, 1, 100_000_000), (6, 6), 1),
+    ((1, 1, 100_000_000), (6, 7), 65_536),
+    ((1, 1, 100_000_000), (6, 8), 131_072),
+    ((1, 1, 120_000), (6, 8), 120_000),
 ];
 
 #[test]
