@@ -10,7 +10,7 @@ pub(crate) const LEVEL: &[u64] = &[
     0, 1, 1, 1, 1, 1, 0, 1, 1, 1, 1, 1, 0, 1, 1, 1, 1, 1, 0, 1, 1, 1, 1, 1, 0,
 ];
 
-/// The demands of the places and the capacity: tight and loose, with demands of 0, and with demands that units don't divide.
+/// The demands of the places and the capacity: tight and loose, and with demands of 0.
 pub(crate) const DEMANDS: &[([u64; 5], u64)] = &[
     ([0, 1, 2, 1, 2], 3),
     ([0, 3, 5, 4, 2], 9),

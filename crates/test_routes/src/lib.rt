@@ -17,6 +17,8 @@ mod guides;
 #[cfg(test)]
 mod partition;
 #[cfg(test)]
+mod passes;
+#[cfg(test)]
 mod random;
 #[cfg(test)]
 mod routes;

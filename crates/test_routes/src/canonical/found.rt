@@ -1,15 +1,14 @@
 //! Plans found from the pool listed with a known plan.
 
 use crate::guides::Answering;
+use crate::passes::{Setup, pool_by_pass};
 use std::alloc::Global;
 use std::process::Abort;
 use std::thread::Threads;
-use vrp_bound::NgTables;
-use vrp_bound_prices::Relaxation;
 use vrp_canonical::{RoutesOutcome, canonical_plan};
-use vrp_model::{Crew, Instance, NO_COST, NgSets, NoMemory, Plan, Unhurried};
+use vrp_model::{Crew, Instance, NoMemory, Plan};
 use vrp_partition::Guide;
-use vrp_routes::{Listed, can_list, list_routes_by_tables};
+use vrp_routes::can_list;
 
 /// The effort that a search may spend.
 #[derive(Clone, Copy)]
@@ -18,7 +17,7 @@ pub(crate) struct Effort {
     pub(crate) budget: u64,
 }
 
-/// The result of two workers from a known plan, with this guide and effort.
+/// The result of two workers from a known plan, with this guide and effort. The routes are listed by prices of 0.
 pub(crate) fn found_plan<R: Abort + Threads + Sync, P: Guide + Send>(
     rt: &R,
     alloc: Global,
@@ -26,21 +25,16 @@ pub(crate) fn found_plan<R: Abort + Threads + Sync, P: Guide + Send>(
     known: &Plan,
     guide: &P,
     effort: Effort,
-) -> Result<Option<RoutesOutcome>, NoMemory> {
-    let limit = known.cost();
-    assert!(rt; can_list(instance) && limit <= NO_COST);
+) -> Result<RoutesOutcome, NoMemory> {
+    assert!(rt; can_list(instance));
     let prices = vec![in alloc; 0i64; usize::from(instance.customers()) + 1]?;
-    let made = Relaxation::new(alloc, instance, 1, 1, prices.as_slice(), &[])?;
-    let relaxation = made.expect(rt, "prices");
-    let ng_sets = NgSets::nearest(alloc, relaxation.relaxed(), 2)?;
-    let tables = NgTables::new(alloc, relaxation.relaxed(), ng_sets)?;
-    let unhurried = Crew {
-        rt,
-        alloc,
+    let setup = Setup {
+        scale: 1,
+        prices: &prices,
+        near: 2,
         workers: 2,
-        watch: &Unhurried,
     };
-    let listed = list_routes_by_tables(&unhurried, &relaxation, &tables, limit, u32::MAX)?;
+    let pool = pool_by_pass(rt, alloc, instance, setup, known.cost());
     let mut left = effort.budget;
     let crew = Crew {
         rt,
@@ -48,11 +42,5 @@ pub(crate) fn found_plan<R: Abort + Threads + Sync, P: Guide + Send>(
         workers: 2,
         watch: &effort.watch,
     };
-    match listed {
-        Listed::Pool(pool) => {
-            let found = canonical_plan(&crew, instance, &pool, known, guide, &mut left)?;
-            Ok(Some(found))
-        }
-        Listed::Met(_) => Ok(None),
-    }
+    canonical_plan(&crew, instance, &pool, known, guide, &mut left)
 }

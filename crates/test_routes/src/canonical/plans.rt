@@ -85,25 +85,25 @@ fn plans_of<R: Abort + Threads + Sync>(rt: &R, alloc: Global, instance: &Instanc
 }
 
 // The canonical plan, if it was found.
-fn canonical_of(found: Option<RoutesOutcome>) -> Option<Plan> {
+fn canonical_of(found: RoutesOutcome) -> Option<Plan> {
     match found {
-        Some(RoutesOutcome::Canonical(plan)) => Some(plan),
+        RoutesOutcome::Canonical(plan) => Some(plan),
         _ => None,
     }
 }
 
 // The cost of the plan that an unfinished search reports, if it reports one.
-fn cost_told(found: &Option<RoutesOutcome>) -> Option<u64> {
+fn cost_told(found: &RoutesOutcome) -> Option<u64> {
     match found {
-        Some(RoutesOutcome::Unfinished { better, .. }) => better.as_ref().map(|plan| plan.cost()),
+        RoutesOutcome::Unfinished { better, .. } => better.as_ref().map(|plan| plan.cost()),
         _ => None,
     }
 }
 
 // The lower bound of a search that ended unfinished.
-fn bound_told(found: &Option<RoutesOutcome>) -> Option<u64> {
+fn bound_told(found: &RoutesOutcome) -> Option<u64> {
     match found {
-        Some(RoutesOutcome::Unfinished { lower_bound, .. }) => Some(*lower_bound),
+        RoutesOutcome::Unfinished { lower_bound, .. } => Some(*lower_bound),
         _ => None,
     }
 }

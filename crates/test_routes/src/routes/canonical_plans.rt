@@ -2,7 +2,7 @@
 
 use crate::assertion::assert_same;
 use crate::five_places::{DEMANDS, LEVEL, ONE_DIRECTION};
-use crate::routes::listed::{Setup, listed, pool_of};
+use crate::passes::{Setup, pool_by_pass};
 use std::alloc::Global;
 use std::process::Abort;
 use std::thread::Threads;
@@ -14,42 +14,36 @@ use vrp_routes::RoutePool;
 const SETUPS: &[Setup<'_>] = &[
     Setup {
         scale: 1,
-        unit: 1,
         prices: &[0, 0, 0, 0, 0],
         near: 0,
         workers: 1,
     },
     Setup {
         scale: 10,
-        unit: 1,
         prices: &[0, 12, -5, 3, 8],
         near: 2,
         workers: 2,
     },
     Setup {
         scale: 10,
-        unit: 2,
         prices: &[0, 0, 0, 0, 0],
         near: 3,
         workers: 3,
     },
     Setup {
         scale: 100,
-        unit: 1,
-        prices: &[-900, -20, 30, 0, 40],
+        prices: &[0, 900, 1_300, 2_000, 1_100],
         near: 1,
         workers: 1,
     },
     Setup {
         scale: 100,
-        unit: 7,
-        prices: &[7, 100, 200, 300, -50],
+        prices: &[0, 100, 200, 300, -50],
         near: 3,
         workers: 2,
     },
     Setup {
         scale: 1_000,
-        unit: 1_000_000_000,
         prices: &[0, 900, 400, -100, 5],
         near: 2,
         workers: 4,
@@ -74,10 +68,19 @@ fn canonical_plans_are_in_pools(rt: HostRuntime) {
         let few = instance.with_trucks(2);
         pools = pools.saturating_add(pools_of(&rt, rt.alloc(), &few));
     }
-    assert!(rt; pools >= 500);
+    // With any number of trucks each of 24 instances has a plan, which is within three of the limits, for each of six prices.
+    assert!(rt; pools >= 24 * 3 * 6);
 }
 
-// The number of pools, for all prices, with limits at the canonical plan's cost, above it and below it.
+// The capacity is so large that labels count demands in units of 6, and no demand is a multiple of 6.
+#[test]
+fn demands_in_large_units(rt: HostRuntime) {
+    let demands = [0, 7_001, 9_002, 1_003, 3_004];
+    let instance = at_points(rt.alloc(), FIVE, &demands, 10_007).expect(&rt, "an instance");
+    assert_same(&rt, pools_of(&rt, rt.alloc(), &instance), 3 * 6, "pools");
+}
+
+// Pools for all prices, with limits at the canonical plan's cost, above it and below it; the number of those that have to have its routes.
 fn pools_of<R: Abort + Threads + Sync>(rt: &R, alloc: Global, instance: &Instance) -> u64 {
     let canonical = canonical_plan(alloc, instance).expect(rt, "memory");
     let cost = canonical
@@ -86,13 +89,10 @@ fn pools_of<R: Abort + Threads + Sync>(rt: &R, alloc: Global, instance: &Instanc
     let mut pools = 0u64;
     for setup in SETUPS {
         for limit in [cost.saturating_sub(1), cost, cost + 1, cost + 20] {
-            let found = listed(rt, alloc, instance, *setup, limit, 1_000);
-            if let Some(found) = found {
-                let pool = pool_of(rt, found);
-                assert_are_routes(rt, alloc, instance, &pool);
-                if let Some(canonical) = &canonical {
-                    assert_canonical_is_there(rt, alloc, canonical, limit, &pool);
-                }
+            let pool = pool_by_pass(rt, alloc, instance, *setup, limit);
+            assert_are_routes(rt, alloc, instance, &pool);
+            if let Some(canonical) = canonical.as_ref().filter(|plan| plan.cost <= limit) {
+                assert_canonical_is_there(rt, alloc, canonical, &pool);
                 pools = pools.saturating_add(1);
             }
         }
@@ -137,17 +137,13 @@ fn assert_is_route(
     assert_same(rt, told, (set, load, cost), "a route");
 }
 
-// Each route of the canonical plan is in the pool, if the plan costs at most the limit.
+// Each route of the canonical plan is in the pool.
 fn assert_canonical_is_there(
     rt: &impl Abort,
     alloc: Global,
     canonical: &Canonical,
-    limit: u64,
     pool: &RoutePool,
 ) {
-    if canonical.cost > limit {
-        return;
-    }
     for route in canonical.word.split(|symbol| *symbol == 0) {
         if !route.is_empty() {
             assert_same(rt, has_route(rt, alloc, pool, route), true, "a first plan");

@@ -1,68 +1,54 @@
-//! Routes listed with given prices.
-ghost use Rattle.std.specs.Prelude.{◌≡◌, ◌<◌, ◌≤◌};
+//! Routes listed by a completion test that knows nothing.
+ghost use Rattle.std.specs.Prelude.{◌≤◌, ◌<◌};
 ghost use Rattle.vrp_customers.specs.declared.customer_set.TheConstants.{PLACES};
-ghost use Rattle.vrp_model.specs.declared.ng_sets.TheConstants.{MOST_NEAR};
 ghost use Rattle.vrp_model.specs.Problem.{place_count};
+ghost use Rattle.vrp_model.specs.declared.limits.TheConstants.{NO_COST};
 
+use crate::passes::pool_of;
 use std::alloc::Global;
 use std::process::Abort;
 use std::sync::atomic::{AtomicU64, Ordering};
 use std::thread::Threads;
-use vrp_bound::NgTables;
-use vrp_bound_prices::Relaxation;
-use vrp_model::{Crew, Instance, MOST_NEAR, NO_COST, News, NgSets, NoMemory, Watch};
-use vrp_routes::{Limit, Listed, RoutePool, can_list, list_routes_by_tables};
+use vrp_customers::CustomerSet;
+use vrp_model::{Crew, Instance, News, Watch};
+use vrp_routes::{CompletionTest, Listed, RoutePool, can_list, list_routes};
 
-/// How an instance gets its prices, and the ng-sets of walks.
-#[derive(Clone, Copy)]
-pub(crate) struct Setup<'a> {
-    pub(crate) scale: u64,
-    pub(crate) unit: u64,
-    pub(crate) prices: &'a [i64],
-    pub(crate) near: usize,
-    pub(crate) workers: u16,
+// The test that every beginning passes: only what is too heavy, or has a customer twice, isn't listed. So the list is for plans of any
+// cost.
+#[derive(Drop)]
+struct NoTest<'a> {
+    instance: &'a Instance,
 }
 
-/// The result of listing, if there are such prices.
-pub(crate) fn listed<R: Abort + Threads + Sync>(
-    rt: &R,
-    alloc: Global,
-    instance: &Instance,
-    setup: Setup<'_>,
-    limit: u64,
-    most_labels: u32,
-) -> Option<Listed> {
-    let Setup {
-        scale,
-        unit,
-        prices,
-        near,
-        workers,
-    } = setup;
-    assert!(rt; 1 <= scale && scale <= 1_000 && 1 <= unit && near <= MOST_NEAR);
-    assert!(rt; prices.len() == usize::from(instance.customers()) + 1);
-    assert!(rt; can_list(instance) && limit <= NO_COST && 0 < workers);
-    let made = Relaxation::new(alloc, instance, scale, unit, prices, &[]).expect(rt, "memory");
-    let relaxation = made?;
-    let ng_sets = NgSets::nearest(alloc, relaxation.relaxed(), near).expect(rt, "memory");
-    let limits = Limits {
-        cost: limit,
-        most_labels,
-        enough: u64::MAX,
-    };
-    let found = by_ng_sets(rt, alloc, &relaxation, ng_sets, workers, limits);
-    Some(found.expect(rt, "memory"))
-}
+impl<'a> CompletionTest for NoTest<'a> {
+    type Resources = ();
 
-/// The limits of a list.
-#[derive(Clone, Copy)]
-pub(crate) struct Limits {
-    /// The greatest cost of the canonical plan.
-    pub(crate) cost: u64,
-    /// The greatest number of labels.
-    pub(crate) most_labels: u32,
-    /// The list is stopped once this many labels are reported.
-    pub(crate) enough: u64,
+    ghost problem = { λ t. t.instance.now };
+
+    ghost limit = { λ _. NO_COST };
+
+    ghost Counts = { λ _ _ _. Unit {0} };
+
+    fn instance(&self) -> &Instance {
+        self.instance
+    }
+
+    fn start(&self) {}
+
+    fn extended(
+        &self,
+        _resources: &(),
+        _set: CustomerSet,
+        _load: u32,
+        _last: u16,
+        _stop: u16,
+    ) -> Option<()> {
+        Some(())
+    }
+
+    fn may_close(&self, _resources: &(), _set: CustomerSet, _load: u32, _last: u16) -> bool {
+        true
+    }
 }
 
 // A watch that stops a list once it hears of this many labels.
@@ -70,15 +56,6 @@ pub(crate) struct Limits {
 struct UpTo {
     enough: u64,
     heard: AtomicU64,
-}
-
-impl UpTo {
-    fn new(enough: u64) -> UpTo {
-        UpTo {
-            enough,
-            heard: AtomicU64::new(0),
-        }
-    }
 }
 
 impl Watch for UpTo {
@@ -93,38 +70,35 @@ impl Watch for UpTo {
     }
 }
 
-/// The result for walks with these ng-sets, within these limits.
-pub(crate) fn by_ng_sets<R: Threads + Sync>(
+/// The result of listing all routes by so many workers, with at most `most_labels` labels. The list is stopped once `enough` labels are
+/// reported.
+pub(crate) fn listed<R: Abort + Threads + Sync>(
     rt: &R,
     alloc: Global,
-    relaxation: &Relaxation<'_>,
-    ng_sets: NgSets,
+    instance: &Instance,
     workers: u16,
-    limits: Limits,
-) -> Result<Listed, NoMemory>
-    requires places { ng_sets.places ≡ place_count relaxation.now.relaxed }
-    requires few { place_count relaxation.now.problem ≤ PLACES }
-    requires limit { limits.cost ≤ NO_COST }
-    requires workers { 0 < workers }
-{
-    let tables = NgTables::new(alloc, relaxation.relaxed(), ng_sets)?;
+    most_labels: u32,
+    enough: u64,
+) -> Listed {
+    assert!(rt; can_list(instance) && 0 < workers);
     let crew = Crew {
         rt,
         alloc,
         workers,
-        watch: &UpTo::new(limits.enough),
+        watch: &UpTo {
+            enough,
+            heard: AtomicU64::new(0),
+        },
     };
-    list_routes_by_tables(&crew, relaxation, &tables, limits.cost, limits.most_labels)
+    list_routes(&crew, &NoTest { instance }, most_labels).expect(rt, "memory")
 }
 
-/// The pool, if no limit was met.
-pub(crate) fn pool_of(rt: &impl Abort, listed: Listed) -> RoutePool {
-    match listed {
-        Listed::Pool(pool) => pool,
-        Listed::Met(limit) => stopped(rt, limit),
-    }
-}
-
-fn stopped(rt: &impl Abort, limit: Limit) -> RoutePool {
-    panic!(rt; "{limit:?} was met")
+/// The pool of all routes, listed by so many workers.
+pub(crate) fn all_routes<R: Abort + Threads + Sync>(
+    rt: &R,
+    alloc: Global,
+    instance: &Instance,
+    workers: u16,
+) -> RoutePool {
+    pool_of(rt, listed(rt, alloc, instance, workers, u32::MAX, u64::MAX))
 }

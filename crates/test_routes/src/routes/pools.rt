@@ -1,31 +1,30 @@
 //! Pools of small instances by hand, and limits that are met.
-ghost use Rattle.std.specs.Prelude.{◌≤◌};
 
 use crate::assertion::assert_same;
-use crate::routes::listed::{Limits, Setup, by_ng_sets, listed, pool_of};
+use crate::passes::{Setup, pool_by_pass};
+use crate::routes::listed::{all_routes, listed};
 use crate::sets::set_of;
 use std::alloc::Global;
 use std::process::Abort;
 use std::thread::Threads;
 use test_fixtures::{FOUR, LINE, at_points, with_arcs};
-use vrp_bound_prices::Relaxation;
 use vrp_customers::CustomerSet;
-use vrp_model::{Instance, NO_COST, NgSets};
+use vrp_model::Instance;
 use vrp_routes::{Limit, Listed, RoutePool, can_list};
 
 // A route: its customers, its load and its cost.
 type Told<'a> = (&'a [u16], u64, u64);
 
-const NO_PRICES: Setup<'_> = Setup {
+// A price of 10 for each of two customers.
+const TENS: Setup<'_> = Setup {
     scale: 10,
-    unit: 1,
-    prices: &[0, 0, 0],
+    prices: &[0, 100, 100],
     near: 2,
     workers: 1,
 };
 
-// The plan of one route costs 20. Of the labels 1, 2, 12 and 21 the last can't be closed, since it runs backward. At 19 no
-// label is left; at 20 a tour to customer 2 and another to customer 1 is too costly.
+// The plan of one route costs 20, and so much are both prices together. Of the labels 1, 2, 12 and 21 the last can't be closed, since it
+// runs backward. At 19 no label is left; at 20 a tour to customer 2 and another to customer 1 is too costly.
 const ON_A_LINE: &[(u64, usize, &[Told<'_>])] = &[
     (19, 0, &[]),
     (20, 4, &[(&[1], 1, 10), (&[1, 2], 2, 20)]),
@@ -36,7 +35,7 @@ const ON_A_LINE: &[(u64, usize, &[Told<'_>])] = &[
 fn three_nodes(rt: HostRuntime) {
     let instance = at_points(rt.alloc(), LINE, &[0, 1, 1], 2).expect(&rt, "an instance");
     for &(limit, labels, routes) in ON_A_LINE {
-        let pool = pool(&rt, rt.alloc(), &instance, NO_PRICES, limit);
+        let pool = pool_by_pass(&rt, rt.alloc(), &instance, TENS, limit);
         assert_pool(&rt, rt.alloc(), &pool, labels, routes);
     }
 }
@@ -54,11 +53,7 @@ const IN_A_PLANE: &[Told<'_>] = &[
 #[test]
 fn four_nodes(rt: HostRuntime) {
     let instance = at_points(rt.alloc(), FOUR, &[0, 1, 2, 1], 3).expect(&rt, "an instance");
-    let setup = Setup {
-        prices: &[0, 0, 0, 0],
-        ..NO_PRICES
-    };
-    let pool = pool(&rt, rt.alloc(), &instance, setup, 1_000);
+    let pool = all_routes(&rt, rt.alloc(), &instance, 1);
     assert_pool(&rt, rt.alloc(), &pool, 9, IN_A_PLANE);
 }
 
@@ -97,26 +92,11 @@ const ROUNDS: &[(&[u64], &[Told<'_>])] = &[
 
 #[test]
 fn rounds_of_three(rt: HostRuntime) {
-    let setup = Setup {
-        prices: &[0, 0, 0, 0],
-        ..NO_PRICES
-    };
     for &(arcs, routes) in ROUNDS {
         let instance = with_arcs(rt.alloc(), arcs, &[0, 1, 1, 1], 3).expect(&rt, "an instance");
-        let pool = pool(&rt, rt.alloc(), &instance, setup, 1_000);
+        let pool = all_routes(&rt, rt.alloc(), &instance, 1);
         assert_pool(&rt, rt.alloc(), &pool, 12, routes);
     }
-}
-
-fn pool<R: Abort + Threads + Sync>(
-    rt: &R,
-    alloc: Global,
-    instance: &Instance,
-    setup: Setup<'_>,
-    limit: u64,
-) -> RoutePool {
-    let found = listed(rt, alloc, instance, setup, limit, u32::MAX);
-    pool_of(rt, found.expect(rt, "prices"))
 }
 
 fn assert_pool(
@@ -169,31 +149,11 @@ fn limits_that_are_met(rt: HostRuntime) {
     let (rt, alloc) = (&rt, rt.alloc());
     let instance = at_points(alloc, LINE, &[0, 1, 1], 2).expect(rt, "an instance");
     for &(most, enough, wanted) in LIMITS {
-        let met = met(rt, alloc, &instance, most, enough);
+        let met = match listed(rt, alloc, &instance, 2, most, enough) {
+            Listed::Pool(_) => None,
+            Listed::Met(limit) => Some(limit),
+        };
         assert_same(rt, met, wanted, (most, enough));
-    }
-}
-
-fn met<R: Abort + Threads + Sync>(
-    rt: &R,
-    alloc: Global,
-    instance: &Instance,
-    most_labels: u32,
-    enough: u64,
-) -> Option<Limit> {
-    assert!(rt; can_list(instance) && instance.customers() == 2);
-    let made = Relaxation::new(alloc, instance, 1, 1, &[0, 0, 0], &[]).expect(rt, "memory");
-    let relaxation = made.expect(rt, "prices");
-    let ng_sets = NgSets::nearest(alloc, relaxation.relaxed(), 0).expect(rt, "memory");
-    let limits = Limits {
-        cost: 1_000,
-        most_labels,
-        enough,
-    };
-    let found = by_ng_sets(rt, alloc, &relaxation, ng_sets, 2, limits);
-    match found.expect(rt, "memory") {
-        Listed::Pool(_) => None,
-        Listed::Met(limit) => Some(limit),
     }
 }
 
@@ -213,28 +173,33 @@ const ELEVEN: &[(i64, i64)] = &[
     (12, 5),
 ];
 
-// With any number of workers the pool is the same: as many labels, and the same routes at the same positions.
+// With any number of workers the pool is the same: as many labels, and the same routes at the same positions. So it is if all routes are
+// listed, and if those are that prices leave: each customer's own is one.
 #[test]
 fn pools_of_several_workers(rt: HostRuntime) {
     let (rt, alloc) = (&rt, rt.alloc());
     let demands = [0, 2, 1, 3, 2, 1, 1, 2, 3, 1, 2, 1];
     let instance = at_points(alloc, ELEVEN, &demands, 7).expect(rt, "an instance");
     let alone = Setup {
+        scale: 10,
         prices: &[0, 30, 20, 50, 10, 70, 60, 40, 45, 25, 35, 55],
-        ..NO_PRICES
+        near: 2,
+        workers: 1,
     };
-    let by_one = pool(rt, alloc, &instance, alone, 120);
-    assert!(rt; by_one.labels() > 500);
+    let all = all_routes(rt, alloc, &instance, 1);
+    assert!(rt; all.labels() > 500);
+    let priced = pool_by_pass(rt, alloc, &instance, alone, 120);
+    assert!(rt; priced.len() >= 11);
     for workers in [2, 3, 8, 11, 40] {
         let together = Setup { workers, ..alone };
-        let by_all = pool(rt, alloc, &instance, together, 120);
-        assert_same(rt, by_all.labels(), by_one.labels(), workers);
-        assert_same_routes(rt, alloc, &by_all, &by_one);
+        assert_same_pools(rt, alloc, &all_routes(rt, alloc, &instance, workers), &all);
+        let by_all = pool_by_pass(rt, alloc, &instance, together, 120);
+        assert_same_pools(rt, alloc, &by_all, &priced);
     }
 }
 
-fn assert_same_routes(rt: &impl Abort, alloc: Global, pool: &RoutePool, other: &RoutePool) {
-    assert!(rt; pool.len() == other.len());
+fn assert_same_pools(rt: &impl Abort, alloc: Global, pool: &RoutePool, other: &RoutePool) {
+    assert!(rt; pool.labels() == other.labels() && pool.len() == other.len());
     for at in 0..pool.len() {
         assert_same(rt, pool.set(at), other.set(at), at);
         assert_same(rt, pool.load(at), other.load(at), at);
@@ -253,13 +218,7 @@ fn customers_at_the_limit(rt: HostRuntime) {
     assert_same(rt, can_list(&last), true, "255 customers");
     let more = in_a_row(rt, alloc, 257);
     assert_same(rt, can_list(&more), false, "256 customers");
-    let prices = vec![in alloc; 0i64; 256].expect(rt, "memory");
-    let setup = Setup {
-        prices: &prices,
-        near: 0,
-        ..NO_PRICES
-    };
-    let pool = pool(rt, alloc, &last, setup, NO_COST);
+    let pool = all_routes(rt, alloc, &last, 1);
     assert!(rt; pool.len() == 255);
     let at = place_of(&pool, set_of(&[255]));
     assert!(rt; at < 255, "no route of the last customer");
