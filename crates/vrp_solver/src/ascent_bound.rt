@@ -63,8 +63,9 @@ fn prices_found<'a, R, G: Gate>(
     let watch = StageWatch::of_stage(shared, Stage::Prices);
     let steps = match watch.milliseconds_left() {
         Some(part) => part.saturating_mul(STEPS_A_MILLISECOND),
-        None => share_of(Stage::Prices, instance.customers(), shared.budget)
-            .work_for(shared.budget_in_all()),
+        None => share_of(Stage::Prices, instance.customers(), shared.budget).work_for(
+            shared.budget_in_all(),
+        ),
     };
     let near = most_remembered(instance.customers());
     find_prices(shared.alloc, instance, cost, near, steps, &watch)

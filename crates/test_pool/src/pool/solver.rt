@@ -198,12 +198,12 @@ fn start_plan_comes_before_the_search(rt: HostRuntime) {
     assert!(rt; Told::by(&answer) == Told::Proven(322));
 }
 
-// A piece uses its whole budget and no more: in the tree of the ring one worker looks at 621 partial plans, and the tree of
-// the line has more than 999.
+// A piece uses its whole budget and no more: in the tree of the ring one worker looks at 834 partial plans, by the plain kernel of bench/,
+// and the tree of the line has more than 999.
 #[test]
 fn budget_of_a_piece(rt: HostRuntime) {
     let (ring, line) = (ring(&rt, rt.alloc()), line(&rt, rt.alloc()));
-    for (instance, budget, ends) in [(&ring, 620, false), (&ring, 621, true), (&line, 999, false)] {
+    for (instance, budget, ends) in [(&ring, 833, false), (&ring, 834, true), (&line, 999, false)] {
         let answer = answer_behind(&rt, rt.alloc(), instance, (1, 1, budget), &NoGate);
         assert!(rt; matches!(answer, Answer::Proven(_)) == ends, "{budget}");
     }
