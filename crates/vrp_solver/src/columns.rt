@@ -12,6 +12,7 @@ ghost use Rattle.vrp_priced_routes.specs.Priced.{BoundsPlans};
 ghost use Rattle.vrp_routes.specs.Pool.{IsPool};
 
 use crate::choice::chosen_plan;
+use crate::guesses::plan_by_guesses;
 use crate::look::LEAST_PREPARED_BUDGET;
 use crate::stage_watch::{StageWatch, crew_of};
 use crate::stages::share_of;
@@ -79,16 +80,25 @@ fn plan_from<R: Threads + Sync, G: Gate + Sync>(
     // A plan costs less than none.
     plans_cost_less();
     let _customers = shared.instance.customers();
-    let Generation { bound, pool } = generated(shared, workers, known)?;
+    let Generation {
+        bound,
+        pool,
+        prices,
+    } = generated(shared, workers, known)?;
     let bound = bound_on_all(shared.instance, known, bound);
     shared
         .gate
         .on_event(Event::Bound(LowerBound::of_cost(bound)));
-    match pool {
-        Some(pool) => {
-            let outcome = chosen_plan(shared, &pool, known, workers);
-            drop(pool);
-            Ok(with_bound(outcome?, bound))
+    if let Some(pool) = pool {
+        let outcome = chosen_plan(shared, &pool, known.cost(), known, workers);
+        drop(pool);
+        return Ok(with_bound(outcome?, bound));
+    }
+    match prices {
+        Some(prices) => {
+            let outcome = plan_by_guesses(shared, workers, known, &prices, bound);
+            drop(prices);
+            outcome
         }
         None => Ok(RoutesOutcome::Unfinished {
             better: None,
@@ -124,33 +134,39 @@ fn with_bound(outcome: RoutesOutcome, bound: u64) -> RoutesOutcome
 }
 
 // A pool of the useful routes, if the canonical plan costs no more than the known one, and a lower bound on the plans that do.
-fn generated<R: Threads + Sync, G: Gate + Sync>(
-    shared: &Shared<'_, R, G>,
+fn generated<'a, R: Threads + Sync, G: Gate + Sync>(
+    shared: &Shared<'a, R, G>,
     workers: u32,
     known: &Plan,
-) -> Result<Generation, NoMemory>
+) -> Result<Generation<'a>, NoMemory>
     requires few { place_count shared.now.problem ≤ PLACES }
     requires limit { known.now.cost ≤ NO_COST }
     requires some_worker { 1 ≤ workers }
     requires few_workers { workers ≤ 64 }
     ensures bound { IfOk result (λ made. BoundsPlans shared.now.problem known.now.cost made.bound) }
     ensures pool { IfOk result (λ made. IfSome made.pool (IsPool shared.now.problem known.now.cost)) }
+    ensures prices { IfOk result (λ made. IfSome made.prices (λ prices. prices ≡ record { problem = shared.now.problem; limit = known.now.cost })) }
 {
     shared.gate.on_event(Event::Begins(Stage::Columns));
-    let share = share_of(Stage::Columns, shared.instance.customers(), shared.budget);
-    let settings = Settings {
-        most_labels: MOST_LABELS,
-        most_priced: share.work_for(shared.budget_in_all()),
-        most_listed: MOST_LISTED,
-        enough_listed: ENOUGH_LISTED,
-        most_rows: MOST_ROWS,
-    };
+    let settings = settings_of(shared);
     let routes = routes_of(shared.alloc, known)?;
     let watch = StageWatch::of_stage(shared, Stage::Columns);
     let crew = crew_of(shared, workers, &watch);
     let made = generate_routes(&crew, shared.instance, known.cost(), &routes, settings);
     drop(routes);
     made
+}
+
+/// What column generation may use, and what is enough for it.
+pub(crate) fn settings_of<R, G: Gate>(shared: &Shared<'_, R, G>) -> Settings {
+    let share = share_of(Stage::Columns, shared.instance.customers(), shared.budget);
+    Settings {
+        most_labels: MOST_LABELS,
+        most_priced: share.work_for(shared.budget_in_all()),
+        most_listed: MOST_LISTED,
+        enough_listed: ENOUGH_LISTED,
+        most_rows: MOST_ROWS,
+    }
 }
 
 // The routes of a plan.
@@ -162,8 +178,8 @@ fn routes_of(alloc: Global, plan: &Plan) -> Result<Vec<Vec<u16>>, NoMemory> {
     Ok(routes)
 }
 
-// No plan was found, and nothing is known.
-fn nothing() -> RoutesOutcome
+/// No plan was found, and nothing is known.
+pub(crate) fn nothing() -> RoutesOutcome
     ensures canonical { IfCanonical (λ _. ⊥) result }
     ensures better { IfBetter (λ _. ⊥) result }
     ensures bound { IfBound (λ bound. bound ≡ 0) result }

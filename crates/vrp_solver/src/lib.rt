@@ -6,6 +6,7 @@ mod better_plan;
 mod choice;
 mod columns;
 mod draws;
+mod guesses;
 mod look;
 mod pieces;
 mod seat_board;

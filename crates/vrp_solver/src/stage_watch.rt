@@ -14,17 +14,26 @@ pub(crate) struct StageWatch<'a, G: Gate> {
     reserved: u64,
     // The cost of the known plan, `NO_COST` if there is none.
     known: u64,
+    // What a plan costs at most that the stage looks for.
+    limit: u64,
 }
 
 impl<'a, G: Gate> StageWatch<'a, G> {
     /// The watch of a stage that begins now. No clause says how long it lasts.
     pub(crate) fn of_stage<R>(shared: &Shared<'a, R, G>, stage: Stage) -> StageWatch<'a, G> {
         let left = shared.gate.milliseconds_left().unwrap_or(0);
+        let known = shared.start_plan.map_or(NO_COST, |plan| plan.cost());
         StageWatch {
             gate: shared.gate,
             reserved: share_of(stage, shared.instance.customers(), shared.budget).reserved(left),
-            known: shared.start_plan.map_or(NO_COST, |plan| plan.cost()),
+            known,
+            limit: known,
         }
+    }
+
+    /// The same watch of a stage that looks for plans up to a lower cost.
+    pub(crate) fn within(self, limit: u64) -> StageWatch<'a, G> {
+        StageWatch { limit, ..self }
     }
 }
 
@@ -57,10 +66,12 @@ impl<G: Gate> Watch for StageWatch<'_, G> {
                 lower_bound,
             } => {
                 self.gate.on_event(Event::Nodes { done, open });
-                // The pool has each route of a canonical plan that costs no more than the known one.
-                let bound = LowerBound::of_cost(lower_bound.min(self.known));
+                // The pool has each route of a canonical plan that costs no more than the limit.
+                let above = self.limit.saturating_add(1).min(self.known);
+                let bound = LowerBound::of_cost(lower_bound.min(above));
                 self.gate.on_event(Event::Bound(bound));
-                if incumbent < self.known {
+                // An incumbent above the limit is none.
+                if incumbent <= self.limit && incumbent < self.known {
                     self.gate.on_event(Event::Plan(incumbent));
                 }
             }

@@ -1,0 +1,118 @@
+//! Guesses from below: the canonical plan is sought within limits below the known plan's cost, the lowest first. A guess without a plan
+//! is a lower bound, and one with a plan has the cheapest of all.
+ghost use Rattle.std.specs.Prelude.{◌≡◌, ◌≤◌, IfOk};
+ghost use Rattle.vrp_canonical.specs.Ending.{IfBetter, IfBound, IfCanonical};
+ghost use Rattle.vrp_column_generation.specs.Last.{LastPricesOf};
+ghost use Rattle.vrp_customers.specs.declared.customer_set.TheConstants.{PLACES};
+ghost use Rattle.vrp_model.specs.Cheapest.{NoneCheaper};
+ghost use Rattle.vrp_model.specs.Order.{IsCanonical};
+ghost use Rattle.vrp_model.specs.Problem.{place_count};
+ghost use Rattle.vrp_model.specs.Route.{IsPlanOf};
+ghost use Rattle.vrp_model.specs.declared.limits.TheConstants.{NO_COST};
+
+use crate::choice::chosen_plan;
+use crate::columns::{nothing, settings_of};
+use crate::stage_watch::{StageWatch, crew_of};
+use std::thread::Threads;
+use vrp_answer::{Event, Gate, Shared, Stage};
+use vrp_bound::LowerBound;
+use vrp_canonical::RoutesOutcome;
+use vrp_column_generation::LastPrices;
+use vrp_model::{NoMemory, Plan};
+
+// The limits of the guesses, in percent of the gap. With the best plan known, guesses take a little longer than none; with another one
+// they save most of the list and of the choice.
+const PERCENT: &[u64] = &[50, 65, 80, 100];
+
+/// The canonical plan, among the routes that the last prices of column generation list for one limit after another, the last one the
+/// known plan's cost. It isn't found if a limit on labels is met, the budget is spent, or the gate stops the search. No plan costs less than
+/// `bound`; a guess without a plan raises it, and the gate hears of that. There are 1 to 64 workers. The only error is lack of memory.
+pub(crate) fn plan_by_guesses<R: Threads + Sync, G: Gate + Sync>(
+    shared: &Shared<'_, R, G>,
+    workers: u32,
+    known: &Plan,
+    prices: &LastPrices<'_>,
+    bound: u64,
+) -> Result<RoutesOutcome, NoMemory>
+    requires few { place_count shared.now.problem ≤ PLACES }
+    requires some_worker { 1 ≤ workers }
+    requires few_workers { workers ≤ 64 }
+    requires moderate { known.now.cost ≤ NO_COST }
+    requires prices { prices.now ≡ record { problem = shared.now.problem; limit = known.now.cost } }
+    requires bound { NoneCheaper shared.now.problem bound }
+    ensures canonical { IfOk result (IfCanonical (IsCanonical shared.now.problem)) }
+    ensures better { IfOk result (IfBetter (IsPlanOf shared.now.problem)) }
+    ensures bound { IfOk result (IfBound (NoneCheaper shared.now.problem)) }
+{
+    let first = bound;
+    let mut bound = bound;
+    for &percent in PERCENT {
+        let limit = guess(first, known.cost(), percent);
+        // No plan costs as little, as an earlier guess has shown.
+        if limit < bound {
+            continue;
+        }
+        match plan_within(shared, workers, known, prices, limit)? {
+            RoutesOutcome::Canonical(plan) => return Ok(RoutesOutcome::Canonical(plan)),
+            RoutesOutcome::Unfinished {
+                better,
+                lower_bound,
+            } => {
+                bound = bound.max(lower_bound);
+                if lower_bound <= limit {
+                    return Ok(RoutesOutcome::Unfinished {
+                        better,
+                        lower_bound: bound,
+                    });
+                }
+            }
+        }
+        shared
+            .gate
+            .on_event(Event::Bound(LowerBound::of_cost(bound)));
+    }
+    Ok(RoutesOutcome::Unfinished {
+        better: None,
+        lower_bound: bound,
+    })
+}
+
+// The bound and so many percent of the gap, and no more than the known cost.
+fn guess(bound: u64, cost: u64, percent: u64) -> u64
+    ensures { result ≤ cost }
+{
+    let gap = cost.saturating_sub(bound);
+    let part = gap.saturating_mul(percent) / 100;
+    bound.saturating_add(part).min(cost)
+}
+
+// The canonical plan, if it costs no more than a limit.
+fn plan_within<R: Threads + Sync, G: Gate + Sync>(
+    shared: &Shared<'_, R, G>,
+    workers: u32,
+    known: &Plan,
+    prices: &LastPrices<'_>,
+    limit: u64,
+) -> Result<RoutesOutcome, NoMemory>
+    requires few { place_count shared.now.problem ≤ PLACES }
+    requires some_worker { 1 ≤ workers }
+    requires few_workers { workers ≤ 64 }
+    requires moderate { known.now.cost ≤ NO_COST }
+    requires prices { prices.now ≡ record { problem = shared.now.problem; limit = known.now.cost } }
+    requires limit { limit ≤ known.now.cost }
+    ensures canonical { IfOk result (IfCanonical (IsCanonical shared.now.problem)) }
+    ensures better { IfOk result (IfBetter (IsPlanOf shared.now.problem)) }
+    ensures bound { IfOk result (IfBound (NoneCheaper shared.now.problem)) }
+{
+    shared.gate.on_event(Event::Begins(Stage::Columns));
+    let watch = StageWatch::of_stage(shared, Stage::Columns);
+    let crew = crew_of(shared, workers, &watch);
+    match prices.routes_within(&crew, limit, settings_of(shared))? {
+        Some(pool) => {
+            let outcome = chosen_plan(shared, &pool, limit, known, workers);
+            drop(pool);
+            outcome
+        }
+        None => Ok(nothing()),
+    }
+}
