@@ -64,12 +64,16 @@ impl<'a> AliveArcs<'a> {
         }
     }
 
-    /// The same arcs for plans that cost no more than a lower limit.
-    pub fn below(self, limit: u64) -> AliveArcs<'a>
-        requires { limit ≤ self.limit }
-        ensures { result ≡ record { problem = self.entry.problem; limit = limit; followers = self.entry.followers } }
+    /// A copy of these arcs for plans that cost no more than a lower limit. The only error is lack of memory.
+    pub fn within(&self, alloc: Global, limit: u64) -> Result<AliveArcs<'a>, NoMemory>
+        requires { limit ≤ self.now.limit }
+        ensures { IfOk result (λ arcs. arcs ≡ record { problem = self.now.problem; limit = limit; followers = self.now.followers }) }
     {
-        AliveArcs { limit, ..self }
+        Ok(AliveArcs {
+            instance: self.instance,
+            limit,
+            followers: Vec::from_slice(alloc, &self.followers)?,
+        })
     }
 
     /// The instance.
