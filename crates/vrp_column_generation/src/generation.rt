@@ -1,4 +1,4 @@
-//! From an instance and a limit on the cost of a plan to a pool of its useful routes.
+//! From an instance and a limit on the cost of a plan to a pool of its useful routes, or to prices that list them for lower limits.
 ghost use Rattle.std.specs.Prelude.{◌≡◌, ◌≤◌, IfOk, IfSome};
 ghost use Rattle.vrp_column_generation.specs.Progress.{AreFor};
 ghost use Rattle.vrp_customers.specs.declared.customer_set.TheConstants.{PLACES};
@@ -9,6 +9,7 @@ ghost use Rattle.vrp_priced_routes.specs.Priced.{BoundsPlans};
 ghost use Rattle.vrp_routes.specs.Pool.{IsPool};
 
 use crate::guide::{Guide, Prices, Settings};
+use crate::last_prices::LastPrices;
 use crate::pace::{Decision, Pace};
 use crate::progress::{AfterPass, Progress};
 use std::thread::Threads;
@@ -21,12 +22,14 @@ use vrp_routes::RoutePool;
 
 /// What column generation leaves.
 #[derive(Drop)]
-pub struct Generation {
+pub struct Generation<'a> {
     /// No feasible plan within the limit costs less.
     pub bound: u64,
-    /// The routes that may be in the canonical plan, if that costs no more than the limit. None if a limit on labels was met, the caller
-    /// stopped it, or pricing can't use the instance's demands.
+    /// The routes that may be in the canonical plan, if that costs no more than the limit: there if their list is short.
     pub pool: Option<RoutePool>,
+    /// The last prices, if there is no pool: they list the routes for lower limits. None if no pass was made by final prices: the caller
+    /// stopped it, a limit was met, or pricing can't use the instance's demands.
+    pub prices: Option<LastPrices<'a>>,
 }
 
 // The number of customers that a label remembers at most.
@@ -45,19 +48,21 @@ fn scale_for(limit: u64) -> u32 {
 }
 
 /// Finds dual prices of an instance by column generation, makes passes by them, and lists the routes after the last one: those that may be in
-/// the canonical plan, if that costs no more than the limit. The program begins with `routes`, those of heuristic plans. The contract leaves
-/// open how high the bound is, and whether there is a pool. The only error is lack of memory.
-pub fn generate_routes<R: Threads + Sync, W: Watch + Sync>(
+/// the canonical plan, if that costs no more than the limit. Where their list would be long, it leaves the prices. The program begins with
+/// `routes`, those of heuristic plans. The contract leaves open how high the bound is, and whether there is a pool or prices. The only error
+/// is lack of memory.
+pub fn generate_routes<'a, R: Threads + Sync, W: Watch + Sync>(
     crew: &Crew<'_, R, W>,
-    instance: &Instance,
+    instance: &'a Instance,
     limit: u64,
     routes: &[Vec<u16>],
     settings: Settings,
-) -> Result<Generation, NoMemory>
+) -> Result<Generation<'a>, NoMemory>
     requires few { place_count instance.now ≤ PLACES }
     requires limit { limit ≤ NO_COST }
     ensures bound { IfOk result (λ made. BoundsPlans instance.now limit made.bound) }
     ensures pool { IfOk result (λ made. IfSome made.pool (IsPool instance.now limit)) }
+    ensures prices { IfOk result (λ made. IfSome made.prices (λ prices. prices ≡ record { problem = instance.now; limit = limit })) }
 {
     let alloc = crew.alloc;
     let near = nearest_sets(alloc, instance, NEAR)?;
@@ -68,10 +73,12 @@ pub fn generate_routes<R: Threads + Sync, W: Watch + Sync>(
         return Ok(Generation {
             bound: 0,
             pool: None,
+            prices: None,
         });
     };
     guide.limit_trucks(instance)?;
-    run_rounds(crew, instance, limit, progress, &mut guide, &near)
+    let last = run_rounds(crew, instance, limit, progress, &mut guide, &near)?;
+    Ok(last.generation(near, guide.guess()))
 }
 
 // What the watch hears of a lower bound: column generation works on one node, the root.
@@ -92,10 +99,10 @@ fn run_rounds<'a, R: Threads + Sync, W: Watch + Sync>(
     progress: Progress<'a>,
     guide: &mut Guide,
     near: &[CustomerSet],
-) -> Result<Generation, NoMemory>
+) -> Result<AfterPass<'a>, NoMemory>
     requires { AreFor instance.now limit progress.arcs }
-    ensures bound { IfOk result (λ made. BoundsPlans instance.now limit made.bound) }
-    ensures pool { IfOk result (λ made. IfSome made.pool (IsPool instance.now limit)) }
+    ensures arcs { IfOk result (λ last. AreFor instance.now limit last.progress.arcs) }
+    ensures pool { IfOk result (λ last. IfSome last.pool (IsPool instance.now limit)) }
 {
     let mut progress = progress;
     let mut pace = Pace::new(guide.in_price_units(limit));
@@ -104,26 +111,24 @@ fn run_rounds<'a, R: Threads + Sync, W: Watch + Sync>(
             break;
         };
         let bound = guide.bound_by(&prices);
-        let decision = if prices.are_final {
+        let are_final = prices.are_final;
+        let decision = if are_final {
             pace.decide(bound, guide.in_price_units(1))
         } else {
             pace.decide_on_the_way(bound)
         };
-        let after = progress.pass_if_decided(crew, guide, &prices, near, decision)?;
-        progress = after.progress;
-        crew.watch.on_news(root_news(limit, progress.bound));
+        let after = progress.pass_if_decided(crew, guide, prices, near, decision)?;
+        crew.watch.on_news(root_news(limit, after.progress.bound));
         if after.pool.is_some() || decision == Decision::End {
-            return Ok(Generation {
-                bound: progress.bound,
-                pool: after.pool,
-            });
+            return Ok(after);
         }
-        if prices.are_final && guide.add_subset_rows()? == 0 {
+        progress = after.progress;
+        if are_final && guide.add_subset_rows()? == 0 {
             pace.finish();
         }
     }
-    Ok(Generation {
-        bound: progress.bound,
+    Ok(AfterPass {
+        progress,
         pool: None,
     })
 }
@@ -134,11 +139,11 @@ impl<'a> Progress<'a> {
         self,
         crew: &Crew<'_, R, W>,
         guide: &mut Guide,
-        prices: &Prices,
+        prices: Prices,
         near: &[CustomerSet],
         decision: Decision,
     ) -> Result<AfterPass<'a>, NoMemory>
-        requires { AreDualsOf self.arcs.problem prices.now.duals }
+        requires { AreDualsOf self.arcs.problem prices.duals }
         ensures arcs { IfOk result (λ after. AreFor self.entry.arcs.problem self.entry.arcs.limit after.progress.arcs) }
         ensures pool { IfOk result (λ after. IfSome after.pool (IsPool self.entry.arcs.problem self.entry.arcs.limit)) }
     {
@@ -148,8 +153,35 @@ impl<'a> Progress<'a> {
                 pool: None,
             });
         }
-        let after = self.pass(crew, &prices.duals, near, guide.pass_limits(decision))?;
-        guide.drop_columns(after.progress.arcs.followers())?;
-        Ok(after)
+        let limits = guide.pass_limits(decision);
+        let AfterPass { progress, pool } = self.pass(crew, &prices.duals, near, limits)?;
+        guide.drop_columns(progress.arcs.followers())?;
+        Ok(AfterPass {
+            progress: progress.keep(prices),
+            pool,
+        })
+    }
+}
+
+impl<'a> AfterPass<'a> {
+    // What column generation leaves after the last pass: the pool, or the last prices with the ng-sets and the guess of a pass by them.
+    fn generation(self, near: Vec<CustomerSet>, guess: u64) -> Generation<'a>
+        ensures bound { BoundsPlans self.entry.progress.arcs.problem self.entry.progress.arcs.limit result.bound }
+        ensures pool { result.pool ≡ self.entry.pool }
+        ensures prices { IfSome result.prices (λ prices.
+            prices ≡ record { problem = self.entry.progress.arcs.problem; limit = self.entry.progress.arcs.limit }) }
+    {
+        let AfterPass { progress, pool } = self;
+        let bound = progress.bound;
+        let prices = if pool.is_some() {
+            None
+        } else {
+            progress.last_prices(near, guess)
+        };
+        Generation {
+            bound,
+            pool,
+            prices,
+        }
     }
 }

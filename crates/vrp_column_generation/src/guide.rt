@@ -24,9 +24,9 @@ pub struct Settings {
     pub most_labels: usize,
     /// The most labels of all pricings together, about.
     pub most_priced: u64,
-    /// The most labels of the list of routes.
+    /// The most labels of a list for a lower limit.
     pub most_listed: u32,
-    /// A list of at most so many labels is taken before the prices are as good as can be.
+    /// The most labels of a list for the limit that prices are found for.
     pub enough_listed: u32,
     /// The most subset rows of the program.
     pub most_rows: usize,
@@ -347,14 +347,18 @@ impl Guide {
             .saturating_add(depth.saturating_mul(customers))
     }
 
+    /// How far below 0, in price units, a pass guesses the cost of a route to be.
+    pub(crate) fn guess(&self) -> u64 {
+        self.tolerance.unsigned_abs()
+    }
+
     /// What a pass may use.
     pub(crate) fn pass_limits(&self, decision: Decision) -> PassLimits {
         PassLimits {
-            guess: self.tolerance.unsigned_abs(),
+            guess: self.guess(),
             most_labels: self.settings.most_labels,
             most_listed: match decision {
-                Decision::PassAndList => self.settings.enough_listed,
-                Decision::End => self.settings.most_listed,
+                Decision::PassAndList | Decision::End => self.settings.enough_listed,
                 Decision::GoOn | Decision::Pass => 0,
             },
         }

@@ -6,6 +6,7 @@
 mod columns;
 mod generation;
 mod guide;
+mod last_prices;
 mod master;
 mod pace;
 mod program_rows;
@@ -13,3 +14,4 @@ mod progress;
 
 pub use generation::{Generation, generate_routes};
 pub use guide::Settings;
+pub use last_prices::LastPrices;

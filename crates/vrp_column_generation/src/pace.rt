@@ -9,7 +9,7 @@ pub(crate) enum Decision {
     Pass,
     /// Make a pass, and list the routes if there are few labels.
     PassAndList,
-    /// Make the last pass and list the routes, however many labels there are.
+    /// The same, for the last time.
     End,
 }
 

@@ -1,23 +1,28 @@
-//! How far the passes have come: the arcs that are left, and the best lower bound.
+//! How far the passes have come: the arcs that are left, the best lower bound, and the last prices.
 ghost use Rattle.std.specs.Prelude.{◌≡◌, IfOk, IfSome};
+ghost use Rattle.std.specs.Option.{ForSome};
 ghost use Rattle.vrp_column_generation.specs.Progress.{AreFor};
 ghost use Rattle.vrp_duals.specs.Duals.{AreDualsOf};
 ghost use Rattle.vrp_priced_routes.specs.Priced.{BoundsPlans};
 ghost use Rattle.vrp_routes.specs.Pool.{IsPool};
 
+use crate::guide::Prices;
+use crate::last_prices::{LastPrices, pool_of};
 use std::thread::Threads;
 use vrp_customers::CustomerSet;
 use vrp_duals::Duals;
 use vrp_model::{Crew, NoMemory, Watch};
 use vrp_priced_routes::{AliveArcs, Pass, Passed, run_pass};
-use vrp_routes::{Listed, RoutePool};
+use vrp_routes::RoutePool;
 
-/// The arcs that plans within the limit use, and what each such plan costs at least.
+/// The arcs that plans within the limit use, what each such plan costs at least, and the last final prices that a pass was made by.
 #[derive(Drop)]
 pub(crate) struct Progress<'a> {
     pub(crate) arcs: AliveArcs<'a>,
     pub(crate) bound: u64,
+    duals: Option<Duals>,
     ghost bounds: { BoundsPlans arcs.problem arcs.limit bound },
+    ghost priced: { ForSome duals (AreDualsOf arcs.problem) },
 }
 
 /// What comes of a pass: the progress, and the pool of useful routes if a list was wanted and short enough.
@@ -42,7 +47,11 @@ impl<'a> Progress<'a> {
     pub(crate) fn new(arcs: AliveArcs<'a>) -> Progress<'a>
         ensures { result.arcs ≡ arcs.entry }
     {
-        Progress { arcs, bound: 0 }
+        Progress {
+            arcs,
+            bound: 0,
+            duals: None,
+        }
     }
 
     /// Makes a pass by these prices, where labels can remember these customers, and lists the routes after it if that is wanted. If the pass
@@ -82,22 +91,42 @@ impl<'a> Progress<'a> {
         } else {
             self.bound
         };
-        let progress = Progress { arcs, bound };
-        if limits.most_listed == 0 {
-            return Ok(AfterPass {
-                progress,
-                pool: None,
-            });
+        let pool = if limits.most_listed == 0 {
+            None
+        } else {
+            pool_of(crew, labels, limits.most_listed)?
+        };
+        let progress = Progress {
+            arcs,
+            bound,
+            duals: self.duals,
+        };
+        Ok(AfterPass { progress, pool })
+    }
+
+    /// Keeps the prices of a pass, if they are final.
+    pub(crate) fn keep(self, prices: Prices) -> Progress<'a>
+        requires { AreDualsOf self.arcs.problem prices.duals }
+        ensures { result.arcs ≡ self.entry.arcs }
+    {
+        if !prices.are_final {
+            return self;
         }
-        match labels.list_routes(crew, limits.most_listed)? {
-            Listed::Pool(pool) => Ok(AfterPass {
-                progress,
-                pool: Some(pool),
-            }),
-            Listed::Met(_) => Ok(AfterPass {
-                progress,
-                pool: None,
-            }),
+        Progress {
+            arcs: self.arcs,
+            bound: self.bound,
+            duals: Some(prices.duals),
+        }
+    }
+
+    /// The prices that were kept last, with the ng-sets and the guess of a pass by them.
+    pub(crate) fn last_prices(self, near: Vec<CustomerSet>, guess: u64) -> Option<LastPrices<'a>>
+        ensures { IfSome result (λ prices. prices ≡ record { problem = self.entry.arcs.problem; limit = self.entry.arcs.limit }) }
+    {
+        let Progress { arcs, duals, .. } = self;
+        match duals {
+            Some(duals) => Some(LastPrices::new(arcs, duals, near, guess)),
+            None => None,
         }
     }
 }
