@@ -2,7 +2,7 @@
 ghost use Rattle.std.specs.Prelude.{true};
 
 use super::*;
-use crate::pool::fixture::{four_trucks, grid, ten_nodes, varied};
+use crate::pool::fixture::{four_trucks, grid, ten_nodes};
 use std::sync::atomic::{AtomicU64, Ordering};
 use vrp_solver::Event;
 
@@ -156,10 +156,10 @@ fn stopped_choice(rt: HostRuntime) {
 }
 
 // If the choice found a cheaper plan than that by savings, and is stopped then, the pieces begin with that plan. They are
-// stopped too, so none of them has a better one; the cheapest costs 881.
+// stopped too, so none of them has a better one; the cheapest costs 212. A choice has its routes in any order, and a word by first stops.
 #[test]
 fn cheaper_choice(rt: HostRuntime) {
-    let instance = varied(&rt, rt.alloc());
+    let instance = grid(&rt, rt.alloc(), (5, 3), 4);
     for workers in [1, 2, 8] {
         let gate = ContinuesLater::from(4, Until::CheaperChoice);
         let asked = (workers, 64, 10_000_000);
@@ -167,7 +167,7 @@ fn cheaper_choice(rt: HostRuntime) {
         let cheaper = gate.cheaper.load(Ordering::SeqCst);
         let is_told =
             matches!(&answer, Answer::Open { plan: Some(plan), .. } if plan.cost() == cheaper);
-        assert!(rt; is_told && 881 <= cheaper, "{cheaper}, by {workers}");
+        assert!(rt; is_told && 212 <= cheaper, "{cheaper}, by {workers}");
     }
 }
 
