@@ -56,10 +56,10 @@ pub none_cheap : (p : Problem) (limit : ℕ) (stops : List (List ℕ)) (pool rou
 none_cheap p limit stops pool routes trucks incumbent others problem pool_of fleet answer lawful cheap =
     none_below p limit stops pool trucks incumbent others problem pool_of fleet answer.least lawful cheap
 
--- and no other does, where the bound is within the limit
+-- and no other does, where the bound is at most one more than the limit
 pub bounded : (p : Problem) (limit : ℕ) (stops : List (List ℕ)) (pool : List Route) (unserved trucks bound : ℕ)
     → IsProblem p → IsPoolOf p limit stops pool → IsFleet p trucks → unserved ≡ stops_set (customers p)
-    → NoneBelow pool unserved trucks bound → bound ≤ limit → NoneCheaper p bound
+    → NoneBelow pool unserved trucks bound → bound ≤ limit + 1 → NoneCheaper p bound
 bounded p limit stops pool unserved trucks bound problem pool_of fleet all below within routes lawful =
     let none = subst (λ n. NoneBelow pool n trucks bound) all below in
     let never : plan_cost p routes < bound → ⊥ =

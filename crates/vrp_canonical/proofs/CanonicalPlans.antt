@@ -50,10 +50,10 @@ canonical_task p limit narrowed ordered chosen unserved trucks found problem are
       within = omega arith;
     }
 
--- where no choice of the narrowed pool costs less than a bound within the limit, no feasible plan does
+-- where no choice of the narrowed pool costs less than a bound of at most one more than the limit, no feasible plan does
 pub narrowed_bound : (p : Problem) (limit : ℕ) (narrowed : List ListedRoute) (unserved trucks bound : ℕ)
     → IsProblem p → AreOrdered p limit narrowed → IsFleet p trucks → unserved ≡ set_of (customers p)
-    → NoneBelow (map route_of narrowed) unserved trucks bound → bound ≤ limit → NoneCheaper p bound
+    → NoneBelow (map route_of narrowed) unserved trucks bound → bound ≤ limit + 1 → NoneCheaper p bound
 narrowed_bound p limit narrowed unserved trucks bound problem are_narrowed fleet all below within =
     bounded p limit (map stops_of narrowed) (map route_of narrowed) unserved trucks bound problem are_narrowed.pool_of fleet all below within
 

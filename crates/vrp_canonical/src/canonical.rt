@@ -1,5 +1,5 @@
 //! The canonical plan from a complete pool of routes.
-ghost use Rattle.std.specs.Prelude.{◌≡◌, ◌+◌, ◌≤◌, ℕ, IfOk, IfSome, length, map, min};
+ghost use Rattle.std.specs.Prelude.{◌≡◌, ◌+◌, ◌^◌, ◌<◌, ◌≤◌, ℕ, IfOk, IfSome, length, map, min};
 ghost use Rattle.vrp_canonical.specs.Ending.{IfBetter, IfBound, IfCanonical};
 ghost use Rattle.vrp_canonical.specs.Ordering.{AreOrdered, chosen_of, route_of, stops_of};
 ghost use Rattle.vrp_canonical.specs.Reaching.{IsTask};
@@ -35,29 +35,30 @@ pub enum RoutesOutcome {
     Canonical(Plan),
     /// The search ended unfinished.
     Unfinished {
-        /// The cheapest feasible plan that it found, if it found one below the known plan's cost.
+        /// The cheapest feasible plan that it found, if it found one within the limit.
         better: Option<Plan>,
-        /// No feasible plan costs less; 0 if nothing is known.
+        /// No feasible plan costs less; 0 if nothing is known. If the search finds that no plan costs as little as the limit, the
+        /// lower bound is one more than the limit.
         lower_bound: u64,
     },
 }
 
-/// The canonical plan of an instance, the first one by cost and then symbol by symbol, from a pool that was listed for the cost of a
-/// known plan. The pool is narrowed to the routes that may be in a choice within that limit. Then the cheapest choice of these is sought,
-/// whose progress the crew's watch hears, and then the routes of the canonical plan, one after another. All searches use forks of the
-/// guide, which is not trusted. The search ends unfinished if the budget is spent, the watch stops it, a cost doesn't fit 32 bits, or
-/// no choice costs as little as the known plan. The contract leaves open when that happens, how high the lower bound is then, and how much
-/// of the budget is spent.
+/// The canonical plan of an instance, the first one by cost and then symbol by symbol, from a pool that was listed for plans that cost no
+/// more than a limit. The pool is narrowed to the routes that may be in a choice within that limit. Then the cheapest choice of these is
+/// sought, whose progress the crew's watch hears, and then the routes of the canonical plan, one after another. All searches use forks of
+/// the guide, which is not trusted. The search ends unfinished if the budget is spent, the watch stops it, a cost doesn't fit 32 bits, or
+/// no plan costs as little as the limit. If it finds that no plan does, the lower bound is one more than the limit. The contract leaves
+/// open when the search ends unfinished, how high the lower bound is then, and how much of the budget is spent.
 pub fn canonical_plan<R: Threads + Sync, P: Guide + Send, W: Watch + Sync>(
     crew: &Crew<'_, R, W>,
     instance: &Instance,
     pool: &RoutePool,
-    known: &Plan,
+    limit: u64,
     guide: &P,
     budget: &mut u64,
 ) -> Result<RoutesOutcome, NoMemory>
     requires few { place_count instance.now ≤ PLACES }
-    requires pool { IsPool instance.now known.now.cost pool.now }
+    requires pool { IsPool instance.now limit pool.now }
     ensures canonical { IfOk result (IfCanonical (IsCanonical instance.now)) }
     ensures better { IfOk result (IfBetter (IsPlanOf instance.now)) }
     ensures bound { IfOk result (IfBound (NoneCheaper instance.now)) }
@@ -74,7 +75,7 @@ pub fn canonical_plan<R: Threads + Sync, P: Guide + Send, W: Watch + Sync>(
         pool,
         routes: routes.as_slice(),
         fleet: &fleet,
-        whole: whole_problem(instance, fleet.trucks, known.cost()),
+        whole: whole_problem(instance, fleet.trucks, limit),
     };
     // The guide keeps what it learns from the narrowed pool for the searches.
     let mut guide = guide.fork()?;
@@ -94,7 +95,7 @@ struct PoolSearch<'a, 'b, R, W> {
     // The pool's routes as a choice sees them.
     routes: &'a [Route],
     fleet: &'a Fleet,
-    // All customers, the whole fleet, and the cost of the known plan.
+    // All customers, the whole fleet, and the limit for which the pool was listed.
     whole: Residual,
 }
 
@@ -126,7 +127,8 @@ fn plan_of_pool<R: Threads + Sync, P: Guide + Send, W: Watch + Sync>(
             drop(ordered);
             best_so_far(search, best, lower_bound)
         }
-        _ => unfinished(),
+        Some(Found::Cheapest(_)) => none_within(most),
+        None => unfinished(),
     }
 }
 
@@ -229,6 +231,19 @@ fn unfinished() -> Result<RoutesOutcome, NoMemory>
     Ok(RoutesOutcome::Unfinished {
         better: None,
         lower_bound: 0,
+    })
+}
+
+// A search that found that no feasible plan costs as little as the limit.
+fn none_within(limit: u64) -> Result<RoutesOutcome, NoMemory>
+    requires { limit + 1 < 2 ^ 64 }
+    ensures canonical { IfOk result (IfCanonical (λ _. ⊥)) }
+    ensures better { IfOk result (IfBetter (λ _. ⊥)) }
+    ensures bound { IfOk result (IfBound (λ bound. bound ≡ limit + 1)) }
+{
+    Ok(RoutesOutcome::Unfinished {
+        better: None,
+        lower_bound: limit + 1,
     })
 }
 

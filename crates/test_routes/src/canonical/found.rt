@@ -1,4 +1,4 @@
-//! Plans found from the pool listed with a known plan.
+//! Plans found from the pool listed for a limit.
 
 use crate::guides::Answering;
 use crate::passes::{Setup, pool_by_pass};
@@ -6,7 +6,7 @@ use std::alloc::Global;
 use std::process::Abort;
 use std::thread::Threads;
 use vrp_canonical::{RoutesOutcome, canonical_plan};
-use vrp_model::{Crew, Instance, NoMemory, Plan};
+use vrp_model::{Crew, Instance, NoMemory};
 use vrp_partition::Guide;
 use vrp_routes::can_list;
 
@@ -17,12 +17,12 @@ pub(crate) struct Effort {
     pub(crate) budget: u64,
 }
 
-/// The result of two workers from a known plan, with this guide and effort. The routes are listed by prices of 0.
+/// The result of two workers for a limit, with this guide and effort. The routes are listed by prices of 0.
 pub(crate) fn found_plan<R: Abort + Threads + Sync, P: Guide + Send>(
     rt: &R,
     alloc: Global,
     instance: &Instance,
-    known: &Plan,
+    limit: u64,
     guide: &P,
     effort: Effort,
 ) -> Result<RoutesOutcome, NoMemory> {
@@ -34,7 +34,7 @@ pub(crate) fn found_plan<R: Abort + Threads + Sync, P: Guide + Send>(
         near: 2,
         workers: 2,
     };
-    let pool = pool_by_pass(rt, alloc, instance, setup, known.cost());
+    let pool = pool_by_pass(rt, alloc, instance, setup, limit);
     let mut left = effort.budget;
     let crew = Crew {
         rt,
@@ -42,5 +42,5 @@ pub(crate) fn found_plan<R: Abort + Threads + Sync, P: Guide + Send>(
         workers: 2,
         watch: &effort.watch,
     };
-    canonical_plan(&crew, instance, &pool, known, guide, &mut left)
+    canonical_plan(&crew, instance, &pool, limit, guide, &mut left)
 }

@@ -67,8 +67,7 @@ fn by_chance(rt: &impl Abort, alloc: Global, random: &mut Random) -> Instance {
     with_arcs(alloc, arcs.as_slice(), demands.as_slice(), 4).expect(rt, "an instance")
 }
 
-// How many of the plans found are the canonical one: starting from it, and from the plan of one truck for each customer, by
-// several guides.
+// How many of the plans found are the canonical one: for its cost, and for that of one truck for each customer, by several guides.
 fn plans_of<R: Abort + Threads + Sync>(rt: &R, alloc: Global, instance: &Instance) -> u64 {
     let canonical = canonical_plan(alloc, instance).expect(rt, "memory");
     let Some(canonical) = canonical else {
@@ -76,10 +75,10 @@ fn plans_of<R: Abort + Threads + Sync>(rt: &R, alloc: Global, instance: &Instanc
     };
     let known = lawful_plan(alloc, instance, canonical.word.as_slice()).expect(rt, "memory");
     let least = known.expect(rt, "the first plan has a lawful word");
-    let mut plans = by_guides(rt, alloc, instance, &least, &canonical);
+    let mut plans = by_guides(rt, alloc, instance, least.cost(), &canonical);
     let singles = Plan::singles(alloc, instance).expect(rt, "memory");
     if let Some(costly) = singles {
-        plans = plans.saturating_add(by_guides(rt, alloc, instance, &costly, &canonical));
+        plans = plans.saturating_add(by_guides(rt, alloc, instance, costly.cost(), &canonical));
     }
     plans
 }
@@ -119,23 +118,25 @@ fn guide(alloc: Global, habit: Habit, seed: u64) -> Habitual {
 
 const GUIDES: &[(Habit, u64)] = &[(Habit::Zeros, 1), (Habit::Random, 2), (Habit::Random, 3)];
 
+// More than a search among the routes of these instances needs.
+const UNHURRIED: Effort = Effort {
+    watch: Answering {
+        should_continue: true,
+    },
+    budget: 1_000_000,
+};
+
 fn by_guides<R: Abort + Threads + Sync>(
     rt: &R,
     alloc: Global,
     instance: &Instance,
-    known: &Plan,
+    limit: u64,
     canonical: &Canonical,
 ) -> u64 {
     let mut plans = 0u64;
     for &(habit, seed) in GUIDES {
         let guide = guide(alloc, habit, seed);
-        let effort = Effort {
-            watch: Answering {
-                should_continue: true,
-            },
-            budget: 1_000_000,
-        };
-        let found = found_plan(rt, alloc, instance, known, &guide, effort);
+        let found = found_plan(rt, alloc, instance, limit, &guide, UNHURRIED);
         let plan = canonical_of(found.expect(rt, "memory")).expect(rt, "a plan");
         assert_same(rt, plan.cost(), canonical.cost, "cost");
         assert!(rt;
@@ -178,7 +179,7 @@ fn budgets_and_guides_that_stop(rt: HostRuntime) {
             },
             budget,
         };
-        let found = found_plan(rt, alloc, &instance, &known, &guide, effort);
+        let found = found_plan(rt, alloc, &instance, known.cost(), &guide, effort);
         let found = found.expect(rt, "memory");
         let cost = cost_told(&found);
         assert_same(rt, cost, told.then_some(canonical.cost), (habit, budget));
