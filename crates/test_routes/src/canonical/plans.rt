@@ -190,3 +190,51 @@ fn budgets_and_guides_that_stop(rt: HostRuntime) {
         assert_same(rt, plan.is_some(), wanted, (habit, budget));
     }
 }
+
+// Places, the capacity, a limit, and the lower bound if no plan costs as little. Each customer's demand is 1. By hand, the cheapest plans
+// cost 57, 60 and 48, and one truck for each customer costs 72, 72 and 56.
+const GUESSES: &[(&[(i64, i64)], u64, u64, Option<u64>)] = &[
+    (FIVE, 4, 0, Some(1)),
+    (FIVE, 4, 40, Some(41)),
+    (FIVE, 4, 56, Some(57)),
+    (FIVE, 4, 57, None),
+    (FIVE, 4, 65, None),
+    (FIVE, 2, 59, Some(60)),
+    (FIVE, 2, 66, None),
+    (SQUARE, 2, 47, Some(48)),
+    (SQUARE, 2, 52, None),
+];
+
+#[test]
+fn limits_guessed_from_below(rt: HostRuntime) {
+    let (rt, alloc) = (&rt, rt.alloc());
+    for &(points, capacity, limit, bound) in GUESSES {
+        let instance = at_points(alloc, points, &[0, 1, 1, 1, 1], capacity);
+        let instance = instance.expect(rt, "an instance");
+        match bound {
+            Some(bound) => none_by_guides(rt, alloc, &instance, limit, bound),
+            None => {
+                let canonical = canonical_plan(alloc, &instance).expect(rt, "memory");
+                let canonical = canonical.expect(rt, "a plan");
+                by_guides(rt, alloc, &instance, limit, &canonical);
+            }
+        }
+    }
+}
+
+// By each guide no plan is found within the limit, and the search ends with this lower bound.
+fn none_by_guides<R: Abort + Threads + Sync>(
+    rt: &R,
+    alloc: Global,
+    instance: &Instance,
+    limit: u64,
+    bound: u64,
+) {
+    for &(habit, seed) in GUIDES {
+        let guide = guide(alloc, habit, seed);
+        let found = found_plan(rt, alloc, instance, limit, &guide, UNHURRIED);
+        let found = found.expect(rt, "memory");
+        assert_same(rt, cost_told(&found), None, (habit, limit));
+        assert_same(rt, bound_told(&found), Some(bound), (habit, limit));
+    }
+}
