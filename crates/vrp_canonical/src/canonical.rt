@@ -16,7 +16,7 @@ ghost use Rattle.vrp_partition.specs.Choice.{IsCheapest};
 ghost use Rattle.vrp_routes.specs.Pool.{IsPool};
 
 use crate::narrowed::Narrowing;
-use crate::ordered::{ListedRoute, chosen_routes, routes_of, word_at, word_of_choice};
+use crate::ordered::{ListedRoute, by_stops, chosen_routes, routes_of, word_at, word_of_choice};
 use crate::plan_places::canonical_places;
 use crate::residual::Residual;
 use crate::searches::{Searches, search_within};
@@ -177,8 +177,12 @@ fn best_so_far<R, W>(
     ensures bound { IfOk result (IfBound (λ bound. bound ≡ min lower_bound search.now.whole.most)) }
 {
     let alloc = search.crew.alloc;
-    let word = word_of_choice(alloc, search.pool, search.routes, best.routes.as_slice());
+    // The search found the routes in another order.
+    let sorted = by_stops(alloc, search.pool, search.routes, best.routes.as_slice());
     drop(best);
+    let sorted = sorted?;
+    let word = word_of_choice(alloc, search.pool, search.routes, sorted.as_slice());
+    drop(sorted);
     let better = lawful_plan(alloc, search.instance, &word?)?;
     let lower_bound = lower_bound.min(search.whole.most);
     Ok(RoutesOutcome::Unfinished {

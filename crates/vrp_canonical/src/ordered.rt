@@ -172,6 +172,33 @@ pub fn word_of_choice(
     Ok(word)
 }
 
+/// The routes of a choice by rising stops, as they stand in a word. A route that is none of the pool's is left out. No clause pins the
+/// result: its word is checked. `routes` are those of the pool, as a choice sees them.
+pub fn by_stops(
+    alloc: Global,
+    pool: &RoutePool,
+    routes: &[Route],
+    choice: &[Route],
+) -> Result<Vec<Route>, NoMemory>
+    requires { length routes.now ≡ length pool.now }
+{
+    let mut listed = Vec::new(alloc);
+    for chosen in choice {
+        if let Some(at) = place_of(routes, *chosen) {
+            let stops = pool.stops(alloc, at)?;
+            listed.push(ListedRoute {
+                stops,
+                set: chosen.set,
+                cost: chosen.cost,
+            })?;
+        }
+    }
+    listed.sort()?;
+    let sorted = routes_of(alloc, listed.as_slice())?;
+    drop(listed);
+    Ok(sorted)
+}
+
 // The first place of a route with the same customers and the same cost.
 fn place_of(routes: &[Route], route: Route) -> Option<usize>
     ensures within { IfSome result (λ at. at < length routes.now) }
