@@ -6,7 +6,6 @@ ghost use Rattle.vrp_model.specs.Cheapest.{NoneCheaper};
 ghost use Rattle.vrp_model.specs.Order.{IsCanonical};
 ghost use Rattle.vrp_model.specs.Problem.{place_count};
 ghost use Rattle.vrp_model.specs.Route.{IsPlanOf};
-ghost use Rattle.vrp_model.specs.declared.limits.TheConstants.{NO_COST};
 ghost use Rattle.vrp_routes.specs.Pool.{IsPool};
 
 use crate::stage_watch::{StageWatch, crew_of};
@@ -31,7 +30,6 @@ pub(crate) fn chosen_plan<R: Threads + Sync, G: Gate + Sync>(
     requires few { place_count shared.now.problem ≤ PLACES }
     requires some_worker { 1 ≤ workers }
     requires few_workers { workers ≤ 64 }
-    requires moderate { limit ≤ NO_COST }
     requires pool { IsPool shared.now.problem limit pool.now }
     ensures canonical { IfOk result (IfCanonical (IsCanonical shared.now.problem)) }
     ensures better { IfOk result (IfBetter (IsPlanOf shared.now.problem)) }

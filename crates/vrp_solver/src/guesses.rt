@@ -1,6 +1,6 @@
 //! Guesses from below: the canonical plan is sought within limits below the known plan's cost, the lowest first. A guess without a plan
 //! is a lower bound, and one with a plan has the cheapest of all.
-ghost use Rattle.std.specs.Prelude.{◌≡◌, ◌≤◌, IfOk};
+ghost use Rattle.std.specs.Prelude.{◌≡◌, ◌≤◌, IfOk, IfSome};
 ghost use Rattle.vrp_canonical.specs.Ending.{IfBetter, IfBound, IfCanonical};
 ghost use Rattle.vrp_column_generation.specs.Last.{LastPricesOf};
 ghost use Rattle.vrp_customers.specs.declared.customer_set.TheConstants.{PLACES};
@@ -8,7 +8,7 @@ ghost use Rattle.vrp_model.specs.Cheapest.{NoneCheaper};
 ghost use Rattle.vrp_model.specs.Order.{IsCanonical};
 ghost use Rattle.vrp_model.specs.Problem.{place_count};
 ghost use Rattle.vrp_model.specs.Route.{IsPlanOf};
-ghost use Rattle.vrp_model.specs.declared.limits.TheConstants.{NO_COST};
+ghost use Rattle.vrp_routes.specs.Pool.{IsPool};
 
 use crate::choice::chosen_plan;
 use crate::columns::{nothing, settings_of};
@@ -19,6 +19,7 @@ use vrp_bound::LowerBound;
 use vrp_canonical::RoutesOutcome;
 use vrp_column_generation::LastPrices;
 use vrp_model::{NoMemory, Plan};
+use vrp_routes::RoutePool;
 
 // The limits of the guesses, in percent of the gap. With the best plan known, guesses take a little longer than none; with another one
 // they save most of the list and of the choice.
@@ -37,7 +38,6 @@ pub(crate) fn plan_by_guesses<R: Threads + Sync, G: Gate + Sync>(
     requires few { place_count shared.now.problem ≤ PLACES }
     requires some_worker { 1 ≤ workers }
     requires few_workers { workers ≤ 64 }
-    requires moderate { known.now.cost ≤ NO_COST }
     requires prices { prices.now ≡ record { problem = shared.now.problem; limit = known.now.cost } }
     requires bound { NoneCheaper shared.now.problem bound }
     ensures canonical { IfOk result (IfCanonical (IsCanonical shared.now.problem)) }
@@ -97,17 +97,13 @@ fn plan_within<R: Threads + Sync, G: Gate + Sync>(
     requires few { place_count shared.now.problem ≤ PLACES }
     requires some_worker { 1 ≤ workers }
     requires few_workers { workers ≤ 64 }
-    requires moderate { known.now.cost ≤ NO_COST }
     requires prices { prices.now ≡ record { problem = shared.now.problem; limit = known.now.cost } }
     requires limit { limit ≤ known.now.cost }
     ensures canonical { IfOk result (IfCanonical (IsCanonical shared.now.problem)) }
     ensures better { IfOk result (IfBetter (IsPlanOf shared.now.problem)) }
     ensures bound { IfOk result (IfBound (NoneCheaper shared.now.problem)) }
 {
-    shared.gate.on_event(Event::Begins(Stage::Columns));
-    let watch = StageWatch::of_stage(shared, Stage::Columns);
-    let crew = crew_of(shared, workers, &watch);
-    match prices.routes_within(&crew, limit, settings_of(shared))? {
+    match pool_within(shared, workers, prices, limit)? {
         Some(pool) => {
             let outcome = chosen_plan(shared, &pool, limit, known, workers);
             drop(pool);
@@ -115,4 +111,23 @@ fn plan_within<R: Threads + Sync, G: Gate + Sync>(
         }
         None => Ok(nothing()),
     }
+}
+
+// The routes that may be in the canonical plan, if it costs no more than a limit.
+fn pool_within<R: Threads + Sync, G: Gate + Sync>(
+    shared: &Shared<'_, R, G>,
+    workers: u32,
+    prices: &LastPrices<'_>,
+    limit: u64,
+) -> Result<Option<RoutePool>, NoMemory>
+    requires some_worker { 1 ≤ workers }
+    requires few_workers { workers ≤ 64 }
+    requires limit { limit ≤ prices.now.limit }
+    ensures { IfOk result (λ pool. IfSome pool (IsPool prices.now.problem limit)) }
+{
+    shared.gate.on_event(Event::Begins(Stage::Columns));
+    let settings = settings_of(shared);
+    let watch = StageWatch::of_stage(shared, Stage::Columns);
+    let crew = crew_of(shared, workers, &watch);
+    prices.routes_within(&crew, limit, settings)
 }
