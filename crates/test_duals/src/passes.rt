@@ -58,6 +58,23 @@ fn by_hand(rt: HostRuntime) {
     }
 }
 
+// The arcs for plans of up to 1,000 serve for lower limits too: a pass along them leaves the routes of plans within the limit.
+#[test]
+fn lower_limits(rt: HostRuntime) {
+    let alloc = rt.alloc();
+    let instance = pair(&rt, alloc);
+    let duals = equal_prices(&rt, alloc, &instance, 12, &[]);
+    let arcs = all_arcs(&rt, alloc, &instance, 1_000);
+    // The limit and the number of routes: the plan of two trucks costs 40.
+    for (limit, routes) in [(23, 0), (24, 1), (40, 3), (1_000, 3)] {
+        assert!(rt; limit <= arcs.limit());
+        let lower = arcs.within(alloc, limit).expect(&rt, "memory");
+        assert_same(&rt, lower.limit(), limit, "limit");
+        let found = found_along(&rt, alloc, &lower, &duals, 0);
+        assert_same(&rt, found, Found { bound: 24, routes }, limit);
+    }
+}
+
 // With 255 customers, each a truckload and 7 from the depot: a plan costs 14 for each, and its routes are those of one customer.
 #[test]
 fn most_customers(rt: HostRuntime) {
@@ -152,6 +169,19 @@ fn pass_by_equal_prices<R: Abort + Threads + Sync>(
 ) -> Found {
     let duals = equal_prices(rt, alloc, instance, price, &[]);
     let arcs = all_arcs(rt, alloc, instance, limit);
+    found_along(rt, alloc, &arcs, &duals, guess)
+}
+
+// The same of a pass along these arcs.
+fn found_along<R: Abort + Threads + Sync>(
+    rt: &R,
+    alloc: Global,
+    arcs: &AliveArcs<'_>,
+    duals: &Duals,
+    guess: u64,
+) -> Found
+    requires { AreDualsOf arcs.now.problem duals.now }
+{
     let near = nearest_sets(alloc, arcs.instance(), 8).expect(rt, "memory");
     let crew = Crew {
         rt,
@@ -159,7 +189,7 @@ fn pass_by_equal_prices<R: Abort + Threads + Sync>(
         workers: 1,
         watch: &Unhurried,
     };
-    let passed = run_pass(&crew, &arcs, &duals, &near, guess, MOST_LABELS).expect(rt, "memory");
+    let passed = run_pass(&crew, arcs, duals, &near, guess, MOST_LABELS).expect(rt, "memory");
     let mut found = Found {
         bound: 0,
         routes: usize::MAX,
@@ -202,7 +232,8 @@ fn equal_prices(
 
 // All arcs, for plans within a limit.
 fn all_arcs<'a>(rt: &impl Abort, alloc: Global, instance: &'a Instance, limit: u64) -> AliveArcs<'a>
-    ensures { result.problem ≡ instance.now }
+    ensures problem { result.problem ≡ instance.now }
+    ensures limit { result.limit ≡ limit }
 {
     assert!(rt; usize::from(instance.customers()) < PLACES && limit <= NO_COST);
     AliveArcs::all(alloc, instance, limit).expect(rt, "memory")

@@ -69,11 +69,8 @@ impl<'a> AliveArcs<'a> {
         requires { limit ≤ self.now.limit }
         ensures { IfOk result (λ arcs. arcs ≡ record { problem = self.now.problem; limit = limit; followers = self.now.followers }) }
     {
-        Ok(AliveArcs {
-            instance: self.instance,
-            limit,
-            followers: Vec::from_slice(alloc, &self.followers)?,
-        })
+        let followers = Vec::from_slice(alloc, &self.followers)?;
+        Ok(AliveArcs::of(self.instance, limit, followers))
     }
 
     /// The instance.
