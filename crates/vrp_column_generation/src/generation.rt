@@ -17,7 +17,6 @@ use vrp_customers::CustomerSet;
 use vrp_duals::MAX_SCALE;
 use vrp_model::{Crew, Instance, News, NoMemory, Watch};
 use vrp_priced_routes::{AliveArcs, nearest_sets};
-use vrp_pricing::Effort;
 use vrp_routes::RoutePool;
 
 /// What column generation leaves.
