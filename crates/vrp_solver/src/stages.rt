@@ -50,6 +50,8 @@ pub(crate) fn share_of(stage: Stage, customers: u16, budget: u64) -> Share {
         Stage::Prices if few => row(6, 1, usual, USUAL),
         Stage::Prices if many => row(4, 5, 5 * usual, u64::MAX),
         Stage::Prices => row(6, 5, 5 * usual, u64::MAX),
+        // With many customers a choice may not end, and better plans are worth more.
+        Stage::Choice if many => row(6, 1, usual, u64::MAX),
         Stage::Choice => row(12, 1, usual, u64::MAX),
         Stage::BetterPlans => row(9, 1, 0, u64::MAX),
         Stage::Pieces => row(12, 1, 0, u64::MAX),
