@@ -1,5 +1,5 @@
 //! Passes by random dual prices over small random instances, compared with a plain slow program that tries every plan. The words are
-//! SEED COUNT. Each pool must have every route of the canonical plan, if that is within the limit, and no lower bound may be above it.
+//! SEED COUNT. Half of the instances are branched on the number of routes. Each pool must have every route of the canonical plan, if that is within the limit, and no lower bound may be above it.
 mod random_instance;
 mod random_prices;
 
@@ -13,7 +13,7 @@ use test_fixtures::{Canonical, Random, canonical_plan};
 use vrp_customers::PLACES;
 use vrp_model::{Crew, Instance, NO_COST, Unhurried};
 use vrp_priced_routes::{AliveArcs, Pass};
-use vrp_routes::{Listed, RoutePool};
+use vrp_routes::{Leaves, Listed, PlanRange, RoutePool};
 
 // More labels than lists of small instances have.
 const MOST_LISTED: u32 = 1_000_000;
@@ -91,7 +91,7 @@ fn limit_for(random: &mut Random, canonical: &Option<Canonical>) -> u64 {
     }
 }
 
-// The pool after two passes by different prices, and the lower bound of the second.
+// The pool after passes by random prices, and the lower bound: of all plans, or of two leaves, plans with few routes and plans with more.
 fn pool_of<R: AllocGlobal + Threads + Sync>(
     rt: &R,
     random: &mut Random,
@@ -109,15 +109,32 @@ fn pool_of<R: AllocGlobal + Threads + Sync>(
         workers: (random.next() % 2 + 1) as u16,
         watch: &Unhurried,
     };
-    let first = random_prices(alloc, random, instance)?;
-    let second = random_prices(alloc, random, instance)?;
+    let all = AliveArcs::all(alloc, instance, limit)?;
+    if random.next() % 2 == 0 {
+        return pool_along(&crew, random, &all);
+    }
+    let Leaves { few, many } = PlanRange::within(limit).split((random.next() % 4) as u16);
+    let (mut pool, bound) = pool_along(&crew, random, &all.part(alloc, few)?)?;
+    let (other, other_bound) = pool_along(&crew, random, &all.part(alloc, many)?)?;
+    ensure!(pool.add(alloc, &other)?, "there are too many routes");
+    Ok((pool, bound.min(other_bound)))
+}
+
+// The pool after two passes along arcs by different prices, and the lower bound of the second.
+fn pool_along<R: Threads + Sync>(
+    crew: &Crew<'_, R, Unhurried>,
+    random: &mut Random,
+    all: &AliveArcs<'_>,
+) -> Result<(RoutePool, u64)> {
+    let (alloc, instance, range) = (crew.alloc, all.instance(), all.range());
+    let first = random_prices(alloc, random, instance, range)?;
+    let second = random_prices(alloc, random, instance, range)?;
     let near = random_sets(alloc, random, instance)?;
     let guess = u64::from(random.next() % 50);
-    let all = AliveArcs::all(alloc, instance, limit)?;
-    let Pass { arcs, labels: _ } = pass_over(&crew, &all, &first, &near, guess)?;
-    let Pass { arcs: _, labels } = pass_over(&crew, &arcs, &second, &near, 0)?;
+    let Pass { arcs, labels: _ } = pass_over(crew, all, &first, &near, guess)?;
+    let Pass { arcs: _, labels } = pass_over(crew, &arcs, &second, &near, 0)?;
     let bound = labels.lower_bound();
-    match labels.list_routes(&crew, MOST_LISTED)? {
+    match labels.list_routes(crew, MOST_LISTED)? {
         Listed::Pool(pool) => Ok((pool, bound)),
         Listed::Met(limit) => bail!("{limit:?}"),
     }

@@ -2,6 +2,7 @@
 
 ghost use Rattle.std.specs.Prelude.{◌≡◌};
 ghost use Rattle.vrp_duals.specs.Duals.{AreDualsOf};
+ghost use Rattle.vrp_routes.specs.Range.{plans_within};
 
 use crate::assertion::assert_same;
 use crate::duals::fixture::set_of;
@@ -14,7 +15,7 @@ use vrp_duals::{Duals, EntryRow};
 use vrp_labels::ClosingLimit;
 use vrp_model::{Crew, Instance, Layout, NO_COST, Unhurried, Watch};
 use vrp_priced_routes::{AliveArcs, Pass, PassFault, Passed, nearest_sets, run_pass};
-use vrp_routes::Listed;
+use vrp_routes::{Listed, PlanRange};
 
 const MOST_LABELS: usize = 1_000_000;
 
@@ -67,9 +68,10 @@ fn lower_limits(rt: HostRuntime) {
     let arcs = all_arcs(&rt, alloc, &instance, 1_000);
     // The limit and the number of routes: the plan of two trucks costs 40.
     for (limit, routes) in [(23, 0), (24, 1), (40, 3), (1_000, 3)] {
-        assert!(rt; limit <= arcs.limit());
-        let lower = arcs.within(alloc, limit).expect(&rt, "memory");
-        assert_same(&rt, lower.limit(), limit, "limit");
+        assert!(rt; limit <= 1_000);
+        let range = PlanRange::within(limit);
+        let lower = arcs.part(alloc, range).expect(&rt, "memory");
+        assert_same(&rt, lower.range(), range, "range");
         let found = found_along(&rt, alloc, &lower, &duals, 0);
         assert_same(&rt, found, Found { bound: 24, routes }, limit);
     }
@@ -233,7 +235,7 @@ fn equal_prices(
 // All arcs, for plans within a limit.
 fn all_arcs<'a>(rt: &impl Abort, alloc: Global, instance: &'a Instance, limit: u64) -> AliveArcs<'a>
     ensures problem { result.problem ≡ instance.now }
-    ensures limit { result.limit ≡ limit }
+    ensures range { result.range ≡ plans_within limit }
 {
     assert!(rt; usize::from(instance.customers()) < PLACES && limit <= NO_COST);
     AliveArcs::all(alloc, instance, limit).expect(rt, "memory")

@@ -35,7 +35,7 @@ canonical_cheapest p plan routes canonical lawful = elim (cases_lt (plan_cost p 
 
 -- the routes of the canonical plan stand in the pool
 pub in_pool : (p : Problem) (limit : ℕ) (stops : List (List ℕ)) (pool : List Route) (plan : PricedPlan) → IsPoolOf p limit stops pool → IsCanonical p plan → plan.cost ≤ limit → All (Contains stops) plan.routes
-in_pool p limit stops pool plan pool_of canonical cheap = All-weaker (Contains plan.routes) (Contains stops) (λ r among. pool_of.every r (record { plan = plan; canonical = canonical; cheap = cheap; among = among })) plan.routes (All-contains_itself plan.routes)
+in_pool p limit stops pool plan pool_of canonical cheap = All-weaker (Contains plan.routes) (Contains stops) (λ r among. pool_of.every r (record { plan = plan; canonical = canonical; cheap = cheap; many = omega arith; few = λ most is. absurd (cc); among = among })) plan.routes (All-contains_itself plan.routes)
 
 -- before any route is chosen all customers are unserved
 pub all_unserved : (p : Problem) → AreUnserved p [] (set_of (customers p))

@@ -1,1 +1,2 @@
+mod AllPlans
 mod Passes

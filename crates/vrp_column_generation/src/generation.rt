@@ -1,21 +1,21 @@
 //! From an instance and a limit on the cost of a plan to a pool of its useful routes, or to prices that list them for lower limits.
-ghost use Rattle.std.specs.Prelude.{◌≡◌, ◌≤◌, IfOk, IfSome};
-ghost use Rattle.vrp_column_generation.specs.Progress.{AreFor};
+ghost use Rattle.std.specs.Prelude.{◌≡◌, ◌≤◌, IfOk, IfSome, None};
 ghost use Rattle.vrp_customers.specs.declared.customer_set.TheConstants.{PLACES};
-ghost use Rattle.vrp_duals.specs.Duals.{AreDualsOf};
 ghost use Rattle.vrp_model.specs.Problem.{place_count};
 ghost use Rattle.vrp_model.specs.declared.limits.TheConstants.{NO_COST};
-ghost use Rattle.vrp_priced_routes.specs.Priced.{BoundsPlans};
-ghost use Rattle.vrp_routes.specs.Pool.{IsPool};
+ghost use Rattle.vrp_priced_routes.specs.Priced.{BoundsPlans, BoundsPlansIn};
+ghost use Rattle.vrp_routes.specs.Pool.{IsPool, IsPoolIn};
+ghost use Rattle.vrp_routes.specs.Range.{plans_within};
 
-use crate::guide::{Guide, Prices, Settings};
+use crate::guide::{Guide, Settings};
 use crate::last_prices::LastPrices;
-use crate::pace::{Decision, Pace};
-use crate::progress::{AfterPass, Progress};
+use crate::leaves::generate_leaves;
+use crate::progress::Progress;
+use crate::rounds::{AfterRounds, run_rounds};
 use std::thread::Threads;
 use vrp_customers::CustomerSet;
 use vrp_duals::MAX_SCALE;
-use vrp_model::{Crew, Instance, News, NoMemory, Watch};
+use vrp_model::{Crew, Instance, NoMemory, Watch};
 use vrp_priced_routes::{AliveArcs, nearest_sets};
 use vrp_routes::RoutePool;
 
@@ -37,9 +37,6 @@ const NEAR: usize = 8;
 // The cost of a plan is at most this many price units: 2 ^ 26.
 const MOST_UNITS: u64 = 67_108_864;
 
-// The most rounds of subset rows.
-const MOST_ROUNDS: u32 = 400;
-
 // The number of price units in a unit of cost.
 fn scale_for(limit: u64) -> u32 {
     let fits = (MOST_UNITS / limit.max(1)).clamp(1, u64::from(MAX_SCALE));
@@ -47,7 +44,8 @@ fn scale_for(limit: u64) -> u32 {
 }
 
 /// Finds dual prices of an instance by column generation, makes passes by them, and lists the routes after the last one: those that may be in
-/// the canonical plan, if that costs no more than the limit. Where their list would be long, it leaves the prices. The program begins with
+/// the canonical plan, if that costs no more than the limit. Where their list would be long, it leaves the prices. Where the number of routes
+/// in a solution isn't whole, it branches: plans with fewer routes and plans with more get prices of their own. The program begins with
 /// `routes`, those of heuristic plans. The contract leaves open how high the bound is, and whether there is a pool or prices. The only error
 /// is lack of memory.
 pub fn generate_routes<'a, R: Threads + Sync, W: Watch + Sync>(
@@ -66,9 +64,10 @@ pub fn generate_routes<'a, R: Threads + Sync, W: Watch + Sync>(
     let alloc = crew.alloc;
     let near = nearest_sets(alloc, instance, NEAR)?;
     let scale = scale_for(limit);
-    let progress = Progress::new(AliveArcs::all(alloc, instance, limit)?);
+    let arcs = AliveArcs::all(alloc, instance, limit)?;
     let guide = Guide::new(alloc, instance, scale, limit, &near, routes, settings)?;
     let Some(mut guide) = guide else {
+        drop(arcs);
         return Ok(Generation {
             bound: 0,
             pool: None,
@@ -76,106 +75,70 @@ pub fn generate_routes<'a, R: Threads + Sync, W: Watch + Sync>(
         });
     };
     guide.limit_trucks(instance)?;
-    let last = run_rounds(crew, instance, limit, progress, &mut guide, &near)?;
-    Ok(last.generation(near, guide.guess()))
+    let made = generate(crew, instance, arcs, &mut guide, near);
+    drop(guide);
+    made
 }
 
-// What the watch hears of a lower bound: column generation works on one node, the root.
-fn root_news(limit: u64, lower_bound: u64) -> News {
-    News::Nodes {
-        done: 0,
-        open: 1,
-        incumbent: limit,
-        lower_bound,
-    }
-}
-
-// Makes passes by better and better prices, until the routes are listed or a limit is met.
-fn run_rounds<'a, R: Threads + Sync, W: Watch + Sync>(
+// What column generation by this guide leaves, along these arcs.
+fn generate<'a, R: Threads + Sync, W: Watch + Sync>(
     crew: &Crew<'_, R, W>,
     instance: &'a Instance,
-    limit: u64,
-    progress: Progress<'a>,
+    arcs: AliveArcs<'a>,
     guide: &mut Guide,
-    near: &[CustomerSet],
-) -> Result<AfterPass<'a>, NoMemory>
-    requires { AreFor instance.now limit progress.arcs }
-    ensures arcs { IfOk result (λ last. AreFor instance.now limit last.progress.arcs) }
-    ensures pool { IfOk result (λ last. IfSome last.pool (IsPool instance.now limit)) }
+    near: Vec<CustomerSet>,
+) -> Result<Generation<'a>, NoMemory>
+    requires few { place_count instance.now ≤ PLACES }
+    requires problem { arcs.problem ≡ instance.now }
+    requires all { arcs.range ≡ plans_within arcs.range.limit }
+    ensures bound { IfOk result (λ made. BoundsPlansIn arcs.entry.problem arcs.entry.range made.bound) }
+    ensures pool { IfOk result (λ made. IfSome made.pool (IsPoolIn arcs.entry.problem arcs.entry.range)) }
+    ensures prices { IfOk result (λ made. IfSome made.prices (λ prices.
+        prices ≡ record { problem = arcs.entry.problem; limit = arcs.entry.range.limit })) }
 {
-    let mut progress = progress;
-    let mut pace = Pace::new(guide.in_price_units(limit));
-    for _ in 0..MOST_ROUNDS {
-        let Some(prices) = guide.next_prices(crew, instance, progress.arcs.followers())? else {
-            break;
-        };
-        let bound = guide.bound_by(&prices);
-        let are_final = prices.are_final;
-        let decision = if are_final {
-            pace.decide(bound, guide.in_price_units(1))
-        } else {
-            pace.decide_on_the_way(bound)
-        };
-        let after = progress.pass_if_decided(crew, guide, prices, near, decision)?;
-        crew.watch.on_news(root_news(limit, after.progress.bound));
-        if after.pool.is_some() || decision == Decision::End {
-            return Ok(after);
+    let last = run_rounds(crew, instance, Progress::new(arcs), guide, &near, true)?;
+    let AfterRounds {
+        progress,
+        pool,
+        branch,
+    } = last;
+    match branch {
+        Some(fewer) => {
+            drop(pool);
+            generate_leaves(crew, instance, progress, guide, near, fewer)
         }
-        progress = after.progress;
-        if are_final && guide.add_subset_rows()? == 0 {
-            pace.finish();
+        None => {
+            let guess = guide.guess();
+            Ok(progress.generation(pool, near, guess))
         }
     }
-    Ok(AfterPass {
-        progress,
-        pool: None,
-    })
 }
 
 impl<'a> Progress<'a> {
-    // The pass by these prices, if one was decided on, and the program without the columns whose arcs it leaves out.
-    fn pass_if_decided<R: Threads + Sync, W: Watch + Sync>(
+    /// What column generation leaves after the last pass: the pool, or the last prices with the ng-sets and the guess of a pass by them.
+    pub(crate) fn generation(
         self,
-        crew: &Crew<'_, R, W>,
-        guide: &mut Guide,
-        prices: Prices,
-        near: &[CustomerSet],
-        decision: Decision,
-    ) -> Result<AfterPass<'a>, NoMemory>
-        requires { AreDualsOf self.arcs.problem prices.duals }
-        ensures arcs { IfOk result (λ after. AreFor self.entry.arcs.problem self.entry.arcs.limit after.progress.arcs) }
-        ensures pool { IfOk result (λ after. IfSome after.pool (IsPool self.entry.arcs.problem self.entry.arcs.limit)) }
-    {
-        if decision == Decision::GoOn {
-            return Ok(AfterPass {
-                progress: self,
-                pool: None,
-            });
-        }
-        let limits = guide.pass_limits(decision);
-        let AfterPass { progress, pool } = self.pass(crew, &prices.duals, near, limits)?;
-        guide.drop_columns(progress.arcs.followers())?;
-        Ok(AfterPass {
-            progress: progress.keep(prices),
-            pool,
-        })
-    }
-}
-
-impl<'a> AfterPass<'a> {
-    // What column generation leaves after the last pass: the pool, or the last prices with the ng-sets and the guess of a pass by them.
-    fn generation(self, near: Vec<CustomerSet>, guess: u64) -> Generation<'a>
-        ensures bound { BoundsPlans self.entry.progress.arcs.problem self.entry.progress.arcs.limit result.bound }
-        ensures pool { result.pool ≡ self.entry.pool }
+        pool: Option<RoutePool>,
+        near: Vec<CustomerSet>,
+        guess: u64,
+    ) -> Generation<'a>
+        requires { self.arcs.range ≡ plans_within self.arcs.range.limit }
+        ensures bound { BoundsPlansIn self.entry.arcs.problem self.entry.arcs.range result.bound }
+        ensures pool { result.pool ≡ pool }
         ensures prices { IfSome result.prices (λ prices.
-            prices ≡ record { problem = self.entry.progress.arcs.problem; limit = self.entry.progress.arcs.limit }) }
+            prices ≡ record { problem = self.entry.arcs.problem; limit = self.entry.arcs.range.limit }) }
     {
-        let AfterPass { progress, pool } = self;
-        let bound = progress.bound;
-        let prices = if pool.is_some() {
-            None
-        } else {
-            progress.last_prices(near, guess)
+        let bound = self.bound;
+        if pool.is_some() {
+            return Generation {
+                bound,
+                pool,
+                prices: None,
+            };
+        }
+        let prices = match self.leaf_prices() {
+            Some(leaf) => Some(LastPrices::new(leaf, None, near, guess)),
+            None => None,
         };
         Generation {
             bound,

@@ -5,7 +5,7 @@ ghost use Rattle.vrp_duals.specs.Duals.{AreDualsOf};
 ghost use Rattle.vrp_model.specs.Problem.{place_count};
 
 use crate::master::Master;
-use crate::pace::Decision;
+use crate::pace::{Decision, Pace};
 use crate::program_rows::ProgramRow;
 use crate::progress::PassLimits;
 use std::alloc::Global;
@@ -15,7 +15,7 @@ use vrp_duals::{Duals, EntryRow};
 use vrp_model::{Crew, Instance, NoMemory, Watch};
 use vrp_priced_routes::unit_demands;
 use vrp_pricing::{Effort, Priced, PricedRoutes, RoutePricer};
-use vrp_separation::{CutSearch, RowSearch, violated_entries, violated_rows};
+use vrp_separation::{CutSearch, ONE, RowSearch, violated_entries, violated_rows};
 
 /// What may be spent on dual prices, and on the list of routes.
 #[derive(Clone, Copy, Debug)]
@@ -30,6 +30,8 @@ pub struct Settings {
     pub enough_listed: u32,
     /// The most subset rows of the program.
     pub most_rows: usize,
+    /// Where the number of routes in a solution isn't whole, two leaves are worth it if the gap is so many thousandths of the limit.
+    pub worth_leaves: u16,
 }
 
 /// Dual prices, and how far below 0 some route costs by them.
@@ -84,6 +86,8 @@ pub(crate) struct Guide {
     master: Master,
     pricer: RoutePricer,
     settings: Settings,
+    // What a plan costs at most.
+    limit: u64,
     // The labels of all pricings so far.
     priced: u64,
     // The rounds of capacity cuts since the last final prices, and after how many of them prices are worth a pass.
@@ -143,12 +147,84 @@ impl Guide {
             master: Master::new(alloc, instance, scale, limit, routes)?,
             pricer,
             settings,
+            limit,
             priced: 0,
             cut_rounds: 0,
             next_interim: FIRST_INTERIM,
             tolerance: i64::from(scale / 4_000).max(10),
             has_short_routes: room <= instance.whole_demand().saturating_mul(SHORT_ROUTE),
         }))
+    }
+
+    /// The guide of a leaf: the same columns and rows, and one row more. None only if there is none for the instance.
+    pub(crate) fn of_leaf(
+        &self,
+        instance: &Instance,
+        near: &[CustomerSet],
+        row: ProgramRow,
+    ) -> Result<Option<Guide>, NoMemory>
+        requires { place_count instance.now ≤ PLACES }
+    {
+        let routes = self.master.routes()?;
+        let (scale, limit) = (self.master.scale, self.limit);
+        let made = Guide::new(
+            self.alloc,
+            instance,
+            scale,
+            limit,
+            near,
+            &routes,
+            self.settings,
+        )?;
+        let Some(mut guide) = made else {
+            return Ok(None);
+        };
+        for row in self.master.rows() {
+            guide.master.add_row(*row)?;
+        }
+        guide.master.add_row(row)?;
+        guide.master.program.regain_feasibility(STEPS_UP)?;
+        guide.priced = self.priced;
+        Ok(Some(guide))
+    }
+
+    /// The rows of both leaves of plans with at most so many routes, and with more.
+    pub(crate) fn leaf_rows(&self, fewer: u16) -> (ProgramRow, ProgramRow) {
+        let row = EntryRow {
+            customers: self.customers,
+            count: fewer,
+            price: 0,
+        };
+        let next = EntryRow {
+            count: fewer.saturating_add(1),
+            ..row
+        };
+        (ProgramRow::AtMost(row), ProgramRow::AtLeast(next))
+    }
+
+    /// Takes over what another guide has priced since it began with this one.
+    pub(crate) fn count_labels(&mut self, other: &Guide) {
+        self.priced = self.priced.max(other.priced);
+    }
+
+    /// The greatest whole number below the number of routes in the present solution, if a branch on it may be made, that number is well between
+    /// two whole numbers, and the bound leaves a gap that is worth two leaves.
+    pub(crate) fn branch_on(&self, may_branch: bool, bound: i64) -> Result<Option<u16>, NoMemory> {
+        let limit = self.in_price_units(self.limit);
+        let gap = limit.saturating_sub(bound);
+        let worth = (limit / 1_000).saturating_mul(i64::from(self.settings.worth_leaves));
+        if !may_branch || gap < worth {
+            return Ok(None);
+        }
+        let mut routes: i64 = 0;
+        for route in &self.master.used()? {
+            routes = routes.saturating_add(route.value);
+        }
+        let part = routes % ONE;
+        if part < ONE / 20 || part > ONE / 20 * 19 {
+            return Ok(None);
+        }
+        Ok(u16::try_from(routes / ONE).ok())
     }
 
     /// Adds a row for a limit on trucks, if there is one.
@@ -303,7 +379,7 @@ impl Guide {
         let fleet = self.fleet.lent();
         let found = violated_entries(self.alloc, self.customers, fleet, &used, &known, search)?;
         for row in &found {
-            self.master.add_row(ProgramRow::AtLeast(*row))?;
+            self.master.add_row(ProgramRow::CapacityCut(*row))?;
         }
         if !found.is_empty() {
             self.master.program.regain_feasibility(STEPS_UP)?;
@@ -350,6 +426,15 @@ impl Guide {
     /// How far below 0, in price units, a pass guesses the cost of a route to be.
     pub(crate) fn guess(&self) -> u64 {
         self.tolerance.unsigned_abs()
+    }
+
+    /// What to do with prices that give about this lower bound.
+    pub(crate) fn decide(&self, pace: &mut Pace, bound: i64, are_final: bool) -> Decision {
+        if are_final {
+            pace.decide(bound, self.in_price_units(1))
+        } else {
+            pace.decide_on_the_way(bound)
+        }
     }
 
     /// What a pass may use.

@@ -1,22 +1,23 @@
 //! The last prices of column generation: they list the routes for lower limits.
 ghost use Rattle.std.specs.Prelude.{◌≡◌, ◌≤◌, IfOk, IfSome};
-ghost use Rattle.vrp_duals.specs.Duals.{AreDualsOf};
-ghost use Rattle.vrp_routes.specs.Pool.{IsPool};
+ghost use Rattle.std.specs.Option.{option_map};
+ghost use Rattle.vrp_column_generation.specs.Last.{HaveAllPlans};
+ghost use Rattle.vrp_routes.specs.Pool.{IsPool, IsPoolIn};
 
 use crate::guide::Settings;
+use crate::leaf_prices::LeafPrices;
 use std::marker::Model;
 use std::thread::Threads;
 use vrp_customers::CustomerSet;
-use vrp_duals::Duals;
 use vrp_model::{Crew, NoMemory, Watch};
-use vrp_priced_routes::{AliveArcs, Passed, PricedLabels, run_pass};
-use vrp_routes::{Listed, RoutePool};
+use vrp_routes::RoutePool;
 
-/// Dual prices of an instance, and the arcs that plans within a limit use: with a lower limit, the same prices leave fewer routes.
+/// Dual prices of an instance, and the arcs that plans within a limit use: with a lower limit, the same prices leave fewer routes. Where
+/// column generation branched on the number of routes, there are prices for each of both leaves.
 #[derive(Drop)]
 pub struct LastPrices<'a> {
-    arcs: AliveArcs<'a>,
-    duals: Duals,
+    leaf: LeafPrices<'a>,
+    other: Option<LeafPrices<'a>>,
     // By place, the customers that a label can remember.
     near: Vec<CustomerSet>,
     // How far below 0, in price units, the cost of a route is guessed to be.
@@ -24,37 +25,37 @@ pub struct LastPrices<'a> {
 }
 
 impl<'a> Model for LastPrices<'a> {
-    ghost use Rattle.vrp_column_generation.specs.Last.{LastPricesOf};
-    ghost use Rattle.vrp_duals.specs.Duals.{AreDualsOf};
+    ghost use Rattle.std.specs.Option.{option_map};
+    ghost use Rattle.vrp_column_generation.specs.Last.{HaveAllPlans, LastPricesOf};
 
     ghost Value = { LastPricesOf };
 
-    ghost view = { λ a. record { problem = a.arcs.problem; limit = a.arcs.limit } };
+    ghost view = { λ a. record { problem = a.leaf.arcs.problem; limit = a.leaf.arcs.range.limit } };
 
-    ghost invariant = { λ a. AreDualsOf a.arcs.problem a.duals };
+    ghost invariant = { λ a. HaveAllPlans a.leaf.arcs.problem a.leaf.arcs.range.limit a.leaf.arcs (option_map (λ leaf. leaf.arcs) a.other) };
 }
 
 impl<'a> LastPrices<'a> {
-    // Prices for the arcs that they leave, with what a pass by them needs.
+    // The prices of one leaf, or of two that have all plans, with what a pass by them needs.
     pub(crate) fn new(
-        arcs: AliveArcs<'a>,
-        duals: Duals,
+        leaf: LeafPrices<'a>,
+        other: Option<LeafPrices<'a>>,
         near: Vec<CustomerSet>,
         guess: u64,
     ) -> LastPrices<'a>
-        requires { AreDualsOf arcs.problem duals }
-        ensures { result ≡ record { problem = arcs.entry.problem; limit = arcs.entry.limit } }
+        requires { HaveAllPlans leaf.arcs.problem leaf.arcs.range.limit leaf.arcs (option_map (λ leaf. leaf.arcs) other) }
+        ensures { result ≡ record { problem = leaf.entry.arcs.problem; limit = leaf.entry.arcs.range.limit } }
     {
         LastPrices {
-            arcs,
-            duals,
+            leaf,
+            other,
             near,
             guess,
         }
     }
 
-    /// The routes that may be in the canonical plan, if that costs no more than this: by a pass along the arcs that are left. None if a limit
-    /// on labels is met or the crew's watch stops it. The only error is lack of memory.
+    /// The routes that may be in the canonical plan, if that costs no more than this: by a pass along the arcs that are left, in each leaf.
+    /// None if a limit on labels is met or the crew's watch stops it. The only error is lack of memory.
     pub fn routes_within<R: Threads + Sync, W: Watch + Sync>(
         &self,
         crew: &Crew<'_, R, W>,
@@ -64,32 +65,37 @@ impl<'a> LastPrices<'a> {
         requires { limit ≤ self.now.limit }
         ensures { IfOk result (λ pool. IfSome pool (IsPool self.now.problem limit)) }
     {
-        let arcs = self.arcs.within(crew.alloc, limit)?;
-        let passed = run_pass(
-            crew,
-            &arcs,
-            &self.duals,
-            &self.near,
-            self.guess,
-            settings.most_labels,
-        )?;
-        match passed {
-            Passed::Closed(pass) => pool_of(crew, pass.labels, settings.most_listed),
-            _ => Ok(None),
+        let first = self.routes_of(&self.leaf, crew, limit, settings)?;
+        let Some(mut pool) = first else {
+            return Ok(None);
+        };
+        let Some(other) = &self.other else {
+            return Ok(Some(pool));
+        };
+        let Some(more) = self.routes_of(other, crew, limit, settings)? else {
+            drop(pool);
+            return Ok(None);
+        };
+        let has_room = pool.add(crew.alloc, &more);
+        drop(more);
+        if has_room? {
+            return Ok(Some(pool));
         }
+        drop(pool);
+        Ok(None)
     }
-}
 
-/// The list of the labels' routes, if it has no more labels than this.
-pub(crate) fn pool_of<R: Threads + Sync, W: Watch + Sync>(
-    crew: &Crew<'_, R, W>,
-    labels: PricedLabels<'_, '_>,
-    most_listed: u32,
-) -> Result<Option<RoutePool>, NoMemory>
-    ensures { IfOk result (λ pool. IfSome pool (IsPool labels.entry.priced.problem labels.entry.priced.limit)) }
-{
-    match labels.list_routes(crew, most_listed)? {
-        Listed::Pool(pool) => Ok(Some(pool)),
-        Listed::Met(_) => Ok(None),
+    // The routes of a leaf.
+    fn routes_of<R: Threads + Sync, W: Watch + Sync>(
+        &self,
+        leaf: &LeafPrices<'a>,
+        crew: &Crew<'_, R, W>,
+        limit: u64,
+        settings: Settings,
+    ) -> Result<Option<RoutePool>, NoMemory>
+        requires { limit ≤ leaf.now.arcs.range.limit }
+        ensures { IfOk result (λ pool. IfSome pool (IsPoolIn leaf.now.arcs.problem (record leaf.now.arcs.range { limit = limit }))) }
+    {
+        leaf.routes_within(crew, limit, &self.near, self.guess, settings)
     }
 }

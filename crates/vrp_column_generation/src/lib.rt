@@ -7,10 +7,13 @@ mod columns;
 mod generation;
 mod guide;
 mod last_prices;
+mod leaf_prices;
+mod leaves;
 mod master;
 mod pace;
 mod program_rows;
 mod progress;
+mod rounds;
 
 pub use generation::{Generation, generate_routes};
 pub use guide::Settings;

@@ -183,12 +183,12 @@ impl Master {
         Ok(true)
     }
 
-    /// Takes out the rows that are not tight, but those for a limit on trucks.
+    /// Takes out the rows that are not tight, but those that limit the number of routes.
     pub(crate) fn remove_slack_rows(&mut self) -> Result<(), NoMemory> {
         let customers = usize::from(self.customers);
         let mut may_go = vec![in self.alloc; false; customers]?;
         for row in &self.rows {
-            may_go.push(!matches!(row, ProgramRow::AtMost(_)))?;
+            may_go.push(row.may_go())?;
         }
         let gone = self.program.remove_slack_rows(&may_go)?;
         let mut rows = Vec::with_capacity(self.alloc, self.rows.len())?;
@@ -211,6 +211,20 @@ impl Master {
         }
         self.program.retain_columns(&stays)?;
         Ok(())
+    }
+
+    /// The rows beside those of the customers.
+    pub(crate) fn rows(&self) -> &[ProgramRow] {
+        &self.rows
+    }
+
+    /// The routes of all columns.
+    pub(crate) fn routes(&self) -> Result<Vec<Vec<u16>>, NoMemory> {
+        let mut routes = Vec::with_capacity(self.alloc, self.program.column_count())?;
+        for &name in self.program.names() {
+            routes.push(Vec::from_slice(self.alloc, self.columns.stops(name))?)?;
+        }
+        Ok(routes)
     }
 
     /// The routes that the present solution uses.
@@ -273,7 +287,9 @@ impl Master {
     ) -> Result<(), NoMemory> {
         let price = self.price(number);
         match *row {
-            ProgramRow::AtLeast(row) if price > 0 => entries.push(EntryRow { price, ..row })?,
+            ProgramRow::CapacityCut(row) | ProgramRow::AtLeast(row) if price > 0 => {
+                entries.push(EntryRow { price, ..row })?
+            }
             ProgramRow::AtMost(row) if price < 0 => entries.push(EntryRow { price, ..row })?,
             ProgramRow::Subset(row) if price < 0 => rows.push(SubsetRow {
                 price: price.unsigned_abs(),
@@ -288,7 +304,7 @@ impl Master {
     pub(crate) fn cut_sets(&self) -> Result<Vec<CustomerSet>, NoMemory> {
         let mut sets = Vec::new(self.alloc);
         for row in &self.rows {
-            if let ProgramRow::AtLeast(row) = row {
+            if let ProgramRow::CapacityCut(row) = row {
                 sets.push(row.customers)?;
             }
         }

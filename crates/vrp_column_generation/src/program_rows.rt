@@ -6,16 +6,23 @@ use vrp_linear_program::Sense;
 /// A row: routes enter a set at least or at most so often, or have at most so many pairs of a row's customers. Its own price isn't used.
 #[derive(Clone, Copy, Debug)]
 pub(crate) enum ProgramRow {
-    AtLeast(EntryRow),
+    CapacityCut(EntryRow),
+    /// There are at most, or at least, so many routes: a limit on trucks, or what a leaf allows.
     AtMost(EntryRow),
+    AtLeast(EntryRow),
     Subset(SubsetRow),
 }
 
 impl ProgramRow {
+    /// Whether the row may go where it is slack: one that limits the number of routes stays.
+    pub(crate) fn may_go(&self) -> bool {
+        matches!(self, ProgramRow::CapacityCut(_) | ProgramRow::Subset(_))
+    }
+
     /// Whether the row bounds from below or from above.
     pub(crate) fn sense(&self) -> Sense {
         match self {
-            ProgramRow::AtLeast(_) => Sense::AtLeast,
+            ProgramRow::CapacityCut(_) | ProgramRow::AtLeast(_) => Sense::AtLeast,
             ProgramRow::AtMost(_) | ProgramRow::Subset(_) => Sense::AtMost,
         }
     }
@@ -23,7 +30,9 @@ impl ProgramRow {
     /// The right-hand side.
     pub(crate) fn side(&self) -> i64 {
         match self {
-            ProgramRow::AtLeast(row) | ProgramRow::AtMost(row) => i64::from(row.count),
+            ProgramRow::CapacityCut(row) | ProgramRow::AtMost(row) | ProgramRow::AtLeast(row) => {
+                i64::from(row.count)
+            }
             ProgramRow::Subset(row) => i64::from(row.customers.len() / 2),
         }
     }
@@ -31,7 +40,9 @@ impl ProgramRow {
     /// How often a route with these stops counts.
     pub(crate) fn count(&self, stops: &[u16]) -> u32 {
         match self {
-            ProgramRow::AtLeast(row) | ProgramRow::AtMost(row) => entries(row.customers, stops),
+            ProgramRow::CapacityCut(row) | ProgramRow::AtMost(row) | ProgramRow::AtLeast(row) => {
+                entries(row.customers, stops)
+            }
             ProgramRow::Subset(row) => pairs(row, stops),
         }
     }

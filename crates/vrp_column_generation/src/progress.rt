@@ -3,25 +3,27 @@ ghost use Rattle.std.specs.Prelude.{◌≡◌, IfOk, IfSome};
 ghost use Rattle.std.specs.Option.{ForSome};
 ghost use Rattle.vrp_column_generation.specs.Progress.{AreFor};
 ghost use Rattle.vrp_duals.specs.Duals.{AreDualsOf};
-ghost use Rattle.vrp_priced_routes.specs.Priced.{BoundsPlans};
-ghost use Rattle.vrp_routes.specs.Pool.{IsPool};
+ghost use Rattle.vrp_priced_routes.specs.Priced.{BoundsPlansIn};
+ghost use Rattle.vrp_routes.specs.Pool.{IsPoolIn};
+ghost use Rattle.vrp_routes.specs.Range.{IsPart};
 
 use crate::guide::Prices;
-use crate::last_prices::{LastPrices, pool_of};
+use crate::leaf_prices::{LeafPrices, pool_of};
+use std::alloc::Global;
 use std::thread::Threads;
 use vrp_customers::CustomerSet;
 use vrp_duals::Duals;
 use vrp_model::{Crew, NoMemory, Watch};
 use vrp_priced_routes::{AliveArcs, Pass, Passed, run_pass};
-use vrp_routes::RoutePool;
+use vrp_routes::{PlanRange, RoutePool};
 
-/// The arcs that plans within the limit use, what each such plan costs at least, and the last final prices that a pass was made by.
+/// The arcs that plans in a range use, what each such plan costs at least, and the last final prices that a pass was made by.
 #[derive(Drop)]
 pub(crate) struct Progress<'a> {
     pub(crate) arcs: AliveArcs<'a>,
     pub(crate) bound: u64,
     duals: Option<Duals>,
-    ghost bounds: { BoundsPlans arcs.problem arcs.limit bound },
+    ghost bounds: { BoundsPlansIn arcs.problem arcs.range bound },
     ghost priced: { ForSome duals (AreDualsOf arcs.problem) },
 }
 
@@ -54,6 +56,18 @@ impl<'a> Progress<'a> {
         }
     }
 
+    /// The same for a part of the plans, before a pass by prices of its own.
+    pub(crate) fn part(&self, alloc: Global, range: PlanRange) -> Result<Progress<'a>, NoMemory>
+        requires { IsPart range self.now.arcs.range }
+        ensures { IfOk result (λ part. AreFor self.now.arcs.problem range part.arcs) }
+    {
+        Ok(Progress {
+            arcs: self.arcs.part(alloc, range)?,
+            bound: self.bound,
+            duals: None,
+        })
+    }
+
     /// Makes a pass by these prices, where labels can remember these customers, and lists the routes after it if that is wanted. If the pass
     /// meets a limit, all is as before.
     pub(crate) fn pass<R: Threads + Sync, W: Watch + Sync>(
@@ -64,8 +78,8 @@ impl<'a> Progress<'a> {
         limits: PassLimits,
     ) -> Result<AfterPass<'a>, NoMemory>
         requires { AreDualsOf self.arcs.problem duals.now }
-        ensures arcs { IfOk result (λ after. AreFor self.entry.arcs.problem self.entry.arcs.limit after.progress.arcs) }
-        ensures pool { IfOk result (λ after. IfSome after.pool (IsPool self.entry.arcs.problem self.entry.arcs.limit)) }
+        ensures arcs { IfOk result (λ after. AreFor self.entry.arcs.problem self.entry.arcs.range after.progress.arcs) }
+        ensures pool { IfOk result (λ after. IfSome after.pool (IsPoolIn self.entry.arcs.problem self.entry.arcs.range)) }
     {
         let passed = run_pass(
             crew,
@@ -119,13 +133,13 @@ impl<'a> Progress<'a> {
         }
     }
 
-    /// The prices that were kept last, with the ng-sets and the guess of a pass by them.
-    pub(crate) fn last_prices(self, near: Vec<CustomerSet>, guess: u64) -> Option<LastPrices<'a>>
-        ensures { IfSome result (λ prices. prices ≡ record { problem = self.entry.arcs.problem; limit = self.entry.arcs.limit }) }
+    /// The prices that were kept last.
+    pub(crate) fn leaf_prices(self) -> Option<LeafPrices<'a>>
+        ensures { IfSome result (λ prices. prices.arcs ≡ self.entry.arcs) }
     {
-        let Progress { arcs, duals, .. } = self;
+        let Progress { arcs, bound, duals } = self;
         match duals {
-            Some(duals) => Some(LastPrices::new(arcs, duals, near, guess)),
+            Some(duals) => Some(LeafPrices::new(arcs, duals, bound)),
             None => None,
         }
     }

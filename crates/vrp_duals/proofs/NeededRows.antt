@@ -11,7 +11,7 @@ use Rattle.std.proofs.lemmas.List.Sums.{sum_by-append, sum_by-cons}
 use Rattle.std.proofs.lemmas.Nat.Bits.{bit_at-lt}
 use Rattle.vrp_model.specs.Problem.{Problem, customers, demand_of}
 use Rattle.vrp_model.specs.Route.{IsLawful, load_of}
-use Rattle.vrp_duals.specs.Duals.{IsNeeded, IsNeededByDemand, IsNeededByTrucks, Obeys, entries_along, plan_entries, route_entries, set_demand}
+use Rattle.vrp_duals.specs.Duals.{HasAllCustomers, IsNeeded, IsNeededByDemand, IsNeededByTrucks, IsNeededFor, Obeys, entries_along, plan_entries, route_entries, set_demand}
 use Rattle.vrp_duals.specs.declared.rows.EntryRow.{EntryRow}
 
 -- what the stops inside a set demand
@@ -122,3 +122,37 @@ obeyed_by_trucks p row routes needed lawful =
 pub obeyed : (p : Problem) (row : EntryRow) (routes : List (List ℕ)) → IsNeeded p row → IsLawful p routes → Obeys routes row
 obeyed p row routes (inl needed) lawful = inl (needed.price, obeyed_by_demand p row routes needed lawful)
 obeyed p row routes (inr needed) lawful = inr (needed.price, obeyed_by_trucks p row routes needed lawful)
+
+-- ---- by the number of routes
+
+-- a route of customers enters the set of all customers
+entered_by_one : (set : ℕ) (route : List ℕ) → bit_at set 0 ≡ 0 → (route ≡ [] → ⊥) → outside set route ≡ 0 → 1 ≤ route_entries set route
+entered_by_one set [] away some none = absurd (some refl)
+entered_by_one set (stop ∷ stops) away some none =
+    let split = sum_by-cons (λ customer. 1 - bit_at set customer) stop stops in
+    let here : bit_at set stop ≡ 1 = omega (arith, bit_at-lt set stop) in
+    omega (arith, here, away)
+
+entered_by_all : (set : ℕ) (routes : List (List ℕ)) → bit_at set 0 ≡ 0 → All (λ route. route ≡ [] → ⊥) routes → sum_by (outside set) routes ≡ 0 → length routes ≤ plan_entries set routes
+entered_by_all set [] away some none = omega arith
+entered_by_all set (route ∷ routes) away some none =
+    let split = sum_by-cons (outside set) route routes in
+    omega (
+      arith,
+      sum_by-cons (route_entries set) route routes,
+      entered_by_one set route away (All-head (λ (route : List ℕ). route ≡ [] → ⊥) route routes some) (omega arith),
+      entered_by_all set routes away (All-tail (λ (route : List ℕ). route ≡ [] → ⊥) route routes some) (omega arith),
+    )
+
+-- no stop of a feasible plan is outside the set of all customers
+all_inside : (p : Problem) (set : ℕ) (routes : List (List ℕ)) → HasAllCustomers p set → IsLawful p routes → sum_by (outside set) routes ≡ 0
+all_inside p set routes whole lawful =
+    omega (arith, by_routes (λ customer. 1 - bit_at set customer) routes, sum_by-IsPermutation (λ customer. 1 - bit_at set customer) (concat routes) (customers p) lawful.served, none_outside set (customers p) whole)
+
+pub obeyed_for : (p : Problem) (least : ℕ) (most : Option ℕ) (row : EntryRow) (routes : List (List ℕ)) → IsNeededFor p least most row → IsLawful p routes
+    → least ≤ length routes → ForSome most (λ count. length routes ≤ count) → Obeys routes row
+obeyed_for p least most row routes (inl needed) lawful many few = obeyed p row routes needed lawful
+obeyed_for p least most row routes (inr (inl needed)) lawful many few =
+    inl (needed.price, omega (arith, needed.routes, many, entered_by_all row.customers routes needed.depot lawful.stops (all_inside p row.customers routes needed.whole lawful)))
+obeyed_for p least most row routes (inr (inr needed)) lawful many few =
+    inr (needed.price, omega (arith, entered_by_each row.customers routes (all_inside p row.customers routes needed.whole lawful), few_trucks most (length routes) row.count few needed.routes))

@@ -1,7 +1,7 @@
 -- Dual prices of the linear program over routes (set partitioning; Balinski and Quandt 1964): prices of customers, of entries into sets of
 -- customers (as in rounded capacity inequalities; Laporte and Nobert 1983), and of subset rows (Jepsen, Petersen, Spoorendonk and Pisinger
 -- 2008) with limited memory (Pecin, Pessoa, Poggi and Uchoa 2017). The reduced costs of routes, and the lower bound that the prices give.
-use Rattle.std.specs.Prelude.{◌≡◌, ◌⊎◌, ◌≤◌, ◌<◌, ◌≤ℤ◌, ℕ, ℤ, pos, ◌+ℤ◌, ◌-ℤ◌, ◌*ℤ◌, ◌+◌, ◌-◌, ◌*◌, ◌/◌, ◌%◌, ◌==◌, ◌||◌, IsSomeAnd, IsTrue, List, [], ◌∷◌, ◌++◌, count_ones, length, min, slice_index_or, unsigned_abs}
+use Rattle.std.specs.Prelude.{◌≡◌, ◌⊎◌, ◌≤◌, ◌<◌, ◌≤ℤ◌, ℕ, ℤ, pos, ◌+ℤ◌, ◌-ℤ◌, ◌*ℤ◌, ◌+◌, ◌-◌, ◌*◌, ◌/◌, ◌%◌, ◌==◌, ◌||◌, IsSomeAnd, IsTrue, Option, List, [], ◌∷◌, ◌++◌, count_ones, length, min, slice_index_or, unsigned_abs}
 use Rattle.std.specs.Int.{bit_at}
 use Rattle.std.specs.List.{All, range_with_len, sum_by}
 use Rattle.vrp_customers.specs.declared.customer_set.TheConstants.{PLACES}
@@ -75,6 +75,23 @@ pub record IsNeededByTrucks (p : Problem) (row : EntryRow) : Type 0 where
 -- a reason why every feasible plan obeys the row
 abbrev pub IsNeeded : Problem → EntryRow → Type 0
 IsNeeded p row = IsNeededByDemand p row ⊎ IsNeededByTrucks p row
+
+-- the price is not negative, and of at least so many routes each enters the set of all customers
+pub record IsNeededByLeast (p : Problem) (least : ℕ) (row : EntryRow) : Type 0 where
+  pub price : pos 0 ≤ℤ row.price
+  pub whole : HasAllCustomers p row.customers
+  pub depot : bit_at row.customers 0 ≡ 0
+  pub routes : row.count ≤ least
+
+-- the price is not positive, and of at most so many routes each enters the set of all customers once
+pub record IsNeededByMost (p : Problem) (most : Option ℕ) (row : EntryRow) : Type 0 where
+  pub price : row.price ≤ℤ pos 0
+  pub whole : HasAllCustomers p row.customers
+  pub routes : IsSomeAnd most (λ routes. routes ≤ row.count)
+
+-- a reason why every feasible plan with at least and at most so many routes obeys the row
+abbrev pub IsNeededFor : Problem → ℕ → Option ℕ → EntryRow → Type 0
+IsNeededFor p least most row = IsNeeded p row ⊎ (IsNeededByLeast p least row ⊎ IsNeededByMost p most row)
 
 -- ---- subset rows
 

@@ -1,9 +1,10 @@
 //! Laws about the definitions: dual prices bound the cost of a plan, and folded prices are the reduced costs of routes.
-ghost use Rattle.std.specs.Prelude.{◌≡◌, ◌≤◌, ◌<◌, ◌≤ℤ◌, ◌+ℤ◌, ◌+◌, ◌*◌, ◌-◌, pos, ℕ, ℤ, List, length, reverse};
+ghost use Rattle.std.specs.Prelude.{◌≡◌, ◌≤◌, ◌<◌, ◌≤ℤ◌, ◌+ℤ◌, ◌+◌, ◌*◌, ◌-◌, pos, ℕ, ℤ, Option, List, length, reverse};
+ghost use Rattle.std.specs.Option.{ForSome};
 ghost use Rattle.std.specs.List.{All, Contains};
 ghost use Rattle.vrp_model.specs.Problem.{IsProblem, Problem, customers, place_count};
 ghost use Rattle.vrp_model.specs.Route.{IsLawful, plan_cost};
-ghost use Rattle.vrp_duals.specs.Duals.{AreDualsOf, DualsOf, IsNeeded, Obeys, int_sum_by, low_of, reduced, reduced_full, turns_of};
+ghost use Rattle.vrp_duals.specs.Duals.{AreDualsOf, DualsOf, IsNeeded, IsNeededFor, Obeys, int_sum_by, low_of, reduced, reduced_full, turns_of};
 ghost use Rattle.vrp_duals.specs.Folding.{AreFull, FoldedOf, IsFolded, folded_cost, remembering};
 ghost use Rattle.vrp_duals.specs.declared.rows.EntryRow.{EntryRow};
 ghost use Rattle.vrp_duals.specs.declared.rows.SubsetRow.{SubsetRow};
@@ -25,6 +26,14 @@ pub fn prices_bound_plans()
 pub fn needed_rows_are_obeyed()
     ensures { (p : Problem) (row : EntryRow) (routes : List (List ℕ))
         → IsNeeded p row → IsLawful p routes → Obeys routes row }
+{}
+
+/// A feasible plan with at least and at most so many routes obeys an entry row that is needed for these: each of its routes enters the set
+/// of all customers once.
+pub fn rows_of_a_range_are_obeyed()
+    ensures { (p : Problem) (least : ℕ) (most : Option ℕ) (row : EntryRow) (routes : List (List ℕ))
+        → IsNeededFor p least most row → IsLawful p routes → least ≤ length routes → ForSome most (λ count. length routes ≤ count)
+        → Obeys routes row }
 {}
 
 /// If no reduced cost of a plan's routes is below -`depth`, and the plan costs at most `limit`, the lower bound and the reduced cost of one

@@ -20,7 +20,7 @@ pub use folded::FoldedDuals;
 pub use law::{
     costly_routes_left_out, folding_keeps_costs, full_counts_cost_no_less,
     full_memories_count_pairs, needed_rows_are_obeyed, plans_cost_at_least, prices_bound_plans,
-    rows_read_either_way,
+    rows_of_a_range_are_obeyed, rows_read_either_way,
 };
 pub use limits::{
     MAX_ARC_PRICE, MAX_ENTRY_PRICE, MAX_ENTRY_ROWS, MAX_LOW, MAX_PRICE, MAX_ROW_CHARGE,

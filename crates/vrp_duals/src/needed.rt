@@ -4,7 +4,7 @@ ghost use Rattle.std.specs.Int.{bit_at};
 ghost use Rattle.vrp_customers.specs.declared.customer_set.TheConstants.{PLACES};
 ghost use Rattle.vrp_model.specs.Problem.{demand_of, place_count};
 ghost use Rattle.vrp_model.specs.declared.limits.TheConstants.{MAX_WHOLE_DEMAND};
-ghost use Rattle.vrp_duals.specs.Duals.{HasAllCustomers, IsNeeded, IsNeededByDemand, IsNeededByTrucks, set_demand};
+ghost use Rattle.vrp_duals.specs.Duals.{HasAllCustomers, IsNeeded, IsNeededByDemand, IsNeededByLeast, IsNeededByMost, IsNeededByTrucks, IsNeededFor, set_demand};
 
 use crate::rows::EntryRow;
 use vrp_customers::{CustomerSet, all_customers};
@@ -19,6 +19,42 @@ impl EntryRow {
         ensures { IsTrue result ↔ IsNeeded instance.now self.now }
     {
         self.is_needed_by_demand(instance) || self.is_needed_by_trucks(instance)
+    }
+
+    /// Whether every feasible plan with at least and at most so many routes obeys the row: because every feasible plan does, or because it has
+    /// all customers, whom each route enters once, and its price has the right sign.
+    pub fn is_needed_for(&self, instance: &Instance, least: u16, most: Option<u16>) -> bool
+        requires { place_count instance.now ≤ PLACES }
+        ensures { IsTrue result ↔ IsNeededFor instance.now least most self.now }
+    {
+        self.is_needed(instance)
+            || self.is_needed_by_least(instance, least)
+            || self.is_needed_by_most(instance, most)
+    }
+
+    // Whether at least so many routes enter the set of all customers often enough.
+    fn is_needed_by_least(&self, instance: &Instance, least: u16) -> bool
+        requires { place_count instance.now ≤ PLACES }
+        ensures { IsTrue result ↔ IsNeededByLeast instance.now least self.now }
+    {
+        if self.price < 0 || self.customers.contains(0) {
+            return false;
+        }
+        has_all_customers(instance, self.customers) && self.count <= least
+    }
+
+    // Whether at most so many routes enter the set of all customers so seldom.
+    fn is_needed_by_most(&self, instance: &Instance, most: Option<u16>) -> bool
+        requires { place_count instance.now ≤ PLACES }
+        ensures { IsTrue result ↔ IsNeededByMost instance.now most self.now }
+    {
+        if self.price > 0 || !has_all_customers(instance, self.customers) {
+            return false;
+        }
+        match most {
+            Some(most) => most <= self.count,
+            None => false,
+        }
     }
 
     // Whether so many trucks are needed to carry the demand.

@@ -17,7 +17,7 @@ use Rattle.vrp_labels.proofs.Endings.{head_known, load_more}
 use Rattle.vrp_labels.proofs.Joins.{completes, route_completed}
 use Rattle.vrp_model.specs.Word.{last_symbol}
 use Rattle.vrp_model.proofs.LastRoute.{last_symbol_with}
-use Rattle.vrp_routes.specs.Useful.{BeginsUseful, IsUseful}
+use Rattle.vrp_routes.specs.Useful.{BeginsUseful, IsUsefulIn}
 use Rattle.vrp_priced_routes.specs.LabelTest.{AreLabelled, IsLabelTest, LabelTestOf, label_by}
 use Rattle.vrp_priced_routes.specs.declared.label_test.LabelResources.{LabelResources}
 
@@ -35,14 +35,14 @@ turned_with stops stop = reverse-append stops (stop ∷ [])
 
 -- ---- useful routes are cheap, read from the last stop of a beginning
 
-pub cheap_from : (t : LabelTestOf) (graph : GraphOf) (gap : ℤ) (stops : List ℕ) (stop : ℕ) → IsLabelTest t graph gap → BeginsUseful t.problem t.limit (stops ++ stop ∷ [])
+pub cheap_from : (t : LabelTestOf) (graph : GraphOf) (gap : ℤ) (stops : List ℕ) (stop : ℕ) → IsLabelTest t graph gap → BeginsUseful t.problem t.range (stops ++ stop ∷ [])
     → (more : List ℕ) × IsCheap t.completions.graph t.completions.gap (joined (stop ∷ reverse stops) more)
 cheap_from t graph gap stops stop known (more, useful) =
     let whole : (stops ++ stop ∷ []) ++ more ≡ joined (stop ∷ reverse stops) more =
     sym (joined_whole (stops ++ stop ∷ []) more) ∙ ap (λ (xs : List ℕ). joined xs more) (turned_with stops stop) in
     (more, subst (IsCheap t.completions.graph t.completions.gap) whole (known.cheap ((stops ++ stop ∷ []) ++ more) useful))
 
-pub cheap_whole : (t : LabelTestOf) (stops : List ℕ) → ((route : List ℕ) → IsUseful t.problem t.limit route → IsCheap t.completions.graph t.completions.gap route) → IsUseful t.problem t.limit stops
+pub cheap_whole : (t : LabelTestOf) (stops : List ℕ) → ((route : List ℕ) → IsUsefulIn t.problem t.range route → IsCheap t.completions.graph t.completions.gap route) → IsUsefulIn t.problem t.range stops
     → IsCheap t.completions.graph t.completions.gap (joined (reverse stops) [])
 cheap_whole t stops cheap useful =
     subst (IsCheap t.completions.graph t.completions.gap) (sym (joined_turned (reverse stops) [] ∙ (append_nil (reverse (reverse stops)) ∙ reverse-reverse stops))) (cheap stops useful)

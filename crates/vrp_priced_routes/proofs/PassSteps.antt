@@ -4,11 +4,11 @@ use Rattle.std.specs.List.{All}
 use Rattle.std.proofs.lemmas.Bool.{cases_lt}
 use Rattle.std.proofs.lemmas.Int.{ints}
 use Rattle.std.proofs.lemmas.List.Elements.{All-contains, All-nil}
-use Rattle.vrp_duals.specs.Duals.{AreDualsOf, DualsOf, IsNeeded, Obeys, low_of, reduced, turns_of}
+use Rattle.vrp_duals.specs.Duals.{AreDualsOf, DualsOf, IsNeededFor, Obeys, low_of, reduced, turns_of}
 use Rattle.vrp_duals.specs.Folding.{AreFull, IsFolded, first_of, folded_cost}
 use Rattle.vrp_duals.specs.declared.rows.EntryRow.{EntryRow}
 use Rattle.vrp_duals.proofs.FoldedCosts.{folded_route}
-use Rattle.vrp_duals.proofs.NeededRows.{obeyed}
+use Rattle.vrp_duals.proofs.NeededRows.{obeyed_for}
 use Rattle.vrp_duals.proofs.PricedPlans.{least_plan, turns_take_two}
 use Rattle.vrp_labels.specs.Fixing.{AreAlive, KeepsCheap, with_followers}
 use Rattle.vrp_labels.specs.Graph.{Follows, GraphOf}
@@ -21,10 +21,13 @@ use Rattle.vrp_model.specs.Problem.{Problem, customers, place_count}
 use Rattle.vrp_model.specs.Route.{IsLawful, plan_cost}
 use Rattle.vrp_model.proofs.CustomerPlaces.{customer_below, customer_is_some}
 use Rattle.vrp_routes.proofs.FeasibleRoutes.{IsRoute, are_routes}
-use Rattle.vrp_routes.specs.Pool.{IsListed, IsPool}
-use Rattle.vrp_routes.specs.Useful.{IsUseful}
+use Rattle.vrp_routes.proofs.Ranges.{plan_in_range}
+use Rattle.vrp_routes.specs.Pool.{IsListed, IsPoolIn}
+use Rattle.vrp_routes.specs.Range.{IsInRange}
+use Rattle.vrp_routes.specs.Useful.{IsUsefulIn}
+use Rattle.vrp_routes.specs.declared.plan_range.PlanRange.{PlanRange}
 use Rattle.vrp_priced_routes.specs.Arcs.{ArcsOf, GoesAlong, HoldPlans}
-use Rattle.vrp_priced_routes.specs.Priced.{ArePricedLabels, BoundsPlans, HasDepth, IsPriceBound, IsPriced, PricedLabelsOf, PricedOf}
+use Rattle.vrp_priced_routes.specs.Priced.{ArePricedLabels, BoundsPlansIn, HasDepth, IsPriceBound, IsPriced, PricedLabelsOf, PricedOf}
 use Rattle.vrp_priced_routes.specs.Units.{CarryRoutes}
 use Rattle.vrp_priced_routes.specs.declared.bounds.PriceBound.{PriceBound}
 
@@ -53,15 +56,17 @@ route_alive p g route is carry places goes =
     }
 
 pub plans_alive : (a : ArcsOf) (g : GraphOf) → HoldPlans a → g.followers ≡ a.followers → CarryRoutes a.problem g.demands g.capacity → g.folded.places ≡ place_count a.problem
-    → (routes : List (List ℕ)) → IsLawful a.problem routes → plan_cost a.problem routes ≤ a.limit → All (IsAliveRoute g) routes
+    → (routes : List (List ℕ)) → IsLawful a.problem routes → IsInRange a.problem a.range routes → All (IsAliveRoute g) routes
 plans_alive a g hold same carry places routes lawful cheap i d lt =
     route_alive a.problem g (get_or routes i d) (are_routes a.problem routes lawful i d lt) carry places
     (subst (λ (f : List ℕ). GoesAlong f 0 (get_or routes i d)) (sym same) (hold.plans routes lawful cheap i d lt))
 
 -- ---- entry rows
 
-pub all_obeyed : (p : Problem) (entries : List EntryRow) → All (IsNeeded p) entries → (routes : List (List ℕ)) → IsLawful p routes → All (Obeys routes) entries
-all_obeyed p entries needed routes lawful i d lt = obeyed p (get_or entries i d) routes (needed i d lt) lawful
+pub all_obeyed : (p : Problem) (range : PlanRange) (entries : List EntryRow) → All (IsNeededFor p range.least_routes range.most_routes) entries
+    → (routes : List (List ℕ)) → IsLawful p routes → IsInRange p range routes → All (Obeys routes) entries
+all_obeyed p range entries needed routes lawful inside i d lt =
+    obeyed_for p range.least_routes range.most_routes (get_or entries i d) routes (needed i d lt) lawful inside.many inside.few
 
 -- ---- how far below 0 a route may cost
 
@@ -70,7 +75,7 @@ depth_below least cost depth most is le = omega (arith, ints)
 
 -- the gap is wide enough
 pub gap_for : (s : PricedOf) (depth guess : ℕ) (gap : ℤ) → HasDepth s.graph depth → depth ≤ guess
-    → pos (s.duals.scale * s.limit + (length (customers s.problem) - 1) * guess) ≤ℤ (low_of s.duals +ℤ gap) → IsGapFor s.duals s.graph (length (customers s.problem)) s.limit gap
+    → pos (s.duals.scale * s.range.limit + (length (customers s.problem) - 1) * guess) ≤ℤ (low_of s.duals +ℤ gap) → IsGapFor s.duals s.graph (length (customers s.problem)) s.range.limit gap
 gap_for s depth guess gap deep within covers = record { depth = guess; least = λ route alive. more (folded_cost s.graph.folded route) (deep route alive); covers = covers }
   where
     more : (cost : ℤ) → pos 0 ≤ℤ (cost +ℤ pos depth) → pos 0 ≤ℤ (cost +ℤ pos guess)
@@ -95,10 +100,10 @@ whole_units whole scale cost most below is = elim (cases_lt cost most) [
     times a b le = let e : b ≡ a + (b - a) = omega (arith, le) in let split : b * scale ≡ (a + (b - a)) * scale = ap (λ n. n * scale) e in omega (arith, split, two_parts a (b - a))
 
 pub bounds_plans : (s : PricedOf) (depth bound : ℕ) → IsPriced s → HasDepth s.graph depth
-    → ((cost : ℕ) → low_of s.duals ≤ℤ pos (s.duals.scale * cost + length (customers s.problem) * depth) → bound ≤ cost) → BoundsPlans s.problem s.limit bound
+    → ((cost : ℕ) → low_of s.duals ≤ℤ pos (s.duals.scale * cost + length (customers s.problem) * depth) → bound ≤ cost) → BoundsPlansIn s.problem s.range bound
 bounds_plans s depth bound priced deep below routes lawful cheap =
     below (plan_cost s.problem routes)
-    (least_plan turns_of turns_take_two s.problem s.duals routes depth priced.duals lawful (priced.obeyed routes lawful) (λ i d lt. reduced_above (get_or routes i d) (priced.alive routes lawful cheap i d lt)))
+    (least_plan turns_of turns_take_two s.problem s.duals routes depth priced.duals lawful (priced.obeyed routes lawful cheap) (λ i d lt. reduced_above (get_or routes i d) (priced.alive routes lawful cheap i d lt)))
   where
     reduced_above : (route : List ℕ) → IsAliveRoute s.graph route → pos 0 ≤ℤ (reduced s.problem s.duals route +ℤ pos depth)
     reduced_above route alive =
@@ -108,7 +113,7 @@ bounds_plans s depth bound priced deep below routes lawful cheap =
         (deep route alive)
 
 pub bounded_by : (s : PricedOf) (b : PriceBound) (depth bound : ℕ) → IsPriced s → IsPriceBound s b → HasDepth s.graph depth
-    → ((cost : ℕ) → b.low ≤ℤ pos (b.scale * cost + b.customers * depth) → bound ≤ cost) → BoundsPlans s.problem s.limit bound
+    → ((cost : ℕ) → b.low ≤ℤ pos (b.scale * cost + b.customers * depth) → bound ≤ cost) → BoundsPlansIn s.problem s.range bound
 bounded_by s b depth bound priced is deep below =
     bounds_plans s depth bound priced deep
     (λ cost le. below cost
@@ -118,20 +123,20 @@ bounded_by s b depth bound priced is deep below =
 
 -- ---- what is known of a graph that is made
 
-pub priced_made : (a : ArcsOf) (d : DualsOf) (g : GraphOf) (p : Problem) (limit : ℕ) → HoldPlans a → p ≡ a.problem → limit ≡ a.limit → g.followers ≡ a.followers → CarryRoutes p g.demands g.capacity
-    → AreDualsOf a.problem d → IsFolded p d g.folded → All (IsNeeded p) d.entries → IsPriced (record { problem = p; limit = limit; duals = d; graph = g })
-priced_made a d g p limit hold same_problem same_limit same_followers carry duals folded needed =
-    let here : HoldPlans (record { problem = p; limit = limit; followers = a.followers }) =
-    subst (λ (q : Problem). HoldPlans (record { problem = q; limit = limit; followers = a.followers })) (sym same_problem)
-    (subst (λ n. HoldPlans (record { problem = a.problem; limit = n; followers = a.followers })) (sym same_limit) hold) in
+pub priced_made : (a : ArcsOf) (d : DualsOf) (g : GraphOf) (p : Problem) (range : PlanRange) → HoldPlans a → p ≡ a.problem → range ≡ a.range → g.followers ≡ a.followers → CarryRoutes p g.demands g.capacity
+    → AreDualsOf a.problem d → IsFolded p d g.folded → All (IsNeededFor p range.least_routes range.most_routes) d.entries → IsPriced (record { problem = p; range = range; duals = d; graph = g })
+priced_made a d g p range hold same_problem same_range same_followers carry duals folded needed =
+    let here : HoldPlans (record { problem = p; range = range; followers = a.followers }) =
+    subst (λ (q : Problem). HoldPlans (record { problem = q; range = range; followers = a.followers })) (sym same_problem)
+    (subst (λ (r : PlanRange). HoldPlans (record { problem = a.problem; range = r; followers = a.followers })) (sym same_range) hold) in
     record {
       problem = here.problem;
       few = here.few;
       moderate = here.moderate;
       duals = subst (λ (q : Problem). AreDualsOf q d) (sym same_problem) duals;
       folded = folded;
-      obeyed = all_obeyed p d.entries needed;
-      alive = plans_alive (record { problem = p; limit = limit; followers = a.followers }) g here same_followers carry folded.places;
+      obeyed = all_obeyed p range d.entries needed;
+      alive = plans_alive (record { problem = p; range = range; followers = a.followers }) g here same_followers carry folded.places;
     }
 
 -- ---- fewer arcs
@@ -140,14 +145,14 @@ priced_made a d g p limit hold same_problem same_limit same_followers carry dual
 pub keeps_itself : (g : GraphOf) (gap : ℤ) → length g.followers ≡ g.folded.places → KeepsCheap g gap g.followers
 keeps_itself g gap long = record { long = long; cheap = λ route cheap. cheap.is_route }
 
-plans_kept : (s : PricedOf) (gap : ℤ) (followers : List ℕ) → IsPriced s → IsGapFor s.duals s.graph (length (customers s.problem)) s.limit gap → KeepsCheap s.graph gap followers
-    → (routes : List (List ℕ)) → IsLawful s.problem routes → plan_cost s.problem routes ≤ s.limit → All (IsAliveRoute (with_followers s.graph followers)) routes
-plans_kept s gap followers priced is keeps routes lawful cheap i d lt =
+plans_kept : (s : PricedOf) (gap : ℤ) (followers : List ℕ) → IsPriced s → IsGapFor s.duals s.graph (length (customers s.problem)) s.range.limit gap → KeepsCheap s.graph gap followers
+    → (routes : List (List ℕ)) → IsLawful s.problem routes → IsInRange s.problem s.range routes → All (IsAliveRoute (with_followers s.graph followers)) routes
+plans_kept s gap followers priced is keeps routes lawful inside i d lt =
     keeps.cheap (get_or routes i d)
-    (cheap_turns s.problem s.duals s.graph routes s.limit gap priced.problem priced.duals priced.folded is lawful (priced.obeyed routes lawful) cheap (priced.alive routes lawful cheap) i d lt)
+    (cheap_turns s.problem s.duals s.graph routes s.range.limit gap priced.problem priced.duals priced.folded is lawful (priced.obeyed routes lawful inside) inside.cheap (priced.alive routes lawful inside) i d lt)
 
-pub priced_kept : (s : PricedOf) (gap : ℤ) (followers : List ℕ) → IsPriced s → IsGapFor s.duals s.graph (length (customers s.problem)) s.limit gap → KeepsCheap s.graph gap followers
-    → IsPriced (record { problem = s.problem; limit = s.limit; duals = s.duals; graph = with_followers s.graph followers })
+pub priced_kept : (s : PricedOf) (gap : ℤ) (followers : List ℕ) → IsPriced s → IsGapFor s.duals s.graph (length (customers s.problem)) s.range.limit gap → KeepsCheap s.graph gap followers
+    → IsPriced (record { problem = s.problem; range = s.range; duals = s.duals; graph = with_followers s.graph followers })
 priced_kept s gap followers priced is keeps = record {
   problem = priced.problem;
   few = priced.few;
@@ -160,7 +165,7 @@ priced_kept s gap followers priced is keeps = record {
 
 pub labels_kept : (s : PricedLabelsOf) (followers : List ℕ) → ArePricedLabels s → KeepsCheap s.priced.graph s.gap followers → AreAlive s.priced.graph followers
     → ArePricedLabels (record {
-      priced = record { problem = s.priced.problem; limit = s.priced.limit; duals = s.priced.duals; graph = with_followers s.priced.graph followers };
+      priced = record { problem = s.priced.problem; range = s.priced.range; duals = s.priced.duals; graph = with_followers s.priced.graph followers };
       gap = s.gap;
       labels = s.labels;
       bound = s.bound;
@@ -176,8 +181,8 @@ labels_kept s followers are keeps alive = record {
     some : 1 ≤ s.priced.graph.folded.places
     some = omega (arith, are.priced.folded.places, are.priced.problem.some_places)
 
-pub plans_held : (s : PricedOf) (gap : ℤ) (followers : List ℕ) → IsPriced s → IsGapFor s.duals s.graph (length (customers s.problem)) s.limit gap → KeepsCheap s.graph gap followers
-    → HoldPlans (record { problem = s.problem; limit = s.limit; followers = followers })
+pub plans_held : (s : PricedOf) (gap : ℤ) (followers : List ℕ) → IsPriced s → IsGapFor s.duals s.graph (length (customers s.problem)) s.range.limit gap → KeepsCheap s.graph gap followers
+    → HoldPlans (record { problem = s.problem; range = s.range; followers = followers })
 plans_held s gap followers priced is keeps = record {
   problem = priced.problem;
   few = priced.few;
@@ -191,27 +196,26 @@ plans_held s gap followers priced is keeps = record {
 -- ---- the list
 
 -- where the lower bound is above the limit, no route is useful
-pub none_useful : (s : PricedLabelsOf) (stops : List ℕ) → ArePricedLabels s → s.priced.limit < s.bound → IsUseful s.priced.problem s.priced.limit stops → ⊥
+pub none_useful : (s : PricedLabelsOf) (stops : List ℕ) → ArePricedLabels s → s.priced.range.limit < s.bound → IsUsefulIn s.priced.problem s.priced.range stops → ⊥
 none_useful s stops are above useful =
-    let plan_of = useful.canonical.plan_of in
-    let cheap : plan_cost s.priced.problem useful.plan.routes ≤ s.priced.limit = subst (λ (n : ℕ). n ≤ s.priced.limit) plan_of.priced useful.cheap in
-    omega (arith, above, cheap, are.bound useful.plan.routes plan_of.lawful cheap)
+    let inside = plan_in_range s.priced.problem s.priced.range stops useful in
+    omega (arith, above, inside.cheap, are.bound useful.plan.routes useful.canonical.plan_of.lawful inside)
 
-pub empty_pool : (s : PricedLabelsOf) → ArePricedLabels s → s.priced.limit < s.bound → IsPool s.priced.problem s.priced.limit []
+pub empty_pool : (s : PricedLabelsOf) → ArePricedLabels s → s.priced.range.limit < s.bound → IsPoolIn s.priced.problem s.priced.range []
 empty_pool s are above = record {
   routes = All-nil (IsListed s.priced.problem);
   complete = λ stops useful. absurd (none_useful s stops are above useful);
 }
 
 -- useful routes are cheap with full counts
-pub useful_cheap : (s : PricedOf) (gap : ℤ) (memories stops : List ℕ) → IsPriced s → IsGapFor s.duals s.graph (length (customers s.problem)) s.limit gap → AreFull s.duals memories
-    → IsUseful s.problem s.limit stops → IsCheap (with_memories s.graph memories) gap stops
+pub useful_cheap : (s : PricedOf) (gap : ℤ) (memories stops : List ℕ) → IsPriced s → IsGapFor s.duals s.graph (length (customers s.problem)) s.range.limit gap → AreFull s.duals memories
+    → IsUsefulIn s.problem s.range stops → IsCheap (with_memories s.graph memories) gap stops
 useful_cheap s gap memories stops priced is full useful =
     let routes = useful.plan.routes in
     let plan_of = useful.canonical.plan_of in
-    let cheap : plan_cost s.problem routes ≤ s.limit = subst (λ (n : ℕ). n ≤ s.limit) plan_of.priced useful.cheap in
+    let inside = plan_in_range s.problem s.range stops useful in
     All-contains (IsCheap (with_memories s.graph memories) gap) routes stops
-    (cheap_full s.problem s.duals s.graph memories routes s.limit gap priced.problem priced.duals priced.folded full is plan_of.lawful (priced.obeyed routes plan_of.lawful) cheap (priced.alive routes plan_of.lawful cheap))
+    (cheap_full s.problem s.duals s.graph memories routes s.range.limit gap priced.problem priced.duals priced.folded full is plan_of.lawful (priced.obeyed routes plan_of.lawful inside) inside.cheap (priced.alive routes plan_of.lawful inside))
     useful.among
 
 -- labels serve the graph with full counts

@@ -8,13 +8,14 @@ use Rattle.vrp_labels.specs.Route.{IsCheap}
 use Rattle.vrp_labels.specs.declared.label.Label.{Label}
 use Rattle.vrp_model.specs.Problem.{IsProblem, Problem, place_count}
 use Rattle.vrp_model.specs.Word.{last_symbol}
-use Rattle.vrp_routes.specs.Useful.{IsUseful}
+use Rattle.vrp_routes.specs.Useful.{IsUsefulIn}
 use Rattle.vrp_priced_routes.specs.declared.label_test.LabelResources.{LabelResources}
+use Rattle.vrp_routes.specs.declared.plan_range.PlanRange.{PlanRange}
 
--- a problem, what a canonical plan costs at most, and the completions of beginnings
+-- a problem, the range of plans in which the canonical plan is sought, and the completions of beginnings
 pub record LabelTestOf : Type 0 where
   pub problem : Problem
-  pub limit : ℕ
+  pub range : PlanRange
   pub completions : CompletionsOf
 
 -- the label of a beginning with these customers and this last stop
@@ -38,4 +39,4 @@ pub record IsLabelTest (t : LabelTestOf) (graph : GraphOf) (gap : ℤ) : Type 0 
   pub gap_is : gap ≡ t.completions.gap
   pub problem : IsProblem t.problem
   pub places : t.completions.graph.folded.places ≡ place_count t.problem
-  pub cheap : (stops : List ℕ) → IsUseful t.problem t.limit stops → IsCheap t.completions.graph t.completions.gap stops
+  pub cheap : (stops : List ℕ) → IsUsefulIn t.problem t.range stops → IsCheap t.completions.graph t.completions.gap stops

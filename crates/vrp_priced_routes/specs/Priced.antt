@@ -15,23 +15,25 @@ use Rattle.vrp_labels.specs.Plans.{IsGapFor}
 use Rattle.vrp_labels.specs.Route.{IsAliveRoute}
 use Rattle.vrp_labels.specs.declared.label.Label.{Label}
 use Rattle.vrp_priced_routes.specs.declared.bounds.PriceBound.{PriceBound}
+use Rattle.vrp_routes.specs.Range.{IsInRange}
+use Rattle.vrp_routes.specs.declared.plan_range.PlanRange.{PlanRange}
 
 pub record PricedOf : Type 0 where
   pub problem : Problem
-  -- what a plan costs at most
-  pub limit : ℕ
+  -- which plans are sought
+  pub range : PlanRange
   pub duals : DualsOf
   pub graph : GraphOf
 
--- the prices are of the problem, feasible plans obey the entry rows, and those within the limit go along the graph's arcs
+-- the prices are of the problem, and the feasible plans in the range obey the entry rows and go along the graph's arcs
 pub record IsPriced (s : PricedOf) : Type 0 where
   pub problem : IsProblem s.problem
   pub few : place_count s.problem ≤ PLACES
-  pub moderate : s.limit ≤ NO_COST
+  pub moderate : s.range.limit ≤ NO_COST
   pub duals : AreDualsOf s.problem s.duals
   pub folded : IsFolded s.problem s.duals s.graph.folded
-  pub obeyed : (routes : List (List ℕ)) → IsLawful s.problem routes → All (Obeys routes) s.duals.entries
-  pub alive : (routes : List (List ℕ)) → IsLawful s.problem routes → plan_cost s.problem routes ≤ s.limit → All (IsAliveRoute s.graph) routes
+  pub obeyed : (routes : List (List ℕ)) → IsLawful s.problem routes → IsInRange s.problem s.range routes → All (Obeys routes) s.duals.entries
+  pub alive : (routes : List (List ℕ)) → IsLawful s.problem routes → IsInRange s.problem s.range routes → All (IsAliveRoute s.graph) routes
 
 -- the scale and the lower bound of the prices, and the number of customers
 pub record IsPriceBound (s : PricedOf) (bound : PriceBound) : Type 0 where
@@ -51,6 +53,10 @@ HasDepth g depth = (route : List ℕ) → IsAliveRoute g route → pos 0 ≤ℤ 
 abbrev pub BoundsPlans : Problem → ℕ → ℕ → Type 0
 BoundsPlans p limit bound = (routes : List (List ℕ)) → IsLawful p routes → plan_cost p routes ≤ limit → bound ≤ plan_cost p routes
 
+-- no feasible plan in the range costs less than the bound
+abbrev pub BoundsPlansIn : Problem → PlanRange → ℕ → Type 0
+BoundsPlansIn p range bound = (routes : List (List ℕ)) → IsLawful p routes → IsInRange p range routes → bound ≤ plan_cost p routes
+
 -- labels that are closed in such a graph, with a gap that is wide enough, and a lower bound
 pub record PricedLabelsOf : Type 0 where
   pub priced : PricedOf
@@ -60,7 +66,7 @@ pub record PricedLabelsOf : Type 0 where
 
 pub record ArePricedLabels (s : PricedLabelsOf) : Type 0 where
   pub priced : IsPriced s.priced
-  pub gap : IsGapFor s.priced.duals s.priced.graph (length (customers s.priced.problem)) s.priced.limit s.gap
+  pub gap : IsGapFor s.priced.duals s.priced.graph (length (customers s.priced.problem)) s.priced.range.limit s.gap
   pub kept : AreKept s.priced.graph s.labels
   pub closed : IsClosed s.priced.graph s.gap s.labels
-  pub bound : BoundsPlans s.priced.problem s.priced.limit s.bound
+  pub bound : BoundsPlansIn s.priced.problem s.priced.range s.bound

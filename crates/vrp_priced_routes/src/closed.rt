@@ -42,10 +42,10 @@ impl<'a, 'd> PricedGraph<'a, 'd> {
         ensures gap { IfOk result (λ round. IfRoundClosed round (λ closed. closed.completions.gap ≡ closed.gap)) }
         ensures depth { IfOk result (λ round. IfRoundClosed round (λ closed. HasDepth self.now.graph closed.depth)) }
         ensures covers { IfOk result (λ round. IfRoundClosed round (λ closed.
-            pos (self.now.duals.scale * self.now.limit + (length (customers self.now.problem) - 1) * depth)
+            pos (self.now.duals.scale * self.now.range.limit + (length (customers self.now.problem) - 1) * depth)
             ≤ℤ (low_of self.now.duals +ℤ closed.gap))) }
     {
-        let Some(gap) = self.price_bound().gap(self.limit, depth) else {
+        let Some(gap) = self.price_bound().gap(self.range.limit, depth) else {
             return Ok(Round::TooWide);
         };
         let kept = match close(crew, &self.graph, gap, most_labels)? {
@@ -73,7 +73,7 @@ impl<'a, 'd> PricedGraph<'a, 'd> {
         ensures gap { IfOk result (λ round. IfRoundClosed round (λ closed. closed.completions.gap ≡ closed.gap)) }
         ensures depth { IfOk result (λ round. IfRoundClosed round (λ closed. HasDepth self.now.graph closed.depth)) }
         ensures wide { IfOk result (λ round. IfRoundClosed round (λ closed.
-            IsGapFor self.now.duals self.now.graph (length (customers self.now.problem)) self.now.limit closed.gap)) }
+            IsGapFor self.now.duals self.now.graph (length (customers self.now.problem)) self.now.range.limit closed.gap)) }
     {
         let first = match self.close_at(crew, guess, most_labels)? {
             Round::Closed(closed) => closed,

@@ -3,7 +3,7 @@
 /// Why a pass is refused.
 #[derive(Clone, Copy, Debug, PartialEq, Eq)]
 pub enum PassFault {
-    /// Not every feasible plan obeys each entry row, as far as `EntryRow::is_needed` tells.
+    /// Not every feasible plan in the range obeys each entry row, as far as `EntryRow::is_needed_for` tells.
     EntryRow,
     /// There isn't one ng-set for each place.
     NearSets,

@@ -4,7 +4,7 @@ ghost use Rattle.vrp_labels.specs.Completion.{IsForward};
 ghost use Rattle.vrp_labels.specs.Label.{IsLabelOf};
 ghost use Rattle.vrp_labels.specs.Route.{IsCheap, joined};
 ghost use Rattle.vrp_model.specs.Problem.{place_count};
-ghost use Rattle.vrp_routes.specs.Useful.{IsUseful};
+ghost use Rattle.vrp_routes.specs.Useful.{IsUsefulIn};
 ghost use Rattle.vrp_priced_routes.specs.LabelTest.{AreLabelled, label_by};
 
 use std::marker::Model;
@@ -13,7 +13,7 @@ use vrp_customers::CustomerSet;
 use vrp_duals::RowSet;
 use vrp_labels::{Completions, Label, RouteGraph};
 use vrp_model::Instance;
-use vrp_routes::CompletionTest;
+use vrp_routes::{CompletionTest, PlanRange};
 
 /// What the test counts along a beginning: the subset rows in state 1, the cost in price units, and the load in units of demand.
 #[derive(Clone, Copy, Debug)]
@@ -51,11 +51,11 @@ impl LabelResources {
     }
 }
 
-/// The test by the completions of an instance, for canonical plans of at most a cost.
+/// The test by the completions of an instance, for canonical plans in a range.
 #[derive(Drop)]
 pub struct LabelTest<'a> {
     instance: &'a Instance,
-    limit: u64,
+    range: PlanRange,
     // The graph and the gap of the completions.
     graph: &'a RouteGraph,
     gap: i64,
@@ -67,17 +67,17 @@ impl<'a> Model for LabelTest<'a> {
 
     ghost Value = { LabelTestOf };
 
-    ghost view = { λ a. record { problem = a.instance.now; limit = a.limit; completions = a.completions.now } };
+    ghost view = { λ a. record { problem = a.instance.now; range = a.range; completions = a.completions.now } };
 
     ghost invariant = { λ a.
-        IsLabelTest (record { problem = a.instance.now; limit = a.limit; completions = a.completions.now }) a.graph.now a.gap };
+        IsLabelTest (record { problem = a.instance.now; range = a.range; completions = a.completions.now }) a.graph.now a.gap };
 }
 
 impl<'a> LabelTest<'a> {
     /// The test by completions that have a label for each ending of a useful route.
     pub fn new(
         instance: &'a Instance,
-        limit: u64,
+        range: PlanRange,
         graph: &'a RouteGraph,
         gap: i64,
         completions: &'a Completions<'a>,
@@ -85,14 +85,14 @@ impl<'a> LabelTest<'a> {
         requires graph { completions.now.graph ≡ graph.now }
         requires gap { completions.now.gap ≡ gap }
         requires places { graph.now.folded.places ≡ place_count instance.now }
-        requires cheap { (stops : List ℕ) → IsUseful instance.now limit stops → IsCheap graph.now gap stops }
-        ensures { result ≡ record { problem = instance.now; limit = limit; completions = completions.now } }
+        requires cheap { (stops : List ℕ) → IsUsefulIn instance.now range stops → IsCheap graph.now gap stops }
+        ensures { result ≡ record { problem = instance.now; range = range; completions = completions.now } }
     {
         // The facts known of every instance come with the number of customers.
         let _customers = instance.customers();
         LabelTest {
             instance,
-            limit,
+            range,
             graph,
             gap,
             completions,
@@ -106,7 +106,7 @@ impl<'a> LabelTest<'a> {
         ensures ends { (beginning : List ℕ) → IsForward self.now.completions.graph beginning forward.now
             → IsCheap self.now.completions.graph self.now.completions.gap (joined beginning []) → IsTrue result }
         // What is known of every test by labels.
-        ensures cheap { (stops : List ℕ) → IsUseful self.now.problem self.now.limit stops
+        ensures cheap { (stops : List ℕ) → IsUsefulIn self.now.problem self.now.range stops
             → IsCheap self.now.completions.graph self.now.completions.gap stops }
     {
         // What is known of every graph comes with its places.
@@ -121,7 +121,7 @@ impl<'a> CompletionTest for LabelTest<'a> {
 
     ghost problem = { λ t. t.problem };
 
-    ghost limit = { λ t. t.limit };
+    ghost range = { λ t. t.range };
 
     ghost Counts = { λ t stops resources. AreLabelled t.completions.graph stops resources };
 

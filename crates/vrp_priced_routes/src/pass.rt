@@ -30,7 +30,7 @@ pub enum Passed<'a, 'd> {
 /// The arcs and the closed labels that a pass leaves.
 #[derive(Drop)]
 pub struct Pass<'a, 'd> {
-    /// Of the arcs before, those that plans within the limit use, and maybe more.
+    /// Of the arcs before, those that plans in the range use, and maybe more.
     pub arcs: AliveArcs<'a>,
     /// They give the lower bound and the list of routes.
     pub labels: PricedLabels<'a, 'd>,
@@ -49,11 +49,11 @@ pub fn run_pass<'a, 'd, R, W: Watch>(
     most_labels: usize,
 ) -> Result<Passed<'a, 'd>, NoMemory>
     requires { AreDualsOf arcs.now.problem duals.now }
-    ensures refused { IfOk result (λ passed. IfRefused passed (IsFault arcs.now.problem duals.now (length near.now))) }
+    ensures refused { IfOk result (λ passed. IfRefused passed (IsFault arcs.now.problem arcs.now.range duals.now (length near.now))) }
     ensures problem { IfOk result (λ passed. IfPassed passed (λ pass. pass.arcs.problem ≡ arcs.now.problem)) }
-    ensures limit { IfOk result (λ passed. IfPassed passed (λ pass. pass.arcs.limit ≡ arcs.now.limit)) }
+    ensures range { IfOk result (λ passed. IfPassed passed (λ pass. pass.arcs.range ≡ arcs.now.range)) }
     ensures labels { IfOk result (λ passed. IfPassed passed (λ pass. pass.labels.priced.problem ≡ arcs.now.problem)) }
-    ensures labels_limit { IfOk result (λ passed. IfPassed passed (λ pass. pass.labels.priced.limit ≡ arcs.now.limit)) }
+    ensures labels_range { IfOk result (λ passed. IfPassed passed (λ pass. pass.labels.priced.range ≡ arcs.now.range)) }
 {
     let priced = match PricedGraph::new(crew.alloc, arcs, duals, near)? {
         Ok(priced) => priced,
@@ -86,20 +86,20 @@ impl<'a, 'd> PricedGraph<'a, 'd> {
         requires alive { AreAlive self.graph followers.items }
         requires labels { ArePricedLabels (record { priced = self; gap = gap; labels = labels; bound = bound }) }
         ensures problem { IfOk result (λ pass. pass.arcs.problem ≡ self.entry.problem) }
-        ensures limit { IfOk result (λ pass. pass.arcs.limit ≡ self.entry.limit) }
+        ensures range { IfOk result (λ pass. pass.arcs.range ≡ self.entry.range) }
         ensures labels { IfOk result (λ pass. pass.labels.priced.problem ≡ self.entry.problem) }
-        ensures labels_limit { IfOk result (λ pass. pass.labels.priced.limit ≡ self.entry.limit) }
+        ensures labels_range { IfOk result (λ pass. pass.labels.priced.range ≡ self.entry.range) }
     {
         let PricedGraph {
             instance,
-            limit,
+            range,
             duals,
             graph,
         } = self;
-        let arcs = AliveArcs::of(instance, limit, Vec::from_slice(alloc, &followers)?);
+        let arcs = AliveArcs::of(instance, range, Vec::from_slice(alloc, &followers)?);
         let priced = PricedGraph {
             instance,
-            limit,
+            range,
             duals,
             graph: graph.keep_arcs(followers),
         };

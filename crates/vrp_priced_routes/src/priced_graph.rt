@@ -2,7 +2,7 @@
 ghost use Rattle.std.specs.Prelude.{◌≡◌, ◌≤◌, ◌↔◌, IfErr, IfOk, IsTrue, length};
 ghost use Rattle.std.specs.List.{All};
 ghost use Rattle.vrp_customers.specs.declared.customer_set.TheConstants.{PLACES};
-ghost use Rattle.vrp_duals.specs.Duals.{AreDualsOf, IsNeeded};
+ghost use Rattle.vrp_duals.specs.Duals.{AreDualsOf, IsNeededFor};
 ghost use Rattle.vrp_duals.specs.declared.rows.EntryRow.{EntryRow};
 ghost use Rattle.vrp_model.specs.Problem.{place_count};
 ghost use Rattle.vrp_priced_routes.specs.Fault.{IsFault};
@@ -18,12 +18,13 @@ use vrp_customers::CustomerSet;
 use vrp_duals::{Duals, EntryRow};
 use vrp_labels::{GraphParts, RouteGraph};
 use vrp_model::{Instance, NoMemory};
+use vrp_routes::PlanRange;
 
-/// An instance, a limit on the cost of a plan, dual prices, and the graph of labels by them: plans within the limit go along its arcs.
+/// An instance, a range of plans, dual prices, and the graph of labels by them: plans in the range go along its arcs.
 #[derive(Drop)]
 pub struct PricedGraph<'a, 'd> {
     pub(crate) instance: &'a Instance,
-    pub(crate) limit: u64,
+    pub(crate) range: PlanRange,
     pub(crate) duals: &'d Duals,
     pub(crate) graph: RouteGraph,
 }
@@ -33,9 +34,9 @@ impl<'a, 'd> Model for PricedGraph<'a, 'd> {
 
     ghost Value = { PricedOf };
 
-    ghost view = { λ a. record { problem = a.instance.now; limit = a.limit; duals = a.duals.now; graph = a.graph } };
+    ghost view = { λ a. record { problem = a.instance.now; range = a.range; duals = a.duals.now; graph = a.graph } };
 
-    ghost invariant = { λ a. IsPriced (record { problem = a.instance.now; limit = a.limit; duals = a.duals.now; graph = a.graph }) };
+    ghost invariant = { λ a. IsPriced (record { problem = a.instance.now; range = a.range; duals = a.duals.now; graph = a.graph }) };
 }
 
 impl<'a, 'd> PricedGraph<'a, 'd> {
@@ -48,12 +49,13 @@ impl<'a, 'd> PricedGraph<'a, 'd> {
     ) -> Result<Result<PricedGraph<'a, 'd>, PassFault>, NoMemory>
         requires { AreDualsOf arcs.now.problem duals.now }
         ensures problem { IfOk result (λ made. IfOk made (λ priced. priced.problem ≡ arcs.now.problem)) }
-        ensures limit { IfOk result (λ made. IfOk made (λ priced. priced.limit ≡ arcs.now.limit)) }
+        ensures range { IfOk result (λ made. IfOk made (λ priced. priced.range ≡ arcs.now.range)) }
         ensures followers { IfOk result (λ made. IfOk made (λ priced. priced.graph.followers ≡ arcs.now.followers)) }
-        ensures refused { IfOk result (λ made. IfErr made (λ fault. IsFault arcs.now.problem duals.now (length near.now) fault)) }
+        ensures refused { IfOk result (λ made. IfErr made (λ fault. IsFault arcs.now.problem arcs.now.range duals.now (length near.now) fault)) }
     {
         let instance = arcs.instance();
-        if !are_needed(instance, duals.entries()) {
+        let range = arcs.range();
+        if !are_needed(instance, range, duals.entries()) {
             return Ok(Err(PassFault::EntryRow));
         }
         let Some(units) = unit_demands(alloc, instance)? else {
@@ -72,7 +74,7 @@ impl<'a, 'd> PricedGraph<'a, 'd> {
         };
         Ok(Ok(PricedGraph {
             instance,
-            limit: arcs.limit(),
+            range,
             duals,
             graph,
         }))
@@ -90,13 +92,13 @@ impl<'a, 'd> PricedGraph<'a, 'd> {
     }
 }
 
-// Whether every feasible plan obeys each of these entry rows.
-fn are_needed(instance: &Instance, entries: &[EntryRow]) -> bool
+// Whether every feasible plan in the range obeys each of these entry rows.
+fn are_needed(instance: &Instance, range: PlanRange, entries: &[EntryRow]) -> bool
     requires { place_count instance.now ≤ PLACES }
-    ensures { IsTrue result ↔ All (IsNeeded instance.now) entries.now }
+    ensures { IsTrue result ↔ All (IsNeededFor instance.now range.least_routes range.most_routes) entries.now }
 {
     for index in 0..entries.len() {
-        if !entries[index].is_needed(instance) {
+        if !entries[index].is_needed_for(instance, range.least_routes, range.most_routes) {
             return false;
         }
     }

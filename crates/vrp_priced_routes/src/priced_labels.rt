@@ -1,8 +1,8 @@
 //! Closed labels by dual prices: the lower bound that they prove, and the list of useful routes.
 ghost use Rattle.std.specs.Prelude.{◌≡◌, IfOk};
-ghost use Rattle.vrp_priced_routes.specs.Priced.{ArePricedLabels, BoundsPlans};
+ghost use Rattle.vrp_priced_routes.specs.Priced.{ArePricedLabels, BoundsPlansIn};
 ghost use Rattle.vrp_routes.specs.Listing.{IfPool};
-ghost use Rattle.vrp_routes.specs.Pool.{IsPool};
+ghost use Rattle.vrp_routes.specs.Pool.{IsPoolIn};
 
 use crate::label_test::LabelTest;
 use crate::priced_graph::PricedGraph;
@@ -12,7 +12,7 @@ use vrp_labels::{Completions, LabelPiles};
 use vrp_model::{Crew, NoMemory, Watch};
 use vrp_routes::{Limit, Listed, RoutePool, list_routes};
 
-/// The closed labels of an instance by dual prices, for plans that cost no more than a limit.
+/// The closed labels of an instance by dual prices, for plans in a range.
 #[derive(Drop)]
 pub struct PricedLabels<'a, 'd> {
     priced: PricedGraph<'a, 'd>,
@@ -50,10 +50,10 @@ impl<'a, 'd> PricedLabels<'a, 'd> {
         }
     }
 
-    /// What a feasible plan costs at least, if it costs no more than the limit. If that is more than the limit, none does.
+    /// What a feasible plan in the range costs at least. If that is more than its limit, there is none.
     pub fn lower_bound(&self) -> u64
         ensures value { result ≡ self.now.bound }
-        ensures bound { BoundsPlans self.now.priced.problem self.now.priced.limit result }
+        ensures bound { BoundsPlansIn self.now.priced.problem self.now.priced.range result }
     {
         self.lower_bound
     }
@@ -67,7 +67,7 @@ impl<'a, 'd> PricedLabels<'a, 'd> {
         count
     }
 
-    /// The routes that may be in the canonical plan, if that costs no more than the limit. A beginning is kept where a label completes it;
+    /// The routes that may be in the canonical plan, if that is in the range. A beginning is kept where a label completes it;
     /// subset rows are counted in full. The rest is as in `vrp_routes::list_routes`, and the contract leaves open the same. Where the lower
     /// bound is above the limit, the pool is empty.
     pub fn list_routes<R: Threads + Sync, W: Watch + Sync>(
@@ -75,7 +75,7 @@ impl<'a, 'd> PricedLabels<'a, 'd> {
         crew: &Crew<'_, R, W>,
         most_labels: u32,
     ) -> Result<Listed, NoMemory>
-        ensures { IfOk result (λ listed. IfPool listed (IsPool self.entry.priced.problem self.entry.priced.limit)) }
+        ensures { IfOk result (λ listed. IfPool listed (IsPoolIn self.entry.priced.problem self.entry.priced.range)) }
     {
         let PricedLabels {
             priced,
@@ -85,11 +85,11 @@ impl<'a, 'd> PricedLabels<'a, 'd> {
         } = self;
         let PricedGraph {
             instance,
-            limit,
+            range,
             duals,
             graph,
         } = priced;
-        if lower_bound > limit {
+        if lower_bound > range.limit {
             return Ok(Listed::Pool(RoutePool::empty(crew.alloc)));
         }
         let memories = duals.full_memories(crew.alloc)?;
@@ -98,7 +98,7 @@ impl<'a, 'd> PricedLabels<'a, 'd> {
             return Ok(Listed::Met(Limit::Labels));
         };
         let completions = Completions::widened(crew.alloc, &wide, gap, labels)?;
-        let test = LabelTest::new(instance, limit, &wide, gap, &completions);
+        let test = LabelTest::new(instance, range, &wide, gap, &completions);
         list_routes(crew, &test, most_labels)
     }
 }

@@ -10,7 +10,8 @@ use Rattle.vrp_model.proofs.Ordered.{earlier_total}
 use Rattle.vrp_model.proofs.PlanWords.{closed_plan, plan_of_word}
 use Rattle.vrp_model.proofs.TurnedRoutes.{word_for_plan}
 use Rattle.vrp_model.proofs.Words.{closed_routes_are}
-use Rattle.vrp_routes.specs.Useful.{IsUseful}
+use Rattle.vrp_routes.specs.Useful.{IsUsefulIn}
+use Rattle.vrp_routes.specs.declared.plan_range.PlanRange.{PlanRange}
 
 -- the word of the canonical plan is feasible
 pub canonical_has_word : (p : Problem) (plan : PricedPlan) → IsCanonical p plan → IsLawfulWord p (word_of plan.routes)
@@ -25,8 +26,8 @@ canonical_has_word p plan canonical =
       | inr (inr later) ↦ absurd (canonical.none_before other (record { lawful = also; priced = refl }) (inr (same, subst (λ (xs : List ℕ). IsEarlier xs (word_of plan.routes)) is later)))
     ]
 
-pub useful_runs_forward : (p : Problem) (limit : ℕ) (stops : List ℕ) → IsUseful p limit stops → IsSymmetric p → RunsForward stops
-useful_runs_forward p limit stops useful symmetric =
+pub useful_runs_forward : (p : Problem) (range : PlanRange) (stops : List ℕ) → IsUsefulIn p range stops → IsSymmetric p → RunsForward stops
+useful_runs_forward p range stops useful symmetric =
     let routes = useful.plan.routes in
     let word = canonical_has_word p useful.plan useful.canonical in
     let closed : closed_routes (word_of routes) ≡ routes = ap closed_routes (sym (append-nil (word_of routes))) ∙ closed_routes_are routes [] (closed_plan p routes useful.canonical.plan_of.lawful) (All-nil _) in

@@ -14,12 +14,13 @@ use Rattle.vrp_customers.proofs.Sets.{same_set}
 use Rattle.vrp_routes.specs.Label.{IsLabel, SettingOf}
 use Rattle.vrp_routes.specs.Level.{IsLevel}
 use Rattle.vrp_routes.specs.Pool.{IsListed}
-use Rattle.vrp_routes.specs.Useful.{BeginsUseful, IsUseful}
+use Rattle.vrp_routes.specs.Useful.{BeginsUseful, IsUsefulIn}
 use Rattle.vrp_routes.specs.declared.closed.ClosedLevel.{ClosedLevel}
 use Rattle.vrp_routes.specs.declared.closed.ClosedRoute.{ClosedRoute}
 use Rattle.vrp_routes.specs.declared.label.Label.{Label}
 use Rattle.vrp_routes.proofs.Extensions.{some_same}
 use Rattle.vrp_routes.proofs.Replaced.{no_better_route}
+use Rattle.vrp_routes.specs.declared.plan_range.PlanRange.{PlanRange}
 
 -- ---- a route more
 
@@ -83,12 +84,12 @@ pub record StandsAt (start from : ℕ) (set : ℕ) (closed : ClosedLevel) : Type
   pub there : place_of closed set ≡ Some at
 
 -- of those labels whose sets pass the test
-pub record ClosesSome (p : Problem) (limit : ℕ) (mine : ℕ → Bool) (start : ℕ) (stops : List (List ℕ)) (at : ℕ) (closed : ClosedLevel) : Type 0 where
+pub record ClosesSome (p : Problem) (range : PlanRange) (mine : ℕ → Bool) (start : ℕ) (stops : List (List ℕ)) (at : ℕ) (closed : ClosedLevel) : Type 0 where
   pub each : (i : ℕ) → i < length closed.routes.items → IsOfLabel p start stops at (closed_at closed i)
-  pub every : (j : ℕ) → j < at → mine (set_of (get_or stops (start + j) [])) ≡ true → IsUseful p limit (get_or stops (start + j) []) → StandsAt start j (set_of (get_or stops (start + j) [])) closed
+  pub every : (j : ℕ) → j < at → mine (set_of (get_or stops (start + j) [])) ≡ true → IsUsefulIn p range (get_or stops (start + j) []) → StandsAt start j (set_of (get_or stops (start + j) [])) closed
 
-pub closes_none : (p : Problem) (limit : ℕ) (mine : ℕ → Bool) (start : ℕ) (stops : List (List ℕ)) (closed : ClosedLevel) → closed.routes.items ≡ [] → ClosesSome p limit mine start stops 0 closed
-closes_none p limit mine start stops closed none = record {
+pub closes_none : (p : Problem) (range : PlanRange) (mine : ℕ → Bool) (start : ℕ) (stops : List (List ℕ)) (closed : ClosedLevel) → closed.routes.items ≡ [] → ClosesSome p range mine start stops 0 closed
+closes_none p range mine start stops closed none = record {
   each = λ i lt. absurd (omega (arith, lt, ap length none));
   every = λ j lt own useful. absurd (omega (arith, lt));
 }
@@ -97,27 +98,27 @@ later : (p : Problem) (start : ℕ) (stops : List (List ℕ)) (at : ℕ) (route 
 later p start stops at route is = record { from = is.from; before = omega (arith, is.before); label = is.label; listed = is.listed }
 
 -- a label that is no useful route
-pub closes_not : (p : Problem) (limit : ℕ) (mine : ℕ → Bool) (start : ℕ) (stops : List (List ℕ)) (at : ℕ) (closed : ClosedLevel) → ClosesSome p limit mine start stops at closed → (mine (set_of (get_or stops (start + at) [])) ≡ true → IsUseful p limit (get_or stops (start + at) []) → ⊥) → ClosesSome p limit mine start stops (at + 1) closed
-closes_not p limit mine start stops at closed some none = record {
+pub closes_not : (p : Problem) (range : PlanRange) (mine : ℕ → Bool) (start : ℕ) (stops : List (List ℕ)) (at : ℕ) (closed : ClosedLevel) → ClosesSome p range mine start stops at closed → (mine (set_of (get_or stops (start + at) [])) ≡ true → IsUsefulIn p range (get_or stops (start + at) []) → ⊥) → ClosesSome p range mine start stops (at + 1) closed
+closes_not p range mine start stops at closed some none = record {
   each = λ i lt. later p start stops at (closed_at closed i) (some.each i lt);
   every = λ j lt own useful. elim (cases_lt j at) [
     | inl less ↦ some.every j less own useful
     | inr here ↦
         let same : j ≡ at = omega (arith, here, lt) in
-        absurd (none (subst (λ n. mine (set_of (get_or stops (start + n) [])) ≡ true) same own) (subst (λ n. IsUseful p limit (get_or stops (start + n) [])) same useful))
+        absurd (none (subst (λ n. mine (set_of (get_or stops (start + n) [])) ≡ true) same own) (subst (λ n. IsUsefulIn p range (get_or stops (start + n) [])) same useful))
   ];
 }
 
 -- of two routes with one set the one that comes before isn't the rival of a useful one
-no_route_rival : (p : Problem) (limit : ℕ) (stops : List (List ℕ)) (one other : ClosedRoute) (i j : ℕ) → IsListed p (route_by stops one) → IsListed p (route_by stops other) → one.label ≡ i → other.label ≡ j
-    → one.set ≡ other.set → IsUseful p limit (get_or stops j []) → ComesBefore one.cost (get_or stops i []) other.cost (get_or stops j []) → ⊥
-no_route_rival p limit stops one other i j is also one_is other_is same useful before =
+no_route_rival : (p : Problem) (range : PlanRange) (stops : List (List ℕ)) (one other : ClosedRoute) (i j : ℕ) → IsListed p (route_by stops one) → IsListed p (route_by stops other) → one.label ≡ i → other.label ≡ j
+    → one.set ≡ other.set → IsUsefulIn p range (get_or stops j []) → ComesBefore one.cost (get_or stops i []) other.cost (get_or stops j []) → ⊥
+no_route_rival p range stops one other i j is also one_is other_is same useful before =
     let xs = get_or stops one.label [] in
     let ys = get_or stops other.label [] in
     let sets : set_of ys ≡ set_of xs = sym also.set ∙ sym same ∙ is.set in
     let there : get_or stops i [] ≡ xs = ap (λ n. get_or stops n []) (sym one_is) in
     let here : get_or stops j [] ≡ ys = ap (λ n. get_or stops n []) (sym other_is) in
-    no_better_route p limit ys xs (subst (IsUseful p limit) here useful) (same_set ys xs also.begins.once is.begins.once sets)
+    no_better_route p range ys xs (subst (IsUsefulIn p range) here useful) (same_set ys xs also.begins.once is.begins.once sets)
     (subst (λ n. ComesBefore (route_cost p xs) xs n ys) also.cost
     (subst (λ n. ComesBefore n xs other.cost ys) is.cost
     (subst (λ (zs : List ℕ). ComesBefore one.cost zs other.cost ys) there
@@ -135,20 +136,20 @@ own_set p start stops at route one = one.listed.set ∙ ap (λ n. set_of (get_or
 mine_of : (p : Problem) (start : ℕ) (stops : List (List ℕ)) (at : ℕ) (route : ClosedRoute) → ClosesOne p start stops at route → IsOfLabel p start stops (at + 1) route
 mine_of p start stops at route one = record { from = at; before = omega arith; label = one.label; listed = one.listed }
 
-left_out_route : (p : Problem) (limit : ℕ) (mine : ℕ → Bool) (start : ℕ) (stops : List (List ℕ)) (at : ℕ) (old new : ClosedLevel) (route : ClosedRoute) → ClosesSome p limit mine start stops at old → HasPlaces old → ClosesOne p start stops at route → IsLeftOut old route new → ClosesSome p limit mine start stops (at + 1) new
-left_out_route p limit mine start stops at old new route some has one left_out =
-    subst (ClosesSome p limit mine start stops (at + 1)) (sym left_out.same) (closes_not p limit mine start stops at old some (λ own useful.
+left_out_route : (p : Problem) (range : PlanRange) (mine : ℕ → Bool) (start : ℕ) (stops : List (List ℕ)) (at : ℕ) (old new : ClosedLevel) (route : ClosedRoute) → ClosesSome p range mine start stops at old → HasPlaces old → ClosesOne p start stops at route → IsLeftOut old route new → ClosesSome p range mine start stops (at + 1) new
+left_out_route p range mine start stops at old new route some has one left_out =
+    subst (ClosesSome p range mine start stops (at + 1)) (sym left_out.same) (closes_not p range mine start stops at old some (λ own useful.
     let (within, of_set) = has route.set left_out.at left_out.there in
     let other = some.each left_out.at within in
     let earlier = one.rises other.from other.before in
-    no_route_rival p limit stops (closed_at old left_out.at) route (start + other.from) (start + at) other.listed one.listed other.label one.label of_set useful
+    no_route_rival p range stops (closed_at old left_out.at) route (start + other.from) (start + at) other.listed one.listed other.label one.label of_set useful
     (elim (cases_lt (closed_at old left_out.at).cost route.cost) [
       | inl less ↦ inl less
       | inr more ↦ inr (omega (arith, left_out.no_costlier, more), earlier)
     ])))
 
-replaced_route : (p : Problem) (limit : ℕ) (mine : ℕ → Bool) (start : ℕ) (stops : List (List ℕ)) (at : ℕ) (old new : ClosedLevel) (route : ClosedRoute) → ClosesSome p limit mine start stops at old → HasPlaces old → ClosesOne p start stops at route → IsReplaced old route new → ClosesSome p limit mine start stops (at + 1) new
-replaced_route p limit mine start stops at old new route some has one taken = record {
+replaced_route : (p : Problem) (range : PlanRange) (mine : ℕ → Bool) (start : ℕ) (stops : List (List ℕ)) (at : ℕ) (old new : ClosedLevel) (route : ClosedRoute) → ClosesSome p range mine start stops at old → HasPlaces old → ClosesOne p start stops at route → IsReplaced old route new → ClosesSome p range mine start stops (at + 1) new
+replaced_route p range mine start stops at old new route some has one taken = record {
   each = λ i lt. elim (cases_eq i taken.at) [
     | inl same ↦ subst (IsOfLabel p start stops (at + 1)) (sym (ap (closed_at new) same ∙ replaced_same old new route taken there)) (mine_of p start stops at route one)
     | inr other ↦ subst (IsOfLabel p start stops (at + 1)) (sym (replaced_other old new route i taken other)) (later p start stops at (closed_at old i) (some.each i (omega (arith, lt, long))))
@@ -160,7 +161,7 @@ replaced_route p limit mine start stops at old new route some has one taken = re
           | inl same ↦ absurd (
               let other = some.each taken.at there in
               let labelled : (closed_at old taken.at).label ≡ start + j = ap (λ n. (closed_at old n).label) (sym same) ∙ stands.label in
-              no_route_rival p limit stops route (closed_at old taken.at) (start + at) (start + j) one.listed other.listed one.label labelled (sym of_set) useful (inl taken.cheaper))
+              no_route_rival p range stops route (closed_at old taken.at) (start + at) (start + j) one.listed other.listed one.label labelled (sym of_set) useful (inl taken.cheaper))
           | inr other ↦ record {
             at = stands.at;
             within = omega (arith, stands.within, long);
@@ -188,8 +189,8 @@ replaced_route p limit mine start stops at old new route some has one taken = re
     long : length new.routes.items ≡ length old.routes.items
     long = long_replaced old new route taken
 
-added_route : (p : Problem) (limit : ℕ) (mine : ℕ → Bool) (start : ℕ) (stops : List (List ℕ)) (at : ℕ) (old new : ClosedLevel) (route : ClosedRoute) → ClosesSome p limit mine start stops at old → ClosesOne p start stops at route → IsAdded old route new → ClosesSome p limit mine start stops (at + 1) new
-added_route p limit mine start stops at old new route some one added = record {
+added_route : (p : Problem) (range : PlanRange) (mine : ℕ → Bool) (start : ℕ) (stops : List (List ℕ)) (at : ℕ) (old new : ClosedLevel) (route : ClosedRoute) → ClosesSome p range mine start stops at old → ClosesOne p start stops at route → IsAdded old route new → ClosesSome p range mine start stops (at + 1) new
+added_route p range mine start stops at old new route some one added = record {
   each = λ i lt. elim (cases_lt i (length old.routes.items)) [
     | inl first ↦ subst (IsOfLabel p start stops (at + 1)) (sym (added_before old new route i added first)) (later p start stops at (closed_at old i) (some.each i first))
     | inr last ↦
@@ -226,10 +227,10 @@ added_route p limit mine start stops at old new route some one added = record {
     itself : (n : ℕ) → (n == n) ≡ true
     itself n = grind (arith, nat_tests)
 
-pub closes_one : (p : Problem) (limit : ℕ) (mine : ℕ → Bool) (start : ℕ) (stops : List (List ℕ)) (at : ℕ) (old new : ClosedLevel) (route : ClosedRoute) → ClosesSome p limit mine start stops at old → HasPlaces old → ClosesOne p start stops at route → TakesRoute old route new → ClosesSome p limit mine start stops (at + 1) new
-closes_one p limit mine start stops at old new route some has one (inl left_out) = left_out_route p limit mine start stops at old new route some has one left_out
-closes_one p limit mine start stops at old new route some has one (inr (inl taken)) = replaced_route p limit mine start stops at old new route some has one taken
-closes_one p limit mine start stops at old new route some has one (inr (inr added)) = added_route p limit mine start stops at old new route some one added
+pub closes_one : (p : Problem) (range : PlanRange) (mine : ℕ → Bool) (start : ℕ) (stops : List (List ℕ)) (at : ℕ) (old new : ClosedLevel) (route : ClosedRoute) → ClosesSome p range mine start stops at old → HasPlaces old → ClosesOne p start stops at route → TakesRoute old route new → ClosesSome p range mine start stops (at + 1) new
+closes_one p range mine start stops at old new route some has one (inl left_out) = left_out_route p range mine start stops at old new route some has one left_out
+closes_one p range mine start stops at old new route some has one (inr (inl taken)) = replaced_route p range mine start stops at old new route some has one taken
+closes_one p range mine start stops at old new route some has one (inr (inr added)) = added_route p range mine start stops at old new route some one added
 
 -- ---- a label's route
 
@@ -260,7 +261,7 @@ route_of_label s k start stops labels at label cost level some lt is cost_is =
       rises = λ j less. subst (λ (ys : List ℕ). IsEarlier ys xs) (label_stops start stops j) (subst (IsEarlier (get_or mine j [])) there (level.are.rising j at [] less within));
     }
 
-pub closes_all : {X : Type 0} (s : SettingOf X) (mine : ℕ → Bool) (k start : ℕ) (stops : List (List ℕ)) (labels : List (Label X)) (at : ℕ) (closed : ClosedLevel) → IsLevel s k (drop start stops) labels → at ≡ length labels → ClosesSome s.problem s.limit mine start stops at closed → AreClosedIn s.problem s.limit k mine stops closed.routes.items
+pub closes_all : {X : Type 0} (s : SettingOf X) (mine : ℕ → Bool) (k start : ℕ) (stops : List (List ℕ)) (labels : List (Label X)) (at : ℕ) (closed : ClosedLevel) → IsLevel s k (drop start stops) labels → at ≡ length labels → ClosesSome s.problem s.range mine start stops at closed → AreClosedIn s.problem s.range k mine stops closed.routes.items
 closes_all s mine k start stops labels at closed level all some =
     let count = level.are.long in
     record {
@@ -270,9 +271,9 @@ closes_all s mine k start stops labels at closed level all some =
           subst (λ (r : ClosedRoute). IsListed s.problem (route_by stops r) × (r.label < length stops)) (get_or_default closed.routes.items i no_closed d lt)
           (is.listed, omega (arith, is.label, is.before, all, count, length-drop start stops));
       every = λ xs long own useful.
-          let begins : BeginsUseful s.problem s.limit xs = ([], subst (IsUseful s.problem s.limit) (sym (append-nil xs)) useful) in
+          let begins : BeginsUseful s.problem s.range xs = ([], subst (IsUsefulIn s.problem s.range) (sym (append-nil xs)) useful) in
           let (j, within, is) = level.every xs long begins in
           let there : get_or stops (start + j) [] ≡ xs = sym (label_stops start stops j) ∙ get_or_default (drop start stops) j [] xs within ∙ is in
-          let stands = some.every j (omega (arith, within, count, all)) (subst (λ (ys : List ℕ). mine (set_of ys) ≡ true) (sym there) own) (subst (IsUseful s.problem s.limit) (sym there) useful) in
+          let stands = some.every j (omega (arith, within, count, all)) (subst (λ (ys : List ℕ). mine (set_of ys) ≡ true) (sym there) own) (subst (IsUsefulIn s.problem s.range) (sym there) useful) in
           (closed_at closed stands.at, Contains-get_or closed.routes.items stands.at no_closed stands.within, ap (λ n. get_or stops n []) stands.label ∙ there);
     }

@@ -9,19 +9,20 @@ use Rattle.vrp_routes.specs.ClosedLevel.{AreClosed, AreClosedIn, AreClosedParts,
 use Rattle.vrp_routes.specs.Pool.{IsListed}
 use Rattle.vrp_routes.specs.declared.closed.ClosedRoute.{ClosedRoute}
 use Rattle.vrp_routes.proofs.NumbersBelow.{is_below, tests_below}
+use Rattle.vrp_routes.specs.declared.plan_range.PlanRange.{PlanRange}
 
 -- the set is closed in one of the first shares
 abbrev pub is_closed_before : ℕ → ℕ → Bool
 is_closed_before count set = nat_lt (closing_share set) count
 
-pub no_shares_closed : (p : Problem) (limit : ℕ) (k : ℕ) (stops : List (List ℕ)) (routes : List ClosedRoute) → routes ≡ [] → AreClosedIn p limit k (is_closed_before 0) stops routes
-no_shares_closed p limit k stops routes none = subst (AreClosedIn p limit k (is_closed_before 0) stops) (sym none) (record {
+pub no_shares_closed : (p : Problem) (range : PlanRange) (k : ℕ) (stops : List (List ℕ)) (routes : List ClosedRoute) → routes ≡ [] → AreClosedIn p range k (is_closed_before 0) stops routes
+no_shares_closed p range k stops routes none = subst (AreClosedIn p range k (is_closed_before 0) stops) (sym none) (record {
   each = All-nil _;
   every = λ xs long own useful. absurd (let below = is_below (closing_share (set_of xs)) 0 own in omega (arith, below));
 })
 
-pub one_share_more : (p : Problem) (limit : ℕ) (k count : ℕ) (stops : List (List ℕ)) (old new : List ClosedRoute) → AreClosedIn p limit k (is_closed_before count) stops old → AreClosedIn p limit k (is_closed_in count) stops new → AreClosedIn p limit k (is_closed_before (count + 1)) stops (old ++ new)
-one_share_more p limit k count stops old new are also = record {
+pub one_share_more : (p : Problem) (range : PlanRange) (k count : ℕ) (stops : List (List ℕ)) (old new : List ClosedRoute) → AreClosedIn p range k (is_closed_before count) stops old → AreClosedIn p range k (is_closed_in count) stops new → AreClosedIn p range k (is_closed_before (count + 1)) stops (old ++ new)
+one_share_more p range k count stops old new are also = record {
   each = All-append (λ route. IsListed p (route_by stops route) × (route.label < length stops)) old new are.each also.each;
   every = λ xs long own useful.
       let share = closing_share (set_of xs) in
@@ -33,18 +34,18 @@ one_share_more p limit k count stops old new are also = record {
 }
 
 -- the routes of the next share
-pub share_at : (p : Problem) (limit : ℕ) (k : ℕ) (stops : List (List ℕ)) (parts yielded rest : List (Vec ClosedRoute Global)) (part : Vec ClosedRoute Global) → parts ≡ yielded ++ part ∷ rest → AreClosedParts p limit k stops parts → AreClosedIn p limit k (is_closed_in (length yielded)) stops part.items
-share_at p limit k stops parts yielded rest part is are =
+pub share_at : (p : Problem) (range : PlanRange) (k : ℕ) (stops : List (List ℕ)) (parts yielded rest : List (Vec ClosedRoute Global)) (part : Vec ClosedRoute Global) → parts ≡ yielded ++ part ∷ rest → AreClosedParts p range k stops parts → AreClosedIn p range k (is_closed_in (length yielded)) stops part.items
+share_at p range k stops parts yielded rest part is are =
     let at : get_or parts (length yielded) part ≡ part = ap (λ (vs : List (Vec ClosedRoute Global)). get_or vs (length yielded) part) is ∙ get_or-append_seam yielded part rest part in
     let within : length yielded < length parts = omega (arith, ap length is, length-append yielded (part ∷ rest)) in
-    subst (λ (v : Vec ClosedRoute Global). AreClosedIn p limit k (is_closed_in (length yielded)) stops v.items) at (are (length yielded) part within)
+    subst (λ (v : Vec ClosedRoute Global). AreClosedIn p range k (is_closed_in (length yielded)) stops v.items) at (are (length yielded) part within)
 
 -- the highest bits of a number of 64 bits
 pub small_share : (n : ℕ) → n % 2 ^ 64 / 2 ^ 61 < 8
 small_share n = omega arith
 
-pub all_shares_closed : (p : Problem) (limit : ℕ) (k : ℕ) (stops : List (List ℕ)) (routes : List ClosedRoute) → AreClosedIn p limit k (is_closed_before 8) stops routes → AreClosed p limit k stops routes
-all_shares_closed p limit k stops routes are = record {
+pub all_shares_closed : (p : Problem) (range : PlanRange) (k : ℕ) (stops : List (List ℕ)) (routes : List ClosedRoute) → AreClosedIn p range k (is_closed_before 8) stops routes → AreClosed p range k stops routes
+all_shares_closed p range k stops routes are = record {
   each = are.each;
   every = λ xs long useful.
       let set = set_of xs in

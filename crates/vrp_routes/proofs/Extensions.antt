@@ -18,7 +18,7 @@ use Rattle.vrp_routes.specs.Label.{IsLabel, SettingOf}
 use Rattle.vrp_routes.specs.Candidates.{HasExtensions, IsBefore, IsGrown, IsKept, IsKeyed, IsOffered, IsRefused, IsTaken, is_superseded, cost_at, kept_at, kept_for, kept_in, key_at, key_of, same_key}
 use Rattle.vrp_routes.specs.Level.{AreExtensions, ComesFirst, IsLevel, IsShare, sequences, stops_of}
 use Rattle.vrp_routes.specs.Share.{is_in}
-use Rattle.vrp_routes.specs.Useful.{BeginsUseful, IsUseful}
+use Rattle.vrp_routes.specs.Useful.{BeginsUseful, IsUsefulIn}
 use Rattle.vrp_routes.specs.declared.label.Label.{Label}
 use Rattle.vrp_routes.specs.declared.candidates.Candidates.{Candidates}
 use Rattle.vrp_routes.specs.declared.candidates.KeptLabel.{KeptLabel}
@@ -28,6 +28,7 @@ use Rattle.vrp_routes.proofs.Replaced.{earlier_longer, no_better_beginning}
 use Rattle.vrp_routes.proofs.Rests.{none_between}
 use Rattle.vrp_routes.proofs.SharesSteps.{element}
 use Rattle.vrp_customers.proofs.Sets.{same_set}
+use Rattle.vrp_routes.specs.declared.plan_range.PlanRange.{PlanRange}
 
 -- ---- keys
 
@@ -55,12 +56,12 @@ abbrev cost_of : {X : Type 0} → Label X → ℕ
 cost_of label = label.cost
 
 -- two labels with one key are of rearrangements that end at the same stop: the one that comes before isn't of a useful beginning's rival
-pub no_rival : {X : Type 0} (s : SettingOf X) (xs ys : List ℕ) (one other : Label X) → IsLabel s xs one → IsLabel s ys other → key_of one ≡ key_of other → BeginsUseful s.problem s.limit ys → ComesBefore one.cost xs other.cost ys → ⊥
+pub no_rival : {X : Type 0} (s : SettingOf X) (xs ys : List ℕ) (one other : Label X) → IsLabel s xs one → IsLabel s ys other → key_of one ≡ key_of other → BeginsUseful s.problem s.range ys → ComesBefore one.cost xs other.cost ys → ⊥
 no_rival {X} s xs ys one other is also same useful before =
     let p = s.problem in
     let sets = sym also.set ∙ sym (ap (λ (key : ℕ × ℕ). key.0) same) ∙ is.set in
     let ends = sym is.last ∙ ap (λ (key : ℕ × ℕ). key.1) same ∙ also.last in
-    no_better_beginning p s.limit ys xs useful (same_set ys xs also.begins.once is.begins.once sets) ends
+    no_better_beginning p s.range ys xs useful (same_set ys xs also.begins.once is.begins.once sets) ends
     (subst (λ n. ComesBefore (word_cost p xs) xs n ys) also.cost (subst (λ n. ComesBefore n xs other.cost ys) is.cost before))
 
 -- ---- a label more
@@ -225,7 +226,7 @@ extensions_rise k stops i c j d size rising lt within (inr (same, less)) =
 -- what comes before changes, where no useful beginning of the share comes between
 pub moved : {X : Type 0} (s : SettingOf X) (k : ℕ) (stops : List (List ℕ)) (i c j d : ℕ) (level : Candidates X) → HasExtensions s k stops i c level
     → ((m n : ℕ) → IsBefore m n i c → IsBefore m n j d)
-    → ((m n : ℕ) → IsBefore m n j d → m < length stops → is_in level.share n ≡ true → BeginsUseful s.problem s.limit (get_or stops m [] ++ n ∷ []) → IsBefore m n i c)
+    → ((m n : ℕ) → IsBefore m n j d → m < length stops → is_in level.share n ≡ true → BeginsUseful s.problem s.range (get_or stops m [] ++ n ∷ []) → IsBefore m n i c)
     → HasExtensions s k stops j d level
 moved {X} s k stops i c j d level has on back = record {
   size = has.size;
@@ -236,19 +237,19 @@ moved {X} s k stops i c j d level has on back = record {
 }
 
 -- an extension that isn't offered is of no useful beginning, or of another share
-pub passed : {X : Type 0} (s : SettingOf X) (k : ℕ) (stops : List (List ℕ)) (i c : ℕ) (level : Candidates X) → HasExtensions s k stops i c level → (is_in level.share c ≡ true → BeginsUseful s.problem s.limit (get_or stops i [] ++ c ∷ []) → ⊥) → HasExtensions s k stops i (c + 1) level
+pub passed : {X : Type 0} (s : SettingOf X) (k : ℕ) (stops : List (List ℕ)) (i c : ℕ) (level : Candidates X) → HasExtensions s k stops i c level → (is_in level.share c ≡ true → BeginsUseful s.problem s.range (get_or stops i [] ++ c ∷ []) → ⊥) → HasExtensions s k stops i (c + 1) level
 passed {X} s k stops i c level has none = moved s k stops i c i (c + 1) level has on back
   where
     on : (m n : ℕ) → IsBefore m n i c → IsBefore m n i (c + 1)
     on m n (inl less) = inl less
     on m n (inr (same, less)) = inr (same, omega (arith, less))
 
-    back : (m n : ℕ) → IsBefore m n i (c + 1) → m < length stops → is_in level.share n ≡ true → BeginsUseful s.problem s.limit (get_or stops m [] ++ n ∷ []) → IsBefore m n i c
+    back : (m n : ℕ) → IsBefore m n i (c + 1) → m < length stops → is_in level.share n ≡ true → BeginsUseful s.problem s.range (get_or stops m [] ++ n ∷ []) → IsBefore m n i c
     back m n (inl less) lt mine useful = inl less
     back m n (inr (same, less)) lt mine useful =
         elim (cases_lt n c) [
           | inl below ↦ inr (same, below)
-          | inr above ↦ (let is : n ≡ c = omega (arith, above, less) in absurd (none (subst (λ n. is_in level.share n ≡ true) is mine) (subst (λ (n : ℕ). BeginsUseful s.problem s.limit (get_or stops i [] ++ n ∷ [])) is (subst (λ (m : ℕ). BeginsUseful s.problem s.limit (get_or stops m [] ++ n ∷ [])) same useful))))
+          | inr above ↦ (let is : n ≡ c = omega (arith, above, less) in absurd (none (subst (λ n. is_in level.share n ≡ true) is mine) (subst (λ (n : ℕ). BeginsUseful s.problem s.range (get_or stops i [] ++ n ∷ [])) is (subst (λ (m : ℕ). BeginsUseful s.problem s.range (get_or stops m [] ++ n ∷ [])) same useful))))
         ]
 
 -- nor are several of another share
@@ -259,7 +260,7 @@ skipped {X} s k stops i c d level has no_more none = moved s k stops i c i d lev
     on m n (inl less) = inl less
     on m n (inr (same, less)) = inr (same, omega (arith, less, no_more))
 
-    back : (m n : ℕ) → IsBefore m n i d → m < length stops → is_in level.share n ≡ true → BeginsUseful s.problem s.limit (get_or stops m [] ++ n ∷ []) → IsBefore m n i c
+    back : (m n : ℕ) → IsBefore m n i d → m < length stops → is_in level.share n ≡ true → BeginsUseful s.problem s.range (get_or stops m [] ++ n ∷ []) → IsBefore m n i c
     back m n (inl less) lt mine useful = inl less
     back m n (inr (same, less)) lt mine useful =
         elim (cases_lt n c) [
@@ -268,8 +269,8 @@ skipped {X} s k stops i c d level has no_more none = moved s k stops i c i d lev
         ]
 
 -- the last stop of a useful beginning is a customer
-last_customer : (p : Problem) (limit : ℕ) (xs : List ℕ) (k : ℕ) → BeginsUseful p limit (xs ++ k ∷ []) → Contains (customers p) k
-last_customer p limit xs k useful = subst (Contains (customers p)) (at_end xs k 0) ((useful_begins p limit (xs ++ k ∷ []) useful).known (length xs) 0 (omega (arith, length-append xs (k ∷ []))))
+last_customer : (p : Problem) (range : PlanRange) (xs : List ℕ) (k : ℕ) → BeginsUseful p range (xs ++ k ∷ []) → Contains (customers p) k
+last_customer p range xs k useful = subst (Contains (customers p)) (at_end xs k 0) ((useful_begins p range (xs ++ k ∷ []) useful).known (length xs) 0 (omega (arith, length-append xs (k ∷ []))))
 
 -- a label has no extensions from the last place on
 pub all_extensions : {X : Type 0} (s : SettingOf X) (k : ℕ) (stops : List (List ℕ)) (i c : ℕ) (level : Candidates X) → place_count s.problem ≤ c → HasExtensions s k stops i c level → HasExtensions s k stops (i + 1) 0 level
@@ -279,17 +280,17 @@ all_extensions {X} s k stops i c level all has = moved s k stops i c (i + 1) 0 l
     on m n (inl less) = inl (omega (arith, less))
     on m n (inr (same, less)) = inl (omega (arith, same))
 
-    back : (m n : ℕ) → IsBefore m n (i + 1) 0 → m < length stops → is_in level.share n ≡ true → BeginsUseful s.problem s.limit (get_or stops m [] ++ n ∷ []) → IsBefore m n i c
+    back : (m n : ℕ) → IsBefore m n (i + 1) 0 → m < length stops → is_in level.share n ≡ true → BeginsUseful s.problem s.range (get_or stops m [] ++ n ∷ []) → IsBefore m n i c
     back m n (inr (same, less)) lt mine useful = absurd (omega (arith, less))
     back m n (inl less) lt mine useful =
         elim (cases_lt m i) [
           | inl below ↦ inl below
-          | inr above ↦ inr (omega (arith, less, above), (let place = customer_below s.problem n (last_customer s.problem s.limit (get_or stops m []) n useful) in omega (arith, place, all)))
+          | inr above ↦ inr (omega (arith, less, above), (let place = customer_below s.problem n (last_customer s.problem s.range (get_or stops m []) n useful) in omega (arith, place, all)))
         ]
 
 -- and none at the depot
 pub first_extension : {X : Type 0} (s : SettingOf X) (k : ℕ) (stops : List (List ℕ)) (i : ℕ) (level : Candidates X) → HasExtensions s k stops i 0 level → HasExtensions s k stops i 1 level
-first_extension {X} s k stops i level has = passed s k stops i 0 level has (λ mine useful. (let some = customer_is_some s.problem 0 (last_customer s.problem s.limit (get_or stops i []) 0 useful) in omega (arith, some)))
+first_extension {X} s k stops i level has = passed s k stops i 0 level has (λ mine useful. (let some = customer_is_some s.problem 0 (last_customer s.problem s.range (get_or stops i []) 0 useful) in omega (arith, some)))
 
 -- the extensions up to the first customer of the share
 pub up_to_first : {X : Type 0} (s : SettingOf X) (k : ℕ) (stops : List (List ℕ)) (i c : ℕ) (level : Candidates X) → 1 ≤ c → ((n : ℕ) → 1 ≤ n → n < c → is_in level.share n ≡ true → ⊥) → HasExtensions s k stops i 0 level → HasExtensions s k stops i c level
@@ -301,12 +302,12 @@ up_to_next {X} s k stops i c share level same is has =
     skipped s k stops i (c + 1) (c + share.shares) level has (omega (arith, share.some))
     (λ n above below mine. none_between share.shares share.rest c n is (omega (arith, above)) below (eqb-true (n % share.shares) share.rest (subst (λ (own : Share). is_in own n ≡ true) same mine)))
 
-shorter : (p : Problem) (limit : ℕ) (xs : List ℕ) (k : ℕ) → BeginsUseful p limit (xs ++ k ∷ []) → BeginsUseful p limit xs
-shorter p limit xs k (more, useful) = (k ∷ more, subst (IsUseful p limit) (simp append_assoc) useful)
+shorter : (p : Problem) (range : PlanRange) (xs : List ℕ) (k : ℕ) → BeginsUseful p range (xs ++ k ∷ []) → BeginsUseful p range xs
+shorter p range xs k (more, useful) = (k ∷ more, subst (IsUsefulIn p range) (simp append_assoc) useful)
 
 -- what was kept stays so, where it is useful
 still_kept : {X : Type 0} (s : SettingOf X) (before : List (List ℕ)) (old new : Candidates X) (label : Label X) (xs : List ℕ) → All (λ l. IsLabel s (stops_of before l) l) old.labels.items
-    → IsTaken old label new → IsLabel s (stops_of before label) label → BeginsUseful s.problem s.limit xs → IsKept (sequences before old.labels.items) old xs → IsKept (sequences before new.labels.items) new xs
+    → IsTaken old label new → IsLabel s (stops_of before label) label → BeginsUseful s.problem s.range xs → IsKept (sequences before old.labels.items) old xs → IsKept (sequences before new.labels.items) new xs
 still_kept {X} s before old new label xs each taken is_label useful kept =
     let olds = sequences before old.labels.items in
     let all : sequences before new.labels.items ≡ olds ++ stops_of before label ∷ [] = ap (sequences before) taken.longer ∙ sequences_with before old.labels.items label in
@@ -367,7 +368,7 @@ taken_extension {X} s k stops old new child has lt mine is taken = record {
     count : length olds ≡ length old.labels.items
     count = length_sequences stops old.labels.items
 
-    every : (i c : ℕ) → IsBefore i c child.parent (child.last + 1) → i < length stops → is_in old.share c ≡ true → BeginsUseful s.problem s.limit (get_or stops i [] ++ c ∷ []) → IsKept (sequences stops new.labels.items) new (get_or stops i [] ++ c ∷ [])
+    every : (i c : ℕ) → IsBefore i c child.parent (child.last + 1) → i < length stops → is_in old.share c ≡ true → BeginsUseful s.problem s.range (get_or stops i [] ++ c ∷ []) → IsKept (sequences stops new.labels.items) new (get_or stops i [] ++ c ∷ [])
     every i c (inl less) within own useful = still_kept s stops old new child (get_or stops i [] ++ c ∷ []) has.are.each taken is useful (has.every i c (inl less) within own useful)
     every i c (inr (same, less)) within own useful =
         elim (cases_lt c child.last) [
@@ -432,13 +433,13 @@ all_grown {X} s k stops labels next i is all has = record {
   are = has.are;
   every = λ xs long mine useful.
       let e = ends_at xs (λ none. (let short = ap length none in omega (arith, long, short))) in
-      let whole : BeginsUseful s.problem s.limit (e.prefix ++ e.last ∷ []) = subst (BeginsUseful s.problem s.limit) e.is useful in
+      let whole : BeginsUseful s.problem s.range (e.prefix ++ e.last ∷ []) = subst (BeginsUseful s.problem s.range) e.is useful in
       let size : length e.prefix ≡ k = omega (arith, ap length e.is, length-append e.prefix (e.last ∷ []), long) in
-      let (at, within, there) = is.every e.prefix size (shorter s.problem s.limit e.prefix e.last whole) in
+      let (at, within, there) = is.every e.prefix size (shorter s.problem s.range e.prefix e.last whole) in
       let prefix : get_or stops at [] ≡ e.prefix = get_or_default stops at [] e.prefix within ∙ there in
       let same : get_or stops at [] ++ e.last ∷ [] ≡ xs = ap (λ (ys : List ℕ). ys ++ e.last ∷ []) prefix ∙ sym e.is in
       let last : last_symbol xs ≡ e.last = ap last_symbol e.is ∙ last_symbol_with e.prefix e.last in
-      let should_continue : IsKept (sequences stops next.labels.items) next (get_or stops at [] ++ e.last ∷ []) = (has.every at e.last (inl (omega (arith, within, all))) within (subst (λ n. is_in next.share n ≡ true) last mine) (subst (BeginsUseful s.problem s.limit) (sym same) useful)) in
+      let should_continue : IsKept (sequences stops next.labels.items) next (get_or stops at [] ++ e.last ∷ []) = (has.every at e.last (inl (omega (arith, within, all))) within (subst (λ n. is_in next.share n ≡ true) last mine) (subst (BeginsUseful s.problem s.range) (sym same) useful)) in
       subst (IsKept (sequences stops next.labels.items) next) same should_continue;
 }
 

@@ -13,6 +13,7 @@ use Rattle.vrp_model.proofs.Words.{last_behind}
 use Rattle.vrp_routes.specs.Label.{IsBeginning}
 use Rattle.vrp_routes.specs.Useful.{BeginsUseful}
 use Rattle.vrp_routes.proofs.Replaced.{first_part, second_part}
+use Rattle.vrp_routes.specs.declared.plan_range.PlanRange.{PlanRange}
 
 distinct_first : (xs ys : List ℕ) → AreDistinct (xs ++ ys) → AreDistinct xs
 distinct_first xs ys distinct i j d less within same =
@@ -70,5 +71,5 @@ begins_route p stops more route = record {
 }
 
 -- what begins a useful route may begin one
-pub useful_begins : (p : Problem) (limit : ℕ) (stops : List ℕ) → BeginsUseful p limit stops → IsBeginning p stops
-useful_begins p limit stops (more, useful) = begins_route p stops more (All-contains (IsRoute p) useful.plan.routes (stops ++ more) (are_routes p useful.plan.routes useful.canonical.plan_of.lawful) useful.among)
+pub useful_begins : (p : Problem) (range : PlanRange) (stops : List ℕ) → BeginsUseful p range stops → IsBeginning p stops
+useful_begins p range stops (more, useful) = begins_route p stops more (All-contains (IsRoute p) useful.plan.routes (stops ++ more) (are_routes p useful.plan.routes useful.canonical.plan_of.lawful) useful.among)

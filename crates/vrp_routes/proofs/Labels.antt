@@ -24,10 +24,11 @@ use Rattle.vrp_customers.specs.CustomerSet.{set_of}
 use Rattle.vrp_customers.proofs.Sets.{set_with, stands_if_set, stands_not_if_not_set}
 use Rattle.vrp_routes.specs.Label.{IsBeginning, IsBeginningWith, IsLabel, SettingOf}
 use Rattle.vrp_routes.specs.Level.{IsLevel}
-use Rattle.vrp_routes.specs.Useful.{BeginsUseful, IsUseful}
+use Rattle.vrp_routes.specs.Useful.{BeginsUseful, IsUsefulIn}
 use Rattle.vrp_routes.specs.declared.label.Label.{Label}
 use Rattle.vrp_routes.proofs.FeasibleRoutes.{useful_begins}
 use Rattle.vrp_routes.proofs.CanonicalPlanRoutes.{useful_runs_forward}
+use Rattle.vrp_routes.specs.declared.plan_range.PlanRange.{PlanRange}
 
 -- a label that was read is that of its stops
 pub read_label : {X : Type 0} (s : SettingOf X) (k : ℕ) (stops : List (List ℕ)) (labels : List (Label X)) (i : ℕ) (label : Label X) → IsLevel s k stops labels → i < length stops → label ≡ get_or labels i label → IsLabel s (get_or stops i []) label
@@ -53,12 +54,12 @@ twice stops k stands distinct =
     distinct i (length stops) k lt (omega (arith, length-append stops (k ∷ []))) (get_or_append_left stops (k ∷ []) k i lt ∙ is ∙ sym there)
 
 -- what keeps a useful route from going on to a stop
-pub not_twice : (p : Problem) (limit : ℕ) (stops : List ℕ) (k set : ℕ) → set ≡ set_of stops → bit_at set k ≡ 1 → BeginsUseful p limit (stops ++ k ∷ []) → ⊥
-not_twice p limit stops k set is taken useful =
-    twice stops k (stands_if_set stops k (subst (λ n. bit_at n k ≡ 1) is taken)) (useful_begins p limit (stops ++ k ∷ []) useful).once
+pub not_twice : (p : Problem) (range : PlanRange) (stops : List ℕ) (k set : ℕ) → set ≡ set_of stops → bit_at set k ≡ 1 → BeginsUseful p range (stops ++ k ∷ []) → ⊥
+not_twice p range stops k set is taken useful =
+    twice stops k (stands_if_set stops k (subst (λ n. bit_at n k ≡ 1) is taken)) (useful_begins p range (stops ++ k ∷ []) useful).once
 
-pub not_too_heavy : (p : Problem) (limit : ℕ) (stops : List ℕ) (k load : ℕ) → load ≡ load_of p stops → p.capacity < load + demand_of p k → BeginsUseful p limit (stops ++ k ∷ []) → ⊥
-not_too_heavy p limit stops k load is heavy useful = omega (arith, (useful_begins p limit (stops ++ k ∷ []) useful).light, load_with p stops k, is, heavy)
+pub not_too_heavy : (p : Problem) (range : PlanRange) (stops : List ℕ) (k load : ℕ) → load ≡ load_of p stops → p.capacity < load + demand_of p k → BeginsUseful p range (stops ++ k ∷ []) → ⊥
+not_too_heavy p range stops k load is heavy useful = omega (arith, (useful_begins p range (stops ++ k ∷ []) useful).light, load_with p stops k, is, heavy)
 
 -- what a label says of the beginning with one more stop
 pub record Continues {X : Type 0} (s : SettingOf X) (label : Label X) (stop first load cost set : ℕ) : Type 0 where
@@ -130,8 +131,8 @@ label_small s label problem (stops, is) = small_cost_along s.problem stops label
 
 -- ---- closed
 
-pub backward : {X : Type 0} (s : SettingOf X) (label : Label X) → label.last < label.first → IsSymmetric s.problem → (stops : List ℕ) → IsLabel s stops label → IsUseful s.problem s.limit stops → ⊥
-backward s label turned symmetric stops is useful = let forward = useful_runs_forward s.problem s.limit stops useful symmetric in omega (arith, forward, turned, is.first, is.last)
+pub backward : {X : Type 0} (s : SettingOf X) (label : Label X) → label.last < label.first → IsSymmetric s.problem → (stops : List ℕ) → IsLabel s stops label → IsUsefulIn s.problem s.range stops → ⊥
+backward s label turned symmetric stops is useful = let forward = useful_runs_forward s.problem s.range stops useful symmetric in omega (arith, forward, turned, is.first, is.last)
 
 pub closed_cost : {X : Type 0} (s : SettingOf X) (stops : List ℕ) (label : Label X) (cost : ℕ) → IsLabel s stops label → cost ≡ label.cost + weight_of s.problem label.last 0 → cost ≡ route_cost s.problem stops
 closed_cost s stops label cost is cost_is =

@@ -13,7 +13,8 @@ use Rattle.vrp_model.specs.Word.{last_symbol, word_cost, word_of}
 use Rattle.vrp_model.proofs.Ordered.{earlier_behind}
 use Rattle.vrp_model.proofs.PlanWords.{cost_parts}
 use Rattle.vrp_model.proofs.Words.{last_is, word_of-append}
-use Rattle.vrp_routes.specs.Useful.{BeginsUseful, IsUseful}
+use Rattle.vrp_routes.specs.Useful.{BeginsUseful, IsUsefulIn}
+use Rattle.vrp_routes.specs.declared.plan_range.PlanRange.{PlanRange}
 
 -- what stands before an element and behind it
 pub record Split {X : Type 0} (xs : List X) (x : X) : Type 0 where
@@ -116,14 +117,14 @@ no_better_in_place p plan before after stops others more old new canonical is mo
     ] in
     go better
 
-pub no_better_beginning : (p : Problem) (limit : ℕ) (stops others : List ℕ) → BeginsUseful p limit stops
+pub no_better_beginning : (p : Problem) (range : PlanRange) (stops others : List ℕ) → BeginsUseful p range stops
     → IsPermutation stops others → last_symbol others ≡ last_symbol stops → ComesBefore (word_cost p others) others (word_cost p stops) stops → ⊥
-no_better_beginning p limit stops others (more, useful) moved ends better =
+no_better_beginning p range stops others (more, useful) moved ends better =
     let split = split_at useful.plan.routes (stops ++ more) useful.among in
     no_better_in_place p useful.plan split.before split.after stops others more (word_cost p stops) (word_cost p others) useful.canonical split.is moved (cost_of_beginning p stops others more ends) better
 
-pub no_better_route : (p : Problem) (limit : ℕ) (stops others : List ℕ) → IsUseful p limit stops → IsPermutation stops others → ComesBefore (route_cost p others) others (route_cost p stops) stops → ⊥
-no_better_route p limit stops others useful moved better =
+pub no_better_route : (p : Problem) (range : PlanRange) (stops others : List ℕ) → IsUsefulIn p range stops → IsPermutation stops others → ComesBefore (route_cost p others) others (route_cost p stops) stops → ⊥
+no_better_route p range stops others useful moved better =
     let split = split_at useful.plan.routes stops useful.among in
     let is : useful.plan.routes ≡ split.before ++ (stops ++ []) ∷ split.after = split.is ∙ ap (λ (xs : List ℕ). split.before ++ xs ∷ split.after) (sym (append-nil stops)) in
     let costs : route_cost p (others ++ []) + route_cost p stops ≡ route_cost p (stops ++ []) + route_cost p others = omega (arith, ap (route_cost p) (append-nil others), ap (route_cost p) (append-nil stops)) in

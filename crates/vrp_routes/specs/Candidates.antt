@@ -79,7 +79,7 @@ pub record IsKept {X : Type 0} (stops : List (List ℕ)) (found : Candidates X) 
 -- the label of each useful beginning with this many stops is kept, where its last one is in the share
 pub record IsGrown {X : Type 0} (s : SettingOf X) (k : ℕ) (before : List (List ℕ)) (found : Candidates X) : Type 0 where
   pub are : AreExtensions s (is_in found.share) before found.labels.items
-  pub every : (xs : List ℕ) → length xs ≡ k → is_in found.share (last_symbol xs) ≡ true → BeginsUseful s.problem s.limit xs → IsKept (sequences before found.labels.items) found xs
+  pub every : (xs : List ℕ) → length xs ≡ k → is_in found.share (last_symbol xs) ≡ true → BeginsUseful s.problem s.range xs → IsKept (sequences before found.labels.items) found xs
 
 -- an extension comes before the one of this parent by this stop
 abbrev pub IsBefore : ℕ → ℕ → ℕ → ℕ → Type 0
@@ -91,5 +91,5 @@ pub record HasExtensions {X : Type 0} (s : SettingOf X) (k : ℕ) (stops : List 
   pub rising : AllPairs IsEarlier stops
   pub are : AreExtensions s (is_in found.share) stops found.labels.items
   pub before : All (λ label. IsBefore label.parent label.last parent stop) found.labels.items
-  pub every : (i c : ℕ) → IsBefore i c parent stop → i < length stops → is_in found.share c ≡ true → BeginsUseful s.problem s.limit (slice_index_or stops i [] ++ c ∷ [])
+  pub every : (i c : ℕ) → IsBefore i c parent stop → i < length stops → is_in found.share c ≡ true → BeginsUseful s.problem s.range (slice_index_or stops i [] ++ c ∷ [])
       → IsKept (sequences stops found.labels.items) found (slice_index_or stops i [] ++ c ∷ [])

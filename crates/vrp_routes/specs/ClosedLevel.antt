@@ -8,10 +8,11 @@ use Rattle.vrp_customers.specs.CustomerSet.{folded_of, set_of}
 use Rattle.vrp_routes.specs.Label.{SettingOf}
 use Rattle.vrp_routes.specs.Level.{IsLevel}
 use Rattle.vrp_routes.specs.Pool.{IsListed, RouteOf}
-use Rattle.vrp_routes.specs.Useful.{IsUseful}
+use Rattle.vrp_routes.specs.Useful.{IsUsefulIn}
 use Rattle.vrp_routes.specs.declared.closed.ClosedLevel.{ClosedLevel}
 use Rattle.vrp_routes.specs.declared.closed.ClosedRoute.{ClosedRoute}
 use Rattle.vrp_routes.specs.declared.label.Label.{Label}
+use Rattle.vrp_routes.specs.declared.plan_range.PlanRange.{PlanRange}
 
 -- the labels are those of one length, of a customer at least, and are numbered from a start on
 abbrev pub CanClose : {X : Type 0} → SettingOf X → ℕ → List (Label X) → Type 0
@@ -20,6 +21,10 @@ CanClose s start labels = (k : ℕ) × (stops : List (List ℕ)) × IsLevel s k 
 -- a route with the stops of its label
 abbrev pub route_by : List (List ℕ) → ClosedRoute → RouteOf
 route_by stops route = record { stops = slice_index_or stops route.label []; set = route.set; load = route.load; cost = route.cost }
+
+-- so it is, where these are its stops
+abbrev pub route_with : List ℕ → ClosedRoute → RouteOf
+route_with stops route = record { stops = stops; set = route.set; load = route.load; cost = route.cost }
 
 abbrev pub no_closed : ClosedRoute
 no_closed = record { set = 0; load = 0; cost = 0; label = 0 }
@@ -58,9 +63,9 @@ abbrev pub TakesRoute : ClosedLevel → ClosedRoute → ClosedLevel → Type 0
 TakesRoute old route new = IsLeftOut old route new ⊎ (IsReplaced old route new ⊎ IsAdded old route new)
 
 -- the routes with this many stops
-pub record AreClosed (p : Problem) (limit : ℕ) (k : ℕ) (stops : List (List ℕ)) (routes : List ClosedRoute) : Type 0 where
+pub record AreClosed (p : Problem) (range : PlanRange) (k : ℕ) (stops : List (List ℕ)) (routes : List ClosedRoute) : Type 0 where
   pub each : All (λ route. IsListed p (route_by stops route) × (route.label < length stops)) routes
-  pub every : (xs : List ℕ) → length xs ≡ k → IsUseful p limit xs → (route : ClosedRoute) × Contains routes route × (slice_index_or stops route.label [] ≡ xs)
+  pub every : (xs : List ℕ) → length xs ≡ k → IsUsefulIn p range xs → (route : ClosedRoute) × Contains routes route × (slice_index_or stops route.label [] ≡ xs)
 
 -- which share closes a set
 abbrev pub closing_share : ℕ → ℕ
@@ -70,10 +75,10 @@ abbrev pub is_closed_in : ℕ → ℕ → Bool
 is_closed_in share set = closing_share set == share
 
 -- the routes with this many stops whose sets pass the test
-pub record AreClosedIn (p : Problem) (limit : ℕ) (k : ℕ) (mine : ℕ → Bool) (stops : List (List ℕ)) (routes : List ClosedRoute) : Type 0 where
+pub record AreClosedIn (p : Problem) (range : PlanRange) (k : ℕ) (mine : ℕ → Bool) (stops : List (List ℕ)) (routes : List ClosedRoute) : Type 0 where
   pub each : All (λ route. IsListed p (route_by stops route) × (route.label < length stops)) routes
-  pub every : (xs : List ℕ) → length xs ≡ k → mine (set_of xs) ≡ true → IsUseful p limit xs → (route : ClosedRoute) × Contains routes route × (slice_index_or stops route.label [] ≡ xs)
+  pub every : (xs : List ℕ) → length xs ≡ k → mine (set_of xs) ≡ true → IsUsefulIn p range xs → (route : ClosedRoute) × Contains routes route × (slice_index_or stops route.label [] ≡ xs)
 
 -- these are the routes of the shares from the first one on
-abbrev pub AreClosedParts : Problem → ℕ → ℕ → List (List ℕ) → List (Vec ClosedRoute Global) → Type 0
-AreClosedParts p limit k stops parts = (i : ℕ) (d : Vec ClosedRoute Global) → i < length parts → AreClosedIn p limit k (is_closed_in i) stops (slice_index_or parts i d).items
+abbrev pub AreClosedParts : Problem → PlanRange → ℕ → List (List ℕ) → List (Vec ClosedRoute Global) → Type 0
+AreClosedParts p range k stops parts = (i : ℕ) (d : Vec ClosedRoute Global) → i < length parts → AreClosedIn p range k (is_closed_in i) stops (slice_index_or parts i d).items

@@ -7,6 +7,7 @@ use Rattle.vrp_model.specs.Word.{last_symbol, word_cost}
 use Rattle.vrp_model.specs.declared.limits.TheConstants.{MAX_WEIGHT}
 use Rattle.vrp_customers.specs.CustomerSet.{set_of}
 use Rattle.vrp_routes.specs.declared.label.Label.{Label}
+use Rattle.vrp_routes.specs.declared.plan_range.PlanRange.{PlanRange}
 
 -- a route may begin so: customers, none of them twice, whom one truck can carry
 pub record IsBeginning (p : Problem) (stops : List ℕ) : Type 0 where
@@ -21,10 +22,10 @@ pub record IsBeginningWith (p : Problem) (stops : List ℕ) (set load last : ℕ
   pub load_is : load ≡ load_of p stops
   pub last_is : last ≡ last_symbol stops
 
--- a problem, what a canonical plan costs at most, and which resources a test counts along which stops
+-- a problem, the range of a canonical plan, and which resources a test counts along which stops
 pub record SettingOf (X : Type 0) : Type 1 where
   pub problem : Problem
-  pub limit : ℕ
+  pub range : PlanRange
   pub Counts : List ℕ → X → Type 0
 
 -- so much is counted along these stops, in the problem and by the test

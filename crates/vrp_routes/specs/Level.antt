@@ -24,7 +24,7 @@ pub record AreLabels {X : Type 0} (s : SettingOf X) (k : ℕ) (stops : List (Lis
 -- so they are, and each useful beginning with this many stops has its label
 pub record IsLevel {X : Type 0} (s : SettingOf X) (k : ℕ) (stops : List (List ℕ)) (labels : List (Label X)) : Type 0 where
   pub are : AreLabels s k stops labels
-  pub every : (xs : List ℕ) → length xs ≡ k → BeginsUseful s.problem s.limit xs → Contains stops xs
+  pub every : (xs : List ℕ) → length xs ≡ k → BeginsUseful s.problem s.range xs → Contains stops xs
 
 -- one goes on from an earlier label, or from the same one by a lower stop
 abbrev pub ComesFirst : {X : Type 0} → Label X → Label X → Type 0
@@ -40,4 +40,4 @@ pub record AreExtensions {X : Type 0} (s : SettingOf X) (mine : ℕ → Bool) (b
 -- so they are, and each useful beginning with this many stops whose last one passes the test has its label
 pub record IsShare {X : Type 0} (s : SettingOf X) (k : ℕ) (mine : ℕ → Bool) (before : List (List ℕ)) (labels : List (Label X)) : Type 0 where
   pub are : AreExtensions s mine before labels
-  pub every : (xs : List ℕ) → length xs ≡ k → mine (last_symbol xs) ≡ true → BeginsUseful s.problem s.limit xs → Contains (sequences before labels) xs
+  pub every : (xs : List ℕ) → length xs ≡ k → mine (last_symbol xs) ≡ true → BeginsUseful s.problem s.range xs → Contains (sequences before labels) xs

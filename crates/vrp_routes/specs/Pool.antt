@@ -5,7 +5,9 @@ use Rattle.vrp_model.specs.Problem.{Problem}
 use Rattle.vrp_model.specs.Route.{load_of, route_cost}
 use Rattle.vrp_customers.specs.CustomerSet.{set_of}
 use Rattle.vrp_routes.specs.Label.{IsBeginning}
-use Rattle.vrp_routes.specs.Useful.{IsUseful}
+use Rattle.vrp_routes.specs.Range.{plans_within}
+use Rattle.vrp_routes.specs.Useful.{IsUsefulIn}
+use Rattle.vrp_routes.specs.declared.plan_range.PlanRange.{PlanRange}
 
 -- a route as a pool has it
 pub record RouteOf : Type 0 where
@@ -23,13 +25,17 @@ pub record IsListed (p : Problem) (route : RouteOf) : Type 0 where
   pub cost : route.cost ≡ route_cost p route.stops
 
 -- each useful route is in the pool
-abbrev pub IsComplete : Problem → ℕ → List RouteOf → Type 0
-IsComplete p limit pool = (stops : List ℕ) → IsUseful p limit stops → (route : RouteOf) × Contains pool route × (route.stops ≡ stops)
+abbrev pub IsComplete : Problem → PlanRange → List RouteOf → Type 0
+IsComplete p range pool = (stops : List ℕ) → IsUsefulIn p range stops → (route : RouteOf) × Contains pool route × (route.stops ≡ stops)
 
--- a pool for a problem and a limit
-pub record IsPool (p : Problem) (limit : ℕ) (pool : List RouteOf) : Type 0 where
+-- a pool for a problem and a range of plans
+pub record IsPoolIn (p : Problem) (range : PlanRange) (pool : List RouteOf) : Type 0 where
   pub routes : All (IsListed p) pool
-  pub complete : IsComplete p limit pool
+  pub complete : IsComplete p range pool
+
+-- a pool for all plans within a limit
+abbrev pub IsPool : Problem → ℕ → List RouteOf → Type 0
+IsPool p limit pool = IsPoolIn p (plans_within limit) pool
 
 -- what stands for a route past the end
 abbrev pub no_route : RouteOf

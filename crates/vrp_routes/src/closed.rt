@@ -7,7 +7,8 @@ ghost use Rattle.vrp_routes.specs.ClosedLevel.{AreClosed, AreClosedIn, AreClosed
 ghost use Rattle.vrp_routes.specs.Label.{IsLabel};
 ghost use Rattle.vrp_routes.specs.Level.{IsLevel};
 ghost use Rattle.vrp_routes.specs.Setting.{setting_of};
-ghost use Rattle.vrp_routes.specs.Useful.{IsUseful};
+ghost use Rattle.vrp_routes.specs.Useful.{IsUsefulIn};
+ghost use Rattle.vrp_routes.specs.declared.plan_range.PlanRange.{PlanRange};
 
 use crate::completion_test::CompletionTest;
 use crate::label::Label;
@@ -53,7 +54,7 @@ pub fn close_level<R: Threads + Sync, W, T: CompletionTest + Sync>(
     requires few { start + length labels.now < 2 ^ 32 }
     ensures { IfOk result (λ routes. (k : ℕ) (stops : List (List ℕ)) → 1 ≤ k
         → IsLevel (setting_of T.CompletionTest setting.now.test.now) k (drop start stops) labels.now
-        → AreClosed (T.problem setting.now.test.now) (T.limit setting.now.test.now) k stops
+        → AreClosed (T.problem setting.now.test.now) (T.range setting.now.test.now) k stops
         routes.items) }
 {
     let alloc = crew.alloc;
@@ -67,7 +68,7 @@ pub fn close_level<R: Threads + Sync, W, T: CompletionTest + Sync>(
             requires few { start + length labels.now < 2 ^ 32 }
             ensures { IfOk result (λ routes. (k : ℕ) (stops : List (List ℕ)) → 1 ≤ k
                 → IsLevel (setting_of T.CompletionTest setting.entry.now.test.now) k (drop start stops) labels.entry.now
-                → AreClosedIn (T.problem setting.entry.now.test.now) (T.limit setting.entry.now.test.now) k
+                → AreClosedIn (T.problem setting.entry.now.test.now) (T.range setting.entry.now.test.now) k
                 (is_closed_in share) stops routes.items) }
         { close_share(alloc, setting, labels, start, share) },
     )?;
@@ -77,8 +78,8 @@ pub fn close_level<R: Threads + Sync, W, T: CompletionTest + Sync>(
 // The routes of all shares.
 fn joined(alloc: Global, parts: Vec<Vec<ClosedRoute>>) -> Result<Vec<ClosedRoute>, NoMemory>
     requires { vec_len parts ≡ CLOSING_SHARES }
-    ensures { IfOk result (λ routes. (p : Problem) (limit k : ℕ) (stops : List (List ℕ))
-        → AreClosedParts p limit k stops parts.items → AreClosed p limit k stops routes.items) }
+    ensures { IfOk result (λ routes. (p : Problem) (range : PlanRange) (k : ℕ) (stops : List (List ℕ))
+        → AreClosedParts p range k stops parts.items → AreClosed p range k stops routes.items) }
 {
     let mut routes = Vec::new(alloc);
     for part in parts {
@@ -99,7 +100,7 @@ fn close_share<T: CompletionTest>(
     requires few { start + length labels.now < 2 ^ 32 }
     ensures { IfOk result (λ routes. (k : ℕ) (stops : List (List ℕ)) → 1 ≤ k
         → IsLevel (setting_of T.CompletionTest setting.now.test.now) k (drop start stops) labels.now
-        → AreClosedIn (T.problem setting.now.test.now) (T.limit setting.now.test.now) k (is_closed_in share) stops routes.items) }
+        → AreClosedIn (T.problem setting.now.test.now) (T.range setting.now.test.now) k (is_closed_in share) stops routes.items) }
 {
     let mut closed = ClosedLevel {
         routes: Vec::new(alloc),
@@ -138,7 +139,7 @@ fn cost_in_share<T: CompletionTest>(
     ensures none { IfNone result ((stops : List ℕ)
         → IsLabel (setting_of T.CompletionTest setting.now.test.now) stops label.now
         → is_closed_in share (set_of stops) ≡ true
-        → IsUseful (T.problem setting.now.test.now) (T.limit setting.now.test.now) stops → ⊥) }
+        → IsUsefulIn (T.problem setting.now.test.now) (T.range setting.now.test.now) stops → ⊥) }
 {
     if share_of(label.set) != share {
         return None;

@@ -2,22 +2,23 @@
 ghost use Rattle.std.specs.Prelude.{◌≡◌, ◌≢◌, ◌++◌, ◌∷◌, ℕ, List, [], false, IfNone, IfSome};
 ghost use Rattle.vrp_model.specs.Problem.{Problem};
 ghost use Rattle.vrp_routes.specs.Label.{IsBeginning, IsBeginningWith};
-ghost use Rattle.vrp_routes.specs.Useful.{BeginsUseful, IsUseful};
+ghost use Rattle.vrp_routes.specs.Useful.{BeginsUseful, IsUsefulIn};
+ghost use Rattle.vrp_routes.specs.declared.plan_range.PlanRange.{PlanRange};
 
 use vrp_customers::CustomerSet;
 use vrp_model::Instance;
 
 /// Whether a beginning of a route can be completed to a useful route of an instance, as far as the test can tell. It tells by
-/// resources that it counts along the beginning, customer by customer. A test's type says which instance it is for, how much a
-/// canonical plan costs at most, and which resources are those of which stops. It is asked for each label and each customer.
+/// resources that it counts along the beginning, customer by customer. A test's type says which instance it is for, in which range
+/// of plans the canonical plan is sought, and which resources are those of which stops. It is asked for each label and each customer.
 pub trait CompletionTest {
     /// What is counted along a beginning.
     type Resources: Copy + Send + Sync;
 
     ghost problem: { Self → Problem };
 
-    // What a canonical plan costs at most.
-    ghost limit: { Self → ℕ };
+    // Which plans are sought: what matters is whether the canonical plan is one of them.
+    ghost range: { Self → PlanRange };
 
     // These are the resources of these stops.
     ghost Counts: { Self → List ℕ → Self.Resources → Type 0 };
@@ -50,7 +51,7 @@ pub trait CompletionTest {
         ensures none { IfNone result ((stops : List ℕ)
             → IsBeginningWith (problem self.now) stops set load last
             → Counts self.now stops resources.now
-            → BeginsUseful (problem self.now) (limit self.now) (stops ++ stop ∷ []) → ⊥) };
+            → BeginsUseful (problem self.now) (range self.now) (stops ++ stop ∷ []) → ⊥) };
 
     /// Whether a beginning may be a whole useful route. `false` only if it is none.
     fn may_close(&self, resources: &Self::Resources, set: CustomerSet, load: u32, last: u16) -> bool
@@ -60,5 +61,5 @@ pub trait CompletionTest {
         ensures { result ≡ false → (stops : List ℕ)
             → IsBeginningWith (problem self.now) stops set load last
             → Counts self.now stops resources.now
-            → IsUseful (problem self.now) (limit self.now) stops → ⊥ };
+            → IsUsefulIn (problem self.now) (range self.now) stops → ⊥ };
 }

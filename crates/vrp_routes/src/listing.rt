@@ -3,8 +3,9 @@ ghost use Rattle.std.specs.Prelude.{◌≡◌, ◌+◌, ◌<◌, ◌≤◌, ◌�
 ghost use Rattle.vrp_model.specs.Problem.{IsProblem, Problem, place_count};
 ghost use Rattle.vrp_customers.specs.declared.customer_set.TheConstants.{PLACES};
 ghost use Rattle.vrp_routes.specs.Listing.{AreListed, IfPool, IsListing};
-ghost use Rattle.vrp_routes.specs.Pool.{IsPool};
+ghost use Rattle.vrp_routes.specs.Pool.{IsPoolIn};
 ghost use Rattle.vrp_routes.specs.Setting.{setting_of};
+ghost use Rattle.vrp_routes.specs.declared.plan_range.PlanRange.{PlanRange};
 
 use crate::closed::{ClosedRoute, close_level};
 use crate::completion_test::CompletionTest;
@@ -33,7 +34,7 @@ pub fn can_list(instance: &Instance) -> bool
     instance.customers() <= MOST_CUSTOMERS
 }
 
-/// The routes that may be in the canonical plan of the test's instance, if that plan costs no more than the test's limit. Labels are
+/// The routes that may be in the canonical plan of the test's instance, if that plan is in the test's range. Labels are
 /// extended customer by customer. A label is dropped if the test tells that no useful route begins with its customers, or if another
 /// label with the same customers and the same last one costs less, or as much and is earlier. At most `most_labels` labels are made; the
 /// label of no customers, and labels dropped later, count too. Now and then the watch hears the number of labels made so far, and is
@@ -45,7 +46,7 @@ pub fn list_routes<R: Threads + Sync, W: Watch + Sync, T: CompletionTest + Sync>
     most_labels: u32,
 ) -> Result<Listed, NoMemory>
     requires few { place_count (T.problem test.now) ≤ PLACES }
-    ensures { IfOk result (λ listed. IfPool listed (IsPool (T.problem test.now) (T.limit test.now))) }
+    ensures { IfOk result (λ listed. IfPool listed (IsPoolIn (T.problem test.now) (T.range test.now))) }
 {
     let setting = Setting::new(test);
     let mut listing = Listing::new(crew.alloc, &setting)?;
@@ -88,9 +89,9 @@ impl<X: Copy> Listing<X> {
 
     // The routes that are listed.
     fn into_pool(self) -> RoutePool
-        requires { (p : Problem) × (limit : ℕ) × (k : ℕ) × AreListed p limit k self.sequences self.routes.items }
-        ensures { (p : Problem) (limit k : ℕ) → AreListed p limit k self.sequences self.routes.items
-            → IsProblem p → place_count p ≤ k → IsPool p limit result }
+        requires { (p : Problem) × (range : PlanRange) × (k : ℕ) × AreListed p range k self.sequences self.routes.items }
+        ensures { (p : Problem) (range : PlanRange) (k : ℕ) → AreListed p range k self.sequences self.routes.items
+            → IsProblem p → place_count p ≤ k → IsPoolIn p range result }
     {
         let Listing {
             sequences,

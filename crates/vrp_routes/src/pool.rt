@@ -1,12 +1,13 @@
 //! Routes, with what a choice among them needs.
-ghost use Rattle.std.specs.Prelude.{◌≡◌, ◌<◌, ◌==◌, ℕ, List, [], IfOk, length, map, slice_index_or};
-ghost use Rattle.std.specs.List.{All};
-ghost use Rattle.vrp_routes.specs.ClosedLevel.{route_by};
+ghost use Rattle.std.specs.Prelude.{◌≡◌, ◌<◌, ◌==◌, ◌++◌, ◌∷◌, ℕ, List, [], OnOk, IfOk, IsTrue, false, length, map, slice_index_or};
+ghost use Rattle.std.specs.List.{All, Contains};
+ghost use Rattle.vrp_routes.specs.ClosedLevel.{route_by, route_with};
 ghost use Rattle.vrp_routes.specs.Pool.{no_route};
 
 use crate::closed::ClosedRoute;
 use crate::sequences::Sequences;
 use std::alloc::Global;
+use std::collections::HashMap;
 use std::marker::Model;
 use vrp_customers::CustomerSet;
 use vrp_model::NoMemory;
@@ -48,6 +49,80 @@ impl RoutePool {
             sequences: Sequences::new(alloc),
             routes: Vec::new(alloc),
         }
+    }
+
+    /// Adds the routes of another pool, but those that are here already, as far as a look at the routes of the same customers tells. Whether
+    /// there was room for all: sequences of stops are numbered by 32 bits. The only error is lack of memory.
+    pub fn add(&mut self, alloc: Global, other: &RoutePool) -> Result<bool, NoMemory>
+        ensures among { OnOk result (All (Contains (self.old ++ other.now)) self.new) }
+        ensures all { IfOk result (λ all. IsTrue all → All (Contains self.new) (self.old ++ other.now)) }
+    {
+        let known = self.places_by_set(alloc)?;
+        for at in 0..other.len() {
+            let stops = other.stops(alloc, at)?;
+            let route = other.closed(at);
+            if self.has(alloc, &known, &route, &stops)? {
+                continue;
+            }
+            if !self.push(route, &stops)? {
+                return Ok(false);
+            }
+        }
+        Ok(true)
+    }
+
+    // A route, without its stops.
+    fn closed(&self, at: usize) -> ClosedRoute
+        requires { at < length self.now }
+        ensures set { result.set ≡ (slice_index_or self.now at no_route).set }
+        ensures load { result.load ≡ (slice_index_or self.now at no_route).load }
+        ensures cost { result.cost ≡ (slice_index_or self.now at no_route).cost }
+    {
+        self.routes[at]
+    }
+
+    // For each set of customers the place of a route that serves it. No clause pins it: who looks up a route compares it.
+    fn places_by_set(&self, alloc: Global) -> Result<HashMap<CustomerSet, usize>, NoMemory> {
+        let mut places = HashMap::new(alloc);
+        for at in 0..self.routes.len() {
+            places.insert(self.routes[at].set, at)?;
+        }
+        Ok(places)
+    }
+
+    // Whether the route is here with these stops, at the place of its customers.
+    fn has(
+        &self,
+        alloc: Global,
+        places: &HashMap<CustomerSet, usize>,
+        route: &ClosedRoute,
+        stops: &[u16],
+    ) -> Result<bool, NoMemory>
+        ensures { IfOk result (λ is_here. IsTrue is_here → Contains self.now (route_with stops.now route.now)) }
+    {
+        let Some(&at) = places.get(&route.set) else {
+            return Ok(false);
+        };
+        if self.len() <= at || self.set(at) != route.set {
+            return Ok(false);
+        }
+        if self.load(at) != u64::from(route.load) || self.cost(at) != route.cost {
+            return Ok(false);
+        }
+        let own = self.stops(alloc, at)?;
+        Ok(own.as_slice() == stops)
+    }
+
+    // Adds a route with these stops. `false` if there is no room for them.
+    fn push(&mut self, route: ClosedRoute, stops: &[u16]) -> Result<bool, NoMemory>
+        ensures added { IfOk result (λ is_added. IsTrue is_added → self.new ≡ self.old ++ route_with stops.now route ∷ []) }
+        ensures same { IfOk result (λ is_added. is_added ≡ false → self.new ≡ self.old) }
+    {
+        let Some(label) = self.sequences.push_stops(stops)? else {
+            return Ok(false);
+        };
+        self.routes.push(ClosedRoute { label, ..route })?;
+        Ok(true)
     }
 
     /// The number of routes.

@@ -1,5 +1,5 @@
 //! Sequences of customers, each of which extends an earlier one.
-ghost use Rattle.std.specs.Prelude.{◌≡◌, ◌+◌, ◌^◌, ◌<◌, ◌≤◌, ℕ, List, [], ◌∷◌, ◌++◌, OnOk, IfOk, drop, length, slice_index_or};
+ghost use Rattle.std.specs.Prelude.{◌≡◌, ◌+◌, ◌^◌, ◌<◌, ◌≤◌, ℕ, List, [], ◌∷◌, ◌++◌, OnErr, OnOk, IfOk, IfSome, drop, length, slice_index_or};
 ghost use Rattle.std.specs.List.{All};
 ghost use Rattle.vrp_routes.specs.Level.{sequences};
 ghost use Rattle.vrp_routes.specs.Sequences.{GoOn, sequences_by};
@@ -63,6 +63,33 @@ impl Sequences {
         Ok(())
     }
 
+    /// Adds a sequence with these stops, behind those that it goes on from. Its number; `None` if numbers would take more than 32 bits.
+    pub fn push_stops(&mut self, stops: &[u16]) -> Result<Option<u32>, NoMemory>
+        ensures within { IfOk result (λ found. IfSome found (λ number. number < length self.new)) }
+        ensures stops { IfOk result (λ found. IfSome found (λ number. slice_index_or self.new number [] ≡ stops.now)) }
+        ensures longer { length self.old ≤ length self.new }
+        ensures kept { (number : ℕ) → number < length self.old → slice_index_or self.new number [] ≡ slice_index_or self.old number [] }
+    {
+        let mut number = self.root();
+        for &stop in stops {
+            let Ok(next) = u32::try_from(self.len()) else {
+                return Ok(None);
+            };
+            self.push(number, stop)?;
+            number = next;
+        }
+        Ok(Some(number))
+    }
+
+    // The number of the empty sequence.
+    fn root(&self) -> u32
+        ensures within { result < length self.now }
+        ensures stops { slice_index_or self.now result [] ≡ [] }
+    {
+        let _steps = &self.steps;
+        0
+    }
+
     /// The customers of a sequence.
     pub fn stops(&self, alloc: Global, number: u32) -> Result<Vec<u16>, NoMemory>
         requires { number < length self.now }
@@ -74,8 +101,8 @@ impl Sequences {
     // Adds the sequence that extends this one by a last customer.
     fn push(&mut self, parent: u32, last: u16) -> Result<(), NoMemory>
         requires { parent < length self.old }
-        ensures { OnOk result (self.new
-            ≡ self.old ++ (slice_index_or self.old parent [] ++ last ∷ []) ∷ []) }
+        ensures added { OnOk result (self.new ≡ self.old ++ (slice_index_or self.old parent [] ++ last ∷ []) ∷ []) }
+        ensures same { OnErr result (self.new ≡ self.old) }
     {
         self.steps.push(Step { parent, last })?;
         Ok(())

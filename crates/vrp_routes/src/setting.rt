@@ -5,7 +5,7 @@ ghost use Rattle.vrp_model.specs.Route.{route_cost};
 ghost use Rattle.vrp_customers.specs.declared.customer_set.TheConstants.{PLACES};
 ghost use Rattle.vrp_routes.specs.Label.{IsLabel};
 ghost use Rattle.vrp_routes.specs.Setting.{setting_of};
-ghost use Rattle.vrp_routes.specs.Useful.{BeginsUseful, IsUseful};
+ghost use Rattle.vrp_routes.specs.Useful.{BeginsUseful, IsUsefulIn};
 
 use crate::completion_test::CompletionTest;
 use crate::label::Label;
@@ -63,7 +63,7 @@ impl<'a, T: CompletionTest> Setting<'a, T> {
             → cost ≡ route_cost (T.problem self.now.test.now) stops) }
         ensures none { IfNone result ((stops : List ℕ)
             → IsLabel (setting_of T.CompletionTest self.now.test.now) stops label.now
-            → IsUseful (T.problem self.now.test.now) (T.limit self.now.test.now) stops → ⊥) }
+            → IsUsefulIn (T.problem self.now.test.now) (T.range self.now.test.now) stops → ⊥) }
     {
         let problem = self.test.instance();
         if label.first > label.last && problem.symmetric() {
@@ -98,7 +98,7 @@ impl<'a, T: CompletionTest> Setting<'a, T> {
         ensures last { IfSome result (λ child. child.last ≡ stop) }
         ensures none { IfNone result ((stops : List ℕ)
             → IsLabel (setting_of T.CompletionTest self.now.test.now) stops label.now
-            → BeginsUseful (T.problem self.now.test.now) (T.limit self.now.test.now) (stops ++ stop ∷ []) → ⊥) }
+            → BeginsUseful (T.problem self.now.test.now) (T.range self.now.test.now) (stops ++ stop ∷ []) → ⊥) }
     {
         let problem = self.test.instance();
         let load = label.load as u64 + problem.demand(stop);

@@ -37,6 +37,9 @@ const ENOUGH_LISTED: u32 = 150_000;
 // The most subset rows: each lengthens the closing of labels.
 const MOST_ROWS: usize = 240;
 
+// Two leaves are worth their time if the gap is so many thousandths of the known cost.
+const WORTH_LEAVES: u16 = 6;
+
 /// The canonical plan, by column generation. It isn't found without a start plan, with a budget below `LEAST_PREPARED_BUDGET`, or if a limit
 /// is met first: there are too many customers or labels, the budget is spent, or the gate stops the search. Each label of a pricing, and
 /// each reduced cost that the choice looks at, counts as a partial plan. There are 1 to 64 workers. The only error is lack of memory.
@@ -166,6 +169,7 @@ pub(crate) fn settings_of<R, G: Gate>(shared: &Shared<'_, R, G>) -> Settings {
         most_listed: MOST_LISTED,
         enough_listed: ENOUGH_LISTED,
         most_rows: MOST_ROWS,
+        worth_leaves: WORTH_LEAVES,
     }
 }
 

@@ -9,13 +9,15 @@ use test_fixtures::Random;
 use vrp_customers::{CustomerSet, PLACES};
 use vrp_duals::{Duals, EntryRow, SubsetRow};
 use vrp_model::Instance;
+use vrp_routes::PlanRange;
 
-/// Dual prices near those of routes of one customer, or far from them, with entry rows that feasible plans obey, and subset rows with any
-/// memory.
+/// Dual prices near those of routes of one customer, or far from them, with entry rows that feasible plans in a range obey, and subset rows
+/// with any memory.
 pub(crate) fn random_prices(
     alloc: Global,
     random: &mut Random,
     instance: &Instance,
+    range: PlanRange,
 ) -> Result<Duals>
     ensures { IfOk result (AreDualsOf instance.now) }
 {
@@ -24,7 +26,7 @@ pub(crate) fn random_prices(
     let mut entries = Vec::new(alloc);
     let mut rows = Vec::new(alloc);
     for _ in 0..random.next() % 4 {
-        add_entry(&mut entries, random, instance, scale)?;
+        add_entry(&mut entries, random, instance, range, scale)?;
         add_row(&mut rows, random, instance.customers(), scale)?;
     }
     match Duals::new(instance, scale, prices, entries, rows) {
@@ -52,11 +54,13 @@ fn customer_prices(
     Ok(prices)
 }
 
-// Adds an entry row that each feasible plan obeys, if one is drawn: of some customers by their demand, or of all by the trucks.
+// Adds an entry row that each feasible plan in the range obeys, if one is drawn: of some customers by their demand, or of all by the number
+// of routes.
 fn add_entry(
     entries: &mut Vec<EntryRow>,
     random: &mut Random,
     instance: &Instance,
+    range: PlanRange,
     scale: u32,
 ) -> Result<()> {
     let customers = instance.customers();
@@ -69,10 +73,15 @@ fn add_entry(
     let all = EntryRow {
         customers: full_set(customers),
         count: (random.next() % 5) as u16,
-        price: -price,
+        price: if random.next() % 2 == 0 {
+            price
+        } else {
+            -price
+        },
     };
     let row = if random.next() % 2 == 0 { some } else { all };
-    if usize::from(customers) < PLACES && row.is_needed(instance) {
+    let is_small = usize::from(customers) < PLACES;
+    if is_small && row.is_needed_for(instance, range.least_routes, range.most_routes) {
         entries.push(row)?;
     }
     Ok(())

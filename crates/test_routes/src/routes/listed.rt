@@ -3,6 +3,7 @@ ghost use Rattle.std.specs.Prelude.{◌≤◌, ◌<◌};
 ghost use Rattle.vrp_customers.specs.declared.customer_set.TheConstants.{PLACES};
 ghost use Rattle.vrp_model.specs.Problem.{place_count};
 ghost use Rattle.vrp_model.specs.declared.limits.TheConstants.{NO_COST};
+ghost use Rattle.vrp_routes.specs.Range.{plans_within};
 
 use crate::passes::pool_of;
 use std::alloc::Global;
@@ -25,7 +26,7 @@ impl<'a> CompletionTest for NoTest<'a> {
 
     ghost problem = { λ t. t.instance.now };
 
-    ghost limit = { λ _. NO_COST };
+    ghost range = { λ _. plans_within NO_COST };
 
     ghost Counts = { λ _ _ _. Unit {0} };
 

@@ -20,11 +20,11 @@ passed-requires-clause-labels g c =
     let graph : closed.completions.graph ≡ s.graph = subst (λ (r : Round). IfRoundClosed r (λ closed. closed.completions.graph ≡ s.graph)) c.in-Closed.is c.in_ok-closed.ensures.graph in
     let same : closed.completions.gap ≡ closed.gap = subst (λ (r : Round). IfRoundClosed r (λ closed. closed.completions.gap ≡ closed.gap)) c.in-Closed.is c.in_ok-closed.ensures.gap in
     let deep : HasDepth s.graph closed.depth = subst (λ (r : Round). IfRoundClosed r (λ closed. HasDepth s.graph closed.depth)) c.in-Closed.is c.in_ok-closed.ensures.depth in
-    let wide : IsGapFor s.duals s.graph (length (customers s.problem)) s.limit closed.gap =
-    subst (λ (r : Round). IfRoundClosed r (λ closed. IsGapFor s.duals s.graph (length (customers s.problem)) s.limit closed.gap)) c.in-Closed.is c.in_ok-closed.ensures.wide in
+    let wide : IsGapFor s.duals s.graph (length (customers s.problem)) s.range.limit closed.gap =
+    subst (λ (r : Round). IfRoundClosed r (λ closed. IsGapFor s.duals s.graph (length (customers s.problem)) s.range.limit closed.gap)) c.in-Closed.is c.in_ok-closed.ensures.wide in
     record {
       priced = priced;
-      gap = subst (IsGapFor s.duals s.graph (length (customers s.problem)) s.limit) (sym gap) wide;
+      gap = subst (IsGapFor s.duals s.graph (length (customers s.problem)) s.range.limit) (sym gap) wide;
       kept = subst (λ (h : GraphOf). AreKept h c.into_labels-labels.result) graph c.into_labels-labels.ensures.are_kept;
       closed = subst (λ (z : ℤ). IsClosed s.graph z c.into_labels-labels.result) (same ∙ sym gap) (subst (λ (h : GraphOf). IsClosed h closed.completions.gap c.into_labels-labels.result) graph c.into_labels-labels.ensures.closed);
       bound = bounded_by s c.price_bound.result closed.depth c.least_cost-bound.result priced c.price_bound.ensures deep c.least_cost-bound.ensures.bound;

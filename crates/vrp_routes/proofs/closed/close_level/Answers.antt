@@ -7,7 +7,7 @@ pub returns : goal.returns
 returns g c =
     let known = c.in_ok-parts.ensures in
     let s = setting_of g.T.CompletionTest c.args.setting.now.test.now in
-    if_ok c.joined.result _ _ (λ routes closed k stops some is. closed s.problem s.limit k stops
+    if_ok c.joined.result _ _ (λ routes closed k stops some is. closed s.problem s.range k stops
     (λ i d lt. known.each i d (omega (arith, lt, known.count, c.in_ok-parts.parts.ok)) k stops some is)) c.joined.ensures
 
 pub values_of-requires-clause-tasks : goal.values_of-requires-clause-tasks

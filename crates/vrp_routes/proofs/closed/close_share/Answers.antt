@@ -1,7 +1,7 @@
 use Rattle.std.proofs.Common.{◌≡◌, true, List, ℕ, ◌+◌, ◌<◌, [], drop, length, get_or, sym, subst, arith}
 use Rattle.vrp_customers.specs.CustomerSet.{set_of}
 use Rattle.vrp_routes.specs.ClosedLevel.{HasPlaces, is_closed_in}
-use Rattle.vrp_routes.specs.Useful.{IsUseful}
+use Rattle.vrp_routes.specs.Useful.{IsUsefulIn}
 use Rattle.vrp_routes.specs.declared.closed.ClosedLevel.{ClosedLevel}
 use Rattle.vrp_routes.specs.declared.closed.ClosedRoute.{ClosedRoute}
 use Rattle.vrp_routes.specs.Setting.{setting_of}
@@ -16,7 +16,7 @@ loop-at-init g c =
     let closed : ClosedLevel = record { routes = c.new.result; by_set = c.new-2.result } in
     record {
       places = no_places closed c.new-2.ensures.empty;
-      closes = λ k stops some is. closes_none s.problem s.limit (is_closed_in c.args.share) c.args.start stops closed c.new.ensures.items;
+      closes = λ k stops some is. closes_none s.problem s.range (is_closed_in c.args.share) c.args.start stops closed c.new.ensures.items;
     }
 
 pub cost_in_share-requires-clause-label : goal.cost_in_share-requires-clause-label
@@ -44,8 +44,8 @@ loop-at-preserved g c =
             let lt : at < length stops_here = omega (arith, is.are.long, c.loop-at-test.true) in
             let is_label = read_label s k stops_here labels at label is lt c.index-labels-at.is in
             let route : ClosedRoute = record { set = label.set; cost = w.in-Some.cost; load = label.load; label = start + at } in
-            subst (ClosesSome s.problem s.limit mine start stops (at + 1)) (sym w.closed-is)
-            (closes_one s.problem s.limit mine start stops at old w.offer.new.self route (c.loop-at.invariant.closes k stops some is) c.loop-at.invariant.places
+            subst (ClosesSome s.problem s.range mine start stops (at + 1)) (sym w.closed-is)
+            (closes_one s.problem s.range mine start stops at old w.offer.new.self route (c.loop-at.invariant.closes k stops some is) c.loop-at.invariant.places
             (route_of_label s k start stops labels at label w.in-Some.cost is some c.loop-at-test.true is_label (w.in-Some.ensures.cost (get_or stops_here at []) is_label))
             w.in_ok-offer.ensures.offered);
       }
@@ -54,9 +54,9 @@ loop-at-preserved g c =
         closes = λ k stops some is.
             let stops_here = drop start stops in
             let lt : at < length stops_here = omega (arith, is.are.long, c.loop-at-test.true) in
-            subst (ClosesSome s.problem s.limit mine start stops (at + 1)) (sym w.closed-is)
-            (closes_not s.problem s.limit mine start stops at old (c.loop-at.invariant.closes k stops some is) (λ own useful.
-            w.in_default.ensures.none (get_or stops_here at []) (read_label s k stops_here labels at label is lt c.index-labels-at.is) (subst (λ (xs : List ℕ). mine (set_of xs) ≡ true) (sym (label_stops start stops at)) own) (subst (IsUseful s.problem s.limit) (sym (label_stops start stops at)) useful)));
+            subst (ClosesSome s.problem s.range mine start stops (at + 1)) (sym w.closed-is)
+            (closes_not s.problem s.range mine start stops at old (c.loop-at.invariant.closes k stops some is) (λ own useful.
+            w.in_default.ensures.none (get_or stops_here at []) (read_label s k stops_here labels at label is lt c.index-labels-at.is) (subst (λ (xs : List ℕ). mine (set_of xs) ≡ true) (sym (label_stops start stops at)) own) (subst (IsUsefulIn s.problem s.range) (sym (label_stops start stops at)) useful)));
       }
     ]
 

@@ -1,6 +1,6 @@
 use Rattle.std.proofs.Common.{◌≡◌, ◌+◌, ◌-◌, IfNone, None, Option, ℕ, subst, arith}
 use Rattle.vrp_routes.specs.Listing.{IsListing}
-use Rattle.vrp_routes.specs.Pool.{IsPool}
+use Rattle.vrp_routes.specs.Pool.{IsPoolIn}
 use Rattle.vrp_routes.specs.Setting.{setting_of}
 use Rattle.vrp_routes.specs.declared.level.Limit.{Limit}
 use Rattle.vrp_routes.proofs.listing.list_routes.Goals as goal
@@ -26,11 +26,11 @@ loop-level-preserved g c =
 pub into_pool-requires : goal.into_pool-requires
 into_pool-requires g c =
     let s = setting_of g.T.CompletionTest c.new-setting.result.test.now in
-    (s.problem, s.limit, c.loop-level._level - 1 + 1, c.loop-level.invariant.routes)
+    (s.problem, s.range, c.loop-level._level - 1 + 1, c.loop-level.invariant.routes)
 
 pub returns : goal.returns
 returns g c =
     let s = setting_of g.T.CompletionTest c.new-setting.result.test.now in
-    subst (λ (t : g.row.T.Denot). IsPool (g.T.CompletionTest.problem t) (g.T.CompletionTest.limit t) c.into_pool.result) c.new-setting.ensures
-    (c.into_pool.ensures s.problem s.limit (c.loop-level._level - 1 + 1) c.loop-level.invariant.routes c.places-level-end.ensures.problem
+    subst (λ (t : g.row.T.Denot). IsPoolIn (g.T.CompletionTest.problem t) (g.T.CompletionTest.range t) c.into_pool.result) c.new-setting.ensures
+    (c.into_pool.ensures s.problem s.range (c.loop-level._level - 1 + 1) c.loop-level.invariant.routes c.places-level-end.ensures.problem
     (omega (arith, c.loop-level-test.false, c.places-level-end.ensures.value, c.loop-level.auto._level)))

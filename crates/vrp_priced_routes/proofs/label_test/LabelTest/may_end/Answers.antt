@@ -3,7 +3,7 @@ use Rattle.std.proofs.lemmas.Int.{ints}
 use Rattle.vrp_duals.specs.Folding.{arc_of}
 use Rattle.vrp_labels.specs.Graph.{Follows, GraphOf}
 use Rattle.vrp_labels.specs.Route.{IsCheap}
-use Rattle.vrp_routes.specs.Useful.{IsUseful}
+use Rattle.vrp_routes.specs.Useful.{IsUsefulIn}
 use Rattle.vrp_priced_routes.specs.LabelTest.{LabelTestOf}
 use Rattle.vrp_priced_routes.proofs.Beginnings.{ends_cheap, shown, sum_is}
 use Rattle.vrp_priced_routes.proofs.label_test.LabelTest.may_end.Goals as goal
@@ -30,8 +30,8 @@ returns-else-follows-clause-ends c = λ beginning begins cheap.
 
 pub returns-then-follows-clause-cheap : goal.returns-then-follows-clause-cheap
 returns-then-follows-clause-cheap c = λ stops useful.
-    subst (λ (t : LabelTestOf). IsUseful t.problem t.limit stops → IsCheap t.completions.graph t.completions.gap stops) c.self.view_is (c.self.invariant.cheap stops) useful
+    subst (λ (t : LabelTestOf). IsUsefulIn t.problem t.range stops → IsCheap t.completions.graph t.completions.gap stops) c.self.view_is (c.self.invariant.cheap stops) useful
 
 pub returns-else-follows-clause-cheap : goal.returns-else-follows-clause-cheap
 returns-else-follows-clause-cheap c = λ stops useful.
-    subst (λ (t : LabelTestOf). IsUseful t.problem t.limit stops → IsCheap t.completions.graph t.completions.gap stops) c.self.view_is (c.self.invariant.cheap stops) useful
+    subst (λ (t : LabelTestOf). IsUsefulIn t.problem t.range stops → IsCheap t.completions.graph t.completions.gap stops) c.self.view_is (c.self.invariant.cheap stops) useful

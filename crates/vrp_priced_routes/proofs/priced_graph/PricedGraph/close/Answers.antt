@@ -13,4 +13,4 @@ returns-then-first-guess-clause-wide g c =
     gap_for s c.in-Closed.closed.depth c.args.guess c.in-Closed.closed.gap
     (subst (λ (r : Round). IfRoundClosed r (λ closed. HasDepth s.graph closed.depth)) c.in-Closed.is c.in_ok-other.ensures.depth)
     c.if-first-guess.true
-    (subst (λ (r : Round). IfRoundClosed r (λ closed. pos (s.duals.scale * s.limit + (length (customers s.problem) - 1) * c.args.guess) ≤ℤ (low_of s.duals +ℤ closed.gap))) c.in-Closed.is c.in_ok-other.ensures.covers)
+    (subst (λ (r : Round). IfRoundClosed r (λ closed. pos (s.duals.scale * s.range.limit + (length (customers s.problem) - 1) * c.args.guess) ≤ℤ (low_of s.duals +ℤ closed.gap))) c.in-Closed.is c.in_ok-other.ensures.covers)

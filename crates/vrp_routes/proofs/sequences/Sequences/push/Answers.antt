@@ -10,7 +10,7 @@ invariant_of-self-2 c =
     let step : Step = record { parent = c.args.parent; last = c.args.last } in
     subst GoOn (sym c.in_ok-push.ensures.items) (go_on_with steps step c.self.invariant (omega (arith, c.requires, length_grown ([] ∷ []) steps, ap length c.self.view_is)))
 
-pub returns : goal.returns
-returns c =
+pub returns-clause-added : goal.returns-clause-added
+returns-clause-added c =
     let step : Step = record { parent = c.args.parent; last = c.args.last } in
     ap sequences_by c.in_ok-push.ensures.items ∙ grown_with ([] ∷ []) c.self.inside.steps.items step ∙ ap (λ (xs : List (List ℕ)). xs ++ step_stops xs step ∷ []) c.self.view_is

@@ -26,7 +26,7 @@ loop-label-preserved g c =
     let more = sequences before (take i labels) in
     let label = c.label-item.result in
     let parent : label.parent < length before = subst (λ (l : Label g.row.X.Denot). l.parent < length before) (sym c.label-item.is) (c.requires.parents i label c.loop-label-test.true) in
-    c.in_ok-push.ensures
+    c.in_ok-push.ensures.added
     ∙ ap (λ (xs : List ℕ). c.loop-label.self ++ xs ∷ []) (level_step old c.loop-label.self more c.args.start label c.loop-label.invariant parent)
     ∙ ap (λ (xs : List (List ℕ)). xs ++ stops_of before label ∷ []) c.loop-label.invariant
     ∙ append_assoc old more (stops_of before label ∷ [])

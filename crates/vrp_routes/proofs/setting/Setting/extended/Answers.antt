@@ -19,7 +19,7 @@ with-requires g c = omega (arith, c.args.self.now.few, c.requires.place)
 pub returns-then-contains-clause-none : goal.returns-then-contains-clause-none
 returns-then-contains-clause-none g c = λ stops is useful.
     let s = setting_of g.T.CompletionTest c.args.self.now.test.now in
-    not_twice s.problem s.limit stops c.args.stop c.args.label.now.set is.set (c.contains.ensures.0 c.if-contains.true) useful
+    not_twice s.problem s.range stops c.args.stop c.args.label.now.set is.set (c.contains.ensures.0 c.if-contains.true) useful
 
 pub returns-then-load-capacity-clause-none : goal.returns-then-load-capacity-clause-none
 returns-then-load-capacity-clause-none g c = λ stops is useful.
@@ -27,7 +27,7 @@ returns-then-load-capacity-clause-none g c = λ stops is useful.
     let label = c.args.label.now in
     let heavy : s.problem.capacity < label.load + demand_of s.problem c.args.stop =
     subst (λ (p : Problem). p.capacity < label.load + demand_of p c.args.stop) c.instance-problem.ensures (omega (arith, c.if-load-capacity.true, c.capacity.ensures.value, c.demand.ensures.value)) in
-    not_too_heavy s.problem s.limit stops c.args.stop label.load is.load heavy useful
+    not_too_heavy s.problem s.range stops c.args.stop label.load is.load heavy useful
 
 pub extended-requires : goal.extended-requires
 extended-requires g c =

@@ -1,0 +1,76 @@
+//! The last prices of one leaf: of plans in a range.
+ghost use Rattle.std.specs.Prelude.{◌≡◌, ◌≤◌, IfOk, IfSome};
+ghost use Rattle.vrp_duals.specs.Duals.{AreDualsOf};
+ghost use Rattle.vrp_priced_routes.specs.Priced.{BoundsPlansIn};
+ghost use Rattle.vrp_routes.specs.Pool.{IsPoolIn};
+
+use crate::guide::Settings;
+use std::thread::Threads;
+use vrp_customers::CustomerSet;
+use vrp_duals::Duals;
+use vrp_model::{Crew, NoMemory, Watch};
+use vrp_priced_routes::{AliveArcs, Passed, PricedLabels, run_pass};
+use vrp_routes::{Listed, PlanRange, RoutePool};
+
+/// Dual prices, the arcs that plans in the range use, and what each such plan costs at least.
+#[derive(Drop)]
+pub(crate) struct LeafPrices<'a> {
+    pub(crate) arcs: AliveArcs<'a>,
+    duals: Duals,
+    bound: u64,
+    ghost priced: { AreDualsOf arcs.problem duals },
+    ghost bounds: { BoundsPlansIn arcs.problem arcs.range bound },
+}
+
+impl<'a> LeafPrices<'a> {
+    /// The prices for arcs and a bound.
+    pub(crate) fn new(arcs: AliveArcs<'a>, duals: Duals, bound: u64) -> LeafPrices<'a>
+        requires duals { AreDualsOf arcs.problem duals }
+        requires bound { BoundsPlansIn arcs.problem arcs.range bound }
+        ensures { result.arcs ≡ arcs.entry }
+    {
+        LeafPrices { arcs, duals, bound }
+    }
+
+    /// The routes that may be in the canonical plan, if that is in the range and costs no more than this: by a pass along the arcs that are
+    /// left, where labels can remember these customers. None if a limit on labels is met or the crew's watch stops it.
+    pub(crate) fn routes_within<R: Threads + Sync, W: Watch + Sync>(
+        &self,
+        crew: &Crew<'_, R, W>,
+        limit: u64,
+        near: &[CustomerSet],
+        guess: u64,
+        settings: Settings,
+    ) -> Result<Option<RoutePool>, NoMemory>
+        requires { limit ≤ self.now.arcs.range.limit }
+        ensures { IfOk result (λ pool. IfSome pool (IsPoolIn self.now.arcs.problem (record self.now.arcs.range { limit = limit }))) }
+    {
+        if limit < self.bound {
+            return Ok(Some(RoutePool::empty(crew.alloc)));
+        }
+        let range = PlanRange {
+            limit,
+            ..self.arcs.range()
+        };
+        let arcs = self.arcs.part(crew.alloc, range)?;
+        let passed = run_pass(crew, &arcs, &self.duals, near, guess, settings.most_labels)?;
+        match passed {
+            Passed::Closed(pass) => pool_of(crew, pass.labels, settings.most_listed),
+            _ => Ok(None),
+        }
+    }
+}
+
+/// The list of the labels' routes, if it has no more labels than this.
+pub(crate) fn pool_of<R: Threads + Sync, W: Watch + Sync>(
+    crew: &Crew<'_, R, W>,
+    labels: PricedLabels<'_, '_>,
+    most_listed: u32,
+) -> Result<Option<RoutePool>, NoMemory>
+    ensures { IfOk result (λ pool. IfSome pool (IsPoolIn labels.entry.priced.problem labels.entry.priced.range)) }
+{
+    match labels.list_routes(crew, most_listed)? {
+        Listed::Pool(pool) => Ok(Some(pool)),
+        Listed::Met(_) => Ok(None),
+    }
+}

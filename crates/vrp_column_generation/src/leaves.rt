@@ -1,0 +1,146 @@
+//! Two leaves where the number of routes in a solution isn't whole: plans with few routes, and plans with more. Each gets prices of its own,
+//! and together they have all plans.
+ghost use Rattle.std.specs.Prelude.{◌≡◌, ◌⊎◌, ◌≤◌, ℕ, List, IfOk, IfSome};
+ghost use Rattle.vrp_column_generation.specs.Progress.{AreFor};
+ghost use Rattle.vrp_customers.specs.declared.customer_set.TheConstants.{PLACES};
+ghost use Rattle.vrp_model.specs.Problem.{Problem, place_count};
+ghost use Rattle.vrp_priced_routes.specs.Priced.{BoundsPlansIn};
+ghost use Rattle.vrp_routes.specs.Pool.{IsPoolIn};
+ghost use Rattle.vrp_routes.specs.Range.{HaveAll, IsInRange, IsPart, plans_within};
+ghost use Rattle.vrp_routes.specs.declared.plan_range.PlanRange.{PlanRange};
+
+use crate::generation::Generation;
+use crate::guide::Guide;
+use crate::last_prices::LastPrices;
+use crate::program_rows::ProgramRow;
+use crate::progress::Progress;
+use crate::rounds::{AfterRounds, run_rounds};
+use std::alloc::Global;
+use std::thread::Threads;
+use vrp_customers::CustomerSet;
+use vrp_model::{Crew, Instance, NoMemory, Watch};
+use vrp_routes::{PlanRange, RoutePool};
+
+/// What column generation leaves that branches: plans with at most so many routes, and plans with more. If it doesn't come to prices for both
+/// leaves, those of the root are left.
+pub(crate) fn generate_leaves<'a, R: Threads + Sync, W: Watch + Sync>(
+    crew: &Crew<'_, R, W>,
+    instance: &'a Instance,
+    root: Progress<'a>,
+    guide: &mut Guide,
+    near: Vec<CustomerSet>,
+    fewer: u16,
+) -> Result<Generation<'a>, NoMemory>
+    requires few { place_count instance.now ≤ PLACES }
+    requires problem { root.arcs.problem ≡ instance.now }
+    requires all { root.arcs.range ≡ plans_within root.arcs.range.limit }
+    ensures bound { IfOk result (λ made. BoundsPlansIn root.entry.arcs.problem root.entry.arcs.range made.bound) }
+    ensures pool { IfOk result (λ made. IfSome made.pool (IsPoolIn root.entry.arcs.problem root.entry.arcs.range)) }
+    ensures prices { IfOk result (λ made. IfSome made.prices (λ prices.
+        prices ≡ record { problem = root.entry.arcs.problem; limit = root.entry.arcs.range.limit })) }
+{
+    let leaves = root.arcs.range().split(fewer);
+    let (few_row, many_row) = guide.leaf_rows(fewer);
+    let few = run_leaf(crew, instance, &root, guide, &near, leaves.few, few_row)?;
+    let many = run_leaf(crew, instance, &root, guide, &near, leaves.many, many_row)?;
+    let guess = guide.guess();
+    let bound = few.progress.bound.min(many.progress.bound);
+    let pool = pool_of_both(crew.alloc, few.pool, many.pool)?;
+    if pool.is_some() {
+        drop(root);
+        drop(near);
+        return Ok(Generation {
+            bound,
+            pool,
+            prices: None,
+        });
+    }
+    let prices = prices_of_both(root, few.progress, many.progress, near, guess);
+    Ok(Generation {
+        bound,
+        pool,
+        prices,
+    })
+}
+
+// What comes of rounds in one leaf, for plans in this range, with this row more than at the root.
+fn run_leaf<'a, R: Threads + Sync, W: Watch + Sync>(
+    crew: &Crew<'_, R, W>,
+    instance: &'a Instance,
+    root: &Progress<'a>,
+    guide: &mut Guide,
+    near: &[CustomerSet],
+    range: PlanRange,
+    row: ProgramRow,
+) -> Result<AfterRounds<'a>, NoMemory>
+    requires few { place_count instance.now ≤ PLACES }
+    requires problem { root.now.arcs.problem ≡ instance.now }
+    requires part { IsPart range root.now.arcs.range }
+    ensures arcs { IfOk result (λ last. AreFor root.now.arcs.problem range last.progress.arcs) }
+    ensures pool { IfOk result (λ last. IfSome last.pool (IsPoolIn root.now.arcs.problem range)) }
+{
+    let progress = root.part(crew.alloc, range)?;
+    let Some(mut own) = guide.of_leaf(instance, near, row)? else {
+        return Ok(AfterRounds {
+            progress,
+            pool: None,
+            branch: None,
+        });
+    };
+    let last = run_rounds(crew, instance, progress, &mut own, near, false);
+    guide.count_labels(&own);
+    drop(own);
+    last
+}
+
+// The pool of all plans, if there are pools of both leaves.
+fn pool_of_both(
+    alloc: Global,
+    few: Option<RoutePool>,
+    many: Option<RoutePool>,
+) -> Result<Option<RoutePool>, NoMemory>
+    ensures { IfOk result (λ pool. (p : Problem) (range one other : PlanRange)
+        → IfSome few (IsPoolIn p one) → IfSome many (IsPoolIn p other) → HaveAll range one other
+        → IfSome pool (IsPoolIn p range)) }
+{
+    let Some(mut pool) = few else {
+        drop(many);
+        return Ok(None);
+    };
+    let Some(many) = many else {
+        drop(pool);
+        return Ok(None);
+    };
+    let has_room = pool.add(alloc, &many);
+    drop(many);
+    if has_room? {
+        return Ok(Some(pool));
+    }
+    drop(pool);
+    Ok(None)
+}
+
+// The last prices of both leaves, or of the root if there are none of some leaf.
+fn prices_of_both<'a>(
+    root: Progress<'a>,
+    few: Progress<'a>,
+    many: Progress<'a>,
+    near: Vec<CustomerSet>,
+    guess: u64,
+) -> Option<LastPrices<'a>>
+    requires all { root.arcs.range ≡ plans_within root.arcs.range.limit }
+    requires few { few.arcs.problem ≡ root.arcs.problem }
+    requires many { many.arcs.problem ≡ root.arcs.problem }
+    requires few_limit { few.arcs.range.limit ≡ root.arcs.range.limit }
+    requires many_limit { many.arcs.range.limit ≡ root.arcs.range.limit }
+    requires leaves { HaveAll root.arcs.range few.arcs.range many.arcs.range }
+    ensures { IfSome result (λ prices. prices ≡ record { problem = root.entry.arcs.problem; limit = root.entry.arcs.range.limit }) }
+{
+    match (few.leaf_prices(), many.leaf_prices()) {
+        (Some(leaf), Some(other)) => Some(LastPrices::new(leaf, Some(other), near, guess)),
+        _ => match root.leaf_prices() {
+            Some(leaf) => Some(LastPrices::new(leaf, None, near, guess)),
+            None => None,
+        },
+    }
+}
