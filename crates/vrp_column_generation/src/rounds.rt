@@ -17,7 +17,7 @@ use vrp_routes::RoutePool;
 pub(crate) struct AfterRounds<'a> {
     pub(crate) progress: Progress<'a>,
     pub(crate) pool: Option<RoutePool>,
-    /// If the rounds ended so as to branch: how many routes the plans of the one leaf have at most.
+    /// If two leaves are worth more: how many routes the plans of the one leaf have at most.
     pub(crate) branch: Option<u16>,
 }
 
@@ -34,7 +34,8 @@ fn node_news(limit: u64, lower_bound: u64) -> News {
     }
 }
 
-/// Makes passes by better and better prices, until the routes are listed, a limit is met or, if it may branch, two leaves are worth more.
+/// Makes passes by better and better prices, until the routes are listed, a limit is met, or no better ones are found. Then it says, if it may
+/// branch, whether two leaves are worth more.
 pub(crate) fn run_rounds<'a, R: Threads + Sync, W: Watch + Sync>(
     crew: &Crew<'_, R, W>,
     instance: &'a Instance,
@@ -56,15 +57,16 @@ pub(crate) fn run_rounds<'a, R: Threads + Sync, W: Watch + Sync>(
         };
         let bound = guide.bound_by(&prices);
         let are_final = prices.are_final;
-        let branch = guide.branch_on(may_branch && are_final, bound)?;
         let decision = guide.decide(&mut pace, bound, are_final);
+        let is_last = decision == Decision::End;
+        let branch = guide.branch_on(may_branch && is_last, bound)?;
         let after = progress.pass_if_decided(crew, guide, prices, near, decision)?;
         let AfterPass {
             progress: next,
             pool,
         } = after;
         crew.watch.on_news(node_news(limit, next.bound));
-        if pool.is_some() || branch.is_some() || decision == Decision::End {
+        if pool.is_some() || is_last {
             return Ok(AfterRounds {
                 progress: next,
                 branch: if pool.is_some() { None } else { branch },

@@ -38,7 +38,7 @@ const ENOUGH_LISTED: u32 = 150_000;
 const MOST_ROWS: usize = 240;
 
 // Two leaves are worth their time if the gap is so many thousandths of the known cost.
-const WORTH_LEAVES: u16 = 6;
+const WORTH_LEAVES: u16 = 3;
 
 /// The canonical plan, by column generation. It isn't found without a start plan, with a budget below `LEAST_PREPARED_BUDGET`, or if a limit
 /// is met first: there are too many customers or labels, the budget is spent, or the gate stops the search. Each label of a pricing, and
