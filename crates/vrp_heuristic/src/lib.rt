@@ -4,6 +4,7 @@
 #![tactic(auto)]
 
 mod arcs;
+mod changes;
 mod gathered;
 mod heuristic;
 mod improved;
@@ -11,7 +12,6 @@ mod joined_routes;
 mod joint;
 mod moves;
 mod near;
-mod pace;
 mod random;
 mod reach;
 mod recombined;
@@ -23,6 +23,8 @@ mod savings;
 mod surroundings;
 mod taken;
 mod threshold;
+mod triangle;
+mod ways;
 
 pub use gathered::Gathered;
 pub use heuristic::{ENOUGH_MOVES, heuristic_plan};
@@ -34,4 +36,4 @@ pub use routes::Routes;
 pub use savings::savings_plan;
 pub use surroundings::Surroundings;
 pub use taken::Taken;
-pub use threshold::Threshold;
+pub use threshold::{Length, Threshold};

@@ -20,18 +20,13 @@ pub(crate) struct Round {
 impl Round {
     // The course of the run of a number. If routes are gathered, every second run begins with half of the threshold, to find other plans.
     fn course_of(self, number: u64) -> Course {
-        let Threshold {
-            start,
-            moves,
-            positions,
-        } = self.threshold;
+        let Threshold { start, length } = self.threshold;
         let has_half = self.gathers > 0 && number % 2 == 0;
         Course {
             number,
             threshold: Threshold {
                 start: if has_half { start / 2 } else { start },
-                moves,
-                positions,
+                length,
             },
         }
     }

@@ -1,12 +1,24 @@
 -- Tables of whole rows, and what their cells name.
-use Rattle.std.specs.Prelude.{◌≡◌, ℕ, ◌*◌, ◌<◌, ◌≤◌}
+use Rattle.std.specs.Prelude.{◌≡◌, ℕ, ◌+◌, ◌*◌, ◌<◌, ◌≤◌}
 use Rattle.vrp_heuristic.specs.declared.near.NearArc.{NearArc}
+use Rattle.vrp_heuristic.specs.declared.ways.Detour.{Detour}
+use Rattle.vrp_heuristic.specs.declared.ways.TheConstants.{WAYS}
 use Rattle.vrp_model.specs.declared.limits.TheConstants.{MAX_NODES}
 
 -- this many cells are a row of this many for each of this many places
 pub record IsSquare (places cells : ℕ) : Type 0 where
   pub few : places ≤ MAX_NODES
   pub square : cells ≡ places * places
+
+-- this many cells are a row of this many for each of this many places, and the same again from a position on, or from the first cell
+pub record HasRows (places into cells : ℕ) : Type 0 where
+  pub few : places ≤ MAX_NODES
+  pub square : cells ≡ into + places * places
+
+-- this many cells are a row of ways for each of this many places
+pub record IsTableOfWays (places cells : ℕ) : Type 0 where
+  pub few : places ≤ MAX_NODES
+  pub rows : cells ≡ places * WAYS
 
 -- a number names one of this many places
 pub record IsPlace (places place : ℕ) : Type 0 where
@@ -15,3 +27,7 @@ pub record IsPlace (places place : ℕ) : Type 0 where
 -- an arc leads to one of this many places
 pub record LeadsTo (places : ℕ) (arc : NearArc) : Type 0 where
   pub within : arc.to < places
+
+-- a detour is on the way to one of this many places
+pub record IsDetour (places : ℕ) (detour : Detour) : Type 0 where
+  pub within : detour.to < places
