@@ -1,7 +1,8 @@
-//! A plan is improved as long as there is time, by a run of ruin and recreate of each worker.
+//! A plan is improved as long as there is time: by a population, or by a run of ruin and recreate of each worker.
 ghost use Rattle.std.specs.Prelude.{◌≡◌, ◌≤◌, IfOk};
 ghost use Rattle.vrp_model.specs.Route.{IsPlanOf};
 
+use crate::generations::evolved;
 use crate::heuristic::first_threshold;
 use crate::runs::{Round, run_all};
 use crate::surroundings::Surroundings;
@@ -10,11 +11,16 @@ use std::thread::Threads;
 use vrp_model::{Crew, Instance, NoMemory, Plan, Watch};
 use vrp_search_tree::cheaper_plan;
 
+// Up to this many customers a population goes on finding better plans, where a single run comes to an end.
+const MOST_FOR_POPULATION: u16 = 250;
+
 // The number of the first run; the runs of a heuristic plan have lower ones.
 const FIRST_RUN: u64 = 100;
 
-/// The plan, or a better one. Each worker makes a run of ruin and recreate of its own from it, whose number seeds its chances; the best
-/// of their plans is the answer, by cost and then by word. A run takes all the time that is left, and its threshold falls to 0 in that time.
+/// The plan, or a better one. With up to 250 customers and no limit on trucks the workers keep a population of good plans, and improve
+/// children of these. Otherwise each worker makes one run of ruin and recreate from the plan, whose number seeds its chances; the run takes
+/// all the time that is left, and its threshold falls to 0 in that time. The answer is the best of all their plans, by cost and then by word.
+///
 /// The watch is asked before each 16th move, and hears of each cheaper cost. If it has no time, the plan is answered as it is. The contract
 /// leaves open which feasible plan is answered.
 pub fn improved_plan<R: Threads + Sync, W: Watch + Sync>(
@@ -34,12 +40,18 @@ pub fn improved_plan<R: Threads + Sync, W: Watch + Sync>(
         return Ok(best);
     }
     let setting = Surroundings::new(crew.alloc, instance)?;
+    if instance.customers() <= MOST_FOR_POPULATION && instance.trucks().is_none() {
+        return evolved(crew, &setting, best, milliseconds);
+    }
     let round = Round {
         first: FIRST_RUN,
         runs: crew.workers,
         threshold: Threshold {
             start: first_threshold(instance),
-            length: Length::Time(milliseconds),
+            length: Length::Time {
+                first: milliseconds,
+                last: 0,
+            },
         },
         gathers: 0,
     };

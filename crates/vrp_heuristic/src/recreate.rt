@@ -49,9 +49,9 @@ pub(crate) fn recreate(
     looked
 }
 
-// Puts a customer where it costs least, if there is a place. With many customers these are the gaps beside near places, the ends of routes
-// on the way to which the customer lies, and a route of its own; all routes are looked at only if there is none of these. Answers the
-// number of positions looked at.
+// Puts a customer where it costs least, if there is a place. With many customers only the gaps beside near places are looked at, and the
+// ends of routes on the way to which the customer lies. All routes are looked at if none of these costs less than a route of the
+// customer's own: a truck with room to spare may be far away, and this saves routes. Answers the number of positions looked at.
 fn put_back(
     setting: &Surroundings<'_>,
     routes: &mut Routes,
@@ -69,15 +69,10 @@ fn put_back(
     if routes.count() <= setting.instance().customers() / LONG_ROUTES {
         best = best_end(setting, routes, customer, random, best);
     }
-    if best.paid == u64::MAX {
-        return put_anywhere(setting, routes, customer, random);
+    if best.gap.route == 0 {
+        return put_anywhere(setting, routes, customer, random).saturating_add(u64::from(NEARBY));
     }
-    let free = if best.gap.route == 0 {
-        routes.free_route()
-    } else {
-        0
-    };
-    put_at(setting, routes, customer, best, free);
+    routes.put(setting, customer, best.gap);
     u64::from(NEARBY)
 }
 

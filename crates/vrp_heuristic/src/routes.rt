@@ -65,8 +65,6 @@ pub struct Routes {
     routes: Vec<RouteState>,
     // No route with a stop has a higher number.
     highest: u16,
-    // Routes with lower numbers have stops.
-    free: u16,
     // The number of routes with a stop.
     count: u16,
     unserved: u16,
@@ -109,7 +107,6 @@ impl Routes {
             stops: Vec::from_elem(alloc, Stop::NONE, places)?,
             routes: Vec::from_elem(alloc, route, places)?,
             highest: 0,
-            free: 1,
             count: 0,
             unserved: customers,
             weight: 0,
@@ -168,14 +165,12 @@ impl Routes {
             &other.stops,
             self.changed_stops.list(),
         );
-        let free = copy_routes(
+        copy_routes(
             self.routes.as_mut_slice(),
             &other.routes,
             self.changed_routes.list(),
         );
-        let free = self.free.min(free);
         self.copy_counts(other);
-        self.free = free;
     }
 
     /// Forgets what has changed: other routes are the same.
@@ -192,7 +187,6 @@ impl Routes {
         ensures { self.new ≡ self.old }
     {
         self.highest = other.highest;
-        self.free = other.free;
         self.count = other.count;
         self.unserved = other.unserved;
         self.weight = other.weight;
@@ -205,24 +199,6 @@ impl Routes {
         ensures few { result < MAX_NODES }
     {
         self.highest
-    }
-
-    /// The first route without a stop.
-    pub(crate) fn free_route(&mut self) -> u16
-        ensures { self.new ≡ self.old }
-    {
-        self.free = self.lowest_free();
-        self.free
-    }
-
-    // The lowest number of a route without a stop.
-    fn lowest_free(&self) -> u16 {
-        for number in self.free..self.highest + 1 {
-            if self.routes[usize::from(number)].stops == 0 {
-                return number;
-            }
-        }
-        self.highest + 1
     }
 
     /// The number of routes with a stop.
@@ -437,7 +413,6 @@ impl Routes {
         let found = self.route(number);
         if found.stops == 1 {
             self.count = self.count.saturating_sub(1);
-            self.free = self.free.min(number);
         }
         let route = RouteState {
             first: if before == 0 { after } else { found.first },
@@ -482,21 +457,16 @@ fn copy_stops(to: &mut [Stop], from: &[Stop], places: &[u16])
     }
 }
 
-// Copies the routes of these numbers, and answers the lowest of them that has no stop.
-fn copy_routes(to: &mut [RouteState], from: &[RouteState], numbers: &[u16]) -> u16
+// Copies the routes of these numbers.
+fn copy_routes(to: &mut [RouteState], from: &[RouteState], numbers: &[u16])
     requires len { length to.old ≡ length from.now }
     requires to { All (IsRoute (length from.now)) to.old }
     requires from { All (IsRoute (length from.now)) from.now }
     requires numbers { All (IsPlace (length from.now)) numbers.now }
     ensures { All (IsRoute (length from.now)) to.new }
 {
-    let mut free = u16::MAX;
     for number in numbers {
-        let route = from[usize::from(*number)];
-        to[usize::from(*number)] = route;
-        if route.stops == 0 {
-            free = free.min(*number);
-        }
+        let number = usize::from(*number);
+        to[number] = from[number];
     }
-    free
 }

@@ -5,8 +5,8 @@
 pub enum Length {
     /// The most moves; after this many positions no further move begins.
     Work { moves: u64, positions: u64 },
-    /// The milliseconds that the watch has left when the run begins.
-    Time(u64),
+    /// The milliseconds that the watch has left when the run begins, and when it ends.
+    Time { first: u64, last: u64 },
 }
 
 /// The length of a run, and the threshold at its start, in the unit of the weights. Any number will do.
@@ -43,7 +43,10 @@ impl Length {
             Length::Work { moves, positions } => {
                 progress.moves >= moves || progress.positions >= positions
             }
-            Length::Time(_) => progress.left == Some(0),
+            Length::Time { last, .. } => match progress.left {
+                Some(left) => left <= last,
+                None => false,
+            },
         }
     }
 
@@ -53,8 +56,8 @@ impl Length {
             Length::Work { moves, positions } => {
                 parts(progress.moves, moves).min(parts(progress.positions, positions))
             }
-            Length::Time(milliseconds) => match progress.left {
-                Some(left) => parts(milliseconds.saturating_sub(left), milliseconds),
+            Length::Time { first, last } => match progress.left {
+                Some(left) => parts(first.saturating_sub(left), first.saturating_sub(last)),
                 None => PARTS,
             },
         }

@@ -110,6 +110,27 @@ fn many_customers(rt: HostRuntime) {
     }
 }
 
+// So few customers have a population: its children, too, make the plan cheaper, and no plan is claimed that is not feasible.
+#[test]
+fn population(rt: HostRuntime) {
+    let instance = scattered(&rt, rt.alloc(), 200, 1, 0);
+    let savings = savings_plan(rt.alloc(), &instance).expect(&rt, "memory");
+    let savings = savings.expect(&rt, "a plan");
+    for workers in [1, 3] {
+        let found = improved(&rt, rt.alloc(), &instance, &savings, workers, 2_000);
+        assert!(rt; found < savings.cost());
+    }
+}
+
+// With a limit on trucks each worker makes a run; here the plan keeps within it.
+#[test]
+fn few_trucks(rt: HostRuntime) {
+    let instance = scattered(&rt, rt.alloc(), 60, 1, 3);
+    let savings = savings_plan(rt.alloc(), &instance).expect(&rt, "memory");
+    let savings = savings.expect(&rt, "a plan");
+    assert!(rt; improved(&rt, rt.alloc(), &instance, &savings, 2, 500) <= savings.cost());
+}
+
 // Without a time limit the plan stays as it is.
 #[test]
 fn without_a_time(rt: HostRuntime) {

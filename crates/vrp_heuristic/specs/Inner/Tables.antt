@@ -1,6 +1,7 @@
 -- Tables of whole rows, and what their cells name.
 use Rattle.std.specs.Prelude.{◌≡◌, ℕ, ◌+◌, ◌*◌, ◌<◌, ◌≤◌}
 use Rattle.vrp_heuristic.specs.declared.near.NearArc.{NearArc}
+use Rattle.vrp_heuristic.specs.declared.split.Cut.{Cut}
 use Rattle.vrp_heuristic.specs.declared.ways.Detour.{Detour}
 use Rattle.vrp_heuristic.specs.declared.ways.TheConstants.{WAYS}
 use Rattle.vrp_model.specs.declared.limits.TheConstants.{MAX_NODES}
@@ -20,6 +21,11 @@ pub record IsTableOfWays (places cells : ℕ) : Type 0 where
   pub few : places ≤ MAX_NODES
   pub rows : cells ≡ places * WAYS
 
+-- this many cells hold a tour of all customers for each of this many plans
+pub record IsTableOfTours (customers plans cells : ℕ) : Type 0 where
+  pub few : plans ≤ MAX_NODES
+  pub rows : plans * customers ≤ cells
+
 -- a number names one of this many places
 pub record IsPlace (places place : ℕ) : Type 0 where
   pub within : place < places
@@ -31,3 +37,7 @@ pub record LeadsTo (places : ℕ) (arc : NearArc) : Type 0 where
 -- a detour is on the way to one of this many places
 pub record IsDetour (places : ℕ) (detour : Detour) : Type 0 where
   pub within : detour.to < places
+
+-- a cut is at one of this many positions
+pub record IsCut (positions : ℕ) (cut : Cut) : Type 0 where
+  pub within : cut.start < positions
