@@ -7,10 +7,8 @@ use std::alloc::Global;
 use std::marker::Model;
 use vrp_model::NoMemory;
 
-// The list has room for this many changes of each place. A move changes a few places a few times.
-const CHANGES_OF_ONE: usize = 8;
-
-/// The numbers of what has changed, in the order of the changes; a number may be listed several times.
+/// The numbers of what has changed, in the order of the changes; a number may be listed several times. There is room for as many as there
+/// are places: with more changes it takes less time to copy all.
 #[derive(Debug, Drop)]
 pub(crate) struct Changes {
     places: u16,
@@ -35,7 +33,7 @@ impl Changes {
     pub(crate) fn new(alloc: Global, places: u16) -> Result<Changes, NoMemory>
         ensures { IfOk result (λ changes. changes ≡ places) }
     {
-        let list = Vec::with_capacity(alloc, CHANGES_OF_ONE * usize::from(places))?;
+        let list = Vec::with_capacity(alloc, usize::from(places))?;
         Ok(Changes { places, list })
     }
 

@@ -61,6 +61,9 @@ fn after_runs<R: Threads + Sync, W: Watch + Sync>(
     let mut best = plan;
     for index in 0..rounds {
         let left = crew.watch.milliseconds_left().unwrap_or(0);
+        if left == 0 {
+            break;
+        }
         let round = Round {
             first: FIRST_RUN + index * workers,
             runs: crew.workers,

@@ -18,8 +18,9 @@ const MOST_FOR_POPULATION: u16 = 250;
 const FIRST_RUN: u64 = 100;
 
 /// The plan, or a better one. With up to 250 customers and no limit on trucks the workers keep a population of good plans, and improve
-/// children of these. Otherwise each worker makes one run of ruin and recreate from the plan, whose number seeds its chances; the run takes
-/// all the time that is left, and its threshold falls to 0 in that time. The answer is the best of all their plans, by cost and then by word.
+/// children of these. Otherwise each worker makes one run of ruin and recreate from the plan, whose number seeds its chances; the run
+/// takes all the time that is left, and its threshold falls to 0 in that time. The answer is the best of all their plans, by cost and
+/// then by word.
 ///
 /// The watch is asked before each 16th move, and hears of each cheaper cost. If it has no time, the plan is answered as it is. The contract
 /// leaves open which feasible plan is answered.

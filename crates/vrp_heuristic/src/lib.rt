@@ -5,6 +5,7 @@
 
 mod arcs;
 mod changes;
+mod detours;
 mod gathered;
 mod generations;
 mod giant_tour;
@@ -28,7 +29,6 @@ mod surroundings;
 mod taken;
 mod threshold;
 mod triangle;
-mod ways;
 
 pub use gathered::Gathered;
 pub use heuristic::{ENOUGH_MOVES, heuristic_plan};

@@ -45,9 +45,9 @@ pub struct Course {
 }
 
 /// Runs ruin and recreate on a word, and answers the word of the cheapest routes found. Each call gives the same answer, unless the
-/// watch stops it or a time is set: the watch is asked before each 16th move, and hears of each cheaper cost. The routes of good plans are gathered. A word is the
-/// stops of its routes, each route followed by 0; any word may be given, and symbols that are no customers are ignored. The error is
-/// lack of memory.
+/// watch stops it or a time is set: the watch is asked before each 16th move, and hears of each cheaper cost. The routes of good plans
+/// are gathered. A word is the stops of its routes, each route followed by 0; any word may be given, and symbols that are no customers
+/// are ignored. The error is lack of memory.
 ///
 /// Which word is answered is left open, and it need not be that of a feasible plan.
 pub fn run<W: Watch>(
@@ -62,11 +62,7 @@ pub fn run<W: Watch>(
     let mut random = Random::new(number);
     let mut taken = Taken::new(alloc, setting.instance())?;
     let mut states = States::new(alloc, setting, word)?;
-    let mut progress = Progress {
-        moves: 0,
-        positions: 0,
-        left: None,
-    };
+    let mut progress = Progress::NONE;
     let mut cost = states.best.cost();
     for index in 0..u64::MAX {
         if index % MOVES_A_LOOK == 0 {
@@ -129,13 +125,8 @@ impl States {
     {
         taken.clear();
         list_unserved(setting, &self.next, taken);
-        let at_ruin = ruin(
-            setting,
-            &mut self.next,
-            taken,
-            random,
-            (index % u64::from(u32::MAX)) as u32 + 1,
-        );
+        let number = (index % u64::from(u32::MAX)) as u32 + 1;
+        let at_ruin = ruin(setting, &mut self.next, taken, random, number);
         taken.sort(setting, random);
         recreate(setting, &mut self.next, taken, random, limit).saturating_add(at_ruin)
     }

@@ -3,12 +3,12 @@ ghost use Rattle.std.specs.Prelude.{◌≡◌, ◌<◌, length};
 ghost use Rattle.vrp_heuristic.specs.Inner.Stops.{IsGap, IsStop};
 ghost use Rattle.vrp_model.specs.Problem.{place_count};
 
+use crate::detours::MOST_DETOURS;
 use crate::near::NEARBY;
 use crate::random::Random;
 use crate::routes::{Gap, RouteState, Routes, Stop};
 use crate::surroundings::Surroundings;
 use crate::taken::Taken;
-use crate::ways::WAYS;
 
 /// A position for a customer. Offers are compared by cost.
 #[derive(Clone, Copy)]
@@ -245,9 +245,9 @@ fn best_end(
     let arcs = setting.arcs();
     let (from, into) = (arcs.from(customer), arcs.into(customer));
     let mut best = offer;
-    for rank in 0..WAYS {
-        let way = setting.ways().way(customer, rank);
-        let stop = routes.stop(way);
+    for rank in 0..MOST_DETOURS {
+        let far = setting.detours().place(customer, rank);
+        let stop = routes.stop(far);
         let Stop {
             before,
             after,
@@ -256,12 +256,12 @@ fn best_end(
         } = stop;
         let is_end = before == 0 || after == 0;
         if is_end && route != 0 && demand <= routes.route(route).room {
-            let (ahead, behind) = detours_beside(from, into, way, stop);
+            let (ahead, behind) = detours_beside(from, into, far, stop);
             if before == 0 {
                 best = better_of(routes, best, ahead, Gap { route, before }, random);
             }
             if after == 0 {
-                best = better_of(routes, best, behind, Gap { route, before: way }, random);
+                best = better_of(routes, best, behind, Gap { route, before: far }, random);
             }
         }
     }

@@ -1,7 +1,7 @@
 //! The split of a giant tour into routes.
 ghost use Rattle.std.specs.Prelude.{◌≡◌, ◌<◌, ◌+◌, length};
 ghost use Rattle.std.specs.List.{All};
-ghost use Rattle.vrp_heuristic.specs.Inner.Tables.{IsCut, IsPlace};
+ghost use Rattle.vrp_heuristic.specs.Inner.Tables.{IsPlace, IsPredecessor};
 ghost use Rattle.vrp_model.specs.Problem.{place_count};
 
 use std::alloc::Global;
@@ -9,7 +9,7 @@ use vrp_model::{Instance, NoMemory};
 
 /// The cheapest routes up to a position of a tour: their cost, and where the last of them begins.
 #[derive(Clone, Copy, PartialEq, Eq, PartialOrd, Ord)]
-struct Cut {
+struct Predecessor {
     cost: u64,
     start: usize,
 }
@@ -18,32 +18,32 @@ struct Cut {
 pub(crate) fn split(alloc: Global, instance: &Instance, tour: &[u16]) -> Result<Vec<u16>, NoMemory>
     requires { All (IsPlace (place_count instance.now)) tour.now }
 {
-    let mut cuts = Vec::from_elem(
+    let mut predecessors = Vec::from_elem(
         alloc,
-        Cut {
+        Predecessor {
             cost: u64::MAX,
             start: 0,
         },
         tour.len() + 1,
     )?;
-    cuts[0] = Cut { cost: 0, start: 0 };
+    predecessors[0] = Predecessor { cost: 0, start: 0 };
     for start in 0..tour.len() {
-        add_routes(instance, tour, start, &mut cuts);
+        add_routes(instance, tour, start, &mut predecessors);
     }
     let mut starts = Vec::from_elem(alloc, false, tour.len() + 1)?;
-    mark_starts(&cuts, tour.len(), &mut starts);
+    mark_starts(&predecessors, tour.len(), &mut starts);
     word_of(alloc, tour, &starts)
 }
 
 // Adds the routes that begin at a position, behind the cheapest routes up to there.
-fn add_routes(instance: &Instance, tour: &[u16], start: usize, cuts: &mut [Cut])
+fn add_routes(instance: &Instance, tour: &[u16], start: usize, predecessors: &mut [Predecessor])
     requires tour { All (IsPlace (place_count instance.now)) tour.now }
     requires start { start < length tour.now }
-    requires len { length cuts.old ≡ length tour.now + 1 }
-    requires cuts { All (IsCut (length cuts.old)) cuts.old }
-    ensures { All (IsCut (length cuts.old)) cuts.new }
+    requires len { length predecessors.old ≡ length tour.now + 1 }
+    requires predecessors { All (IsPredecessor (length predecessors.old)) predecessors.old }
+    ensures { All (IsPredecessor (length predecessors.old)) predecessors.new }
 {
-    let mut cost = cuts[start].cost;
+    let mut cost = predecessors[start].cost;
     let mut load: u64 = 0;
     let mut last = 0;
     for end in start..tour.len() {
@@ -54,25 +54,25 @@ fn add_routes(instance: &Instance, tour: &[u16], start: usize, cuts: &mut [Cut])
         }
         cost = cost.saturating_add(instance.weight(last, place));
         last = place;
-        let cut = Cut {
+        let here = Predecessor {
             cost: cost.saturating_add(instance.weight(place, 0)),
             start,
         };
-        if cut.cost < cuts[end + 1].cost {
-            cuts[end + 1] = cut;
+        if here.cost < predecessors[end + 1].cost {
+            predecessors[end + 1] = here;
         }
     }
 }
 
 // Marks the positions at which a route begins, in the cheapest routes up to a position.
-fn mark_starts(cuts: &[Cut], last: usize, starts: &mut [bool])
-    requires last { last < length cuts.now }
-    requires len { length starts.old ≡ length cuts.now }
-    requires cuts { All (IsCut (length cuts.now)) cuts.now }
+fn mark_starts(predecessors: &[Predecessor], last: usize, starts: &mut [bool])
+    requires last { last < length predecessors.now }
+    requires len { length starts.old ≡ length predecessors.now }
+    requires predecessors { All (IsPredecessor (length predecessors.now)) predecessors.now }
 {
     let mut at = last;
-    for _ in 0..cuts.len() {
-        at = cuts[at].start;
+    for _ in 0..predecessors.len() {
+        at = predecessors[at].start;
         starts[at] = true;
     }
 }

@@ -3,9 +3,9 @@ ghost use Rattle.std.specs.Prelude.{◌≡◌, ◌<◌, IfOk};
 ghost use Rattle.vrp_model.specs.Problem.{place_count};
 
 use crate::arcs::Arcs;
+use crate::detours::Detours;
 use crate::near::Near;
 use crate::triangle::obeys_triangle;
-use crate::ways::Ways;
 use std::alloc::Global;
 use std::marker::Model;
 use vrp_model::{Instance, NoMemory};
@@ -19,7 +19,7 @@ pub struct Surroundings<'a> {
     instance: &'a Instance,
     arcs: Arcs,
     near: Near,
-    ways: Ways,
+    detours: Detours,
     has_many: bool,
     gives_up: bool,
 }
@@ -35,7 +35,7 @@ impl<'a> Model for Surroundings<'a> {
     ghost invariant = { λ a.
         (a.arcs ≡ place_count a.instance.now)
         × (a.near ≡ place_count a.instance.now)
-        × (a.ways ≡ place_count a.instance.now) };
+        × (a.detours ≡ place_count a.instance.now) };
 }
 
 impl<'a> Surroundings<'a> {
@@ -46,14 +46,14 @@ impl<'a> Surroundings<'a> {
         let arcs = Arcs::new(alloc, instance)?;
         let places = instance.customers() + 1;
         let near = Near::new(alloc, &arcs, places)?;
-        let ways = Ways::new(alloc, &arcs, &near, places)?;
+        let detours = Detours::new(alloc, &arcs, &near, places)?;
         let has_many = instance.customers() >= MANY_CUSTOMERS;
         let gives_up = has_many && obeys_triangle(&arcs, &near, places);
         Ok(Surroundings {
             instance,
             arcs,
             near,
-            ways,
+            detours,
             has_many,
             gives_up,
         })
@@ -85,10 +85,10 @@ impl<'a> Surroundings<'a> {
 
     /// The customers on whose way each customer lies.
     #[inline(always)]
-    pub(crate) fn ways(&self) -> &Ways
+    pub(crate) fn detours(&self) -> &Detours
         ensures { result.now ≡ place_count self.now }
     {
-        &self.ways
+        &self.detours
     }
 
     /// Whether there are so many customers that each is put back beside a near place.

@@ -25,6 +25,15 @@ pub(crate) struct Progress {
     pub(crate) left: Option<u64>,
 }
 
+impl Progress {
+    /// A run that has not begun.
+    pub(crate) const NONE: Progress = Progress {
+        moves: 0,
+        positions: 0,
+        left: None,
+    };
+}
+
 /// The rest of a run is counted in this many parts of the whole.
 const PARTS: u64 = 4_096;
 

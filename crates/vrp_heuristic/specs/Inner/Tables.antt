@@ -1,9 +1,9 @@
 -- Tables of whole rows, and what their cells name.
 use Rattle.std.specs.Prelude.{◌≡◌, ℕ, ◌+◌, ◌*◌, ◌<◌, ◌≤◌}
 use Rattle.vrp_heuristic.specs.declared.near.NearArc.{NearArc}
-use Rattle.vrp_heuristic.specs.declared.split.Cut.{Cut}
-use Rattle.vrp_heuristic.specs.declared.ways.Detour.{Detour}
-use Rattle.vrp_heuristic.specs.declared.ways.TheConstants.{WAYS}
+use Rattle.vrp_heuristic.specs.declared.split.Predecessor.{Predecessor}
+use Rattle.vrp_heuristic.specs.declared.detours.Detour.{Detour}
+use Rattle.vrp_heuristic.specs.declared.detours.TheConstants.{MOST_DETOURS}
 use Rattle.vrp_model.specs.declared.limits.TheConstants.{MAX_NODES}
 
 -- this many cells are a row of this many for each of this many places
@@ -16,10 +16,10 @@ pub record HasRows (places into cells : ℕ) : Type 0 where
   pub few : places ≤ MAX_NODES
   pub square : cells ≡ into + places * places
 
--- this many cells are a row of ways for each of this many places
-pub record IsTableOfWays (places cells : ℕ) : Type 0 where
+-- this many cells are a row of detours for each of this many places
+pub record IsTableOfDetours (places cells : ℕ) : Type 0 where
   pub few : places ≤ MAX_NODES
-  pub rows : cells ≡ places * WAYS
+  pub rows : cells ≡ places * MOST_DETOURS
 
 -- this many cells hold a tour of all customers for each of this many plans
 pub record IsTableOfTours (customers plans cells : ℕ) : Type 0 where
@@ -38,6 +38,6 @@ pub record LeadsTo (places : ℕ) (arc : NearArc) : Type 0 where
 pub record IsDetour (places : ℕ) (detour : Detour) : Type 0 where
   pub within : detour.to < places
 
--- a cut is at one of this many positions
-pub record IsCut (positions : ℕ) (cut : Cut) : Type 0 where
-  pub within : cut.start < positions
+-- the last route before a position begins at one of this many positions
+pub record IsPredecessor (positions : ℕ) (predecessor : Predecessor) : Type 0 where
+  pub within : predecessor.start < positions

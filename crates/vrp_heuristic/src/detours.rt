@@ -10,8 +10,8 @@ use std::alloc::Global;
 use std::marker::Model;
 use vrp_model::NoMemory;
 
-/// The number of customers on whose way a customer lies.
-pub(crate) const WAYS: u16 = 30;
+/// The number of customers that are kept for each place.
+pub(crate) const MOST_DETOURS: u16 = 30;
 
 // More than the weight of an arc, so that no detour is negative.
 const RAISE: u64 = 1 << 32;
@@ -25,16 +25,16 @@ struct Detour {
 
 /// For each place some customers that are not near: those first for which the way from the depot by this place is the least detour.
 #[derive(Drop)]
-pub(crate) struct Ways {
+pub(crate) struct Detours {
     places: u16,
-    // Row by row: for each place, `WAYS` customers. The depot stands for those that are missing.
+    // Row by row: for each place, `MOST_DETOURS` customers. The depot stands for those that are missing.
     order: Vec<u16>,
 }
 
-impl Model for Ways {
+impl Model for Detours {
     ghost use Rattle.std.specs.Prelude.{ℕ, length};
     ghost use Rattle.std.specs.List.{All};
-    ghost use Rattle.vrp_heuristic.specs.Inner.Tables.{IsPlace, IsTableOfWays};
+    ghost use Rattle.vrp_heuristic.specs.Inner.Tables.{IsPlace, IsTableOfDetours};
 
     // The number of places.
     ghost Value = { ℕ };
@@ -42,41 +42,41 @@ impl Model for Ways {
     ghost view = { λ a. a.places };
 
     ghost invariant = { λ a.
-        IsTableOfWays a.places (length a.order.items)
+        IsTableOfDetours a.places (length a.order.items)
         × All (IsPlace a.places) a.order.items };
 }
 
-impl Ways {
-    /// The ways by each of this many places.
+impl Detours {
+    /// The detours by each of this many places.
     pub(crate) fn new(
         alloc: Global,
         arcs: &Arcs,
         near: &Near,
         places: u16,
-    ) -> Result<Ways, NoMemory>
+    ) -> Result<Detours, NoMemory>
         requires arcs { arcs.now ≡ places }
         requires near { near.now ≡ places }
         requires some { 0 < places }
         requires few { places ≤ MAX_NODES }
-        ensures { IfOk result (λ ways. ways ≡ places) }
+        ensures { IfOk result (λ detours. detours ≡ places) }
     {
-        let mut order = Vec::with_capacity(alloc, usize::from(places) * usize::from(WAYS))?;
+        let mut order = Vec::with_capacity(alloc, usize::from(places) * usize::from(MOST_DETOURS))?;
         let mut row = Vec::with_capacity(alloc, usize::from(places))?;
         for place in 0..places {
             list_detours(arcs, near, place, places, &mut row)?;
             push_first(&row, places, &mut order)?;
         }
-        Ok(Ways { places, order })
+        Ok(Detours { places, order })
     }
 
-    /// The customer to whom this many customers have a lesser detour by a place.
+    /// The customer at a rank, by the least detour by a place.
     #[inline(always)]
-    pub(crate) fn way(&self, place: u16, rank: u16) -> u16
+    pub(crate) fn place(&self, place: u16, rank: u16) -> u16
         requires place { place < self.now }
-        requires rank { rank < WAYS }
+        requires rank { rank < MOST_DETOURS }
         ensures { result < self.now }
     {
-        self.order[usize::from(place) * usize::from(WAYS) + usize::from(rank)]
+        self.order[usize::from(place) * usize::from(MOST_DETOURS) + usize::from(rank)]
     }
 }
 
@@ -111,10 +111,10 @@ fn push_first(detours: &[Detour], places: u16, list: &mut Vec<u16>) -> Result<()
     requires some { 0 < places }
     requires detours { All (IsDetour places) detours.now }
     requires list { All (IsPlace places) list.old.items }
-    ensures len { OnOk result (vec_len list.new ≡ vec_len list.old + WAYS) }
+    ensures len { OnOk result (vec_len list.new ≡ vec_len list.old + MOST_DETOURS) }
     ensures places { OnOk result (All (IsPlace places) list.new.items) }
 {
-    for rank in 0..WAYS {
+    for rank in 0..MOST_DETOURS {
         let rank = usize::from(rank);
         let to = if rank < detours.len() {
             detours[rank].to

@@ -1,7 +1,7 @@
 use Rattle.std.proofs.Common.{◌≡◌, ◌+◌, vec_len}
 use Rattle.std.specs.List.{All}
 use Rattle.vrp_heuristic.specs.Inner.Tables.{IsPlace}
-use Rattle.vrp_heuristic.proofs.ways.push_first.Given as goal
+use Rattle.vrp_heuristic.proofs.detours.push_first.Given as goal
 
 abbrev pub invariant-loop-rank : goal.invariant-loop-rank
 invariant-loop-rank l = record {
