@@ -1,5 +1,5 @@
 //! The weights of all arcs, in rows by start and in rows by end: each loop reads along one row.
-ghost use Rattle.std.specs.Prelude.{◌≡◌, ◌<◌, ◌+◌, IfOk, OnOk, length, vec_len};
+ghost use Rattle.std.specs.Prelude.{◌≡◌, ◌<◌, ◌+◌, ◌*◌, IfOk, OnOk, length, vec_len};
 ghost use Rattle.vrp_model.specs.Problem.{place_count};
 
 use std::alloc::Global;
@@ -10,24 +10,29 @@ use vrp_model::{Instance, NoMemory};
 #[derive(Drop)]
 pub(crate) struct Arcs {
     places: u16,
-    // Row by row: from each place, to each place.
-    from: Vec<u32>,
-    // Row by row: to each place, from each place.
-    into: Vec<u32>,
+    // Row by row: from each place, to each place. Unless the instance is symmetric, rows to each place, from each place, follow.
+    cells: Vec<u32>,
+    // Where the rows by end begin.
+    into: usize,
 }
 
 impl Model for Arcs {
     ghost use Rattle.std.specs.Prelude.{ℕ, length};
-    ghost use Rattle.vrp_heuristic.specs.Inner.Tables.{IsSquare};
+    ghost use Rattle.vrp_heuristic.specs.Inner.Tables.{HasRows};
 
     // The number of places.
     ghost Value = { ℕ };
 
     ghost view = { λ a. a.places };
 
-    ghost invariant = { λ a.
-        IsSquare a.places (length a.from.items)
-        × IsSquare a.places (length a.into.items) };
+    ghost invariant = { λ a. HasRows a.places a.into (length a.cells.items) };
+}
+
+// What the rows of a table are sorted by.
+#[derive(Clone, Copy)]
+enum Rows {
+    ByStart,
+    ByEnd,
 }
 
 impl Arcs {
@@ -36,13 +41,18 @@ impl Arcs {
         ensures { IfOk result (λ arcs. arcs ≡ place_count instance.now) }
     {
         let places = instance.customers() + 1;
-        let cells = usize::from(places) * usize::from(places);
-        let mut from = Vec::with_capacity(alloc, cells)?;
-        let mut into = Vec::with_capacity(alloc, cells)?;
-        for place in 0..places {
-            push_rows(instance, place, &mut from, &mut into)?;
+        let square = usize::from(places) * usize::from(places);
+        let into = if instance.symmetric() { 0 } else { square };
+        let mut cells = Vec::with_capacity(alloc, square + into)?;
+        push_rows(instance, Rows::ByStart, &mut cells)?;
+        if into > 0 {
+            push_rows(instance, Rows::ByEnd, &mut cells)?;
         }
-        Ok(Arcs { places, from, into })
+        Ok(Arcs {
+            places,
+            cells,
+            into,
+        })
     }
 
     /// The weights of the arcs from a place, by end.
@@ -53,7 +63,7 @@ impl Arcs {
     {
         let places = usize::from(self.places);
         let start = usize::from(place) * places;
-        &self.from[start..start + places]
+        &self.cells[start..start + places]
     }
 
     /// The weights of the arcs to a place, by start.
@@ -63,8 +73,8 @@ impl Arcs {
         ensures { length result.now ≡ self.now }
     {
         let places = usize::from(self.places);
-        let start = usize::from(place) * places;
-        &self.into[start..start + places]
+        let start = self.into + usize::from(place) * places;
+        &self.cells[start..start + places]
     }
 
     /// The weight of an arc.
@@ -77,25 +87,33 @@ impl Arcs {
     }
 }
 
-// Adds the arcs between a place and each place, from it and into it.
-fn push_rows(
+// Adds the rows of all places.
+fn push_rows(instance: &Instance, rows: Rows, cells: &mut Vec<u32>) -> Result<(), NoMemory>
+    ensures { OnOk result (vec_len cells.new ≡ vec_len cells.old + place_count instance.now * place_count instance.now) }
+{
+    for place in 0..instance.customers() + 1 {
+        push_row(instance, rows, place, cells)?;
+    }
+    Ok(())
+}
+
+// Adds the row of a place: the arcs between it and each place.
+fn push_row(
     instance: &Instance,
+    rows: Rows,
     place: u16,
-    from: &mut Vec<u32>,
-    into: &mut Vec<u32>,
+    cells: &mut Vec<u32>,
 ) -> Result<(), NoMemory>
     requires { place < place_count instance.now }
-    ensures from { OnOk result (vec_len from.new ≡ vec_len from.old + place_count instance.now) }
-    ensures into { OnOk result (vec_len into.new ≡ vec_len into.old + place_count instance.now) }
+    ensures { OnOk result (vec_len cells.new ≡ vec_len cells.old + place_count instance.now) }
 {
     for other in 0..instance.customers() + 1 {
-        let (out, back) = if other == place {
-            (0, 0)
-        } else {
-            (instance.weight(place, other), instance.weight(other, place))
+        let weight = match rows {
+            _ if other == place => 0,
+            Rows::ByStart => instance.weight(place, other),
+            Rows::ByEnd => instance.weight(other, place),
         };
-        from.push(out as u32)?;
-        into.push(back as u32)?;
+        cells.push(weight as u32)?;
     }
     Ok(())
 }

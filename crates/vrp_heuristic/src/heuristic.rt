@@ -1,12 +1,12 @@
 //! The heuristic plan: the best of the plan by savings and the plans that runs of ruin and recreate make of it.
-ghost use Rattle.std.specs.Prelude.{◌<◌, ◌≤◌, IfOk, IfSome};
+ghost use Rattle.std.specs.Prelude.{IfOk, IfSome};
 ghost use Rattle.vrp_model.specs.Route.{IsPlanOf};
 
 use crate::recombined::recombined;
 use crate::runs::{Round, Run, run_all};
 use crate::savings::savings_plan;
 use crate::surroundings::Surroundings;
-use crate::threshold::Threshold;
+use crate::threshold::{Length, Threshold};
 use std::alloc::Global;
 use std::thread::Threads;
 use vrp_model::{Crew, Instance, NoMemory, Plan, Watch};
@@ -17,13 +17,13 @@ pub const ENOUGH_MOVES: u32 = 20_000;
 
 const RUNS: u16 = 4;
 
-// The number of runs with more than enough moves, which are requested if each unit of cost counts.
+// The number of runs with more than enough moves and not many customers, which are requested if each unit of cost counts.
 const RUNS_OF_MORE: u16 = 8;
 
 // The number of the first run. With these numbers the runs end well on the instances that the method was tuned on.
 const FIRST_RUN: u64 = 49;
 
-// From this many customers on the runs go in two rounds, and no routes are gathered.
+// From this many customers on there are four runs of twice as many moves, and no routes are gathered.
 const MANY_CUSTOMERS: u16 = 126;
 
 // The most symbols of routes that a run gathers: mostly all that it finds.
@@ -34,11 +34,11 @@ const POSITIONS_A_MOVE: u64 = 2_000;
 
 /// A near-optimal plan by ruin and recreate (Christiaens and Vanden Berghe 2020). A move removes strings of customers from a few nearby
 /// routes and puts each customer back where it costs least. The new plan is kept if it costs less than the last one plus a threshold,
-/// which falls to 0. There are four runs of this many moves, and eight if that is more than `ENOUGH_MOVES`. With many customers there are
-/// fewer moves, since a move looks at no more than 2,000 positions on average. The workers share the runs. Each run starts from the plan
-/// by savings; from 126 customers on the second half of the runs starts from the best plan of the first half. The answer is the best of
-/// all these plans, by cost and then by word. It is the same at each call and for any number of workers, unless the watch stops the runs;
-/// the watch is asked before each move, and hears of each cheaper cost.
+/// which falls to 0. There are four runs of this many moves, and eight if that is more than `ENOUGH_MOVES`; with 126 customers and more
+/// there are four runs of twice as many moves in any case. There are fewer moves if they look at more than 2,000 positions on average.
+/// Each run starts from the plan by savings, and the workers share the runs. The answer is the best of all these plans, by cost and then
+/// by word. It is the same at each call and for any number of workers, unless the watch stops the runs; the watch is asked before each
+/// 16th move, and hears of each cheaper cost.
 ///
 /// With eight runs and fewer than 126 customers, the routes of good plans are gathered too, and the cheapest plan over these routes is
 /// taken if it costs less, as far as a search of a few seconds finds it.
@@ -54,40 +54,36 @@ pub fn heuristic_plan<R: Threads + Sync, W: Watch + Sync>(
 ) -> Result<Option<Plan>, NoMemory>
     ensures { IfOk result (λ plan. IfSome plan (IsPlanOf instance.now)) }
 {
-    let mut best = savings_plan(crew.alloc, instance)?;
+    let best = savings_plan(crew.alloc, instance)?;
     if moves == 0 || instance.customers() == 0 {
         return Ok(best);
     }
     let setting = Surroundings::new(crew.alloc, instance)?;
-    let rounds = rounds_of(instance.customers());
-    let (runs, gathers) = match (moves > ENOUGH_MOVES, rounds) {
-        (false, _) => (RUNS / rounds, 0),
-        (true, 1) => (RUNS_OF_MORE, MOST_GATHERED),
-        (true, _) => (RUNS_OF_MORE / rounds, 0),
-    };
-    let threshold = Threshold {
-        start: first_threshold(instance),
-        moves,
-        positions: u64::from(moves) * POSITIONS_A_MOVE,
-    };
-    for index in 0..rounds {
-        let round = Round {
-            first: FIRST_RUN + u64::from(index) * u64::from(runs),
-            runs,
-            threshold,
-            gathers,
-        };
-        best = best_of_round(crew, instance, &setting, round, best)?;
-    }
-    Ok(best)
+    let round = round_of(instance, moves);
+    best_of_round(crew, instance, &setting, round, best)
 }
 
-// The number of rounds of the runs for this many customers.
-fn rounds_of(customers: u16) -> u16
-    ensures some { 0 < result }
-    ensures few { result ≤ 2 }
-{
-    if customers < MANY_CUSTOMERS { 1 } else { 2 }
+// The runs for this many moves.
+fn round_of(instance: &Instance, moves: u32) -> Round {
+    let many = instance.customers() >= MANY_CUSTOMERS;
+    let (runs, gathers) = if many || moves <= ENOUGH_MOVES {
+        (RUNS, 0)
+    } else {
+        (RUNS_OF_MORE, MOST_GATHERED)
+    };
+    let moves = u64::from(moves) * if many { 2 } else { 1 };
+    Round {
+        first: FIRST_RUN,
+        runs,
+        threshold: Threshold {
+            start: first_threshold(instance),
+            length: Length::Work {
+                moves,
+                positions: moves * POSITIONS_A_MOVE,
+            },
+        },
+        gathers,
+    }
 }
 
 // The best of a plan, if there is one, of the plans that a round makes of it, and of a plan over the routes gathered meanwhile.

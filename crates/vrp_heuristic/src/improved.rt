@@ -1,26 +1,29 @@
-//! A plan is improved as long as there is time: rounds of parallel runs of ruin and recreate.
+//! A plan is improved as long as there is time: by a population, or by a run of ruin and recreate of each worker.
 ghost use Rattle.std.specs.Prelude.{◌≡◌, ◌≤◌, IfOk};
 ghost use Rattle.vrp_model.specs.Route.{IsPlanOf};
 
+use crate::generations::evolved;
 use crate::heuristic::first_threshold;
-use crate::pace::Pace;
 use crate::runs::{Round, run_all};
 use crate::surroundings::Surroundings;
-use crate::threshold::Threshold;
+use crate::threshold::{Length, Threshold};
 use std::thread::Threads;
 use vrp_model::{Crew, Instance, NoMemory, Plan, Watch};
 use vrp_search_tree::cheaper_plan;
 
+// Up to this many customers a population goes on finding better plans, where a single run comes to an end.
+const MOST_FOR_POPULATION: u16 = 250;
+
 // The number of the first run; the runs of a heuristic plan have lower ones.
 const FIRST_RUN: u64 = 100;
 
-// The least time of a round: the last ones take a twentieth of a second.
-const MOST_ROUNDS: u32 = 100_000;
-
-/// The plan, or a better one. In each round each worker makes a run of ruin and recreate of its own from the best plan so far; the run's
-/// number seeds its chances. A round takes twice as long as the one before, and the last one takes all the time that is left, so its
-/// threshold falls to 0 in time. The watch is asked before each move, and hears of each cheaper cost. If it has no time, the plan is
-/// answered as it is. The contract leaves open which feasible plan is answered.
+/// The plan, or a better one. With up to 250 customers and no limit on trucks the workers keep a population of good plans, and improve
+/// children of these. Otherwise each worker makes one run of ruin and recreate from the plan, whose number seeds its chances; the run
+/// takes all the time that is left, and its threshold falls to 0 in that time. The answer is the best of all their plans, by cost and
+/// then by word.
+///
+/// The watch is asked before each 16th move, and hears of each cheaper cost. If it has no time, the plan is answered as it is. The contract
+/// leaves open which feasible plan is answered.
 pub fn improved_plan<R: Threads + Sync, W: Watch + Sync>(
     crew: &Crew<'_, R, W>,
     instance: &Instance,
@@ -30,44 +33,30 @@ pub fn improved_plan<R: Threads + Sync, W: Watch + Sync>(
     ensures lawful { IfOk result (IsPlanOf instance.now) }
     ensures no_costlier { IfOk result (λ found. found.cost ≤ plan.now.cost) }
 {
-    let mut best = plan.copy(crew.alloc)?;
-    if crew.watch.milliseconds_left().is_none() || instance.customers() == 0 {
+    let best = plan.copy(crew.alloc)?;
+    let Some(milliseconds) = crew.watch.milliseconds_left() else {
+        return Ok(best);
+    };
+    if instance.customers() == 0 {
         return Ok(best);
     }
     let setting = Surroundings::new(crew.alloc, instance)?;
-    let start = first_threshold(instance);
-    let mut pace = Pace::new();
-    let mut first = FIRST_RUN;
-    for _ in 0..MOST_ROUNDS {
-        let left = time_left(crew.watch);
-        let Some(positions) = pace.positions(left) else {
-            return Ok(best);
-        };
-        let threshold = Threshold {
-            start,
-            moves: u32::MAX,
-            positions,
-        };
-        let round = Round {
-            first,
-            runs: crew.workers,
-            threshold,
-            gathers: 0,
-        };
-        best = best_of_round(crew, instance, &setting, round, best)?;
-        first = first.saturating_add(u64::from(crew.workers));
-        pace.note(positions, left, crew.watch.milliseconds_left());
+    if instance.customers() <= MOST_FOR_POPULATION && instance.trucks().is_none() {
+        return evolved(crew, &setting, best, milliseconds);
     }
-    Ok(best)
-}
-
-// The milliseconds that are left; 0 if the watch stops the runs.
-fn time_left<W: Watch>(watch: &W) -> Option<u64> {
-    if watch.should_continue() {
-        watch.milliseconds_left()
-    } else {
-        Some(0)
-    }
+    let round = Round {
+        first: FIRST_RUN,
+        runs: crew.workers,
+        threshold: Threshold {
+            start: first_threshold(instance),
+            length: Length::Time {
+                first: milliseconds,
+                last: 0,
+            },
+        },
+        gathers: 0,
+    };
+    best_of_round(crew, instance, &setting, round, best)
 }
 
 // The best of a plan and the plans that a round makes of it.

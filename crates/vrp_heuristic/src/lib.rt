@@ -4,14 +4,18 @@
 #![tactic(auto)]
 
 mod arcs;
+mod changes;
+mod detours;
 mod gathered;
+mod generations;
+mod giant_tour;
 mod heuristic;
 mod improved;
 mod joined_routes;
 mod joint;
 mod moves;
 mod near;
-mod pace;
+mod population;
 mod random;
 mod reach;
 mod recombined;
@@ -20,9 +24,11 @@ mod routes;
 mod ruin;
 mod runs;
 mod savings;
+mod split;
 mod surroundings;
 mod taken;
 mod threshold;
+mod triangle;
 
 pub use gathered::Gathered;
 pub use heuristic::{ENOUGH_MOVES, heuristic_plan};
@@ -34,4 +40,4 @@ pub use routes::Routes;
 pub use savings::savings_plan;
 pub use surroundings::Surroundings;
 pub use taken::Taken;
-pub use threshold::Threshold;
+pub use threshold::{Length, Threshold};

@@ -9,7 +9,7 @@ use crate::routes::Routes;
 use crate::ruin::ruin;
 use crate::surroundings::Surroundings;
 use crate::taken::Taken;
-use crate::threshold::Threshold;
+use crate::threshold::{Progress, Threshold};
 use std::alloc::Global;
 use std::marker::Model;
 use vrp_model::{News, NoMemory, Watch};
@@ -34,6 +34,9 @@ impl Model for States {
     ghost invariant = { λ a. (a.last ≡ a.next) × (a.best ≡ a.next) };
 }
 
+// The watch is asked once in this many moves: reading a clock takes a while.
+const MOVES_A_LOOK: u64 = 16;
+
 /// The course of a run: its length, and the number that seeds its chances.
 #[derive(Clone, Copy, Debug)]
 pub struct Course {
@@ -42,9 +45,9 @@ pub struct Course {
 }
 
 /// Runs ruin and recreate on a word, and answers the word of the cheapest routes found. Each call gives the same answer, unless the
-/// watch stops it: it is asked before each move, and hears of each cheaper cost. The routes of good plans are gathered. A word is the
-/// stops of its routes, each route followed by 0; any word may be given, and symbols that are no customers are ignored. The error is
-/// lack of memory.
+/// watch stops it or a time is set: the watch is asked before each 16th move, and hears of each cheaper cost. The routes of good plans
+/// are gathered. A word is the stops of its routes, each route followed by 0; any word may be given, and symbols that are no customers
+/// are ignored. The error is lack of memory.
 ///
 /// Which word is answered is left open, and it need not be that of a feasible plan.
 pub fn run<W: Watch>(
@@ -59,16 +62,24 @@ pub fn run<W: Watch>(
     let mut random = Random::new(number);
     let mut taken = Taken::new(alloc, setting.instance())?;
     let mut states = States::new(alloc, setting, word)?;
-    let mut looked: u64 = 0;
+    let mut progress = Progress::NONE;
     let mut cost = states.best.cost();
-    for index in 0..threshold.moves {
-        if looked >= threshold.positions || !watch.should_continue() {
+    for index in 0..u64::MAX {
+        if index % MOVES_A_LOOK == 0 {
+            if !watch.should_continue() {
+                break;
+            }
+            progress.left = watch.milliseconds_left();
+        }
+        progress.moves = index;
+        if threshold.length.is_over(progress) {
             break;
         }
         let before = states.last.cost();
-        let more = states.change(setting, &mut taken, &mut random, index);
-        looked = looked.saturating_add(more);
-        states.settle(threshold.after(index, looked));
+        let limit = states.limit(threshold.after(progress));
+        let more = states.change(setting, &mut taken, &mut random, index, limit);
+        progress.positions = progress.positions.saturating_add(more);
+        states.settle(limit);
         if states.last.cost() < before {
             gathered.note(setting.instance(), &states.last, states.best.cost())?;
         }
@@ -92,17 +103,20 @@ impl States {
         next.load(setting, word);
         last.copy_from(&next);
         best.copy_from(&next);
+        next.clear_changes();
         Ok(States { last, next, best })
     }
 
     /// Makes the move of an index on the next routes, and answers the number of positions looked at. The removed customers are left in
-    /// `taken`. No clause pins the routes or the number.
+    /// `taken`. Once the routes cost as much as the limit, the move may be given up, with customers left unserved. No clause pins the
+    /// routes or the number.
     pub fn change(
         &mut self,
         setting: &Surroundings<'_>,
         taken: &mut Taken,
         random: &mut Random,
-        index: u32,
+        index: u64,
+        limit: u64,
     ) -> u64
         requires places { self.old ≡ place_count setting.now }
         requires taken { taken.old ≡ place_count setting.now }
@@ -111,32 +125,33 @@ impl States {
     {
         taken.clear();
         list_unserved(setting, &self.next, taken);
-        let at_ruin = ruin(
-            setting,
-            &mut self.next,
-            taken,
-            random,
-            index.saturating_add(1),
-        );
+        let number = (index % u64::from(u32::MAX)) as u32 + 1;
+        let at_ruin = ruin(setting, &mut self.next, taken, random, number);
         taken.sort(setting, random);
-        recreate(setting, &mut self.next, taken, random).saturating_add(at_ruin)
+        recreate(setting, &mut self.next, taken, random, limit).saturating_add(at_ruin)
     }
 
-    /// Accepts the next routes, unless they are costlier than the last ones by the threshold or more, in the unit of the weights; then it
-    /// returns to the last ones. The cheapest routes so far are kept. No clause says so.
-    pub fn settle(&mut self, threshold: u64)
+    /// Accepts the next routes if they cost less than the limit, and otherwise returns to the last ones. The cheapest routes so far are
+    /// kept. No clause says so.
+    pub fn settle(&mut self, limit: u64)
         ensures { self.new ≡ self.old }
     {
         let cost = self.next.cost();
-        let last = self.last.cost();
-        if cost <= last || cost < last.saturating_add(threshold) {
-            self.last.copy_from(&self.next);
+        if cost < limit {
+            self.last.follow(&self.next);
         } else {
-            self.next.copy_from(&self.last);
+            self.next.undo(&self.last);
         }
+        self.next.clear_changes();
         if cost < self.best.cost() {
             self.best.copy_from(&self.last);
         }
+    }
+
+    /// The limit for the next routes: to be accepted they may not cost more than the last ones, or have to be costlier by less than this
+    /// threshold, in the unit of the weights.
+    pub fn limit(&self, threshold: u64) -> u64 {
+        self.last.cost().saturating_add(threshold.max(1))
     }
 
     /// The routes after the move; no clause pins them.

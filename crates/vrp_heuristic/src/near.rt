@@ -9,6 +9,9 @@ use std::alloc::Global;
 use std::marker::Model;
 use vrp_model::NoMemory;
 
+/// The number of near places of a customer beside which it may be put back.
+pub(crate) const NEARBY: u16 = 20;
+
 /// An arc to a place; arcs are compared by weight and then by place.
 #[derive(Clone, Copy, PartialEq, Eq, PartialOrd, Ord)]
 struct NearArc {

@@ -1,8 +1,10 @@
 //! Recreate: each removed customer is put back where it costs least.
-ghost use Rattle.std.specs.Prelude.{◌≡◌, ◌<◌};
-ghost use Rattle.vrp_heuristic.specs.Inner.Stops.{IsGap};
+ghost use Rattle.std.specs.Prelude.{◌≡◌, ◌<◌, length};
+ghost use Rattle.vrp_heuristic.specs.Inner.Stops.{IsGap, IsStop};
 ghost use Rattle.vrp_model.specs.Problem.{place_count};
 
+use crate::detours::MOST_DETOURS;
+use crate::near::NEARBY;
 use crate::random::Random;
 use crate::routes::{Gap, RouteState, Routes, Stop};
 use crate::surroundings::Surroundings;
@@ -20,19 +22,17 @@ struct Insertion {
 /// More than the weight of an arc, so that no offer is negative.
 const RAISE: u64 = 1 << 32;
 
-/// From this many customers on a customer is put back next to a near place, if a truck there has room: looking along all routes would take
-/// longer than it gains.
-const MANY_CUSTOMERS: u16 = 126;
+/// With this many customers to a route and more, the ends of routes are looked at too.
+const LONG_ROUTES: u16 = 8;
 
-/// The number of near places.
-const NEARBY: u16 = 40;
-
-/// Puts the removed customers back, in their order, where they find a place. Answers the number of positions looked at.
+/// Puts the removed customers back, in their order, where they find a place. The rest stay unserved if the routes cost as much as the
+/// limit before, unless the triangle inequality fails. Answers the number of positions looked at.
 pub(crate) fn recreate(
     setting: &Surroundings<'_>,
     routes: &mut Routes,
     taken: &Taken,
     random: &mut Random,
+    limit: u64,
 ) -> u64
     requires routes { routes.old ≡ place_count setting.now }
     requires taken { taken.now ≡ place_count setting.now }
@@ -42,12 +42,16 @@ pub(crate) fn recreate(
     let turns = taken.turns();
     for turn in turns {
         looked = looked.saturating_add(put_back(setting, routes, turn.customer, random));
+        if setting.gives_up() && routes.weight() >= limit {
+            break;
+        }
     }
     looked
 }
 
-// Puts a customer where it costs least, if there is a place; with many customers only next to a near place, if a truck there has room.
-// Answers the number of positions looked at.
+// Puts a customer where it costs least, if there is a place. With many customers only the gaps beside near places are looked at, and the
+// ends of routes on the way to which the customer lies. All routes are looked at if none of these costs less than a route of the
+// customer's own: a truck with room to spare may be far away, and this saves routes. Answers the number of positions looked at.
 fn put_back(
     setting: &Surroundings<'_>,
     routes: &mut Routes,
@@ -58,14 +62,17 @@ fn put_back(
     requires customer { customer < routes.old }
     ensures { routes.new ≡ routes.old }
 {
-    if setting.instance().customers() < MANY_CUSTOMERS {
+    if !setting.has_many() {
         return put_anywhere(setting, routes, customer, random);
     }
-    let Insertion { gap, .. } = best_nearby(setting, routes, customer, random);
-    if gap.route == 0 {
+    let mut best = best_nearby(setting, routes, customer, random);
+    if routes.count() <= setting.instance().customers() / LONG_ROUTES {
+        best = best_end(setting, routes, customer, random, best);
+    }
+    if best.gap.route == 0 {
         return put_anywhere(setting, routes, customer, random).saturating_add(u64::from(NEARBY));
     }
-    routes.put(setting, customer, gap);
+    routes.put(setting, customer, best.gap);
     u64::from(NEARBY)
 }
 
@@ -175,7 +182,7 @@ fn best_along(
         let spared = if at == 0 {
             home[usize::from(before)]
         } else {
-            stop.arc
+            stop.arc_in
         };
         let added = u64::from(into[usize::from(before)]) + u64::from(from[usize::from(at)]);
         let paid = RAISE + added - u64::from(spared);
@@ -189,7 +196,7 @@ fn best_along(
     best
 }
 
-// The best of a route of the customer's own and the gaps next to near places. One position in a hundred is skipped.
+// The best of a route of the customer's own and the gaps beside near places. One better position in a hundred is skipped.
 fn best_nearby(
     setting: &Surroundings<'_>,
     routes: &Routes,
@@ -201,53 +208,99 @@ fn best_nearby(
     ensures { IsGap routes.now result.gap }
 {
     let demand = setting.instance().demand(customer);
+    let arcs = setting.arcs();
+    let (from, into) = (arcs.from(customer), arcs.into(customer));
     let mut best = own_route(setting, routes, customer);
     for rank in 1..NEARBY.min(setting.instance().customers()) + 1 {
         let near = setting.near().nearest(customer, rank);
-        let Stop { before, route, .. } = routes.stop(near);
-        if near != 0 && route != 0 && demand <= routes.route(route).room {
-            let behind = Gap {
+        let stop = routes.stop(near);
+        let Stop { before, route, .. } = stop;
+        if route != 0 && demand <= routes.route(route).room {
+            let (ahead, behind) = detours_beside(from, into, near, stop);
+            best = better_of(routes, best, ahead, Gap { route, before }, random);
+            let behind_it = Gap {
                 route,
                 before: near,
             };
-            best = better_of(
-                setting,
-                routes,
-                customer,
-                Gap { route, before },
-                random,
-                best,
-            );
-            best = better_of(setting, routes, customer, behind, random, best);
+            best = better_of(routes, best, behind, behind_it, random);
         }
     }
     best
 }
 
-// The better of an offer and a gap, unless the gap is skipped.
-fn better_of(
+// The best of an offer and the ends of routes on the way to which a customer lies. One better position in a hundred is skipped.
+fn best_end(
     setting: &Surroundings<'_>,
     routes: &Routes,
     customer: u16,
-    gap: Gap,
     random: &mut Random,
     offer: Insertion,
 ) -> Insertion
     requires routes { routes.now ≡ place_count setting.now }
     requires customer { customer < routes.now }
-    requires gap { IsGap routes.now gap }
     requires offer { IsGap routes.now offer.gap }
     ensures { IsGap routes.now result.gap }
 {
-    if random.blinks() {
-        return offer;
-    }
+    let demand = setting.instance().demand(customer);
     let arcs = setting.arcs();
-    let after = routes.behind(gap);
-    let added = u64::from(arcs.weight(gap.before, customer))
-        + u64::from(arcs.weight(customer, after));
-    let paid = RAISE + added - u64::from(arcs.weight(gap.before, after));
-    if paid < offer.paid {
+    let (from, into) = (arcs.from(customer), arcs.into(customer));
+    let mut best = offer;
+    for rank in 0..MOST_DETOURS {
+        let far = setting.detours().place(customer, rank);
+        let stop = routes.stop(far);
+        let Stop {
+            before,
+            after,
+            route,
+            ..
+        } = stop;
+        let is_end = before == 0 || after == 0;
+        if is_end && route != 0 && demand <= routes.route(route).room {
+            let (ahead, behind) = detours_beside(from, into, far, stop);
+            if before == 0 {
+                best = better_of(routes, best, ahead, Gap { route, before }, random);
+            }
+            if after == 0 {
+                best = better_of(routes, best, behind, Gap { route, before: far }, random);
+            }
+        }
+    }
+    best
+}
+
+// What a customer costs before a stop and behind it, plus `RAISE`, by the weights of the arcs from the customer and to it.
+#[inline(always)]
+fn detours_beside(from: &[u32], into: &[u32], place: u16, stop: Stop) -> (u64, u64)
+    requires from { IsStop (length from.now) stop }
+    requires into { length into.now ≡ length from.now }
+    requires place { place < length from.now }
+{
+    let to_place = u64::from(from[usize::from(place)]);
+    let ahead = RAISE + u64::from(into[usize::from(stop.before)]) + to_place;
+    let from_place = u64::from(into[usize::from(place)]);
+    let behind = RAISE + from_place + u64::from(from[usize::from(stop.after)]);
+    (
+        ahead - u64::from(stop.arc_in),
+        behind - u64::from(stop.arc_out),
+    )
+}
+
+// The better of an offer and a gap at this cost, unless the gap is skipped.
+#[inline(always)]
+fn better_of(
+    routes: &Routes,
+    offer: Insertion,
+    paid: u64,
+    gap: Gap,
+    random: &mut Random,
+) -> Insertion
+    requires offer { IsGap routes.now offer.gap }
+    requires gap { IsGap routes.now gap }
+    ensures { IsGap routes.now result.gap }
+{
+    // It is the routes that the gap is in; nothing is read of them.
+    let _routes = routes;
+    if paid < offer.paid && !random.blinks() {
         Insertion { paid, gap }
     } else {
         offer

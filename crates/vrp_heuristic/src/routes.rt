@@ -1,11 +1,14 @@
 //! Routes as linked stops: customers are removed and put back.
-ghost use Rattle.std.specs.Prelude.{◌≡◌, ◌<◌, IfOk};
+ghost use Rattle.std.specs.Prelude.{◌≡◌, ◌<◌, IfOk, length};
+ghost use Rattle.std.specs.List.{All};
 ghost use Rattle.vrp_heuristic.specs.Inner.Stops.{IsGap, IsRoute, IsStop};
+ghost use Rattle.vrp_heuristic.specs.Inner.Tables.{IsPlace};
 ghost use Rattle.vrp_model.specs.Problem.{place_count};
 ghost use Rattle.vrp_model.specs.declared.limits.TheConstants.{MAX_NODES};
 
 mod word;
 
+use crate::changes::Changes;
 use crate::surroundings::Surroundings;
 use std::alloc::Global;
 use std::marker::Model;
@@ -18,8 +21,20 @@ pub(crate) struct Stop {
     pub after: u16,
     /// Its route, 0 if it is on none.
     pub route: u16,
-    /// The weight of the arc from the previous stop.
-    pub arc: u32,
+    /// The weights of the arcs from the stop before and to the stop after.
+    pub arc_in: u32,
+    pub arc_out: u32,
+}
+
+impl Stop {
+    /// The stop of a customer that is on no route.
+    const NONE: Stop = Stop {
+        before: 0,
+        after: 0,
+        route: 0,
+        arc_in: 0,
+        arc_out: 0,
+    };
 }
 
 /// The data of a route.
@@ -55,10 +70,13 @@ pub struct Routes {
     unserved: u16,
     // The weight of the arcs of all routes.
     weight: u64,
+    // Since they were last copied.
+    changed_stops: Changes,
+    changed_routes: Changes,
 }
 
 impl Model for Routes {
-    ghost use Rattle.std.specs.Prelude.{ℕ, length};
+    ghost use Rattle.std.specs.Prelude.{◌≡◌, ℕ, length};
     ghost use Rattle.vrp_heuristic.specs.Inner.Stops.{AreRoutes};
 
     // The number of places.
@@ -67,7 +85,9 @@ impl Model for Routes {
     ghost view = { λ a. length a.stops.items };
 
     ghost invariant = { λ a.
-        AreRoutes (length a.stops.items) a.stops.items a.routes.items a.highest };
+        AreRoutes (length a.stops.items) a.stops.items a.routes.items a.highest
+        × (a.changed_stops ≡ length a.stops.items)
+        × (a.changed_routes ≡ length a.stops.items) };
 }
 
 impl Routes {
@@ -77,12 +97,6 @@ impl Routes {
     {
         let customers = instance.customers();
         let places = usize::from(customers) + 1;
-        let stop = Stop {
-            before: 0,
-            after: 0,
-            route: 0,
-            arc: 0,
-        };
         let route = RouteState {
             first: 0,
             stops: 0,
@@ -90,12 +104,14 @@ impl Routes {
             room: instance.capacity(),
         };
         Ok(Routes {
-            stops: Vec::from_elem(alloc, stop, places)?,
+            stops: Vec::from_elem(alloc, Stop::NONE, places)?,
             routes: Vec::from_elem(alloc, route, places)?,
             highest: 0,
             count: 0,
             unserved: customers,
             weight: 0,
+            changed_stops: Changes::new(alloc, customers + 1)?,
+            changed_routes: Changes::new(alloc, customers + 1)?,
         })
     }
 
@@ -110,6 +126,66 @@ impl Routes {
         self.routes
             .as_mut_slice()
             .copy_from_slice(other.routes.as_slice());
+        self.copy_counts(other);
+    }
+
+    /// Copies what has changed in other routes onto these, which are what those were before the changes.
+    pub(crate) fn follow(&mut self, other: &Routes)
+        requires { self.old ≡ other.now }
+        ensures { self.new ≡ self.old }
+    {
+        if other.changed_stops.is_full() || other.changed_routes.is_full() {
+            self.copy_from(other);
+            return;
+        }
+        copy_stops(
+            self.stops.as_mut_slice(),
+            &other.stops,
+            other.changed_stops.list(),
+        );
+        copy_routes(
+            self.routes.as_mut_slice(),
+            &other.routes,
+            other.changed_routes.list(),
+        );
+        self.copy_counts(other);
+    }
+
+    /// Undoes what has changed: these become other routes again, which are what these were before.
+    pub(crate) fn undo(&mut self, other: &Routes)
+        requires { self.old ≡ other.now }
+        ensures { self.new ≡ self.old }
+    {
+        if self.changed_stops.is_full() || self.changed_routes.is_full() {
+            self.copy_from(other);
+            return;
+        }
+        copy_stops(
+            self.stops.as_mut_slice(),
+            &other.stops,
+            self.changed_stops.list(),
+        );
+        copy_routes(
+            self.routes.as_mut_slice(),
+            &other.routes,
+            self.changed_routes.list(),
+        );
+        self.copy_counts(other);
+    }
+
+    /// Forgets what has changed: other routes are the same.
+    pub(crate) fn clear_changes(&mut self)
+        ensures { self.new ≡ self.old }
+    {
+        self.changed_stops.clear();
+        self.changed_routes.clear();
+    }
+
+    // Copies the counts of other routes.
+    fn copy_counts(&mut self, other: &Routes)
+        requires { self.old ≡ other.now }
+        ensures { self.new ≡ self.old }
+    {
         self.highest = other.highest;
         self.count = other.count;
         self.unserved = other.unserved;
@@ -139,6 +215,11 @@ impl Routes {
     pub fn cost(&self) -> u64 {
         self.weight
             .saturating_add(u64::from(self.unserved) * NO_COST)
+    }
+
+    /// The weight of the arcs of all routes; no clause pins it.
+    pub(crate) fn weight(&self) -> u64 {
+        self.weight
     }
 
     /// A place's stop.
@@ -189,13 +270,21 @@ impl Routes {
         let Gap { route, before } = gap;
         let after = self.behind(gap);
         let arcs = setting.arcs();
-        let arc = arcs.weight(before, customer);
-        let onward = arcs.weight(customer, after);
+        let (arc_in, arc_out) = (arcs.weight(before, customer), arcs.weight(customer, after));
         let spared = arcs.weight(before, after);
-        self.link(before, customer, arc);
-        self.link(customer, after, onward);
-        self.weigh(u64::from(arc) + u64::from(onward), u64::from(spared));
-        self.set_number(customer, route);
+        self.link_out(before, customer, arc_in);
+        self.link_in(customer, after, arc_out);
+        self.set_stop(
+            customer,
+            Stop {
+                before,
+                after,
+                route,
+                arc_in,
+                arc_out,
+            },
+        );
+        self.weigh(u64::from(arc_in) + u64::from(arc_out), u64::from(spared));
         self.count_in(route, before, customer, setting.instance().demand(customer));
     }
 
@@ -209,14 +298,14 @@ impl Routes {
             before,
             after,
             route,
-            arc,
+            arc_in,
+            arc_out,
         } = self.stop(customer);
-        let arcs = setting.arcs();
-        let onward = arcs.weight(customer, after);
-        let direct = arcs.weight(before, after);
-        self.link(before, after, direct);
-        self.weigh(u64::from(direct), u64::from(arc) + u64::from(onward));
-        self.set_number(customer, 0);
+        let direct = setting.arcs().weight(before, after);
+        self.link_out(before, after, direct);
+        self.link_in(before, after, direct);
+        self.set_stop(customer, Stop::NONE);
+        self.weigh(u64::from(direct), u64::from(arc_in) + u64::from(arc_out));
         self.count_out(route, before, after, setting.instance().demand(customer));
     }
 
@@ -233,32 +322,58 @@ impl Routes {
         }
     }
 
-    // Links two places by an arc of this weight.
-    fn link(&mut self, from: u16, to: u16, arc: u32)
+    // Links a place to the one behind it, by an arc of this weight. The depot has no links.
+    #[inline(always)]
+    fn link_out(&mut self, from: u16, to: u16, arc: u32)
         requires from { from < self.old }
         requires to { to < self.old }
         ensures { self.new ≡ self.old }
     {
-        let start = self.stop(from);
-        self.set_stop(
-            from,
-            Stop {
-                before: start.before,
-                after: to,
-                route: start.route,
-                arc: start.arc,
-            },
-        );
-        let end = self.stop(to);
-        self.set_stop(
-            to,
-            Stop {
-                before: from,
-                after: end.after,
-                route: end.route,
-                arc,
-            },
-        );
+        if from != 0 {
+            let Stop {
+                before,
+                route,
+                arc_in,
+                ..
+            } = self.stop(from);
+            self.set_stop(
+                from,
+                Stop {
+                    before,
+                    after: to,
+                    route,
+                    arc_in,
+                    arc_out: arc,
+                },
+            );
+        }
+    }
+
+    // Links a place to the one before it, by an arc of this weight. The depot has no links.
+    #[inline(always)]
+    fn link_in(&mut self, from: u16, to: u16, arc: u32)
+        requires from { from < self.old }
+        requires to { to < self.old }
+        ensures { self.new ≡ self.old }
+    {
+        if to != 0 {
+            let Stop {
+                after,
+                route,
+                arc_out,
+                ..
+            } = self.stop(to);
+            self.set_stop(
+                to,
+                Stop {
+                    before: from,
+                    after,
+                    route,
+                    arc_in: arc,
+                    arc_out,
+                },
+            );
+        }
     }
 
     // Counts added and saved arcs.
@@ -266,27 +381,6 @@ impl Routes {
         ensures { self.new ≡ self.old }
     {
         self.weight = self.weight.saturating_add(added).saturating_sub(spared);
-    }
-
-    // Notes the route of a customer.
-    fn set_number(&mut self, customer: u16, number: u16)
-        requires customer { customer < self.old }
-        requires number { number < self.old }
-        ensures { self.new ≡ self.old }
-    {
-        let Stop {
-            before,
-            after,
-            arc,
-            ..
-        } = self.stop(customer);
-        let stop = Stop {
-            before,
-            after,
-            route: number,
-            arc,
-        };
-        self.set_stop(customer, stop);
     }
 
     // Counts a customer on a route, after one of its stops.
@@ -336,6 +430,7 @@ impl Routes {
         ensures { self.new ≡ self.old }
     {
         self.stops[usize::from(place)] = stop;
+        self.changed_stops.note(place);
     }
 
     fn set_route(&mut self, number: u16, route: RouteState)
@@ -344,5 +439,34 @@ impl Routes {
         ensures { self.new ≡ self.old }
     {
         self.routes[usize::from(number)] = route;
+        self.changed_routes.note(number);
+    }
+}
+
+// Copies the stops of these places.
+fn copy_stops(to: &mut [Stop], from: &[Stop], places: &[u16])
+    requires len { length to.old ≡ length from.now }
+    requires to { All (IsStop (length from.now)) to.old }
+    requires from { All (IsStop (length from.now)) from.now }
+    requires places { All (IsPlace (length from.now)) places.now }
+    ensures { All (IsStop (length from.now)) to.new }
+{
+    for place in places {
+        let place = usize::from(*place);
+        to[place] = from[place];
+    }
+}
+
+// Copies the routes of these numbers.
+fn copy_routes(to: &mut [RouteState], from: &[RouteState], numbers: &[u16])
+    requires len { length to.old ≡ length from.now }
+    requires to { All (IsRoute (length from.now)) to.old }
+    requires from { All (IsRoute (length from.now)) from.now }
+    requires numbers { All (IsPlace (length from.now)) numbers.now }
+    ensures { All (IsRoute (length from.now)) to.new }
+{
+    for number in numbers {
+        let number = usize::from(*number);
+        to[number] = from[number];
     }
 }

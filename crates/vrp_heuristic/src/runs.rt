@@ -20,18 +20,13 @@ pub(crate) struct Round {
 impl Round {
     // The course of the run of a number. If routes are gathered, every second run begins with half of the threshold, to find other plans.
     fn course_of(self, number: u64) -> Course {
-        let Threshold {
-            start,
-            moves,
-            positions,
-        } = self.threshold;
+        let Threshold { start, length } = self.threshold;
         let has_half = self.gathers > 0 && number % 2 == 0;
         Course {
             number,
             threshold: Threshold {
                 start: if has_half { start / 2 } else { start },
-                moves,
-                positions,
+                length,
             },
         }
     }
@@ -41,6 +36,8 @@ impl Round {
 #[derive(Drop)]
 pub(crate) struct Run {
     number: u64,
+    // The word that it begins with.
+    start: Vec<u16>,
     /// The word that it found; empty before it has run.
     pub(crate) word: Result<Vec<u16>, NoMemory>,
     /// The routes of the good plans that it found.
@@ -54,7 +51,22 @@ pub(crate) fn run_all<R: Threads + Sync, W: Watch + Sync>(
     round: Round,
     word: &[u16],
 ) -> Result<Vec<Run>, NoMemory> {
-    let mut runs = new_runs(crew.alloc, round)?;
+    let mut runs = Vec::with_capacity(crew.alloc, usize::from(round.runs))?;
+    for index in 0..round.runs {
+        let start = Vec::from_slice(crew.alloc, word)?;
+        runs.push(Run::new(crew.alloc, round, index, start))?;
+    }
+    run_each(crew, setting, round, &mut runs);
+    Ok(runs)
+}
+
+/// Makes runs of a round in parallel.
+pub(crate) fn run_each<R: Threads + Sync, W: Watch + Sync>(
+    crew: &Crew<'_, R, W>,
+    setting: &Surroundings<'_>,
+    round: Round,
+    runs: &mut Vec<Run>,
+) {
     let (alloc, watch) = (crew.alloc, crew.watch);
     for_each_mut(
         crew.rt,
@@ -62,21 +74,19 @@ pub(crate) fn run_all<R: Threads + Sync, W: Watch + Sync>(
         usize::from(crew.workers),
         &|_, one: &mut Run| {
             let course = round.course_of(one.number);
-            one.word = run(alloc, setting, word, course, watch, &mut one.gathered);
+            one.word = run(alloc, setting, &one.start, course, watch, &mut one.gathered);
         },
     );
-    Ok(runs)
 }
 
-// The runs of a round, before they have run.
-fn new_runs(alloc: Global, round: Round) -> Result<Vec<Run>, NoMemory> {
-    let mut runs = Vec::with_capacity(alloc, usize::from(round.runs))?;
-    for index in 0..round.runs {
-        runs.push(Run {
+impl Run {
+    /// The run of a round with this index, before it has run, and the word that it begins with.
+    pub(crate) fn new(alloc: Global, round: Round, index: u16, start: Vec<u16>) -> Run {
+        Run {
             number: round.first.saturating_add(u64::from(index)),
+            start,
             word: Ok(Vec::new(alloc)),
             gathered: Gathered::new(alloc, round.gathers),
-        })?;
+        }
     }
-    Ok(runs)
 }

@@ -3,17 +3,25 @@ ghost use Rattle.std.specs.Prelude.{◌≡◌, ◌<◌, IfOk};
 ghost use Rattle.vrp_model.specs.Problem.{place_count};
 
 use crate::arcs::Arcs;
+use crate::detours::Detours;
 use crate::near::Near;
+use crate::triangle::obeys_triangle;
 use std::alloc::Global;
 use std::marker::Model;
 use vrp_model::{Instance, NoMemory};
 
-/// An instance, its weights in rows, and the near places of each place.
+// From this many customers on a customer is put back beside a near place: to look along all routes would take longer than it gains.
+const MANY_CUSTOMERS: u16 = 126;
+
+/// An instance, its weights in rows, the near places of each place, and the customers on whose way each lies.
 #[derive(Drop)]
 pub struct Surroundings<'a> {
     instance: &'a Instance,
     arcs: Arcs,
     near: Near,
+    detours: Detours,
+    has_many: bool,
+    gives_up: bool,
 }
 
 impl<'a> Model for Surroundings<'a> {
@@ -26,7 +34,8 @@ impl<'a> Model for Surroundings<'a> {
 
     ghost invariant = { λ a.
         (a.arcs ≡ place_count a.instance.now)
-        × (a.near ≡ place_count a.instance.now) };
+        × (a.near ≡ place_count a.instance.now)
+        × (a.detours ≡ place_count a.instance.now) };
 }
 
 impl<'a> Surroundings<'a> {
@@ -35,11 +44,18 @@ impl<'a> Surroundings<'a> {
         ensures { IfOk result (λ setting. setting ≡ instance.now) }
     {
         let arcs = Arcs::new(alloc, instance)?;
-        let near = Near::new(alloc, &arcs, instance.customers() + 1)?;
+        let places = instance.customers() + 1;
+        let near = Near::new(alloc, &arcs, places)?;
+        let detours = Detours::new(alloc, &arcs, &near, places)?;
+        let has_many = instance.customers() >= MANY_CUSTOMERS;
+        let gives_up = has_many && obeys_triangle(&arcs, &near, places);
         Ok(Surroundings {
             instance,
             arcs,
             near,
+            detours,
+            has_many,
+            gives_up,
         })
     }
 
@@ -65,6 +81,24 @@ impl<'a> Surroundings<'a> {
         ensures { result.now ≡ place_count self.now }
     {
         &self.near
+    }
+
+    /// The customers on whose way each customer lies.
+    #[inline(always)]
+    pub(crate) fn detours(&self) -> &Detours
+        ensures { result.now ≡ place_count self.now }
+    {
+        &self.detours
+    }
+
+    /// Whether there are so many customers that each is put back beside a near place.
+    pub(crate) fn has_many(&self) -> bool {
+        self.has_many
+    }
+
+    /// Whether a move may be given up as soon as its routes cost too much: no customer who is put back then makes them cheaper.
+    pub(crate) fn gives_up(&self) -> bool {
+        self.gives_up
     }
 
     /// The most routes of a plan.

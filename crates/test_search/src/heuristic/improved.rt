@@ -8,18 +8,18 @@ use std::thread::Threads;
 use vrp_heuristic::{improved_plan, savings_plan};
 use vrp_model::{Crew, Instance, News, Plan, Unhurried, Watch};
 
-// A watch with time for this many moves.
+// A watch that goes on for so many looks; a run looks at it before each 16th move.
 #[derive(Drop)]
-struct Moves {
+struct Looks {
     most: u64,
     made: AtomicU64,
     // The least cost that was heard of.
     heard: AtomicU64,
 }
 
-impl Moves {
-    fn new(most: u64) -> Moves {
-        Moves {
+impl Looks {
+    fn new(most: u64) -> Looks {
+        Looks {
             most,
             made: AtomicU64::new(0),
             heard: AtomicU64::new(u64::MAX),
@@ -27,7 +27,7 @@ impl Moves {
     }
 }
 
-impl Watch for Moves {
+impl Watch for Looks {
     fn should_continue(&self) -> bool {
         self.made.fetch_add(1, Ordering::Relaxed) < self.most
     }
@@ -39,24 +39,20 @@ impl Watch for Moves {
     }
 
     fn milliseconds_left(&self) -> Option<u64> {
-        if self.made.load(Ordering::Relaxed) < self.most {
-            Some(1_000)
-        } else {
-            Some(0)
-        }
+        Some(self.most.saturating_sub(self.made.load(Ordering::Relaxed)))
     }
 }
 
-// The cost of the plan improved by this many workers and moves, and the least cost that the watch heard of.
+// The cost of the plan improved by this many workers and looks, and the least cost that the watch heard of.
 fn improved<R: Threads + Abort + Sync>(
     rt: &R,
     alloc: Global,
     instance: &Instance,
     plan: &Plan,
     workers: u16,
-    moves: u64,
+    looks: u64,
 ) -> u64 {
-    let watch = Moves::new(moves);
+    let watch = Looks::new(looks);
     assert!(rt; 1 <= workers && plan.fits(instance));
     let crew = Crew {
         rt,
@@ -110,8 +106,29 @@ fn many_customers(rt: HostRuntime) {
     let savings = savings.expect(&rt, "a plan");
     assert_same(&rt, savings.cost(), 124_175, "by savings");
     for workers in [1, 3] {
-        assert!(rt; improved(&rt, rt.alloc(), &instance, &savings, workers, 2_000) < 124_175);
+        assert!(rt; improved(&rt, rt.alloc(), &instance, &savings, workers, 300) < 124_175);
     }
+}
+
+// So few customers have a population: its children, too, make the plan cheaper, and no plan is claimed that is not feasible.
+#[test]
+fn population(rt: HostRuntime) {
+    let instance = scattered(&rt, rt.alloc(), 200, 1, 0);
+    let savings = savings_plan(rt.alloc(), &instance).expect(&rt, "memory");
+    let savings = savings.expect(&rt, "a plan");
+    for workers in [1, 3] {
+        let found = improved(&rt, rt.alloc(), &instance, &savings, workers, 2_000);
+        assert!(rt; found < savings.cost());
+    }
+}
+
+// With a limit on trucks each worker makes a run; here the plan keeps within it.
+#[test]
+fn few_trucks(rt: HostRuntime) {
+    let instance = scattered(&rt, rt.alloc(), 60, 1, 3);
+    let savings = savings_plan(rt.alloc(), &instance).expect(&rt, "memory");
+    let savings = savings.expect(&rt, "a plan");
+    assert!(rt; improved(&rt, rt.alloc(), &instance, &savings, 2, 500) <= savings.cost());
 }
 
 // Without a time limit the plan stays as it is.

@@ -83,7 +83,7 @@ fn many_customers(rt: HostRuntime) {
     assert!(rt; plan.cost() < 124_175);
 }
 
-// Any number of workers gives the same answer, with few customers and with so many that the runs go in two rounds.
+// Any number of workers gives the same answer, with few customers and with many.
 #[test]
 fn the_same_by_any_number(rt: HostRuntime) {
     for nodes in [60, 200] {

@@ -24,29 +24,40 @@ fn assert_told(rt: &impl Abort, alloc: Global, instance: &Instance, routes: &Rou
     assert_same(rt, plan.as_ref().map(Plan::cost), told, routes.unserved());
 }
 
-// Checks the routes after each of several thousand moves, starting with nobody served.
+// Checks the routes after each of several thousand moves and after each undoing, starting with nobody served.
 fn assert_moves(rt: &impl Abort, alloc: Global, instance: &Instance) {
     let setting = Surroundings::new(alloc, instance).expect(rt, "memory");
     let mut random = Random::new(1);
     let mut taken = Taken::new(alloc, instance).expect(rt, "memory");
     let mut states = States::new(alloc, &setting, &[]).expect(rt, "memory");
     for index in 0..2_000 {
-        states.change(&setting, &mut taken, &mut random, index);
+        let limit = states.limit(20);
+        states.change(&setting, &mut taken, &mut random, index, limit);
         assert_told(rt, alloc, instance, states.next());
-        states.settle(20);
+        states.settle(limit);
+        assert_told(rt, alloc, instance, states.next());
     }
     assert_told(rt, alloc, instance, states.best());
 }
 
-// A skew of the weights, and the number of trucks.
-const SCATTERED: &[(u64, u16)] = &[(0, 0), (1, 0), (0, 2), (1, 1)];
+// The number of nodes, a skew of the weights, and the number of trucks; 0 means no limit.
+const SCATTERED: &[(u64, u64, u16)] = &[
+    (40, 0, 0),
+    (40, 1, 0),
+    (40, 0, 2),
+    (40, 1, 1),
+    (140, 0, 0),
+    (140, 1, 0),
+    (140, 0, 6),
+];
 
-// Each plan serves each customer once within the capacity, with no limit on trucks and with few.
+// Each plan serves each customer once within the capacity, with no limit on trucks and with few, and with so many customers that each
+// is put back beside a near place.
 #[test]
 fn plans_of_moves(rt: HostRuntime) {
-    for &(skew, trucks) in SCATTERED {
-        assert!(rt; skew <= 10);
-        let instance = scattered(&rt, rt.alloc(), 40, skew, trucks);
+    for &(nodes, skew, trucks) in SCATTERED {
+        assert!(rt; nodes <= 200 && skew <= 10);
+        let instance = scattered(&rt, rt.alloc(), nodes, skew, trucks);
         assert_moves(&rt, rt.alloc(), &instance);
     }
 }
