@@ -76,7 +76,7 @@ fn print_costs<R: Clock + Print + Eprint + AllocGlobal + Threads + Sync>(
     let savings = cost(alloc, savings_plan(alloc, instance)?)?;
     let by_savings = start.elapsed(rt)?;
     let start = Instant::now(rt)?;
-    let first = cost(alloc, heuristic_plan(crew, instance, moves)?)?;
+    let first = cost(alloc, heuristic_plan(crew, instance, moves)?.plan)?;
     let by_moves = start.elapsed(rt)?;
     println!(rt; "{case}: {first}")?;
     let (by_savings, by_moves) = (by_savings.as_millis(), by_moves.as_millis());

@@ -38,5 +38,7 @@ pub(crate) fn plan_by_one<R: AllocGlobal + Threads + Sync>(
         workers: 1,
         watch: &Unhurried,
     };
-    heuristic_plan(&crew, instance, ENOUGH_MOVES)?.context("no heuristic plan")
+    heuristic_plan(&crew, instance, ENOUGH_MOVES)?
+        .plan
+        .context("no heuristic plan")
 }

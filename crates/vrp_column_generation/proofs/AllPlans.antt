@@ -32,29 +32,6 @@ bounds_both p range one other first second bound all few many below also routes 
       | inr there ↦ omega (arith, many routes lawful there, also)
     ]
 
--- ---- pools
-
-listed_both : (p : Problem) (few many pool : List RouteOf) → All (IsListed p) few → All (IsListed p) many → All (Contains (few ++ many)) pool → All (IsListed p) pool
-listed_both p few many pool one other among =
-    All-weaker (Contains (few ++ many)) (IsListed p) (λ route known. All-contains (IsListed p) (few ++ many) route (All-append (IsListed p) few many one other) known) pool among
-
-pub pools_joined : (p : Problem) (range one other : PlanRange) (few many pool : List RouteOf) → IsPoolIn p one few → IsPoolIn p other many → HaveAll range one other
-    → All (Contains (few ++ many)) pool → All (Contains pool) (few ++ many) → IsPoolIn p range pool
-pools_joined p range one other few many pool is also all among every = record {
-  routes = listed_both p few many pool is.routes also.routes among;
-  complete = λ stops useful.
-      elim (all p useful.plan.routes (plan_in_range p range stops useful)) [
-        | inl here ↦ (
-            let (route, stands, same) = is.complete stops (useful_there p range one stops useful here) in
-            (route, All-contains (Contains pool) (few ++ many) route every (Contains-append_left few many route stands), same)
-            )
-        | inr there ↦ (
-            let (route, stands, same) = also.complete stops (useful_there p range other stops useful there) in
-            (route, All-contains (Contains pool) (few ++ many) route every (Contains-append_right few many route stands), same)
-            )
-      ];
-}
-
 -- ---- last prices
 
 pub one_leaf : (arcs : ArcsOf) → arcs.range ≡ plans_within arcs.range.limit → HaveAllPlans arcs.problem arcs.range.limit arcs None
@@ -63,7 +40,7 @@ one_leaf arcs whole = record {
   limit_is = refl;
   second_problem = λ other is. absurd (cc);
   second_limit = λ other is. absurd (cc);
-  plans = λ routes cheap. inl (subst (λ (r : PlanRange). IsInRange arcs.problem r routes) (sym whole) (all_within arcs.problem arcs.range.limit routes cheap));
+  plans = λ p routes cheap. inl (subst (λ (r : PlanRange). IsInRange p r routes) (sym whole) (all_within p arcs.range.limit routes cheap));
 }
 
 pub two_leaves : (root few many : ArcsOf) → root.range ≡ plans_within root.range.limit → few.problem ≡ root.problem → many.problem ≡ root.problem
@@ -74,9 +51,9 @@ two_leaves root few many whole few_problem many_problem few_limit many_limit all
   limit_is = refl;
   second_problem = λ other is. cc;
   second_limit = λ other is. cc;
-  plans = λ routes cheap.
-      all few.problem routes (subst (λ (r : PlanRange). IsInRange few.problem r routes) (sym whole)
-      (all_within few.problem root.range.limit routes (subst (λ (n : ℕ). plan_cost few.problem routes ≤ n) few_limit cheap)));
+  plans = λ p routes cheap.
+      all p routes (subst (λ (r : PlanRange). IsInRange p r routes) (sym whole)
+      (all_within p root.range.limit routes (subst (λ (n : ℕ). plan_cost p routes ≤ n) few_limit cheap)));
 }
 
 -- the range of a leaf with a lower limit
@@ -88,28 +65,17 @@ one_pool p most limit first pool have le is = record {
   routes = is.routes;
   complete = λ stops useful.
       let inside = plan_in_range p (plans_within limit) stops useful in
-      elim (have.plans useful.plan.routes (omega (arith, inside.cheap, le))) [
+      elim (have.plans p useful.plan.routes (omega (arith, inside.cheap, le))) [
         | inl here ↦ is.complete stops (useful_there p (plans_within limit) (lower first.range limit) stops useful (lowered p first.range limit useful.plan.routes here inside.cheap))
         | inr none ↦ absurd none
       ];
 }
 
-pub both_pools : (p : Problem) (most limit : ℕ) (first second : ArcsOf) (few many pool : List RouteOf) → HaveAllPlans p most first (Some second) → limit ≤ most
-    → IsPoolIn p (lower first.range limit) few → IsPoolIn p (lower second.range limit) many
-    → All (Contains (few ++ many)) pool → All (Contains pool) (few ++ many) → IsPool p limit pool
-both_pools p most limit first second few many pool have le is also among every = record {
-  routes = listed_both p few many pool is.routes also.routes among;
-  complete = λ stops useful.
-      let inside = plan_in_range p (plans_within limit) stops useful in
-      let routes = useful.plan.routes in
-      elim (have.plans routes (omega (arith, inside.cheap, le))) [
-        | inl here ↦ (
-            let (route, stands, same) = is.complete stops (useful_there p (plans_within limit) (lower first.range limit) stops useful (lowered p first.range limit routes here inside.cheap)) in
-            (route, All-contains (Contains pool) (few ++ many) route every (Contains-append_left few many route stands), same)
-            )
-        | inr there ↦ (
-            let (route, stands, same) = also.complete stops (useful_there p (plans_within limit) (lower second.range limit) stops useful (lowered p second.range limit routes there inside.cheap)) in
-            (route, All-contains (Contains pool) (few ++ many) route every (Contains-append_right few many route stands), same)
-            )
-      ];
-}
+-- the leaves of last prices, with a lower limit, have all plans within it
+pub leaves_within : (p : Problem) (most limit : ℕ) (first second : ArcsOf) → HaveAllPlans p most first (Some second) → limit ≤ most
+    → HaveAll (plans_within limit) (lower first.range limit) (lower second.range limit)
+leaves_within p most limit first second have le q routes inside =
+    elim (have.plans q routes (omega (arith, inside.cheap, le))) [
+      | inl here ↦ inl (lowered q first.range limit routes here inside.cheap)
+      | inr there ↦ inr (lowered q second.range limit routes there inside.cheap)
+    ]

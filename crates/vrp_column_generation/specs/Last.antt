@@ -17,5 +17,5 @@ pub record HaveAllPlans (problem : Problem) (limit : ℕ) (first : ArcsOf) (seco
   pub limit_is : first.range.limit ≡ limit
   pub second_problem : ForSome second (λ arcs. arcs.problem ≡ problem)
   pub second_limit : ForSome second (λ arcs. arcs.range.limit ≡ limit)
-  pub plans : (routes : List (List ℕ)) → plan_cost problem routes ≤ limit
-      → IsInRange problem first.range routes ⊎ IsSomeAnd second (λ arcs. IsInRange problem arcs.range routes)
+  pub plans : (p : Problem) (routes : List (List ℕ)) → plan_cost p routes ≤ limit
+      → IsInRange p first.range routes ⊎ IsSomeAnd second (λ arcs. IsInRange p arcs.range routes)

@@ -1,2 +1,3 @@
 pub mod Progress
 pub mod Last
+pub mod Pools

@@ -1,17 +1,21 @@
 //! From an instance and a limit on the cost of a plan to a pool of its useful routes, or to prices that list them for lower limits.
 ghost use Rattle.std.specs.Prelude.{◌≡◌, ◌≤◌, IfOk, IfSome, None};
 ghost use Rattle.vrp_customers.specs.declared.customer_set.TheConstants.{PLACES};
-ghost use Rattle.vrp_model.specs.Problem.{place_count};
+ghost use Rattle.vrp_model.specs.Problem.{Problem, place_count};
 ghost use Rattle.vrp_model.specs.declared.limits.TheConstants.{NO_COST};
 ghost use Rattle.vrp_priced_routes.specs.Priced.{BoundsPlans, BoundsPlansIn};
-ghost use Rattle.vrp_routes.specs.Pool.{IsPool, IsPoolIn};
+ghost use Rattle.vrp_column_generation.specs.Pools.{ArePools};
+ghost use Rattle.vrp_routes.specs.Pool.{IsPool};
 ghost use Rattle.vrp_routes.specs.Range.{plans_within};
 
 use crate::guide::{Guide, Settings};
 use crate::last_prices::LastPrices;
 use crate::leaves::generate_leaves;
+use crate::plan_finder::PlanFinder;
+use crate::pools::Pools;
 use crate::progress::Progress;
-use crate::rounds::{AfterRounds, run_rounds};
+use crate::root::run_root;
+use crate::rounds::AfterRounds;
 use std::thread::Threads;
 use vrp_customers::CustomerSet;
 use vrp_duals::MAX_SCALE;
@@ -22,11 +26,13 @@ use vrp_routes::RoutePool;
 /// What column generation leaves.
 #[derive(Drop)]
 pub struct Generation<'a> {
+    /// What a plan costs at most that the rest is about: as much as was given, or as the cheapest plan that was found meanwhile.
+    pub limit: u64,
     /// No feasible plan within the limit costs less.
     pub bound: u64,
     /// The routes that may be in the canonical plan, if that costs no more than the limit: there if their list is short.
-    pub pool: Option<RoutePool>,
-    /// The last prices, if there is no pool: they list the routes for lower limits. None if no pass was made by final prices: the caller
+    pub pools: Option<Pools>,
+    /// The last prices, if there are no pools: they list the routes for lower limits. None if no pass was made by final prices: the caller
     /// stopped it, a limit was met, or pricing can't use the instance's demands.
     pub prices: Option<LastPrices<'a>>,
 }
@@ -46,20 +52,23 @@ fn scale_for(limit: u64) -> u32 {
 /// Finds dual prices of an instance by column generation, makes passes by them, and lists the routes after the last one: those that may be in
 /// the canonical plan, if that costs no more than the limit. Where their list would be long, it leaves the prices. Where the number of routes
 /// in a solution isn't whole, it branches: plans with fewer routes and plans with more get prices of their own. The program begins with
-/// `routes`, those of heuristic plans. The contract leaves open how high the bound is, and whether there is a pool or prices. The only error
-/// is lack of memory.
-pub fn generate_routes<'a, R: Threads + Sync, W: Watch + Sync>(
+/// `routes`, those of heuristic plans. The finder looks for cheaper plans over the program's routes, and the limit falls with their cost.
+/// The contract leaves open how far the limit falls, how high the bound is, and whether there are pools or prices. The only error is lack
+/// of memory.
+pub fn generate_routes<'a, R: Threads + Sync, W: Watch + Sync, P: PlanFinder>(
     crew: &Crew<'_, R, W>,
     instance: &'a Instance,
     limit: u64,
     routes: &[Vec<u16>],
+    finder: &mut P,
     settings: Settings,
 ) -> Result<Generation<'a>, NoMemory>
     requires few { place_count instance.now ≤ PLACES }
     requires limit { limit ≤ NO_COST }
-    ensures bound { IfOk result (λ made. BoundsPlans instance.now limit made.bound) }
-    ensures pool { IfOk result (λ made. IfSome made.pool (IsPool instance.now limit)) }
-    ensures prices { IfOk result (λ made. IfSome made.prices (λ prices. prices ≡ record { problem = instance.now; limit = limit })) }
+    ensures limit { IfOk result (λ made. made.limit ≤ limit) }
+    ensures bound { IfOk result (λ made. BoundsPlans instance.now made.limit made.bound) }
+    ensures pools { IfOk result (λ made. IfSome made.pools (ArePools instance.now made.limit)) }
+    ensures prices { IfOk result (λ made. IfSome made.prices (λ prices. prices ≡ record { problem = instance.now; limit = made.limit })) }
 {
     let alloc = crew.alloc;
     let near = nearest_sets(alloc, instance, NEAR)?;
@@ -69,38 +78,41 @@ pub fn generate_routes<'a, R: Threads + Sync, W: Watch + Sync>(
     let Some(mut guide) = guide else {
         drop(arcs);
         return Ok(Generation {
+            limit,
             bound: 0,
-            pool: None,
+            pools: None,
             prices: None,
         });
     };
     guide.limit_trucks(instance)?;
-    let made = generate(crew, instance, arcs, &mut guide, near);
+    let made = generate(crew, instance, arcs, &mut guide, near, finder);
     drop(guide);
     made
 }
 
 // What column generation by this guide leaves, along these arcs.
-fn generate<'a, R: Threads + Sync, W: Watch + Sync>(
+fn generate<'a, R: Threads + Sync, W: Watch + Sync, P: PlanFinder>(
     crew: &Crew<'_, R, W>,
     instance: &'a Instance,
     arcs: AliveArcs<'a>,
     guide: &mut Guide,
     near: Vec<CustomerSet>,
+    finder: &mut P,
 ) -> Result<Generation<'a>, NoMemory>
     requires few { place_count instance.now ≤ PLACES }
     requires problem { arcs.problem ≡ instance.now }
     requires all { arcs.range ≡ plans_within arcs.range.limit }
-    ensures bound { IfOk result (λ made. BoundsPlansIn arcs.entry.problem arcs.entry.range made.bound) }
-    ensures pool { IfOk result (λ made. IfSome made.pool (IsPoolIn arcs.entry.problem arcs.entry.range)) }
-    ensures prices { IfOk result (λ made. IfSome made.prices (λ prices.
-        prices ≡ record { problem = arcs.entry.problem; limit = arcs.entry.range.limit })) }
+    ensures limit { IfOk result (λ made. made.limit ≤ arcs.entry.range.limit) }
+    ensures bound { IfOk result (λ made. BoundsPlansIn instance.now (plans_within made.limit) made.bound) }
+    ensures pools { IfOk result (λ made. IfSome made.pools (ArePools instance.now made.limit)) }
+    ensures prices { IfOk result (λ made. IfSome made.prices (λ prices. prices ≡ record { problem = instance.now; limit = made.limit })) }
 {
-    let last = run_rounds(crew, instance, Progress::new(arcs), guide, &near, true)?;
+    let last = run_root(crew, instance, Progress::new(arcs), guide, &near, finder)?;
     let AfterRounds {
         progress,
         pool,
         branch,
+        ..
     } = last;
     match branch {
         Some(fewer) => {
@@ -123,16 +135,19 @@ impl<'a> Progress<'a> {
         guess: u64,
     ) -> Generation<'a>
         requires { self.arcs.range ≡ plans_within self.arcs.range.limit }
+        ensures limit { result.limit ≡ self.entry.arcs.range.limit }
         ensures bound { BoundsPlansIn self.entry.arcs.problem self.entry.arcs.range result.bound }
-        ensures pool { result.pool ≡ pool }
+        ensures pools { (p : Problem) → IfSome pool (IsPool p self.entry.arcs.range.limit) → IfSome result.pools (ArePools p self.entry.arcs.range.limit) }
         ensures prices { IfSome result.prices (λ prices.
             prices ≡ record { problem = self.entry.arcs.problem; limit = self.entry.arcs.range.limit }) }
     {
+        let limit = self.arcs.range().limit;
         let bound = self.bound;
-        if pool.is_some() {
+        if let Some(pool) = pool {
             return Generation {
+                limit,
                 bound,
-                pool,
+                pools: Some(Pools::Whole(pool)),
                 prices: None,
             };
         }
@@ -141,8 +156,9 @@ impl<'a> Progress<'a> {
             None => None,
         };
         Generation {
+            limit,
             bound,
-            pool,
+            pools: None,
             prices,
         }
     }

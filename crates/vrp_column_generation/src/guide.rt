@@ -227,6 +227,18 @@ impl Guide {
         Ok(u16::try_from(routes / ONE).ok())
     }
 
+    /// The stops of the program's routes.
+    pub(crate) fn routes(&self) -> Result<Vec<Vec<u16>>, NoMemory> {
+        self.master.routes()
+    }
+
+    /// Plans may cost no more than this. Whether that is less than before.
+    pub(crate) fn lower_limit(&mut self, cost: u64) -> bool {
+        let is_lower = cost < self.limit;
+        self.limit = self.limit.min(cost);
+        is_lower
+    }
+
     /// Adds a row for a limit on trucks, if there is one.
     pub(crate) fn limit_trucks(&mut self, instance: &Instance) -> Result<(), NoMemory> {
         if let Some(trucks) = instance.trucks() {

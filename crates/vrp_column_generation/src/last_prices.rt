@@ -2,15 +2,17 @@
 ghost use Rattle.std.specs.Prelude.{◌≡◌, ◌≤◌, IfOk, IfSome};
 ghost use Rattle.std.specs.Option.{option_map};
 ghost use Rattle.vrp_column_generation.specs.Last.{HaveAllPlans};
-ghost use Rattle.vrp_routes.specs.Pool.{IsPool, IsPoolIn};
+ghost use Rattle.vrp_column_generation.specs.Pools.{ArePools};
+ghost use Rattle.vrp_routes.specs.Pool.{IsPoolIn};
 
 use crate::guide::Settings;
 use crate::leaf_prices::LeafPrices;
+use crate::pools::{LeafPools, Pools};
 use std::marker::Model;
 use std::thread::Threads;
 use vrp_customers::CustomerSet;
 use vrp_model::{Crew, NoMemory, Watch};
-use vrp_routes::RoutePool;
+use vrp_routes::{Leaves, RoutePool};
 
 /// Dual prices of an instance, and the arcs that plans within a limit use: with a lower limit, the same prices leave fewer routes. Where
 /// column generation branched on the number of routes, there are prices for each of both leaves.
@@ -54,35 +56,33 @@ impl<'a> LastPrices<'a> {
         }
     }
 
-    /// The routes that may be in the canonical plan, if that costs no more than this: by a pass along the arcs that are left, in each leaf.
+    /// The routes that may be in the canonical plan, if that costs no more than this: by a pass along the arcs that are left, leaf by leaf.
     /// None if a limit on labels is met or the crew's watch stops it. The only error is lack of memory.
     pub fn routes_within<R: Threads + Sync, W: Watch + Sync>(
         &self,
         crew: &Crew<'_, R, W>,
         limit: u64,
         settings: Settings,
-    ) -> Result<Option<RoutePool>, NoMemory>
+    ) -> Result<Option<Pools>, NoMemory>
         requires { limit ≤ self.now.limit }
-        ensures { IfOk result (λ pool. IfSome pool (IsPool self.now.problem limit)) }
+        ensures { IfOk result (λ pools. IfSome pools (ArePools self.now.problem limit)) }
     {
         let first = self.routes_of(&self.leaf, crew, limit, settings)?;
-        let Some(mut pool) = first else {
+        let Some(few) = first else {
             return Ok(None);
         };
         let Some(other) = &self.other else {
-            return Ok(Some(pool));
+            return Ok(Some(Pools::Whole(few)));
         };
-        let Some(more) = self.routes_of(other, crew, limit, settings)? else {
-            drop(pool);
+        let Some(many) = self.routes_of(other, crew, limit, settings)? else {
+            drop(few);
             return Ok(None);
         };
-        let has_room = pool.add(crew.alloc, &more);
-        drop(more);
-        if has_room? {
-            return Ok(Some(pool));
-        }
-        drop(pool);
-        Ok(None)
+        let leaves = Leaves {
+            few: self.leaf.range_within(limit),
+            many: other.range_within(limit),
+        };
+        Ok(Some(Pools::Leaves(LeafPools { leaves, few, many })))
     }
 
     // The routes of a leaf.

@@ -32,6 +32,16 @@ impl<'a> LeafPrices<'a> {
         LeafPrices { arcs, duals, bound }
     }
 
+    /// The plans of the leaf that cost no more than this.
+    pub(crate) fn range_within(&self, limit: u64) -> PlanRange
+        ensures { result ≡ record self.now.arcs.range { limit = limit } }
+    {
+        PlanRange {
+            limit,
+            ..self.arcs.range()
+        }
+    }
+
     /// The routes that may be in the canonical plan, if that is in the range and costs no more than this: by a pass along the arcs that are
     /// left, where labels can remember these customers. None if a limit on labels is met or the crew's watch stops it.
     pub(crate) fn routes_within<R: Threads + Sync, W: Watch + Sync>(
@@ -48,11 +58,7 @@ impl<'a> LeafPrices<'a> {
         if limit < self.bound {
             return Ok(Some(RoutePool::empty(crew.alloc)));
         }
-        let range = PlanRange {
-            limit,
-            ..self.arcs.range()
-        };
-        let arcs = self.arcs.part(crew.alloc, range)?;
+        let arcs = self.arcs.part(crew.alloc, self.range_within(limit))?;
         let passed = run_pass(crew, &arcs, &self.duals, near, guess, settings.most_labels)?;
         match passed {
             Passed::Closed(pass) => pool_of(crew, pass.labels, settings.most_listed),

@@ -1,25 +1,25 @@
 //! Two leaves where the number of routes in a solution isn't whole: plans with few routes, and plans with more. Each gets prices of its own,
 //! and together they have all plans.
 ghost use Rattle.std.specs.Prelude.{◌≡◌, ◌⊎◌, ◌≤◌, ℕ, List, IfOk, IfSome};
+ghost use Rattle.vrp_column_generation.specs.Pools.{ArePools};
 ghost use Rattle.vrp_column_generation.specs.Progress.{AreFor};
 ghost use Rattle.vrp_customers.specs.declared.customer_set.TheConstants.{PLACES};
 ghost use Rattle.vrp_model.specs.Problem.{Problem, place_count};
 ghost use Rattle.vrp_priced_routes.specs.Priced.{BoundsPlansIn};
 ghost use Rattle.vrp_routes.specs.Pool.{IsPoolIn};
-ghost use Rattle.vrp_routes.specs.Range.{HaveAll, IsInRange, IsPart, plans_within};
-ghost use Rattle.vrp_routes.specs.declared.plan_range.PlanRange.{PlanRange};
+ghost use Rattle.vrp_routes.specs.Range.{HaveAll, IsPart, plans_within};
 
 use crate::generation::Generation;
 use crate::guide::Guide;
 use crate::last_prices::LastPrices;
+use crate::pools::{LeafPools, Pools};
 use crate::program_rows::ProgramRow;
 use crate::progress::Progress;
-use crate::rounds::{AfterRounds, run_rounds};
-use std::alloc::Global;
+use crate::rounds::{AfterRounds, LEAF_ROUNDS, run_rounds};
 use std::thread::Threads;
 use vrp_customers::CustomerSet;
 use vrp_model::{Crew, Instance, NoMemory, Watch};
-use vrp_routes::{PlanRange, RoutePool};
+use vrp_routes::{Leaves, PlanRange, RoutePool};
 
 /// What column generation leaves that branches: plans with at most so many routes, and plans with more. If it doesn't come to prices for both
 /// leaves, those of the root are left.
@@ -34,31 +34,35 @@ pub(crate) fn generate_leaves<'a, R: Threads + Sync, W: Watch + Sync>(
     requires few { place_count instance.now ≤ PLACES }
     requires problem { root.arcs.problem ≡ instance.now }
     requires all { root.arcs.range ≡ plans_within root.arcs.range.limit }
+    ensures limit { IfOk result (λ made. made.limit ≡ root.entry.arcs.range.limit) }
     ensures bound { IfOk result (λ made. BoundsPlansIn root.entry.arcs.problem root.entry.arcs.range made.bound) }
-    ensures pool { IfOk result (λ made. IfSome made.pool (IsPoolIn root.entry.arcs.problem root.entry.arcs.range)) }
+    ensures pools { IfOk result (λ made. IfSome made.pools (ArePools root.entry.arcs.problem root.entry.arcs.range.limit)) }
     ensures prices { IfOk result (λ made. IfSome made.prices (λ prices.
         prices ≡ record { problem = root.entry.arcs.problem; limit = root.entry.arcs.range.limit })) }
 {
+    let limit = root.arcs.range().limit;
     let leaves = root.arcs.range().split(fewer);
     let (few_row, many_row) = guide.leaf_rows(fewer);
     let few = run_leaf(crew, instance, &root, guide, &near, leaves.few, few_row)?;
     let many = run_leaf(crew, instance, &root, guide, &near, leaves.many, many_row)?;
     let guess = guide.guess();
     let bound = few.progress.bound.min(many.progress.bound);
-    let pool = pool_of_both(crew.alloc, few.pool, many.pool)?;
-    if pool.is_some() {
+    let pools = pools_of_both(leaves, few.pool, many.pool);
+    if pools.is_some() {
         drop(root);
         drop(near);
         return Ok(Generation {
+            limit,
             bound,
-            pool,
+            pools,
             prices: None,
         });
     }
     let prices = prices_of_both(root, few.progress, many.progress, near, guess);
     Ok(Generation {
+        limit,
         bound,
-        pool,
+        pools,
         prices,
     })
 }
@@ -85,39 +89,24 @@ fn run_leaf<'a, R: Threads + Sync, W: Watch + Sync>(
             progress,
             pool: None,
             branch: None,
+            is_over: true,
         });
     };
-    let last = run_rounds(crew, instance, progress, &mut own, near, false);
+    let last = run_rounds(crew, instance, progress, &mut own, near, LEAF_ROUNDS);
     guide.count_labels(&own);
     drop(own);
     last
 }
 
-// The pool of all plans, if there are pools of both leaves.
-fn pool_of_both(
-    alloc: Global,
-    few: Option<RoutePool>,
-    many: Option<RoutePool>,
-) -> Result<Option<RoutePool>, NoMemory>
-    ensures { IfOk result (λ pool. (p : Problem) (range one other : PlanRange)
-        → IfSome few (IsPoolIn p one) → IfSome many (IsPoolIn p other) → HaveAll range one other
-        → IfSome pool (IsPoolIn p range)) }
+// The pools of both leaves, if there are both.
+fn pools_of_both(leaves: Leaves, few: Option<RoutePool>, many: Option<RoutePool>) -> Option<Pools>
+    ensures { (p : Problem) (limit : ℕ) → IfSome few (IsPoolIn p leaves.few) → IfSome many (IsPoolIn p leaves.many)
+        → HaveAll (plans_within limit) leaves.few leaves.many → IfSome result (ArePools p limit) }
 {
-    let Some(mut pool) = few else {
-        drop(many);
-        return Ok(None);
-    };
-    let Some(many) = many else {
-        drop(pool);
-        return Ok(None);
-    };
-    let has_room = pool.add(alloc, &many);
-    drop(many);
-    if has_room? {
-        return Ok(Some(pool));
+    match (few, many) {
+        (Some(few), Some(many)) => Some(Pools::Leaves(LeafPools { leaves, few, many })),
+        _ => None,
     }
-    drop(pool);
-    Ok(None)
 }
 
 // The last prices of both leaves, or of the root if there are none of some leaf.

@@ -62,7 +62,9 @@ impl Pace {
     /// What to do with final prices that give this lower bound, where so many price units are a unit of cost.
     pub(crate) fn decide(&mut self, bound: i64, unit: i64) -> Decision {
         let gap = self.limit.saturating_sub(bound);
-        let enough = gap.max(unit / 2).saturating_mul(3) / 200;
+        // A wide gap may be due to the known plan.
+        let likely = gap.min(self.limit / 1_000 * 6);
+        let enough = likely.max(unit / 2).saturating_mul(3) / 200;
         if bound.saturating_sub(self.best) < enough {
             self.stale = self.stale.saturating_add(1);
         } else {

@@ -19,10 +19,28 @@ pub(crate) struct AfterRounds<'a> {
     pub(crate) pool: Option<RoutePool>,
     /// If two leaves are worth more: how many routes the plans of the one leaf have at most.
     pub(crate) branch: Option<u16>,
+    /// Whether no better prices were found; else the rounds were all made.
+    pub(crate) is_over: bool,
 }
 
-// The most rounds of subset rows.
-const MOST_ROUNDS: u32 = 400;
+/// How many rounds of subset rows are made, and whether they may end in a branch.
+#[derive(Clone, Copy, Debug)]
+pub(crate) struct RoundLimits {
+    pub(crate) most: u32,
+    pub(crate) may_branch: bool,
+}
+
+/// As many rounds as it takes, and then a branch.
+pub(crate) const ALL_ROUNDS: RoundLimits = RoundLimits {
+    most: 400,
+    may_branch: true,
+};
+
+/// The same without a branch.
+pub(crate) const LEAF_ROUNDS: RoundLimits = RoundLimits {
+    most: 400,
+    may_branch: false,
+};
 
 // What the watch hears of a lower bound: column generation works on one node at a time.
 fn node_news(limit: u64, lower_bound: u64) -> News {
@@ -42,7 +60,7 @@ pub(crate) fn run_rounds<'a, R: Threads + Sync, W: Watch + Sync>(
     progress: Progress<'a>,
     guide: &mut Guide,
     near: &[CustomerSet],
-    may_branch: bool,
+    limits: RoundLimits,
 ) -> Result<AfterRounds<'a>, NoMemory>
     requires { progress.arcs.problem ≡ instance.now }
     ensures arcs { IfOk result (λ last. AreFor progress.entry.arcs.problem progress.entry.arcs.range last.progress.arcs) }
@@ -51,15 +69,20 @@ pub(crate) fn run_rounds<'a, R: Threads + Sync, W: Watch + Sync>(
     let limit = progress.arcs.range().limit;
     let mut progress = progress;
     let mut pace = Pace::new(guide.in_price_units(limit));
-    for _ in 0..MOST_ROUNDS {
+    for _ in 0..limits.most {
         let Some(prices) = guide.next_prices(crew, instance, progress.arcs.followers())? else {
-            break;
+            return Ok(AfterRounds {
+                progress,
+                pool: None,
+                branch: None,
+                is_over: true,
+            });
         };
         let bound = guide.bound_by(&prices);
         let are_final = prices.are_final;
         let decision = guide.decide(&mut pace, bound, are_final);
         let is_last = decision == Decision::End;
-        let branch = guide.branch_on(may_branch && is_last, bound)?;
+        let branch = guide.branch_on(limits.may_branch && is_last, bound)?;
         let after = progress.pass_if_decided(crew, guide, prices, near, decision)?;
         let AfterPass {
             progress: next,
@@ -71,6 +94,7 @@ pub(crate) fn run_rounds<'a, R: Threads + Sync, W: Watch + Sync>(
                 progress: next,
                 branch: if pool.is_some() { None } else { branch },
                 pool,
+                is_over: true,
             });
         }
         drop(pool);
@@ -83,6 +107,7 @@ pub(crate) fn run_rounds<'a, R: Threads + Sync, W: Watch + Sync>(
         progress,
         pool: None,
         branch: None,
+        is_over: false,
     })
 }
 

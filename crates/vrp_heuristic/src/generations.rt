@@ -18,8 +18,14 @@ use vrp_search_tree::{cheaper_plan, lawful_plan};
 // The number of the first run; the runs of a heuristic plan have lower ones.
 const FIRST_RUN: u64 = 100;
 
-// The least number of runs that make the first plans. They take half of the time.
+// The least number of runs that make the first plans. They take half of the time, or of the moves.
 const FIRST_RUNS: u64 = 8;
+
+// Without a time so many runs are made side by side, for any number of workers.
+const RUNS_TOGETHER: u16 = 4;
+
+// The average number of positions that a first run looks at for each move, at most.
+const POSITIONS_A_MOVE: u64 = 2_000;
 
 // The moves of a child's run for each place.
 const MOVES_A_PLACE: u64 = 30;
@@ -27,21 +33,74 @@ const MOVES_A_PLACE: u64 = 30;
 // The threshold of a child's run begins at this part of the usual one: the child is to keep what it has of its parents.
 const PART_OF_THRESHOLD: u64 = 16;
 
-/// The plan, or a better one, in so many milliseconds. For the first half of the time each worker makes runs with seeds of their own. Then
-/// each makes children: two plans are crossed as giant tours, the tour is split into routes, and a short run improves these.
+/// How long a population goes on.
+#[derive(Clone, Copy)]
+pub(crate) enum Span {
+    /// As long as the watch lets it, whose first half this is, in milliseconds. Each worker makes runs of its own.
+    Half(u64),
+    /// About so many moves. What comes of them is the same for any number of workers.
+    Moves(u64),
+}
+
+impl Span {
+    // The number of runs that are made side by side.
+    fn together(self, workers: u16) -> u16 {
+        match self {
+            Span::Half(_) => workers,
+            Span::Moves(_) => RUNS_TOGETHER,
+        }
+    }
+
+    // The length of a run of one of so many rounds of first runs, where the watch has so many milliseconds left; none if there is no time.
+    fn first_length(self, rounds: u64, left: Option<u64>) -> Option<Length> {
+        match self {
+            Span::Half(half) => {
+                let first = left?;
+                let last = first.saturating_sub(half / rounds.max(1));
+                if first == 0 {
+                    return None;
+                }
+                Some(Length::Time { first, last })
+            }
+            Span::Moves(moves) => {
+                let moves = moves / (2 * FIRST_RUNS);
+                let positions = moves.saturating_mul(POSITIONS_A_MOVE);
+                Some(Length::Work { moves, positions })
+            }
+        }
+    }
+
+    // How many times children are made.
+    fn generations(self, instance: &Instance) -> u64 {
+        match self {
+            Span::Half(_) => u64::MAX,
+            Span::Moves(moves) => {
+                moves / 2 / (u64::from(RUNS_TOGETHER) * moves_of_child(instance).max(1))
+            }
+        }
+    }
+}
+
+// The moves of a child's run.
+fn moves_of_child(instance: &Instance) -> u64 {
+    MOVES_A_PLACE * (u64::from(instance.customers()) + 1)
+}
+
+/// The plan, or a better one. For the first half of the time, or of the moves, runs are made with seeds of their own. Then come children: two
+/// plans are crossed as giant tours, the tour is split into routes, and a short run improves these.
 pub(crate) fn evolved<R: Threads + Sync, W: Watch + Sync>(
     crew: &Crew<'_, R, W>,
     setting: &Surroundings<'_>,
     plan: Plan,
-    milliseconds: u64,
+    span: Span,
 ) -> Result<Plan, NoMemory>
     requires { IsPlanOf setting.now plan }
     ensures lawful { IfOk result (IsPlanOf setting.now) }
     ensures no_costlier { IfOk result (λ found. found.cost ≤ plan.cost) }
 {
     let mut population = Population::new(crew.alloc, setting)?;
-    let best = after_runs(crew, setting, &mut population, plan, milliseconds / 2)?;
-    after_children(crew, setting, &mut population, best)
+    let best = after_runs(crew, setting, &mut population, plan, span)?;
+    after_children(crew, setting, &mut population, best, span)
 }
 
 // The best of a plan and those that the first runs make, which are added to a population.
@@ -50,31 +109,28 @@ fn after_runs<R: Threads + Sync, W: Watch + Sync>(
     setting: &Surroundings<'_>,
     population: &mut Population,
     plan: Plan,
-    milliseconds: u64,
+    span: Span,
 ) -> Result<Plan, NoMemory>
     requires { IsPlanOf setting.now plan }
     ensures lawful { IfOk result (IsPlanOf setting.now) }
     ensures no_costlier { IfOk result (λ found. found.cost ≤ plan.cost) }
 {
-    let workers = u64::from(crew.workers);
-    let rounds = 1 + (FIRST_RUNS - 1) / workers;
+    let together = span.together(crew.workers);
+    let rounds = FIRST_RUNS.div_ceil(u64::from(together).max(1));
     let mut best = plan;
     for index in 0..rounds {
-        let left = crew.watch.milliseconds_left().unwrap_or(0);
-        if left == 0 {
+        let Some(length) = span.first_length(rounds, crew.watch.milliseconds_left()) else {
             break;
-        }
+        };
         let round = Round {
-            first: FIRST_RUN + index * workers,
-            runs: crew.workers,
+            first: FIRST_RUN + index * u64::from(together),
+            runs: together,
             threshold: Threshold {
                 start: first_threshold(setting.instance()),
-                length: Length::Time {
-                    first: left,
-                    last: left.saturating_sub(milliseconds / rounds),
-                },
+                length,
             },
             gathers: 0,
+            recombines: false,
         };
         let runs = run_all(crew, setting, round, best.word())?;
         best = admitted(crew.alloc, setting, population, runs, best)?;
@@ -88,6 +144,7 @@ fn after_children<R: Threads + Sync, W: Watch + Sync>(
     setting: &Surroundings<'_>,
     population: &mut Population,
     plan: Plan,
+    span: Span,
 ) -> Result<Plan, NoMemory>
     requires { IsPlanOf setting.now plan }
     ensures lawful { IfOk result (IsPlanOf setting.now) }
@@ -97,9 +154,9 @@ fn after_children<R: Threads + Sync, W: Watch + Sync>(
     let quiet = Quiet { watch: crew.watch };
     let quiet_crew = crew.watched_by(&quiet);
     let mut random = Random::new(FIRST_RUN);
-    let mut round = round_of_children(setting.instance(), crew.workers);
+    let mut round = round_of_children(setting.instance(), span.together(crew.workers));
     let mut best = plan;
-    for _ in 0..u64::MAX {
+    for _ in 0..span.generations(setting.instance()) {
         if !crew.watch.should_continue() {
             break;
         }
@@ -110,25 +167,25 @@ fn after_children<R: Threads + Sync, W: Watch + Sync>(
         if best.cost() < known {
             crew.watch.on_news(News::Cheaper(best.cost()));
         }
-        round.first = round.first.saturating_add(u64::from(crew.workers));
+        round.first = round.first.saturating_add(u64::from(round.runs));
     }
     Ok(best)
 }
 
-// The runs of the first children, one for each worker.
-fn round_of_children(instance: &Instance, workers: u16) -> Round {
-    let places = u64::from(instance.customers()) + 1;
+// The runs of the first children.
+fn round_of_children(instance: &Instance, together: u16) -> Round {
     Round {
         first: FIRST_RUN.saturating_mul(2),
-        runs: workers,
+        runs: together,
         threshold: Threshold {
             start: first_threshold(instance) / PART_OF_THRESHOLD,
             length: Length::Work {
-                moves: MOVES_A_PLACE * places,
+                moves: moves_of_child(instance),
                 positions: u64::MAX,
             },
         },
         gathers: 0,
+        recombines: false,
     }
 }
 

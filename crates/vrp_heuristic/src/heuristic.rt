@@ -2,13 +2,14 @@
 ghost use Rattle.std.specs.Prelude.{IfOk, IfSome};
 ghost use Rattle.vrp_model.specs.Route.{IsPlanOf};
 
-use crate::recombined::recombined;
+use crate::recombined::{BUDGET, distinct_routes, recombined, some_routes};
 use crate::runs::{Round, Run, run_all};
 use crate::savings::savings_plan;
 use crate::surroundings::Surroundings;
 use crate::threshold::{Length, Threshold};
 use std::alloc::Global;
 use std::thread::Threads;
+use vrp_customers::MOST_CUSTOMERS;
 use vrp_model::{Crew, Instance, NoMemory, Plan, Watch};
 use vrp_search_tree::{cheaper_plan, lawful_plan};
 
@@ -23,7 +24,7 @@ const RUNS_OF_MORE: u16 = 8;
 // The number of the first run. With these numbers the runs end well on the instances that the method was tuned on.
 const FIRST_RUN: u64 = 49;
 
-// From this many customers on there are four runs of twice as many moves, and no routes are gathered.
+// From this many customers on there are four runs of twice as many moves, and routes aren't recombined.
 const MANY_CUSTOMERS: u16 = 126;
 
 // The most symbols of routes that a run gathers: mostly all that it finds.
@@ -31,6 +32,15 @@ const MOST_GATHERED: usize = 1 << 20;
 
 /// The average number of positions that a run looks at for each move, at most.
 const POSITIONS_A_MOVE: u64 = 2_000;
+
+/// What a search for a near-optimal plan finds.
+#[derive(Debug, Drop)]
+pub struct HeuristicPlan {
+    /// The best plan, if there is one.
+    pub plan: Option<Plan>,
+    /// The stops of some routes of good plans that were found on the way, no two with the same customers. No clause pins them.
+    pub routes: Vec<Vec<u16>>,
+}
 
 /// A near-optimal plan by ruin and recreate (Christiaens and Vanden Berghe 2020). A move removes strings of customers from a few nearby
 /// routes and puts each customer back where it costs least. The new plan is kept if it costs less than the last one plus a threshold,
@@ -40,23 +50,26 @@ const POSITIONS_A_MOVE: u64 = 2_000;
 /// by word. It is the same at each call and for any number of workers, unless the watch stops the runs; the watch is asked before each
 /// 16th move, and hears of each cheaper cost.
 ///
-/// With eight runs and fewer than 126 customers, the routes of good plans are gathered too, and the cheapest plan over these routes is
-/// taken if it costs less, as far as a search of a few seconds finds it.
+/// With more than `ENOUGH_MOVES` and at most 255 customers, the routes of good plans are gathered too. With fewer than 126 customers the
+/// cheapest plan over these routes is taken if it costs less, as far as a search of a few seconds finds it.
 ///
 /// With a limit on trucks no route is opened beyond it. If savings find no plan within the limit, the runs start with nobody served;
 /// customers without a place are tried again in each move, and a move that leaves more of them unserved is undone.
 ///
-/// `None`: no feasible plan was found. The contract leaves open which feasible plan is answered, and when there is none.
+/// There is no plan if no feasible one was found. The contract leaves open which feasible plan is answered, and when there is none.
 pub fn heuristic_plan<R: Threads + Sync, W: Watch + Sync>(
     crew: &Crew<'_, R, W>,
     instance: &Instance,
     moves: u32,
-) -> Result<Option<Plan>, NoMemory>
-    ensures { IfOk result (λ plan. IfSome plan (IsPlanOf instance.now)) }
+) -> Result<HeuristicPlan, NoMemory>
+    ensures { IfOk result (λ found. IfSome found.plan (IsPlanOf instance.now)) }
 {
     let best = savings_plan(crew.alloc, instance)?;
     if moves == 0 || instance.customers() == 0 {
-        return Ok(best);
+        return Ok(HeuristicPlan {
+            plan: best,
+            routes: Vec::new(crew.alloc),
+        });
     }
     let setting = Surroundings::new(crew.alloc, instance)?;
     let round = round_of(instance, moves);
@@ -66,15 +79,16 @@ pub fn heuristic_plan<R: Threads + Sync, W: Watch + Sync>(
 // The runs for this many moves.
 fn round_of(instance: &Instance, moves: u32) -> Round {
     let many = instance.customers() >= MANY_CUSTOMERS;
-    let (runs, gathers) = if many || moves <= ENOUGH_MOVES {
-        (RUNS, 0)
-    } else {
-        (RUNS_OF_MORE, MOST_GATHERED)
-    };
+    let wants_more = moves > ENOUGH_MOVES;
+    let gathers = wants_more && instance.customers() <= MOST_CUSTOMERS;
     let moves = u64::from(moves) * if many { 2 } else { 1 };
     Round {
         first: FIRST_RUN,
-        runs,
+        runs: if wants_more && !many {
+            RUNS_OF_MORE
+        } else {
+            RUNS
+        },
         threshold: Threshold {
             start: first_threshold(instance),
             length: Length::Work {
@@ -82,7 +96,8 @@ fn round_of(instance: &Instance, moves: u32) -> Round {
                 positions: moves * POSITIONS_A_MOVE,
             },
         },
-        gathers,
+        gathers: if gathers { MOST_GATHERED } else { 0 },
+        recombines: wants_more && !many,
     }
 }
 
@@ -93,9 +108,9 @@ fn best_of_round<R: Threads + Sync, W: Watch + Sync>(
     setting: &Surroundings<'_>,
     round: Round,
     plan: Option<Plan>,
-) -> Result<Option<Plan>, NoMemory>
+) -> Result<HeuristicPlan, NoMemory>
     requires { IfSome plan (IsPlanOf instance.now) }
-    ensures { IfOk result (λ found. IfSome found (IsPlanOf instance.now)) }
+    ensures { IfOk result (λ found. IfSome found.plan (IsPlanOf instance.now)) }
 {
     let word = match &plan {
         Some(plan) => plan.word(),
@@ -113,10 +128,28 @@ fn best_of_round<R: Threads + Sync, W: Watch + Sync>(
         gathered.extend_from_slice(routes.word())?;
         best = better(crew.alloc, instance, &word?, best)?;
     }
-    match best {
-        Some(plan) => Ok(Some(recombined(crew, instance, gathered.as_slice(), plan)?)),
-        None => Ok(None),
-    }
+    with_routes(crew, instance, &gathered, best)
+}
+
+// The best plan so far or a cheaper one over gathered routes, and some of these routes.
+fn with_routes<R: Threads + Sync, W: Watch + Sync>(
+    crew: &Crew<'_, R, W>,
+    instance: &Instance,
+    gathered: &[u16],
+    best: Option<Plan>,
+) -> Result<HeuristicPlan, NoMemory>
+    requires { IfSome best (IsPlanOf instance.now) }
+    ensures { IfOk result (λ found. IfSome found.plan (IsPlanOf instance.now)) }
+{
+    let listed = distinct_routes(crew.alloc, instance, gathered)?;
+    let routes = some_routes(crew.alloc, gathered, &listed)?;
+    let plan = match best {
+        Some(plan) if instance.customers() < MANY_CUSTOMERS => Some(recombined(
+            crew, instance, gathered, &listed, plan, BUDGET,
+        )?),
+        other => other,
+    };
+    Ok(HeuristicPlan { plan, routes })
 }
 
 // The plan of a word if it is before the best so far, otherwise that one.

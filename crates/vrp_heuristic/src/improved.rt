@@ -2,7 +2,7 @@
 ghost use Rattle.std.specs.Prelude.{◌≡◌, ◌≤◌, IfOk};
 ghost use Rattle.vrp_model.specs.Route.{IsPlanOf};
 
-use crate::generations::evolved;
+use crate::generations::{Span, evolved};
 use crate::heuristic::first_threshold;
 use crate::runs::{Round, run_all};
 use crate::surroundings::Surroundings;
@@ -42,7 +42,7 @@ pub fn improved_plan<R: Threads + Sync, W: Watch + Sync>(
     }
     let setting = Surroundings::new(crew.alloc, instance)?;
     if instance.customers() <= MOST_FOR_POPULATION && instance.trucks().is_none() {
-        return evolved(crew, &setting, best, milliseconds);
+        return evolved(crew, &setting, best, Span::Half(milliseconds / 2));
     }
     let round = Round {
         first: FIRST_RUN,
@@ -55,8 +55,30 @@ pub fn improved_plan<R: Threads + Sync, W: Watch + Sync>(
             },
         },
         gathers: 0,
+        recombines: false,
     };
     best_of_round(crew, instance, &setting, round, best)
+}
+
+/// The plan, or a better one, by a population and about so many moves. The answer is the same for any number of workers, unless the watch
+/// stops the runs. With a limit on trucks, or more than 250 customers, the plan is answered as it is. The contract leaves open which feasible
+/// plan is answered.
+pub fn evolved_plan<R: Threads + Sync, W: Watch + Sync>(
+    crew: &Crew<'_, R, W>,
+    instance: &Instance,
+    plan: Plan,
+    moves: u64,
+) -> Result<Plan, NoMemory>
+    requires { IsPlanOf instance.now plan }
+    ensures lawful { IfOk result (IsPlanOf instance.now) }
+    ensures no_costlier { IfOk result (λ found. found.cost ≤ plan.cost) }
+{
+    let customers = instance.customers();
+    if customers == 0 || customers > MOST_FOR_POPULATION || instance.trucks().is_some() {
+        return Ok(plan);
+    }
+    let setting = Surroundings::new(crew.alloc, instance)?;
+    evolved(crew, &setting, plan, Span::Moves(moves))
 }
 
 // The best of a plan and the plans that a round makes of it.

@@ -31,11 +31,12 @@ mod threshold;
 mod triangle;
 
 pub use gathered::Gathered;
-pub use heuristic::{ENOUGH_MOVES, heuristic_plan};
-pub use improved::improved_plan;
+pub use heuristic::{ENOUGH_MOVES, HeuristicPlan, heuristic_plan};
+pub use improved::{evolved_plan, improved_plan};
 pub use joined_routes::JoinedRoutes;
 pub use moves::{Course, States, run};
 pub use random::Random;
+pub use recombined::recombined_plan;
 pub use routes::Routes;
 pub use savings::savings_plan;
 pub use surroundings::Surroundings;

@@ -1,4 +1,4 @@
-//! Recombination: the cheapest plan over the routes of many plans.
+//! Recombination: the cheapest plan over many routes.
 ghost use Rattle.std.specs.Prelude.{◌≡◌, ◌<◌, ◌≤◌, IfOk, length};
 ghost use Rattle.vrp_model.specs.Problem.{place_count};
 ghost use Rattle.vrp_model.specs.Route.{IsPlanOf};
@@ -11,13 +11,16 @@ use vrp_partition::{Found, Route, Task, all_fit, cheapest_choice};
 use vrp_search_tree::cheaper_plan;
 use vrp_simplex::ProgramGuide;
 
-// The most reduced costs that the search for the cheapest choice looks at: mostly a second at most.
-const BUDGET: u64 = 6_000_000;
+/// The most reduced costs that a recombination looks at: mostly a second at most.
+pub(crate) const BUDGET: u64 = 6_000_000;
 
-// A route of a word: its customers, its cost, its first stop, and the position of its stops. Routes are compared by
-// customers and then by cost.
+// The most routes that are handed on.
+const MOST_ROUTES: usize = 4_000;
+
+/// A route of a word: its customers, its cost, its first stop, and the position of its stops. Routes are compared by
+/// customers and then by cost.
 #[derive(Clone, Copy, PartialEq, Eq, PartialOrd, Ord)]
-struct GatheredRoute {
+pub(crate) struct GatheredRoute {
     set: CustomerSet,
     cost: u32,
     first: u16,
@@ -25,29 +28,68 @@ struct GatheredRoute {
     end: usize,
 }
 
-/// The plan, or a cheaper one over gathered routes. These are given as a word: the stops of each route, followed by 0. They are not
-/// trusted.
-pub(crate) fn recombined<R: Threads + Sync, W: Watch + Sync>(
+/// The plan, or a cheaper one over these routes, as far as a search finds it that looks at no more than so many reduced costs. The routes
+/// are not trusted: one that visits a customer twice is left out. The contract leaves open which feasible plan is answered.
+pub fn recombined_plan<R: Threads + Sync, W: Watch + Sync>(
     crew: &Crew<'_, R, W>,
     instance: &Instance,
-    gathered: &[u16],
+    routes: &[Vec<u16>],
     plan: Plan,
+    budget: u64,
 ) -> Result<Plan, NoMemory>
     requires { IsPlanOf instance.now plan }
     ensures lawful { IfOk result (IsPlanOf instance.now) }
     ensures no_costlier { IfOk result (λ found. found.cost ≤ plan.cost) }
 {
-    if gathered.is_empty() || instance.customers() > MOST_CUSTOMERS {
+    let mut word = Vec::new(crew.alloc);
+    for route in routes {
+        word.extend_from_slice(route)?;
+        word.push(0)?;
+    }
+    let listed = distinct_routes(crew.alloc, instance, &word)?;
+    recombined(crew, instance, &word, &listed, plan, budget)
+}
+
+/// The plan, or a cheaper one over listed routes of a word: the stops of each route, followed by 0. They are not trusted.
+pub(crate) fn recombined<R: Threads + Sync, W: Watch + Sync>(
+    crew: &Crew<'_, R, W>,
+    instance: &Instance,
+    gathered: &[u16],
+    listed: &[GatheredRoute],
+    plan: Plan,
+    budget: u64,
+) -> Result<Plan, NoMemory>
+    requires { IsPlanOf instance.now plan }
+    ensures lawful { IfOk result (IsPlanOf instance.now) }
+    ensures no_costlier { IfOk result (λ found. found.cost ≤ plan.cost) }
+{
+    if listed.is_empty() || instance.customers() > MOST_CUSTOMERS {
         return Ok(plan);
     }
-    let listed = distinct_routes(crew.alloc, instance, gathered)?;
-    let chosen = chosen_routes(crew, instance, listed.as_slice(), &plan)?;
-    let word = word_of(crew.alloc, gathered, listed.as_slice(), chosen.as_slice())?;
+    let chosen = chosen_routes(crew, instance, listed, &plan, budget)?;
+    let word = word_of(crew.alloc, gathered, listed, chosen.as_slice())?;
     cheaper_plan(crew.alloc, instance, &word, plan)
 }
 
-// The routes of a word by their customers; among those with the same customers the cheapest.
-fn distinct_routes(
+/// The stops of listed routes of a word: of all of them, or of every second one, or third, if there are many.
+pub(crate) fn some_routes(
+    alloc: Global,
+    gathered: &[u16],
+    listed: &[GatheredRoute],
+) -> Result<Vec<Vec<u16>>, NoMemory> {
+    let mut routes = Vec::new(alloc);
+    let stride = listed.len() / MOST_ROUTES + 1;
+    for (index, route) in listed.iter().enumerate() {
+        if index % stride == 0 && route.start <= route.end && route.end <= gathered.len() {
+            let stops = Vec::from_slice(alloc, &gathered[route.start..route.end])?;
+            routes.push(stops)?;
+        }
+    }
+    Ok(routes)
+}
+
+/// The routes of a word by their customers; among those with the same customers the cheapest.
+pub(crate) fn distinct_routes(
     alloc: Global,
     instance: &Instance,
     word: &[u16],
@@ -58,7 +100,7 @@ fn distinct_routes(
     Ok(listed)
 }
 
-// The routes of a word, in its order.
+// The routes of a word that visit no customer twice, in its order.
 fn listed_routes(
     alloc: Global,
     instance: &Instance,
@@ -68,7 +110,10 @@ fn listed_routes(
     let mut start = 0;
     for end in 0..word.len() {
         if word[end] == 0 {
-            listed.push(route_between(instance, word, start, end))?;
+            let route = route_between(instance, word, start, end);
+            if start < end && usize::from(route.set.len()) == end - start {
+                listed.push(route)?;
+            }
             start = end + 1;
         }
     }
@@ -108,6 +153,7 @@ fn chosen_routes<R: Threads + Sync, W: Watch + Sync>(
     instance: &Instance,
     listed: &[GatheredRoute],
     plan: &Plan,
+    budget: u64,
 ) -> Result<Vec<Route>, NoMemory>
     requires { place_count instance.now ≤ PLACES }
 {
@@ -126,7 +172,7 @@ fn chosen_routes<R: Threads + Sync, W: Watch + Sync>(
         customers: all_customers(instance),
         incumbent: u64::from(cost),
     };
-    let mut budget = BUDGET;
+    let mut budget = budget;
     match cheapest_choice(&crew.watched_by(&quiet), guide, &task, pool, &mut budget)? {
         Found::Cheapest(chosen) => Ok(chosen.routes),
         Found::Unfinished { best, .. } => Ok(best.routes),

@@ -15,13 +15,15 @@ pub(crate) struct Round {
     pub(crate) threshold: Threshold,
     /// The most symbols of routes that each run gathers.
     pub(crate) gathers: usize,
+    /// Whether these routes are recombined.
+    pub(crate) recombines: bool,
 }
 
 impl Round {
-    // The course of the run of a number. If routes are gathered, every second run begins with half of the threshold, to find other plans.
+    // The course of the run of a number. If routes are recombined, every second run begins with half of the threshold, to find other plans.
     fn course_of(self, number: u64) -> Course {
         let Threshold { start, length } = self.threshold;
-        let has_half = self.gathers > 0 && number % 2 == 0;
+        let has_half = self.recombines && number % 2 == 0;
         Course {
             number,
             threshold: Threshold {

@@ -9,8 +9,9 @@ ghost use Rattle.vrp_model.specs.Problem.{Problem, place_count};
 ghost use Rattle.vrp_model.specs.Route.{IsPlanOf};
 ghost use Rattle.vrp_model.specs.declared.limits.TheConstants.{NO_COST};
 ghost use Rattle.vrp_priced_routes.specs.Priced.{BoundsPlans};
-ghost use Rattle.vrp_routes.specs.Pool.{IsPool};
+ghost use Rattle.vrp_column_generation.specs.Pools.{ArePools};
 
+use crate::cheaper_plans::CheaperPlans;
 use crate::choice::chosen_plan;
 use crate::guesses::plan_by_guesses;
 use crate::look::LEAST_PREPARED_BUDGET;
@@ -24,6 +25,7 @@ use vrp_canonical::RoutesOutcome;
 use vrp_column_generation::{Generation, Settings, generate_routes};
 use vrp_model::{Instance, NoMemory, Plan, canonical_is_cheapest, plans_cost_less};
 use vrp_routes::can_list;
+use vrp_search_tree::cheaper_plan;
 
 // The most labels of a pricing and of a pass: with more, a round takes too long.
 const MOST_LABELS: usize = 3_000_000;
@@ -40,11 +42,12 @@ const MOST_ROWS: usize = 240;
 // Two leaves are worth their time if the gap is so many thousandths of the known cost.
 const WORTH_LEAVES: u16 = 3;
 
-/// The canonical plan, by column generation. It isn't found without a start plan, with a budget below `LEAST_PREPARED_BUDGET`, or if a limit
+/// The canonical plan, by column generation, which begins with these routes of heuristic plans. It isn't found without a start plan, with a budget below `LEAST_PREPARED_BUDGET`, or if a limit
 /// is met first: there are too many customers or labels, the budget is spent, or the gate stops the search. Each label of a pricing, and
 /// each reduced cost that the choice looks at, counts as a partial plan. There are 1 to 64 workers. The only error is lack of memory.
 pub(crate) fn plan_by_columns<R: Threads + Sync, G: Gate + Sync>(
     shared: &Shared<'_, R, G>,
+    routes: &[Vec<u16>],
     workers: u32,
 ) -> Result<RoutesOutcome, NoMemory>
     requires some_worker { 1 ≤ workers }
@@ -61,12 +64,13 @@ pub(crate) fn plan_by_columns<R: Threads + Sync, G: Gate + Sync>(
         return Ok(nothing());
     }
     canonical_is_cheapest();
-    plan_from(shared, workers, known)
+    plan_from(shared, routes, workers, known)
 }
 
 // The canonical plan, sought with a known plan.
 fn plan_from<R: Threads + Sync, G: Gate + Sync>(
     shared: &Shared<'_, R, G>,
+    routes: &[Vec<u16>],
     workers: u32,
     known: &Plan,
 ) -> Result<RoutesOutcome, NoMemory>
@@ -83,23 +87,53 @@ fn plan_from<R: Threads + Sync, G: Gate + Sync>(
     // A plan costs less than none.
     plans_cost_less();
     let _customers = shared.instance.customers();
+    let Generated { made, word } = generated(shared, routes, workers, known)?;
+    let best = cheaper_plan(
+        shared.alloc,
+        shared.instance,
+        &word,
+        known.copy(shared.alloc)?,
+    );
+    drop(word);
+    let best = best?;
+    let outcome = chosen_from(shared, workers, &best, made);
+    Ok(with_plan(outcome?, best))
+}
+
+// The canonical plan among the routes that column generation has left.
+fn chosen_from<R: Threads + Sync, G: Gate + Sync>(
+    shared: &Shared<'_, R, G>,
+    workers: u32,
+    known: &Plan,
+    made: Generation<'_>,
+) -> Result<RoutesOutcome, NoMemory>
+    requires few { place_count shared.now.problem ≤ PLACES }
+    requires some_worker { 1 ≤ workers }
+    requires few_workers { workers ≤ 64 }
+    requires bound { BoundsPlans shared.now.problem made.limit made.bound }
+    requires pools { IfSome made.pools (ArePools shared.now.problem made.limit) }
+    requires prices { IfSome made.prices (λ prices. prices ≡ record { problem = shared.now.problem; limit = made.limit }) }
+    ensures canonical { IfOk result (IfCanonical (IsCanonical shared.now.problem)) }
+    ensures better { IfOk result (IfBetter (IsPlanOf shared.now.problem)) }
+    ensures bound { IfOk result (IfBound (NoneCheaper shared.now.problem)) }
+{
     let Generation {
+        limit,
         bound,
-        pool,
+        pools,
         prices,
-    } = generated(shared, workers, known)?;
-    let bound = bound_on_all(shared.instance, known, bound);
+    } = made;
+    let bound = bound_on_all(shared.instance, limit, bound);
     shared
         .gate
         .on_event(Event::Bound(LowerBound::of_cost(bound)));
-    if let Some(pool) = pool {
-        let outcome = chosen_plan(shared, &pool, known.cost(), known, workers);
-        drop(pool);
+    if let Some(pools) = pools {
+        let outcome = chosen_plan(shared, pools, limit, known, workers);
         return Ok(with_bound(outcome?, bound));
     }
     match prices {
         Some(prices) => {
-            let outcome = plan_by_guesses(shared, workers, known, &prices, bound);
+            let outcome = plan_by_guesses(shared, workers, known, &prices, limit, bound);
             drop(prices);
             outcome
         }
@@ -110,12 +144,34 @@ fn plan_from<R: Threads + Sync, G: Gate + Sync>(
     }
 }
 
-// A bound on all plans, from one on those that cost no more than the known one: it says nothing of the others.
-fn bound_on_all(instance: &Instance, known: &Plan, bound: u64) -> u64
-    requires { BoundsPlans instance.now known.now.cost bound }
+// The outcome with the cheaper one of its better plan and this plan, if it is unfinished.
+fn with_plan(outcome: RoutesOutcome, plan: Plan) -> RoutesOutcome
+    ensures canonical { (p : Problem) → IfCanonical (IsCanonical p) outcome → IfCanonical (IsCanonical p) result }
+    ensures better { (p : Problem) → IfBetter (IsPlanOf p) outcome → IsPlanOf p plan → IfBetter (IsPlanOf p) result }
+    ensures bound { (p : Problem) → IfBound (NoneCheaper p) outcome → IfBound (NoneCheaper p) result }
+{
+    match outcome {
+        RoutesOutcome::Canonical(canonical) => RoutesOutcome::Canonical(canonical),
+        RoutesOutcome::Unfinished {
+            better: Some(better),
+            lower_bound,
+        } if better.cost() <= plan.cost() => RoutesOutcome::Unfinished {
+            better: Some(better),
+            lower_bound,
+        },
+        RoutesOutcome::Unfinished { lower_bound, .. } => RoutesOutcome::Unfinished {
+            better: Some(plan),
+            lower_bound,
+        },
+    }
+}
+
+// A bound on all plans, from one on those that cost no more than a limit: it says nothing of the others.
+fn bound_on_all(instance: &Instance, limit: u64, bound: u64) -> u64
+    requires { BoundsPlans instance.now limit bound }
     ensures { NoneCheaper instance.now result }
 {
-    bound.min(known.cost())
+    bound.min(limit)
 }
 
 // The outcome with the higher of its bound and this one, if it is unfinished.
@@ -136,28 +192,46 @@ fn with_bound(outcome: RoutesOutcome, bound: u64) -> RoutesOutcome
     }
 }
 
-// A pool of the useful routes, if the canonical plan costs no more than the known one, and a lower bound on the plans that do.
+// What column generation leaves, and the word of the cheapest plan that was found meanwhile.
+#[derive(Drop)]
+struct Generated<'a> {
+    made: Generation<'a>,
+    word: Vec<u16>,
+}
+
+// Column generation from the routes of heuristic plans.
 fn generated<'a, R: Threads + Sync, G: Gate + Sync>(
     shared: &Shared<'a, R, G>,
+    routes: &[Vec<u16>],
     workers: u32,
     known: &Plan,
-) -> Result<Generation<'a>, NoMemory>
+) -> Result<Generated<'a>, NoMemory>
     requires few { place_count shared.now.problem ≤ PLACES }
     requires limit { known.now.cost ≤ NO_COST }
     requires some_worker { 1 ≤ workers }
     requires few_workers { workers ≤ 64 }
-    ensures bound { IfOk result (λ made. BoundsPlans shared.now.problem known.now.cost made.bound) }
-    ensures pool { IfOk result (λ made. IfSome made.pool (IsPool shared.now.problem known.now.cost)) }
-    ensures prices { IfOk result (λ made. IfSome made.prices (λ prices. prices ≡ record { problem = shared.now.problem; limit = known.now.cost })) }
+    ensures bound { IfOk result (λ found. BoundsPlans shared.now.problem found.made.limit found.made.bound) }
+    ensures pools { IfOk result (λ found. IfSome found.made.pools (ArePools shared.now.problem found.made.limit)) }
+    ensures prices { IfOk result (λ found. IfSome found.made.prices (λ prices.
+        prices ≡ record { problem = shared.now.problem; limit = found.made.limit })) }
 {
     shared.gate.on_event(Event::Begins(Stage::Columns));
     let settings = settings_of(shared);
-    let routes = routes_of(shared.alloc, known)?;
+    let first = first_routes(shared.alloc, known, routes)?;
     let watch = StageWatch::of_stage(shared, Stage::Columns);
     let crew = crew_of(shared, workers, &watch);
-    let made = generate_routes(&crew, shared.instance, known.cost(), &routes, settings);
-    drop(routes);
-    made
+    let mut finder = CheaperPlans::new(&crew, shared.instance, known.word())?;
+    let made = generate_routes(
+        &crew,
+        shared.instance,
+        known.cost(),
+        &first,
+        &mut finder,
+        settings,
+    );
+    drop(first);
+    let word = finder.into_word();
+    Ok(Generated { made: made?, word })
 }
 
 /// What column generation may use, and what is enough for it.
@@ -173,11 +247,18 @@ pub(crate) fn settings_of<R, G: Gate>(shared: &Shared<'_, R, G>) -> Settings {
     }
 }
 
-// The routes of a plan.
-fn routes_of(alloc: Global, plan: &Plan) -> Result<Vec<Vec<u16>>, NoMemory> {
+// The routes of a plan, and others.
+fn first_routes(
+    alloc: Global,
+    plan: &Plan,
+    others: &[Vec<u16>],
+) -> Result<Vec<Vec<u16>>, NoMemory> {
     let mut routes = Vec::new(alloc);
     for index in 0..plan.routes() {
         routes.push(Vec::from_slice(alloc, plan.route(index))?)?;
+    }
+    for route in others {
+        routes.push(Vec::from_slice(alloc, route)?)?;
     }
     Ok(routes)
 }

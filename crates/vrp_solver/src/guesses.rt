@@ -8,7 +8,7 @@ ghost use Rattle.vrp_model.specs.Cheapest.{NoneCheaper};
 ghost use Rattle.vrp_model.specs.Order.{IsCanonical};
 ghost use Rattle.vrp_model.specs.Problem.{place_count};
 ghost use Rattle.vrp_model.specs.Route.{IsPlanOf};
-ghost use Rattle.vrp_routes.specs.Pool.{IsPool};
+ghost use Rattle.vrp_column_generation.specs.Pools.{ArePools};
 
 use crate::choice::chosen_plan;
 use crate::columns::{nothing, settings_of};
@@ -17,28 +17,33 @@ use std::thread::Threads;
 use vrp_answer::{Event, Gate, Shared, Stage};
 use vrp_bound::LowerBound;
 use vrp_canonical::RoutesOutcome;
-use vrp_column_generation::LastPrices;
+use vrp_column_generation::{LastPrices, Pools};
 use vrp_model::{NoMemory, Plan};
-use vrp_routes::RoutePool;
 
 // The limits of the guesses, in percent of the gap. With the best plan known, guesses take a little longer than none; with another one
 // they save most of the list and of the choice.
 const PERCENT: &[u64] = &[50, 65, 80, 100];
 
-/// The canonical plan, among the routes that the last prices of column generation list for one limit after another, the last one the
-/// known plan's cost. It isn't found if a limit on labels is met, the budget is spent, or the gate stops the search. No plan costs less than
+// The same for a gap of so many thousandths of the cost and more. It may be due to the known plan, so the first guesses are lower.
+const WIDE_GAP: u64 = 6;
+
+const PERCENT_OF_WIDE_GAP: &[u64] = &[20, 35, 50, 65, 80, 100];
+
+/// The canonical plan, among the routes that the last prices of column generation list for one limit after another, up to `most`, the
+/// limit of these prices. It isn't found if a limit on labels is met, the budget is spent, or the gate stops the search. No plan costs less than
 /// `bound`; a guess without a plan raises it, and the gate hears of that. There are 1 to 64 workers. The only error is lack of memory.
 pub(crate) fn plan_by_guesses<R: Threads + Sync, G: Gate + Sync>(
     shared: &Shared<'_, R, G>,
     workers: u32,
     known: &Plan,
     prices: &LastPrices<'_>,
+    most: u64,
     bound: u64,
 ) -> Result<RoutesOutcome, NoMemory>
     requires few { place_count shared.now.problem ≤ PLACES }
     requires some_worker { 1 ≤ workers }
     requires few_workers { workers ≤ 64 }
-    requires prices { prices.now ≡ record { problem = shared.now.problem; limit = known.now.cost } }
+    requires prices { prices.now ≡ record { problem = shared.now.problem; limit = most } }
     requires bound { NoneCheaper shared.now.problem bound }
     ensures canonical { IfOk result (IfCanonical (IsCanonical shared.now.problem)) }
     ensures better { IfOk result (IfBetter (IsPlanOf shared.now.problem)) }
@@ -46,8 +51,8 @@ pub(crate) fn plan_by_guesses<R: Threads + Sync, G: Gate + Sync>(
 {
     let first = bound;
     let mut bound = bound;
-    for &percent in PERCENT {
-        let limit = guess(first, known.cost(), percent);
+    for &percent in percents(first, most) {
+        let limit = guess(first, most, percent);
         // No plan costs as little, as an earlier guess has shown.
         if limit < bound {
             continue;
@@ -77,13 +82,22 @@ pub(crate) fn plan_by_guesses<R: Threads + Sync, G: Gate + Sync>(
     })
 }
 
-// The bound and so many percent of the gap, and no more than the known cost.
-fn guess(bound: u64, cost: u64, percent: u64) -> u64
-    ensures { result ≤ cost }
+// The percents of the gap that are guessed.
+fn percents(bound: u64, most: u64) -> &'static [u64] {
+    if most.saturating_sub(bound) < most / 1_000 * WIDE_GAP {
+        PERCENT
+    } else {
+        PERCENT_OF_WIDE_GAP
+    }
+}
+
+// The bound and so many percent of the gap, and no more than the greatest limit.
+fn guess(bound: u64, most: u64, percent: u64) -> u64
+    ensures { result ≤ most }
 {
-    let gap = cost.saturating_sub(bound);
+    let gap = most.saturating_sub(bound);
     let part = gap.saturating_mul(percent) / 100;
-    bound.saturating_add(part).min(cost)
+    bound.saturating_add(part).min(most)
 }
 
 // The canonical plan, if it costs no more than a limit.
@@ -97,33 +111,29 @@ fn plan_within<R: Threads + Sync, G: Gate + Sync>(
     requires few { place_count shared.now.problem ≤ PLACES }
     requires some_worker { 1 ≤ workers }
     requires few_workers { workers ≤ 64 }
-    requires prices { prices.now ≡ record { problem = shared.now.problem; limit = known.now.cost } }
-    requires limit { limit ≤ known.now.cost }
+    requires problem { prices.now.problem ≡ shared.now.problem }
+    requires limit { limit ≤ prices.now.limit }
     ensures canonical { IfOk result (IfCanonical (IsCanonical shared.now.problem)) }
     ensures better { IfOk result (IfBetter (IsPlanOf shared.now.problem)) }
     ensures bound { IfOk result (IfBound (NoneCheaper shared.now.problem)) }
 {
-    match pool_within(shared, workers, prices, limit)? {
-        Some(pool) => {
-            let outcome = chosen_plan(shared, &pool, limit, known, workers);
-            drop(pool);
-            outcome
-        }
+    match pools_within(shared, workers, prices, limit)? {
+        Some(pools) => chosen_plan(shared, pools, limit, known, workers),
         None => Ok(nothing()),
     }
 }
 
 // The routes that may be in the canonical plan, if it costs no more than a limit.
-fn pool_within<R: Threads + Sync, G: Gate + Sync>(
+fn pools_within<R: Threads + Sync, G: Gate + Sync>(
     shared: &Shared<'_, R, G>,
     workers: u32,
     prices: &LastPrices<'_>,
     limit: u64,
-) -> Result<Option<RoutePool>, NoMemory>
+) -> Result<Option<Pools>, NoMemory>
     requires some_worker { 1 ≤ workers }
     requires few_workers { workers ≤ 64 }
     requires limit { limit ≤ prices.now.limit }
-    ensures { IfOk result (λ pool. IfSome pool (IsPool prices.now.problem limit)) }
+    ensures { IfOk result (λ pools. IfSome pools (ArePools prices.now.problem limit)) }
 {
     shared.gate.on_event(Event::Begins(Stage::Columns));
     let settings = settings_of(shared);

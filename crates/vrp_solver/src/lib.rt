@@ -3,6 +3,7 @@
 
 mod ascent_bound;
 mod better_plan;
+mod cheaper_plans;
 mod choice;
 mod columns;
 mod draws;

@@ -115,8 +115,8 @@ fn solve_shared<R: Threads + Wait + Sync, G: Gate + Sync>(
         });
     }
     let made = heuristic_plan(shared, workers)?;
-    let begun = shared.with_plan(made.as_ref());
-    let solved = solve_by_columns(&begun, cutting, workers);
+    let begun = shared.with_plan(made.plan.as_ref());
+    let solved = solve_by_columns(&begun, &made.routes, cutting, workers);
     drop(made);
     Ok(solved?)
 }
@@ -124,13 +124,14 @@ fn solve_shared<R: Threads + Wait + Sync, G: Gate + Sync>(
 // Answers by column generation if that finds the canonical plan, else by the pieces.
 fn solve_by_columns<R: Threads + Wait + Sync, G: Gate + Sync>(
     shared: &Shared<'_, R, G>,
+    routes: &[Vec<u16>],
     cutting: Cutting,
     workers: u32,
 ) -> Result<Solved, NoMemory>
     requires { CanSolve shared.now cutting workers }
     ensures { IfOk result (IsSolved shared.now cutting) }
 {
-    match plan_by_columns(shared, workers)? {
+    match plan_by_columns(shared, routes, workers)? {
         RoutesOutcome::Canonical(plan) => {
             report_plan(shared.gate, Some(&plan));
             Ok(Solved {

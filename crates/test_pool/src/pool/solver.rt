@@ -159,7 +159,7 @@ fn start_plan_by_savings(rt: HostRuntime) {
         watch: &Unhurried,
     };
     let savings = heuristic_plan(&crew, &free, 0).expect(&rt, "memory");
-    assert!(rt; savings.is_some_and(|plan| plan.cost() == 400));
+    assert!(rt; savings.plan.is_some_and(|plan| plan.cost() == 400));
     let limited = line(&rt, rt.alloc()).with_trucks(2);
     for instance in [&free, &limited] {
         for (workers, pieces) in [(1, 1), (2, 1), (1, 20), (2, 20)] {

@@ -1,7 +1,7 @@
 use Rattle.std.proofs.Common.{subst}
 use Rattle.vrp_answer.specs.Outcomes.{Search}
 use Rattle.vrp_model.specs.Cheapest.{NoneCheaper}
-use Rattle.vrp_solver.proofs.columns.plan_from.Goals as goal
+use Rattle.vrp_solver.proofs.columns.chosen_from.Goals as goal
 
 pub returns-in-Some-clause-canonical : goal.returns-in-Some-clause-canonical
 returns-in-Some-clause-canonical g c = c.with_bound.ensures.canonical c.args.shared.now.problem c.in_ok-outcome.ensures.canonical
