@@ -19,26 +19,26 @@ use Rattle.vrp_partition.proofs.PoolParts.{kept_choice, none_in_gap}
 pub filtered_known : {X : Type 0} (p : X → Bool) (xs : List X) (x : X) → Contains (filter p xs) x → Contains xs x
 filtered_known p xs x has = All-contains (Contains xs) (filter p xs) x (All-filter p (Contains xs) xs (All-contains_itself xs)) has
 
-pub none_cheaper : (prices : Prices) (scale customers trucks incumbent : ℕ) (pool : List Route) → AreValid prices pool customers → NoneNegative prices scale pool → 0 < incumbent → gap_of prices scale customers trucks (incumbent - 1) <ℤ pos 0 → (routes : List Route) → IsCheapest pool customers trucks incumbent incumbent routes
-none_cheaper prices scale customers trucks incumbent pool valid none some negative routes = record {
+pub none_cheaper : (prices : Prices) (scale customers trucks fewest incumbent : ℕ) (pool : List Route) → AreValid prices pool customers fewest → NoneNegative prices scale pool → 0 < incumbent → gap_of prices scale customers trucks (incumbent - 1) <ℤ pos 0 → (routes : List Route) → IsCheapest pool customers trucks fewest incumbent incumbent routes
+none_cheaper prices scale customers trucks fewest incumbent pool valid none some negative routes = record {
   most = omega arith;
-  least = λ others choice. omega (arith, some, none_in_gap prices scale customers trucks (incumbent - 1) pool valid none negative others choice);
+  least = λ others choice many. omega (arith, some, none_in_gap prices scale customers trucks fewest (incumbent - 1) pool valid none negative others choice many);
   attained = λ below. absurd (omega arith);
 }
 
 -- what is not kept is above the incumbent
-pub kept_least : (prices : Prices) (scale customers trucks incumbent : ℕ) (pool : List Route) → AreValid prices pool customers → NoneNegative prices scale pool → 0 < incumbent
-    → (limit : ℕ) → limit ≤ incumbent → NoneBelow (filter (is_within_gap prices scale (gap_of prices scale customers trucks (incumbent - 1))) pool) customers trucks limit → NoneBelow pool customers trucks limit
-kept_least prices scale customers trucks incumbent pool valid none some limit most kept = λ routes choice. elim (cases_lt (cost_of routes) incumbent) [
-  | inl cheap ↦ kept routes (kept_choice prices scale customers trucks (incumbent - 1) pool routes valid none choice (omega (arith, cheap)))
+pub kept_least : (prices : Prices) (scale customers trucks fewest incumbent : ℕ) (pool : List Route) → AreValid prices pool customers fewest → NoneNegative prices scale pool → 0 < incumbent
+    → (limit : ℕ) → limit ≤ incumbent → NoneBelow (filter (is_within_gap prices scale (gap_of prices scale customers trucks (incumbent - 1))) pool) customers trucks fewest limit → NoneBelow pool customers trucks fewest limit
+kept_least prices scale customers trucks fewest incumbent pool valid none some limit most kept = λ routes choice many. elim (cases_lt (cost_of routes) incumbent) [
+  | inl cheap ↦ kept routes (kept_choice prices scale customers trucks fewest (incumbent - 1) pool routes valid none choice many (omega (arith, cheap))) many
   | inr dear ↦ omega (arith, dear, most)
 ]
 
 -- no choice costs less than a number that is above the lower bound by less than one
-pub whole_bound : (prices : Prices) (scale customers trucks bound : ℕ) (pool : List Route) → AreValid prices pool customers → NoneNegative prices scale pool
-    → (0 < bound → gap_of prices scale customers trucks (bound - 1) <ℤ pos 0) → NoneBelow pool customers trucks bound
-whole_bound prices scale customers trucks bound pool valid none negative = λ routes choice. elim (cases_lt 0 bound) [
-  | inl some ↦ omega (arith, some, none_in_gap prices scale customers trucks (bound - 1) pool valid none (negative some) routes choice)
+pub whole_bound : (prices : Prices) (scale customers trucks fewest bound : ℕ) (pool : List Route) → AreValid prices pool customers fewest → NoneNegative prices scale pool
+    → (0 < bound → gap_of prices scale customers trucks (bound - 1) <ℤ pos 0) → NoneBelow pool customers trucks fewest bound
+whole_bound prices scale customers trucks fewest bound pool valid none negative = λ routes choice many. elim (cases_lt 0 bound) [
+  | inl some ↦ omega (arith, some, none_in_gap prices scale customers trucks fewest (bound - 1) pool valid none (negative some) routes choice many)
   | inr zero ↦ omega (arith, zero)
 ]
 
@@ -69,23 +69,23 @@ values_within : (value scale cost incumbent : ℕ) (lower_bound rest gap : ℤ) 
 values_within value scale cost incumbent lower_bound rest gap e law le is some = omega (arith, ints)
 
 -- the search over the columns of what is kept
-pub cheapest_columns : (prices : Prices) (scale customers trucks incumbent found : ℕ) (pool : List Route) (parts : List Column) → AreValid prices pool customers → NoneNegative prices scale pool → 0 < incumbent
+pub cheapest_columns : (prices : Prices) (scale customers trucks fewest incumbent found : ℕ) (pool : List Route) (parts : List Column) → AreValid prices pool customers fewest → NoneNegative prices scale pool → 0 < incumbent
     → pos 0 ≤ℤ gap_of prices scale customers trucks (incumbent - 1)
     → IsLeast (map (column_of prices scale) (filter (is_within_gap prices scale (gap_of prices scale customers trucks (incumbent - 1))) pool)) customers trucks incumbent (unsigned_abs (gap_of prices scale customers trucks (incumbent - 1))) found parts
-    → IsCheapest pool customers trucks incumbent found (map route_of parts)
-cheapest_columns prices scale customers trucks incumbent found pool parts valid none some is_gap answer =
+    → IsCheapest pool customers trucks fewest incumbent found (map route_of parts)
+cheapest_columns prices scale customers trucks fewest incumbent found pool parts valid none some is_gap answer =
     let gap = gap_of prices scale customers trucks (incumbent - 1) in
     let kept = filter (is_within_gap prices scale gap) pool in
     record {
       most = answer.most;
-      least = λ routes choice. elim (cases_lt (cost_of routes) incumbent) [
+      least = λ routes choice many. elim (cases_lt (cost_of routes) incumbent) [
         | inl cheap ↦
-            let inside = kept_choice prices scale customers trucks (incumbent - 1) pool routes valid none choice (omega (arith, cheap)) in
+            let inside = kept_choice prices scale customers trucks fewest (incumbent - 1) pool routes valid none choice many (omega (arith, cheap)) in
             let columns = map (column_of prices scale) routes in
             let nonneg : All (λ r. pos 0 ≤ℤ reduced_cost_of prices scale r) routes = All-weaker (Contains pool) (λ r. pos 0 ≤ℤ reduced_cost_of prices scale r) (λ r known. All-contains (λ r. pos 0 ≤ℤ reduced_cost_of prices scale r) pool r none known) routes choice.known in
             let value : columns_reduced_cost columns ≤ unsigned_abs gap = values_within (columns_reduced_cost columns) scale (cost_of routes) incumbent (lower_bound_of prices customers trucks) (total (reduced_cost_of prices scale) routes) gap
             (ap (λ n. pos n) (sum_by_map (λ (c : Column). c.reduced_cost) (column_of prices scale) routes) ∙ values_total (reduced_cost_of prices scale) routes nonneg)
-            (priced_choice prices scale customers trucks pool routes valid choice) (mul-le-mul_left scale (omega (arith, cheap))) refl is_gap in
+            (priced_choice prices scale customers trucks fewest pool routes valid choice many) (mul-le-mul_left scale (omega (arith, cheap))) refl is_gap in
             let is_choice : IsChoice column_set (map (column_of prices scale) kept) customers trucks columns = record {
               known = All-map (Contains (map (column_of prices scale) kept)) (column_of prices scale) routes
                   (All-weaker (Contains kept) (λ r. Contains (map (column_of prices scale) kept) (column_of prices scale r)) (mapped_known (column_of prices scale) kept) routes inside.known);

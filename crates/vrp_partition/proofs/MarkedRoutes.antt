@@ -26,16 +26,16 @@ marks_long : (prices : Prices) (scale : ℕ) (gap : ℤ) (pool : List Route) (co
 marks_long prices scale gap pool costs are = length-map costs (λ cost. int_le cost gap) ∙ (ap length are ∙ length-map pool (reduced_cost_of prices scale))
 
 -- by the gap below the limit
-pub marked : (priced : PricedPool) (pool : List Route) (customers trucks limit : ℕ) (gap : ℤ) → IsPriced pool customers priced → gap ≡ gap_of priced.prices SCALE customers trucks limit
-    → MarksWithin pool customers trucks limit (map (λ cost. int_le cost gap) priced.costs.items)
-marked priced pool customers trucks limit gap is is_gap = record {
+pub marked : (priced : PricedPool) (pool : List Route) (customers trucks fewest limit : ℕ) (gap : ℤ) → IsPriced pool customers fewest priced → gap ≡ gap_of priced.prices SCALE customers trucks limit
+    → MarksWithin pool customers trucks fewest limit (map (λ cost. int_le cost gap) priced.costs.items)
+marked priced pool customers trucks fewest limit gap is is_gap = record {
   long = marks_long priced.prices SCALE gap pool priced.costs.items is.costs;
-  rest = λ at route lt unmarked routes choice has. elim (cases_lt limit (cost_of routes)) [
+  rest = λ at route lt unmarked routes choice many has. elim (cases_lt limit (cost_of routes)) [
     | inl more ↦ more
     | inr within ↦
         let none = none_negative_pool priced.prices SCALE pool priced.costs.items is.costs is.none in
         let p = is_within_gap priced.prices SCALE (gap_of priced.prices SCALE customers trucks limit) in
-        let kept = kept_choice priced.prices SCALE customers trucks limit pool routes is.valid none choice within in
+        let kept = kept_choice priced.prices SCALE customers trucks fewest limit pool routes is.valid none choice many within in
         let among : Contains (filter p pool) (get_or pool at route) = All-contains (Contains (filter p pool)) routes (get_or pool at route) kept.known has in
         let passes : p (get_or pool at route) ≡ true = All-contains (λ r. p r ≡ true) (filter p pool) (get_or pool at route) (filter_passes p pool) among in
         different (p (get_or pool at route)) passes (ap (λ z. is_within_gap priced.prices SCALE z (get_or pool at route)) (sym is_gap) ∙ (sym (mark_is priced.prices SCALE at gap pool priced.costs.items route is.costs lt) ∙ unmarked))
@@ -43,9 +43,9 @@ marked priced pool customers trucks limit gap is is_gap = record {
 }
 
 -- where the gap is negative, whatever the marks
-pub marked_none : (priced : PricedPool) (pool : List Route) (customers trucks limit : ℕ) (gap : ℤ) → IsPriced pool customers priced → gap_of priced.prices SCALE customers trucks limit <ℤ pos 0
-    → MarksWithin pool customers trucks limit (map (λ cost. int_le cost gap) priced.costs.items)
-marked_none priced pool customers trucks limit gap is negative = record {
+pub marked_none : (priced : PricedPool) (pool : List Route) (customers trucks fewest limit : ℕ) (gap : ℤ) → IsPriced pool customers fewest priced → gap_of priced.prices SCALE customers trucks limit <ℤ pos 0
+    → MarksWithin pool customers trucks fewest limit (map (λ cost. int_le cost gap) priced.costs.items)
+marked_none priced pool customers trucks fewest limit gap is negative = record {
   long = marks_long priced.prices SCALE gap pool priced.costs.items is.costs;
-  rest = λ at route lt unmarked routes choice has. none_in_gap priced.prices SCALE customers trucks limit pool is.valid (none_negative_pool priced.prices SCALE pool priced.costs.items is.costs is.none) negative routes choice;
+  rest = λ at route lt unmarked routes choice many has. none_in_gap priced.prices SCALE customers trucks fewest limit pool is.valid (none_negative_pool priced.prices SCALE pool priced.costs.items is.costs is.none) negative routes choice many;
 }

@@ -5,7 +5,7 @@ use Rattle.std.proofs.lemmas.Bool.{cases_lt}
 use Rattle.std.proofs.lemmas.Grind.{get_or-set_at}
 use Rattle.std.proofs.lemmas.List.{get_or-map, get_or-set_other, get_or_append_left, get_or_push, length-map, length_push, map_push}
 use Rattle.std.proofs.lemmas.List.Elements.{Contains-get_or}
-use Rattle.vrp_partition.specs.Choice.{IsChoice, cost_of, set_of}
+use Rattle.vrp_partition.specs.Choice.{IsChoice, cost_of, routes_to, set_of}
 use Rattle.vrp_partition.specs.Narrowing.{route_at}
 use Rattle.vrp_partition.specs.Prices.{AllFit, load_of}
 use Rattle.vrp_partition.specs.Pricing.{MarksWithin, StandsInNone}
@@ -64,10 +64,10 @@ more_routes pool routes places place d lt are =
     ap (λ rs. rs ++ get_or pool place d ∷ []) are ∙ (ap (λ r. map (route_at pool) places ++ r ∷ []) (same_at pool place d none lt) ∙ sym (map_push (route_at pool) places place))
 
 -- a cheap choice of the pool is one of the routes at the places
-stays : (pool routes parts : List Route) (places : List ℕ) (customers trucks limit : ℕ) → routes ≡ map (route_at pool) places
-    → ((k : ℕ) → k < length pool → (Contains places k → ⊥) → StandsInNone pool customers trucks limit (route_at pool k))
-    → IsChoice set_of pool customers trucks parts → cost_of parts ≤ limit → IsChoice set_of routes customers trucks parts
-stays pool routes parts places customers trucks limit are rest choice within = record {
+stays : (pool routes parts : List Route) (places : List ℕ) (customers trucks fewest limit : ℕ) → routes ≡ map (route_at pool) places
+    → ((k : ℕ) → k < length pool → (Contains places k → ⊥) → StandsInNone pool customers trucks fewest limit (route_at pool k))
+    → IsChoice set_of pool customers trucks parts → fewest ≤ routes_to customers parts → cost_of parts ≤ limit → IsChoice set_of routes customers trucks parts
+stays pool routes parts places customers trucks fewest limit are rest choice many within = record {
   known = λ i d lt. part i d lt (choice.known i d lt);
   once = choice.once;
   few = choice.few;
@@ -82,18 +82,18 @@ stays pool routes parts places customers trucks limit are rest choice within = r
         let e : route_at pool k ≡ get_or parts i d = same_at pool k none (get_or parts i d) inside ∙ is in
         elim (place_or_not places k) [
           | inl has ↦ route_there k (get_or parts i d) e has
-          | inr lacks ↦ absurd (let more : limit < cost_of parts = rest k inside lacks parts choice (subst (Contains parts) (sym e) (Contains-get_or parts i d lt)) in omega (arith, more, within))
+          | inr lacks ↦ absurd (let more : limit < cost_of parts = rest k inside lacks parts choice many (subst (Contains parts) (sym e) (Contains-get_or parts i d lt)) in omega (arith, more, within))
         ]
 
 -- a route that a round leaves out stands in no cheap choice of the pool
-pub left_out : (pool routes : List Route) (places kept : List ℕ) (marks : List Bool) (customers trucks limit : ℕ) → routes ≡ map (route_at pool) places → length marks ≡ length places
-    → ((k : ℕ) → k < length pool → (Contains places k → ⊥) → StandsInNone pool customers trucks limit (route_at pool k))
-    → MarksWithin routes customers trucks limit marks
+pub left_out : (pool routes : List Route) (places kept : List ℕ) (marks : List Bool) (customers trucks fewest limit : ℕ) → routes ≡ map (route_at pool) places → length marks ≡ length places
+    → ((k : ℕ) → k < length pool → (Contains places k → ⊥) → StandsInNone pool customers trucks fewest limit (route_at pool k))
+    → MarksWithin routes customers trucks fewest limit marks
     → ((at : ℕ) → at < length places → get_or marks at false ≡ true → Contains kept (get_or places at 0))
-    → (k : ℕ) → k < length pool → (Contains kept k → ⊥) → StandsInNone pool customers trucks limit (route_at pool k)
-left_out pool routes places kept marks customers trucks limit are long rest within all k inside lacks parts choice has =
+    → (k : ℕ) → k < length pool → (Contains kept k → ⊥) → StandsInNone pool customers trucks fewest limit (route_at pool k)
+left_out pool routes places kept marks customers trucks fewest limit are long rest within all k inside lacks parts choice many has =
     elim (place_or_not places k) [
-      | inr other ↦ rest k inside other parts choice has
+      | inr other ↦ rest k inside other parts choice many has
       | inl (i, lt, is) ↦ by_mark i lt (sym (same_at places i k 0 lt) ∙ is) (get_or marks i false) refl
     ]
   where
@@ -105,7 +105,7 @@ left_out pool routes places kept marks customers trucks limit are long rest with
           | inr cheap ↦
               let same : get_or routes i none ≡ route_at pool k = ap (λ rs. get_or rs i none) are ∙ (get_or-map (route_at pool) places i 0 none lt ∙ ap (route_at pool) is) in
               within.rest i none (omega (arith, lt, ap length are, length-map places (route_at pool))) mark parts
-              (stays pool routes parts places customers trucks limit are rest choice cheap) (subst (Contains parts) (sym same) has)
+              (stays pool routes parts places customers trucks fewest limit are rest choice many cheap) many (subst (Contains parts) (sym same) has)
         ]
 
 -- one more place is marked
@@ -134,8 +134,8 @@ fit_kept pool routes places demands capacity are inside fit = subst (AllFit dema
     subst (λ (r : Route). load_of demands r.set ≤ capacity) (sym (get_or-map (route_at pool) places k 0 d there)) (fit (get_or places k 0) none (inside k there)))
 
 -- a place that isn't marked is none of those that are left
-pub unmarked_rest : (pool : List Route) (places : List ℕ) (marks : List Bool) (customers trucks limit : ℕ)
-    → ((k : ℕ) → k < length pool → (Contains places k → ⊥) → StandsInNone pool customers trucks limit (route_at pool k))
+pub unmarked_rest : (pool : List Route) (places : List ℕ) (marks : List Bool) (customers trucks fewest limit : ℕ)
+    → ((k : ℕ) → k < length pool → (Contains places k → ⊥) → StandsInNone pool customers trucks fewest limit (route_at pool k))
     → ((k : ℕ) → k < length pool → get_or marks k false ≡ false → Contains places k → ⊥)
-    → (k : ℕ) (d : Route) → k < length pool → get_or marks k false ≡ false → StandsInNone pool customers trucks limit (get_or pool k d)
-unmarked_rest pool places marks customers trucks limit rest none_there k d lt unmarked = subst (StandsInNone pool customers trucks limit) (same_at pool k none d lt) (rest k lt (none_there k lt unmarked))
+    → (k : ℕ) (d : Route) → k < length pool → get_or marks k false ≡ false → StandsInNone pool customers trucks fewest limit (get_or pool k d)
+unmarked_rest pool places marks customers trucks fewest limit rest none_there k d lt unmarked = subst (StandsInNone pool customers trucks fewest limit) (same_at pool k none d lt) (rest k lt (none_there k lt unmarked))

@@ -1,12 +1,12 @@
 -- Sets that so many routes have to come to, by their demands.
-use Rattle.std.proofs.Common.{◌≡◌, ℕ, ◌+◌, ◌*◌, ◌/◌, ◌%◌, ◌<◌, ◌≤◌, List, [], ◌∷◌, refl, ◌∙◌, ap, arith, bit_and, if◌then◌else◌, not, ◌==◌}
+use Rattle.std.proofs.Common.{◌≡◌, ℕ, ◌+◌, ◌*◌, ◌/◌, ◌%◌, ◌<◌, ◌≤◌, List, [], ◌∷◌, refl, sym, ◌∙◌, ap, subst, arith, bit_and, if◌then◌else◌, not, ◌==◌}
 use Rattle.std.specs.List.{All, Contains, sum_by}
 use Rattle.std.proofs.Math.Nat.{zero-mul, one-mul, mul_assoc, mul-le-mul_right, mul-le-mul_left}
 use Rattle.std.proofs.lemmas.Bool.Decides.{nat_tests}
 use Rattle.std.proofs.lemmas.Nat.{and_comm}
 use Rattle.std.proofs.lemmas.List.Elements.{All-contains, All-weaker}
-use Rattle.vrp_partition.specs.Choice.{set_of}
-use Rattle.vrp_partition.specs.Prices.{IsVisited, IsNeeded, comes_to, load_of}
+use Rattle.vrp_partition.specs.Choice.{comes_to, routes_to, set_of}
+use Rattle.vrp_partition.specs.Prices.{IsGranted, IsNeeded, IsVisited, load_of}
 use Rattle.vrp_partition.specs.declared.prices.Cut.{Cut}
 use Rattle.vrp_partition.specs.declared.route.Route.{Route}
 use Rattle.vrp_partition.proofs.Weights.{sum_by_same, sum_by_times, load_of_once, and_lowest, and_half}
@@ -45,8 +45,8 @@ carried ds capacity set other fits =
 more : (count routes capacity load : ℕ) → load ≤ routes * capacity → count * capacity < load + capacity → count ≤ routes
 more count routes capacity load carry need = grind arith
 
-pub needed_visits : (demands : List ℕ) (capacity customers : ℕ) (pool : List Route) (cut : Cut) → All (λ r. load_of demands r.set ≤ capacity) pool → IsNeeded demands capacity customers cut → IsVisited pool customers cut
-needed_visits demands capacity customers pool cut fit need trucks routes choice =
+pub needed_visits : (demands : List ℕ) (capacity customers fewest : ℕ) (pool : List Route) (cut : Cut) → All (λ r. load_of demands r.set ≤ capacity) pool → IsNeeded demands capacity customers cut → IsVisited pool customers fewest cut
+needed_visits demands capacity customers fewest pool cut fit need trucks routes choice many =
     let each = sum_by_le (λ r. load_of demands (bit_and (set_of r) cut.set)) (λ r. (if comes_to cut.set r.set then 1 else 0) * capacity) routes
     (All-weaker (Contains pool) (λ r. load_of demands (bit_and (set_of r) cut.set) ≤ (if comes_to cut.set r.set then 1 else 0) * capacity)
     (λ r known. carried demands capacity (set_of r) cut.set (All-contains (λ (r : Route). load_of demands r.set ≤ capacity) pool r fit known)) routes choice.known) in
@@ -55,3 +55,7 @@ needed_visits demands capacity customers pool cut fit need trucks routes choice 
     more cut.count (sum_by (λ r. if comes_to cut.set r.set then 1 else 0) routes) capacity (load_of demands cut.set)
     (omega (arith, each, same, load, load_of_both demands customers cut.set, ap (load_of demands) (and_comm customers cut.set ∙ need.within), sum_by_times (λ r. if comes_to cut.set r.set then 1 else 0) capacity routes))
     need.carry
+
+-- or by what the choices in question have
+pub granted_visits : (customers fewest : ℕ) (pool : List Route) (cut : Cut) → IsGranted customers fewest cut → IsVisited pool customers fewest cut
+granted_visits customers fewest pool cut granted trucks routes choice many = subst (λ set. cut.count ≤ routes_to set routes) (sym granted.all) (omega (arith, granted.few, many))

@@ -9,7 +9,7 @@ use Rattle.std.proofs.lemmas.Int.{ints}
 use Rattle.std.proofs.lemmas.List.Elements.{All-nil, All-cons, All-contains, All-weaker}
 use Rattle.std.proofs.lemmas.List.Sums.{sum_by-cons, get_or-le-sum_by}
 use Rattle.std.proofs.lemmas.Nat.Bits.{bit_at_and, bit_at-lt, bit_at-zero, same_from_bits}
-use Rattle.vrp_partition.specs.Choice.{IsChoice, NoneWithin, cost_of, set_of, is_together, is_apart}
+use Rattle.vrp_partition.specs.Choice.{IsChoice, NoneWithin, cost_of, routes_to, set_of, is_together, is_apart}
 use Rattle.vrp_partition.specs.Prices.{Prices, AreValid, NoneNegative, total, reduced_cost_of, lower_bound_of, gap_of, is_within_gap}
 use Rattle.vrp_partition.specs.declared.route.Route.{Route}
 use Rattle.vrp_partition.proofs.PricedChoices.{priced_choice}
@@ -44,20 +44,20 @@ none_negative_parts prices scale customers trucks pool routes none choice = All-
 below_gap : (scale cost limit : ℕ) (lower_bound rest one : ℤ) → (lower_bound +ℤ rest) ≤ℤ pos (scale * cost) → scale * cost ≤ scale * limit → one ≤ℤ rest → one ≤ℤ (pos (scale * limit) -ℤ lower_bound)
 below_gap scale cost limit lower_bound rest one law less part = omega (arith, ints)
 
-pub kept_choice : (prices : Prices) (scale customers trucks limit : ℕ) (pool routes : List Route) → AreValid prices pool customers → NoneNegative prices scale pool → IsChoice set_of pool customers trucks routes → cost_of routes ≤ limit → IsChoice set_of (filter (is_within_gap prices scale (gap_of prices scale customers trucks limit)) pool) customers trucks routes
-kept_choice prices scale customers trucks limit pool routes valid none choice within =
+pub kept_choice : (prices : Prices) (scale customers trucks fewest limit : ℕ) (pool routes : List Route) → AreValid prices pool customers fewest → NoneNegative prices scale pool → IsChoice set_of pool customers trucks routes → fewest ≤ routes_to customers routes → cost_of routes ≤ limit → IsChoice set_of (filter (is_within_gap prices scale (gap_of prices scale customers trucks limit)) pool) customers trucks routes
+kept_choice prices scale customers trucks fewest limit pool routes valid none choice many within =
     let nonneg = none_negative_parts prices scale customers trucks pool routes none choice in
     filtered_choice set_of (is_within_gap prices scale (gap_of prices scale customers trucks limit)) pool customers trucks routes choice
     (λ k d lt. int_le_true (reduced_cost_of prices scale (get_or routes k d)) (gap_of prices scale customers trucks limit)
     (below_gap scale (cost_of routes) limit (lower_bound_of prices customers trucks) (total (reduced_cost_of prices scale) routes) (reduced_cost_of prices scale (get_or routes k d))
-    (priced_choice prices scale customers trucks pool routes valid choice) (mul-le-mul_left scale within) (part_of_total (reduced_cost_of prices scale) routes nonneg k d lt)))
+    (priced_choice prices scale customers trucks fewest pool routes valid choice many) (mul-le-mul_left scale within) (part_of_total (reduced_cost_of prices scale) routes nonneg k d lt)))
 
-pub none_in_gap : (prices : Prices) (scale customers trucks limit : ℕ) (pool : List Route) → AreValid prices pool customers → NoneNegative prices scale pool → gap_of prices scale customers trucks limit <ℤ pos 0 → NoneWithin pool customers trucks limit
-none_in_gap prices scale customers trucks limit pool valid none negative routes choice =
+pub none_in_gap : (prices : Prices) (scale customers trucks fewest limit : ℕ) (pool : List Route) → AreValid prices pool customers fewest → NoneNegative prices scale pool → gap_of prices scale customers trucks limit <ℤ pos 0 → NoneWithin pool customers trucks fewest limit
+none_in_gap prices scale customers trucks fewest limit pool valid none negative routes choice many =
     elim (cases_lt limit (cost_of routes)) [
       | inl more ↦ more
       | inr within ↦ absurd (contradict (below_gap scale (cost_of routes) limit (lower_bound_of prices customers trucks) (total (reduced_cost_of prices scale) routes) (pos 0)
-          (priced_choice prices scale customers trucks pool routes valid choice) (mul-le-mul_left scale within) (nonneg_total (reduced_cost_of prices scale) routes (none_negative_parts prices scale customers trucks pool routes none choice))) negative)
+          (priced_choice prices scale customers trucks fewest pool routes valid choice many) (mul-le-mul_left scale within) (nonneg_total (reduced_cost_of prices scale) routes (none_negative_parts prices scale customers trucks pool routes none choice))) negative)
     ]
   where
     contradict : {a : ℤ} → pos 0 ≤ℤ a → a <ℤ pos 0 → ⊥

@@ -8,8 +8,8 @@ use Rattle.std.proofs.lemmas.Int.{ints}
 use Rattle.std.proofs.lemmas.List.Elements.{All-head, All-tail, All-weaker}
 use Rattle.std.proofs.lemmas.List.Sums.{sum_by-cons, sum_by-le-sum_by}
 use Rattle.std.proofs.lemmas.Bool.Decides.{nat_tests}
-use Rattle.vrp_partition.specs.Choice.{IsChoice, set_of, cost_of}
-use Rattle.vrp_partition.specs.Prices.{Prices, AreValid, load_of, IsVisited, total, dual_sum, has_two, comes_to, charge, reward, charges, rewards, reduced_cost_of, lower_bound_of}
+use Rattle.vrp_partition.specs.Choice.{IsChoice, comes_to, cost_of, routes_to, set_of}
+use Rattle.vrp_partition.specs.Prices.{Prices, AreValid, load_of, IsVisited, total, dual_sum, has_two, charge, reward, charges, rewards, reduced_cost_of, lower_bound_of}
 use Rattle.vrp_partition.specs.declared.prices.Cut.{Cut}
 use Rattle.vrp_partition.specs.declared.route.Route.{Route}
 use Rattle.vrp_partition.proofs.Weights.{sum_by_same, sum_by_sum, sum_by_times, sum_by_zeros, digits, load_of_once, ones_weigh, dual_sum_once}
@@ -87,10 +87,10 @@ summed prices scale (r ∷ routes) =
     let rest = summed prices scale routes in
     omega (arith, ints, suc-mul (length routes) prices.truck_price, sum_by-cons (λ r. rewards prices.capacity_cuts r.set) r routes, sum_by-cons (λ r. r.cost * scale) r routes, sum_by-cons (λ r. charges prices.subset_rows r.set) r routes, mul_comm scale r.cost)
 
-pub priced_choice : (prices : Prices) (scale customers trucks : ℕ) (pool routes : List Route) → AreValid prices pool customers → IsChoice set_of pool customers trucks routes → (lower_bound_of prices customers trucks +ℤ total (reduced_cost_of prices scale) routes) ≤ℤ pos (scale * cost_of routes)
-priced_choice prices scale customers trucks pool routes valid choice =
+pub priced_choice : (prices : Prices) (scale customers trucks fewest : ℕ) (pool routes : List Route) → AreValid prices pool customers fewest → IsChoice set_of pool customers trucks routes → fewest ≤ routes_to customers routes → (lower_bound_of prices customers trucks +ℤ total (reduced_cost_of prices scale) routes) ≤ℤ pos (scale * cost_of routes)
+priced_choice prices scale customers trucks fewest pool routes valid choice many =
     let a = summed prices scale routes in
     let b = dual_sum_once prices.duals set_of routes customers choice.once in
     let c = charges_once prices.subset_rows set_of routes customers valid.three choice.once in
-    let d = rewards_all prices.capacity_cuts set_of routes (All-weaker (IsVisited pool customers) (λ cut. cut.count ≤ sum_by (λ r. if comes_to cut.set r.set then 1 else 0) routes) (λ cut v. v trucks routes choice) prices.capacity_cuts valid.visited) in
+    let d = rewards_all prices.capacity_cuts set_of routes (All-weaker (IsVisited pool customers fewest) (λ cut. cut.count ≤ routes_to cut.set routes) (λ cut v. v trucks routes choice many) prices.capacity_cuts valid.visited) in
     omega (arith, ints, mul-le-mul_right prices.truck_price choice.few, sum_by_times (λ (r : Route). r.cost) scale routes, mul_comm scale (cost_of routes))

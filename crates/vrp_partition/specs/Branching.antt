@@ -1,4 +1,4 @@
--- The nodes of a search, and what is known of them.
+-- The nodes of a search, and what is known of them. `fewest`: choices with fewer routes are out of the question.
 use Rattle.std.specs.Prelude.{◌≡◌, ◌≤◌, ◌<◌, ◌⊎◌, ◌^◌, ◌++◌, ◌∷◌, [], ℕ, ⊤, List, IfOk, Result, length, slice_index_or}
 use Rattle.std.specs.List.{All, Contains, filter}
 use Rattle.vrp_customers.specs.declared.customer_set.TheConstants.{PLACES}
@@ -23,17 +23,17 @@ pub record NodeState : Type 0 where
 
 -- the routes of both branches are among the node's, and where no choice of either costs less than a number up to the incumbent none
 -- of the node's does
-pub record AreBranches (pool : List Route) (customers trucks incumbent : ℕ) (branches : Branches) : Type 0 where
+pub record AreBranches (pool : List Route) (customers trucks fewest incumbent : ℕ) (branches : Branches) : Type 0 where
   pub joint : All (Contains pool) branches.joint.items
   pub parted : All (Contains pool) branches.parted.items
-  pub least : (limit : ℕ) → limit ≤ incumbent → NoneBelow branches.joint.items customers trucks limit
-      → NoneBelow branches.parted.items customers trucks limit → NoneBelow pool customers trucks limit
-  pub bound : NoneBelow pool customers trucks branches.lower_bound
+  pub least : (limit : ℕ) → limit ≤ incumbent → NoneBelow branches.joint.items customers trucks fewest limit
+      → NoneBelow branches.parted.items customers trucks fewest limit → NoneBelow pool customers trucks fewest limit
+  pub bound : NoneBelow pool customers trucks fewest branches.lower_bound
 
 -- the node's answer, or its branches
-abbrev pub IsEnd : List Route → ℕ → ℕ → ℕ → NodeEnd → Type 0
-IsEnd pool customers trucks incumbent (Solved chosen) = IsCheapest pool customers trucks incumbent chosen.cost chosen.routes.items
-IsEnd pool customers trucks incumbent (Branched branches) = AreBranches pool customers trucks incumbent branches
+abbrev pub IsEnd : List Route → ℕ → ℕ → ℕ → ℕ → NodeEnd → Type 0
+IsEnd pool customers trucks fewest incumbent (Solved chosen) = IsCheapest pool customers trucks fewest incumbent chosen.cost chosen.routes.items
+IsEnd pool customers trucks fewest incumbent (Branched branches) = AreBranches pool customers trucks fewest incumbent branches
 
 -- the parts of the left routes that a group of customers makes
 pub record AreLeftBranches (left : OpenRoutes) (branches : Branches) : Type 0 where
@@ -52,7 +52,7 @@ pub record CanLook (task : Task) (node : NodeState) : Type 0 where
 pub record IsLookedAt (task : Task) (old new : NodeState) : Type 0 where
   pub pool : new.pool ≡ old.pool
   pub bound : new.lower_bound ≡ old.lower_bound
-  pub end : IfOk new.end (IsEnd old.pool task.customers task.fleet.trucks task.incumbent)
+  pub end : IfOk new.end (IsEnd old.pool task.customers task.fleet.trucks task.least_routes task.incumbent)
 
 -- each node, with what came of it
 pub record AreLookedAt (task : Task) (old new : List NodeState) : Type 0 where
@@ -72,12 +72,12 @@ pub record SearchState : Type 0 where
 
 -- What is known of a search of a pool while these nodes are open: its cost is no more than the incumbent's, or below it the cost of
 -- its routes, which are a choice; and where no choice of an open node costs less than a number up to that, no choice of the pool does
-pub record IsSearched (pool : List Route) (customers trucks incumbent : ℕ) (search : SearchState) (nodes : List NodeState) : Type 0 where
+pub record IsSearched (pool : List Route) (customers trucks fewest incumbent : ℕ) (search : SearchState) (nodes : List NodeState) : Type 0 where
   pub most : search.cost ≤ incumbent
   pub attained : search.cost < incumbent → IsChoice set_of pool customers trucks search.routes × (cost_of search.routes ≡ search.cost)
-  pub least : (limit : ℕ) → limit ≤ search.cost → All (λ node. NoneBelow node.pool customers trucks limit) nodes → NoneBelow pool customers trucks limit
+  pub least : (limit : ℕ) → limit ≤ search.cost → All (λ node. NoneBelow node.pool customers trucks fewest limit) nodes → NoneBelow pool customers trucks fewest limit
   pub parts : All (λ node. All (Contains pool) node.pool) nodes
-  pub bounds : All (λ node. NoneBelow node.pool customers trucks node.lower_bound) nodes
+  pub bounds : All (λ node. NoneBelow node.pool customers trucks fewest node.lower_bound) nodes
 
 -- the same choice
 pub record IsBest (old new : SearchState) : Type 0 where
@@ -93,15 +93,15 @@ pub record AreOpened (branches : Branches) (old new : List NodeState) : Type 0 w
   pub nodes : new ≡ (old ++ second ∷ []) ++ first ∷ []
 
 -- what is known of an unfinished search
-pub record IsBestSoFar (pool : List Route) (customers trucks incumbent : ℕ) (best : Chosen) (lower_bound : ℕ) : Type 0 where
+pub record IsBestSoFar (pool : List Route) (customers trucks fewest incumbent : ℕ) (best : Chosen) (lower_bound : ℕ) : Type 0 where
   pub most : best.cost ≤ incumbent
   pub attained : best.cost < incumbent → IsChoice set_of pool customers trucks best.routes.items × (cost_of best.routes.items ≡ best.cost)
-  pub bound : NoneBelow pool customers trucks lower_bound
+  pub bound : NoneBelow pool customers trucks fewest lower_bound
 
 -- what a search found
-abbrev pub IsFound : List Route → ℕ → ℕ → ℕ → Found → Type 0
-IsFound pool customers trucks incumbent (Cheapest chosen) = IsCheapest pool customers trucks incumbent chosen.cost chosen.routes.items
-IsFound pool customers trucks incumbent (Unfinished best lower_bound) = IsBestSoFar pool customers trucks incumbent best lower_bound
+abbrev pub IsFound : List Route → ℕ → ℕ → ℕ → ℕ → Found → Type 0
+IsFound pool customers trucks fewest incumbent (Cheapest chosen) = IsCheapest pool customers trucks fewest incumbent chosen.cost chosen.routes.items
+IsFound pool customers trucks fewest incumbent (Unfinished best lower_bound) = IsBestSoFar pool customers trucks fewest incumbent best lower_bound
 
 -- what holds where a search is unfinished
 abbrev pub IfUnfinished : Type 0 → Found → Type 0
@@ -119,6 +119,6 @@ pub record TakesChoice (old : SearchState) (chosen : Chosen) (new : SearchState)
 -- a node that was open is taken, if there is one: what was known of the open nodes and the taken ones is known still
 pub record IsTaken (old : SearchState) (taken : List NodeState) (new : SearchState) (nodes : List NodeState) : Type 0 where
   pub cost : new.cost ≡ old.cost
-  pub searched : (pool : List Route) (customers trucks incumbent : ℕ)
-      → IsSearched pool customers trucks incumbent old (old.open_nodes ++ taken)
-      → IsSearched pool customers trucks incumbent new (new.open_nodes ++ nodes)
+  pub searched : (pool : List Route) (customers trucks fewest incumbent : ℕ)
+      → IsSearched pool customers trucks fewest incumbent old (old.open_nodes ++ taken)
+      → IsSearched pool customers trucks fewest incumbent new (new.open_nodes ++ nodes)

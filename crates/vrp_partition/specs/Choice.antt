@@ -1,5 +1,5 @@
 -- Choices among the routes of a pool. A set of customers is a number, with a bit for each.
-use Rattle.std.specs.Prelude.{◌≡◌, ◌≤◌, ◌<◌, ℕ, List, Bool, not, ◌||◌, ◌==◌, bit_and, length}
+use Rattle.std.specs.Prelude.{◌≡◌, ◌≤◌, ◌<◌, ℕ, List, Bool, not, if◌then◌else◌, ◌||◌, ◌==◌, bit_and, length}
 use Rattle.std.specs.Int.{bit_at}
 use Rattle.std.specs.List.{All, Contains, sum_by}
 use Rattle.vrp_partition.specs.declared.route.Route.{Route}
@@ -22,13 +22,23 @@ pub record IsChoice {X : Type 0} (set : X → ℕ) (pool : List X) (customers tr
 abbrev pub cost_of : List Route → ℕ
 cost_of routes = sum_by (λ r. r.cost) routes
 
--- every choice of the pool costs more
-abbrev pub NoneWithin : List Route → ℕ → ℕ → ℕ → Type 0
-NoneWithin pool customers trucks limit = (routes : List Route) → IsChoice set_of pool customers trucks routes → limit < cost_of routes
+-- whether a set has a customer of the other
+abbrev pub comes_to : ℕ → ℕ → Bool
+comes_to visited set = not (bit_and set visited == 0)
 
--- no choice of the pool costs less
-abbrev pub NoneBelow : List Route → ℕ → ℕ → ℕ → Type 0
-NoneBelow pool customers trucks limit = (routes : List Route) → IsChoice set_of pool customers trucks routes → limit ≤ cost_of routes
+-- how many routes have a customer of a set
+abbrev pub routes_to : ℕ → List Route → ℕ
+routes_to visited routes = sum_by (λ r. if comes_to visited r.set then 1 else 0) routes
+
+-- every choice of the pool with at least so many routes costs more; a route without customers doesn't count
+abbrev pub NoneWithin : List Route → ℕ → ℕ → ℕ → ℕ → Type 0
+NoneWithin pool customers trucks fewest limit = (routes : List Route) → IsChoice set_of pool customers trucks routes
+    → fewest ≤ routes_to customers routes → limit < cost_of routes
+
+-- no choice of the pool with at least so many routes costs less
+abbrev pub NoneBelow : List Route → ℕ → ℕ → ℕ → ℕ → Type 0
+NoneBelow pool customers trucks fewest limit = (routes : List Route) → IsChoice set_of pool customers trucks routes
+    → fewest ≤ routes_to customers routes → limit ≤ cost_of routes
 
 -- whether a set has all customers of a group, or none of them
 abbrev pub is_together : ℕ → Route → Bool
@@ -38,8 +48,9 @@ is_together group route = (bit_and route.set group == group) || (bit_and route.s
 abbrev pub is_apart : ℕ → Route → Bool
 is_apart group route = not (bit_and route.set group == group)
 
--- No choice costs less than what was found. That is the incumbent's cost, or below it the cost of the routes, which are a choice
-pub record IsCheapest (pool : List Route) (customers trucks incumbent found : ℕ) (routes : List Route) : Type 0 where
+-- No choice with at least so many routes costs less than what was found. That is the incumbent's cost, or below it the cost of the
+-- routes, which are a choice, with any number of routes
+pub record IsCheapest (pool : List Route) (customers trucks fewest incumbent found : ℕ) (routes : List Route) : Type 0 where
   pub most : found ≤ incumbent
-  pub least : NoneBelow pool customers trucks found
+  pub least : NoneBelow pool customers trucks fewest found
   pub attained : found < incumbent → IsChoice set_of pool customers trucks routes × (cost_of routes ≡ found)

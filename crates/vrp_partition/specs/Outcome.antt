@@ -1,4 +1,4 @@
--- What is known of a node once its routes are priced.
+-- What is known of a node once its routes are priced. `fewest`: choices with fewer routes are out of the question.
 use Rattle.std.specs.Prelude.{◌≡◌, ◌≤◌, ℕ, List, map}
 use Rattle.std.specs.List.{All, Contains}
 use Rattle.vrp_partition.specs.Choice.{IsCheapest, NoneBelow}
@@ -12,16 +12,16 @@ use Rattle.vrp_partition.specs.declared.bounding.NodeOutcome.TheVariants.{Solved
 
 -- routes of the pool, of which no choice costs less than a number up to the incumbent where none of the pool does; and what each
 -- choice of the pool costs at least
-pub record IsLeft (pool : List Route) (customers trucks incumbent : ℕ) (left : OpenRoutes) : Type 0 where
+pub record IsLeft (pool : List Route) (customers trucks fewest incumbent : ℕ) (left : OpenRoutes) : Type 0 where
   pub parts : All (Contains pool) left.routes.items
-  pub least : (limit : ℕ) → limit ≤ incumbent → NoneBelow left.routes.items customers trucks limit → NoneBelow pool customers trucks limit
-  pub bound : NoneBelow pool customers trucks left.lower_bound
+  pub least : (limit : ℕ) → limit ≤ incumbent → NoneBelow left.routes.items customers trucks fewest limit → NoneBelow pool customers trucks fewest limit
+  pub bound : NoneBelow pool customers trucks fewest left.lower_bound
 
 -- the node's answer, or the routes that are left of it
-abbrev pub IsOutcome : List Route → ℕ → ℕ → ℕ → NodeOutcome → Type 0
-IsOutcome pool customers trucks incumbent (Solved chosen) =
-    IsCheapest pool customers trucks incumbent chosen.cost chosen.routes.items
-IsOutcome pool customers trucks incumbent (Open left) = IsLeft pool customers trucks incumbent left
+abbrev pub IsOutcome : List Route → ℕ → ℕ → ℕ → ℕ → NodeOutcome → Type 0
+IsOutcome pool customers trucks fewest incumbent (Solved chosen) =
+    IsCheapest pool customers trucks fewest incumbent chosen.cost chosen.routes.items
+IsOutcome pool customers trucks fewest incumbent (Open left) = IsLeft pool customers trucks fewest incumbent left
 
 -- the routes of the columns that the exact cover found
 pub record IsLeastOf (columns : List Column) (customers trucks incumbent gap : ℕ) (chosen : Chosen) : Type 0 where

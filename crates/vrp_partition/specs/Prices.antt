@@ -1,8 +1,8 @@
 -- Prices of customers and cuts, the reduced costs of routes and the lower bound by them.
-use Rattle.std.specs.Prelude.{◌≡◌, ◌≤◌, ◌<◌, ◌==◌, ◌+◌, ◌*◌, ◌/◌, ◌%◌, ℕ, ℤ, pos, ◌+ℤ◌, ◌-ℤ◌, ◌*ℤ◌, Bool, nat_le, not, if◌then◌else◌, List, [], ◌∷◌, bit_and, count_ones, length, unsigned_abs, ◌^◌, int_le, ◌≤ℤ◌}
+use Rattle.std.specs.Prelude.{◌≡◌, ◌≤◌, ◌<◌, ◌⊎◌, ◌+◌, ◌*◌, ◌/◌, ◌%◌, ℕ, ℤ, pos, ◌+ℤ◌, ◌-ℤ◌, ◌*ℤ◌, Bool, nat_le, if◌then◌else◌, List, [], ◌∷◌, bit_and, count_ones, length, unsigned_abs, ◌^◌, int_le, ◌≤ℤ◌}
 use Rattle.std.specs.List.{All, sum_by}
 use Rattle.vrp_customers.specs.declared.customer_set.TheConstants.{PLACES}
-use Rattle.vrp_partition.specs.Choice.{IsChoice, set_of}
+use Rattle.vrp_partition.specs.Choice.{IsChoice, comes_to, routes_to, set_of}
 use Rattle.vrp_partition.specs.declared.prices.Cut.{Cut}
 use Rattle.vrp_partition.specs.declared.prices.PriceOffer.{PriceOffer}
 use Rattle.vrp_partition.specs.declared.route.Route.{Route}
@@ -45,10 +45,6 @@ dual_sum (price ∷ prices) set = pos (set % 2) *ℤ price +ℤ dual_sum prices 
 abbrev pub has_two : ℕ → ℕ → Bool
 has_two triple set = nat_le 2 (count_ones (bit_and set triple))
 
--- whether a set has a customer of the other
-abbrev pub comes_to : ℕ → ℕ → Bool
-comes_to visited set = not (bit_and set visited == 0)
-
 abbrev pub charge : ℕ → Cut → ℕ
 charge set cut = if has_two cut.set set then cut.price else 0
 
@@ -76,15 +72,15 @@ lower_bound_of prices customers trucks =
     dual_sum prices.duals customers +ℤ pos (sum_by (λ cut. cut.count * cut.price) prices.capacity_cuts)
     -ℤ pos (sum_by (λ cut. cut.price) prices.subset_rows + trucks * prices.truck_price)
 
--- every choice has at least this many routes that come to the set
-abbrev pub IsVisited : List Route → ℕ → Cut → Type 0
-IsVisited pool customers cut = (trucks : ℕ) (routes : List Route) → IsChoice set_of pool customers trucks routes
-    → cut.count ≤ sum_by (λ r. if comes_to cut.set r.set then 1 else 0) routes
+-- every choice with at least so many routes has as many that come to the set as the cut asks for
+abbrev pub IsVisited : List Route → ℕ → ℕ → Cut → Type 0
+IsVisited pool customers fewest cut = (trucks : ℕ) (routes : List Route) → IsChoice set_of pool customers trucks routes
+    → fewest ≤ routes_to customers routes → cut.count ≤ routes_to cut.set routes
 
--- each subset-row cut has three customers at most, and each capacity cut asks for what every choice has
-pub record AreValid (prices : Prices) (pool : List Route) (customers : ℕ) : Type 0 where
+-- each subset-row cut has three customers at most, and each capacity cut asks for what every choice with at least so many routes has
+pub record AreValid (prices : Prices) (pool : List Route) (customers fewest : ℕ) : Type 0 where
   pub three : All (λ cut. count_ones cut.set ≤ 3) prices.subset_rows
-  pub visited : All (IsVisited pool customers) prices.capacity_cuts
+  pub visited : All (IsVisited pool customers fewest) prices.capacity_cuts
 
 -- what the customers of a set demand, the first of whom is customer 0
 abbrev pub load_of : List ℕ → ℕ → ℕ
@@ -99,6 +95,15 @@ AllFit demands capacity pool = All (λ r. load_of demands r.set ≤ capacity) po
 pub record IsNeeded (demands : List ℕ) (capacity customers : ℕ) (cut : Cut) : Type 0 where
   pub within : bit_and cut.set customers ≡ cut.set
   pub carry : cut.count * capacity < load_of demands cut.set + capacity
+
+-- all the customers, and no more routes than a choice in question has at least
+pub record IsGranted (customers fewest : ℕ) (cut : Cut) : Type 0 where
+  pub all : cut.set ≡ customers
+  pub few : cut.count ≤ fewest
+
+-- the cut asks for no more routes than a choice has that it is about
+abbrev pub MayAsk : List ℕ → ℕ → ℕ → ℕ → Cut → Type 0
+MayAsk demands capacity customers fewest cut = IsNeeded demands capacity customers cut ⊎ IsGranted customers fewest cut
 
 -- whether a route's reduced cost is not above the gap
 abbrev pub is_within_gap : Prices → ℕ → ℤ → Route → Bool
@@ -117,14 +122,14 @@ pub record IsSubsetRow (cut : Cut) : Type 0 where
   pub moderate : cut.price ≤ 2 ^ 50
   pub three : count_ones cut.set ≤ 3
 
--- a set that needs as many routes as the cut asks for, and a price of moderate size
-pub record IsCapacityCut (demands : List ℕ) (capacity customers : ℕ) (cut : Cut) : Type 0 where
+-- a set to which as many routes come as the cut asks for, and a price of moderate size
+pub record IsCapacityCut (demands : List ℕ) (capacity customers fewest : ℕ) (cut : Cut) : Type 0 where
   pub moderate : cut.price ≤ 2 ^ 50
-  pub needed : IsNeeded demands capacity customers cut
+  pub asks : MayAsk demands capacity customers fewest cut
 
 -- prices that are admitted: few and of moderate size, each subset-row cut with three customers at most, and each capacity cut with a
--- set that needs as many routes as the cut asks for
-pub record IsAdmissible (demands : List ℕ) (capacity customers : ℕ) (prices : Prices) : Type 0 where
+-- set to which as many routes come as the cut asks for
+pub record IsAdmissible (demands : List ℕ) (capacity customers fewest : ℕ) (prices : Prices) : Type 0 where
   pub moderate : AreModerate prices
   pub three : All (λ (cut : Cut). count_ones cut.set ≤ 3) prices.subset_rows
-  pub needed : All (IsNeeded demands capacity customers) prices.capacity_cuts
+  pub asks : All (MayAsk demands capacity customers fewest) prices.capacity_cuts

@@ -54,13 +54,13 @@ pub(crate) fn price_node(
     requires len { length task.now.fleet.demands.now ≡ PLACES }
     requires fit { AllFit task.now.fleet.demands.now task.now.fleet.capacity pool.now }
     requires incumbent { task.now.incumbent ≤ 2 ^ 32 }
-    ensures { IfOk result (IsOutcome pool.now task.now.customers task.now.fleet.trucks task.now.incumbent) }
+    ensures { IfOk result (IsOutcome pool.now task.now.customers task.now.fleet.trucks task.now.least_routes task.now.incumbent) }
 {
     if task.incumbent == 0 {
         let routes = Vec::new(alloc);
         return Ok(NodeOutcome::Solved(Chosen { cost: 0, routes }));
     }
-    match valid_prices(alloc, offer, &task.fleet, pool, task.customers)? {
+    match valid_prices(alloc, offer, task, pool)? {
         Some(priced) => bound_node(alloc, &priced, task, pool),
         None => Ok(NodeOutcome::Open(OpenRoutes {
             routes: Vec::from_slice(alloc, pool)?,
@@ -78,13 +78,14 @@ fn bound_node(
 ) -> Result<NodeOutcome, AllocError>
     requires some { 1 ≤ task.now.incumbent }
     requires incumbent { task.now.incumbent ≤ 2 ^ 32 }
-    requires priced { IsPriced pool.now task.now.customers priced.now }
-    ensures { IfOk result (IsOutcome pool.now task.now.customers task.now.fleet.trucks task.now.incumbent) }
+    requires priced { IsPriced pool.now task.now.customers task.now.least_routes priced.now }
+    ensures { IfOk result (IsOutcome pool.now task.now.customers task.now.fleet.trucks task.now.least_routes task.now.incumbent) }
 {
     let Task {
         fleet,
         customers,
         incumbent,
+        ..
     } = *task;
     let prices = &priced.prices;
     let Some(gap) = gap_below(prices, customers, fleet.trucks, incumbent) else {

@@ -46,7 +46,7 @@ pub fn routes_within<P: Guide, W: Watch>(
 ) -> Result<Vec<bool>, AllocError>
     requires len { length query.now.fleet.demands.now ≡ PLACES }
     requires fit { AllFit query.now.fleet.demands.now query.now.fleet.capacity pool.now }
-    ensures marks { IfOk result (λ marks. MarksWithin pool.now query.now.customers query.now.fleet.trucks query.now.limit marks.items) }
+    ensures marks { IfOk result (λ marks. MarksWithin pool.now query.now.customers query.now.fleet.trucks query.now.least_routes query.now.limit marks.items) }
     ensures budget { budget.new ≤ budget.old }
 {
     let mut kept = all_routes(alloc, pool)?;
@@ -86,8 +86,8 @@ fn narrowed<P: Guide>(
 ) -> Result<Round, AllocError>
     requires len { length query.now.fleet.demands.now ≡ PLACES }
     requires fit { AllFit query.now.fleet.demands.now query.now.fleet.capacity pool.now }
-    requires narrowed { IsNarrowed pool.now query.now.customers query.now.fleet.trucks query.now.limit kept }
-    ensures { IfOk result (λ round. IsNarrowed pool.now query.now.customers query.now.fleet.trucks query.now.limit round.kept) }
+    requires narrowed { IsNarrowed pool.now query.now.customers query.now.fleet.trucks query.now.least_routes query.now.limit kept }
+    ensures { IfOk result (λ round. IsNarrowed pool.now query.now.customers query.now.fleet.trucks query.now.least_routes query.now.limit round.kept) }
 {
     let priced = marks_by_prices(alloc, guide, query, kept.routes.as_slice())?;
     let marks = priced.marks.as_slice();
@@ -101,7 +101,7 @@ fn narrowed<P: Guide>(
 
 // All routes of the pool.
 fn all_routes(alloc: Global, pool: &[Route]) -> Result<Kept, AllocError>
-    ensures { IfOk result (λ kept. (customers trucks limit : ℕ) → IsNarrowed pool.now customers trucks limit kept) }
+    ensures { IfOk result (λ kept. (customers trucks fewest limit : ℕ) → IsNarrowed pool.now customers trucks fewest limit kept) }
 {
     let mut places = Vec::with_capacity(alloc, pool.len())?;
     let mut routes = Vec::with_capacity(alloc, pool.len())?;
@@ -121,11 +121,11 @@ fn marked(
 ) -> Result<Kept, AllocError>
     requires inside { (at : ℕ) → at < length places.now → slice_index_or places.now at 0 < length pool.now }
     requires long { length marks.now ≡ length places.now }
-    ensures { IfOk result (λ kept. (customers trucks limit : ℕ) (routes : List Route)
+    ensures { IfOk result (λ kept. (customers trucks fewest limit : ℕ) (routes : List Route)
         → routes ≡ map (route_at pool.now) places.now
-        → ((k : ℕ) → k < length pool.now → (Contains places.now k → ⊥) → StandsInNone pool.now customers trucks limit (route_at pool.now k))
-        → MarksWithin routes customers trucks limit marks.now
-        → IsNarrowed pool.now customers trucks limit kept) }
+        → ((k : ℕ) → k < length pool.now → (Contains places.now k → ⊥) → StandsInNone pool.now customers trucks fewest limit (route_at pool.now k))
+        → MarksWithin routes customers trucks fewest limit marks.now
+        → IsNarrowed pool.now customers trucks fewest limit kept) }
 {
     let mut kept = Vec::new(alloc);
     let mut routes = Vec::new(alloc);

@@ -80,7 +80,7 @@ impl<P: Guide> Node<P> {
         requires { CanLook task.now self.old }
         ensures pool { self.new.pool ≡ self.old.pool }
         ensures bound { self.new.lower_bound ≡ self.old.lower_bound }
-        ensures end { IfOk result (IsEnd self.old.pool task.now.customers task.now.fleet.trucks task.now.incumbent) }
+        ensures end { IfOk result (IsEnd self.old.pool task.now.customers task.now.fleet.trucks task.now.least_routes task.now.incumbent) }
     {
         let offer = self.guide.offer(self.pool.as_slice(), task)?;
         self.work = offer.work;

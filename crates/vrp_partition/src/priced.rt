@@ -10,7 +10,7 @@ use crate::prices::{PriceOffer, Prices};
 use crate::route::Route;
 use crate::task::{Query, Task};
 use std::alloc::{AllocError, Global};
-use vrp_customers::{CustomerSet, FleetView, PLACES};
+use vrp_customers::PLACES;
 
 // The number of offers that are tried: the guide's offer, the same with lower duals, and prices of 0.
 const MOST_OFFERS: u32 = 3;
@@ -22,7 +22,7 @@ pub(crate) struct PricedPool {
     pub costs: Vec<i64>,
 }
 
-/// The marks of a pool by prices: a route that can't be in a choice of this many trucks within the limit is `false`. With them a lower
+/// The marks of a pool by prices: a route that can't be in a choice of the query within the limit is `false`. With them a lower
 /// bound on each choice, and the work of the guide.
 #[derive(Drop)]
 pub(crate) struct PricedMarks {
@@ -41,21 +41,23 @@ pub(crate) fn marks_by_prices<P: Guide>(
 ) -> Result<PricedMarks, AllocError>
     requires len { length query.now.fleet.demands.now ≡ PLACES }
     requires fit { AllFit query.now.fleet.demands.now query.now.fleet.capacity pool.now }
-    ensures { IfOk result (λ priced. MarksWithin pool.now query.now.customers query.now.fleet.trucks query.now.limit priced.marks.items) }
+    ensures { IfOk result (λ priced. MarksWithin pool.now query.now.customers query.now.fleet.trucks query.now.least_routes query.now.limit priced.marks.items) }
 {
     let Query {
         fleet,
         customers,
+        least_routes,
         limit,
     } = *query;
     let task = Task {
         fleet,
         customers,
+        least_routes,
         incumbent: u64::from(limit) + 1,
     };
     let offer = guide.offer(pool, &task)?;
     let work = offer.work;
-    let Some(priced) = valid_prices(alloc, offer, &fleet, pool, customers)? else {
+    let Some(priced) = valid_prices(alloc, offer, &task, pool)? else {
         let marks = vec![in alloc; true; pool.len()]?;
         return Ok(PricedMarks {
             marks,
@@ -79,8 +81,8 @@ fn marks_below(
     query: &Query<'_>,
     pool: &[Route],
 ) -> Result<Vec<bool>, AllocError>
-    requires priced { IsPriced pool.now query.now.customers priced.now }
-    ensures { IfOk result (λ marks. MarksWithin pool.now query.now.customers query.now.fleet.trucks query.now.limit marks.items) }
+    requires priced { IsPriced pool.now query.now.customers query.now.least_routes priced.now }
+    ensures { IfOk result (λ marks. MarksWithin pool.now query.now.customers query.now.fleet.trucks query.now.least_routes query.now.limit marks.items) }
 {
     let incumbent = u64::from(query.limit) + 1;
     let (customers, trucks) = (query.customers, query.fleet.trucks);
@@ -102,17 +104,29 @@ fn marks_within(alloc: Global, costs: &[i64], gap: i64) -> Result<Vec<bool>, All
 pub(crate) fn valid_prices(
     alloc: Global,
     offer: PriceOffer,
-    fleet: &FleetView<'_>,
+    task: &Task<'_>,
     pool: &[Route],
-    customers: CustomerSet,
 ) -> Result<Option<PricedPool>, AllocError>
-    requires len { length fleet.now.demands.now ≡ PLACES }
-    requires fit { AllFit fleet.now.demands.now fleet.now.capacity pool.now }
-    ensures { IfOk result (λ answer. IfSome answer (IsPriced pool.now customers)) }
+    requires len { length task.now.fleet.demands.now ≡ PLACES }
+    requires fit { AllFit task.now.fleet.demands.now task.now.fleet.capacity pool.now }
+    ensures { IfOk result (λ answer. IfSome answer (IsPriced pool.now task.now.customers task.now.least_routes)) }
 {
+    let Task {
+        fleet,
+        customers,
+        least_routes,
+        ..
+    } = *task;
     let mut offer = offer;
     for _ in 0..MOST_OFFERS {
-        let Some(prices) = Prices::admit(offer, fleet.demands, fleet.capacity, customers) else {
+        let admitted = Prices::admit(
+            offer,
+            fleet.demands,
+            fleet.capacity,
+            customers,
+            least_routes,
+        );
+        let Some(prices) = admitted else {
             offer = PriceOffer::zeros(alloc)?;
             continue;
         };

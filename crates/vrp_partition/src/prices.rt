@@ -1,7 +1,7 @@
 //! Prices of the rows of the set partitioning (customers, two kinds of cuts, trucks), with reduced costs and the lower bound.
 ghost use Rattle.std.specs.Prelude.{◌≡◌, ◌≤◌, ◌≤ℤ◌, ◌+ℤ◌, ◌*◌, ◌^◌, [], List, pos, length, unsigned_abs, ◌↔◌, IfNone, IfOk, IfSome, IsTrue};
 ghost use Rattle.std.specs.List.{All};
-ghost use Rattle.vrp_partition.specs.Prices.{AllFit, AreModerate, AreValid, IsAdmissible, IsSubsetRow, IsCapacityCut, load_of, charges, dual_sum, lower_bound_of, prices_of, reduced_cost_of, rewards};
+ghost use Rattle.vrp_partition.specs.Prices.{AllFit, AreModerate, AreValid, IsAdmissible, IsCapacityCut, IsGranted, IsNeeded, IsSubsetRow, load_of, charges, dual_sum, lower_bound_of, prices_of, reduced_cost_of, rewards};
 ghost use Rattle.vrp_partition.specs.declared.prices.Cut.{Cut};
 ghost use Rattle.vrp_partition.specs.declared.route.Route.{Route};
 ghost use Rattle.vrp_partition.specs.declared.prices.TheConstants.{SCALE};
@@ -85,18 +85,20 @@ impl PriceOffer {
 impl Prices {
     /// The offered prices, if they are admissible: a dual for each place, at most 512 cuts of each kind, prices of moderate size,
     /// subset-row cuts of at most three customers, and capacity cuts over some of these customers that ask for no more routes than their
-    /// demand does. Otherwise `None`. The demands are those of all places.
+    /// demand does. A cut over all of them may ask for `least_routes`, since the prices are for choices with at least so many routes.
+    /// Otherwise `None`. The demands are those of all places.
     pub fn admit(
         offer: PriceOffer,
         demands: &[u32],
         capacity: u32,
         customers: CustomerSet,
+        least_routes: u16,
     ) -> Option<Prices>
         requires { length demands.now ≡ PLACES }
         ensures valid { IfSome result (λ prices. (pool : List Route)
-            → AllFit demands.now capacity pool → AreValid prices pool customers) }
+            → AllFit demands.now capacity pool → AreValid prices pool customers least_routes) }
         ensures same { IfSome result (λ prices. prices ≡ prices_of offer) }
-        ensures none { IfNone result (IsAdmissible demands.now capacity customers (prices_of offer) → ⊥) }
+        ensures none { IfNone result (IsAdmissible demands.now capacity customers least_routes (prices_of offer) → ⊥) }
     {
         let PriceOffer {
             duals,
@@ -111,7 +113,13 @@ impl Prices {
             && truck_price <= MOST_CUT_PRICE
             && are_moderate(duals.as_slice())
             && are_subset_rows(subset_rows.as_slice())
-            && are_capacity_cuts(capacity_cuts.as_slice(), demands, capacity, customers)
+            && are_capacity_cuts(
+                capacity_cuts.as_slice(),
+                demands,
+                capacity,
+                customers,
+                least_routes,
+            )
         {
             Some(Prices {
                 duals,
@@ -227,21 +235,47 @@ fn are_subset_rows(cuts: &[Cut]) -> bool
         .all(|cut| cut.price <= MOST_CUT_PRICE && cut.set.len() <= 3)
 }
 
-// Whether each cut is within the customers, asks for no more routes than its demand does, and has a price that is not too high.
-fn are_capacity_cuts(cuts: &[Cut], demands: &[u32], capacity: u32, customers: CustomerSet) -> bool
+// Whether each cut has a price that is not too high, and asks for no more routes than come to its set.
+fn are_capacity_cuts(
+    cuts: &[Cut],
+    demands: &[u32],
+    capacity: u32,
+    customers: CustomerSet,
+    least_routes: u16,
+) -> bool
     requires { length demands.now ≡ PLACES }
-    ensures { IsTrue result ↔ All (IsCapacityCut demands.now capacity customers) cuts.now }
+    ensures { IsTrue result ↔ All (IsCapacityCut demands.now capacity customers least_routes) cuts.now }
 {
     for cut in cuts {
-        if cut.price > MOST_CUT_PRICE || !cut.set.is_subset(customers) {
+        if cut.price > MOST_CUT_PRICE {
             return false;
         }
-        let load = demand_of(demands, cut.set);
-        if u64::from(cut.count) * u64::from(capacity) >= load + u64::from(capacity) {
+        if !is_granted(cut, customers, least_routes)
+            && !is_needed(cut, demands, capacity, customers)
+        {
             return false;
         }
     }
     true
+}
+
+// Whether a cut is over all customers, and asks for no more routes than the choices in question have.
+fn is_granted(cut: &Cut, customers: CustomerSet, least_routes: u16) -> bool
+    ensures { IsTrue result ↔ IsGranted customers least_routes cut.now }
+{
+    cut.set == customers && cut.count <= u32::from(least_routes)
+}
+
+// Whether a cut is within the customers, and asks for no more routes than its demand does.
+fn is_needed(cut: &Cut, demands: &[u32], capacity: u32, customers: CustomerSet) -> bool
+    requires { length demands.now ≡ PLACES }
+    ensures { IsTrue result ↔ IsNeeded demands.now capacity customers cut.now }
+{
+    if !cut.set.is_subset(customers) {
+        return false;
+    }
+    let load = demand_of(demands, cut.set);
+    u64::from(cut.count) * u64::from(capacity) < load + u64::from(capacity)
 }
 
 // The demand of a set of customers.

@@ -25,14 +25,14 @@ const NODES_AT_ONCE: usize = 8;
 /// The result of a search. If no choice costs less than the incumbent, the cost is the incumbent's, and the routes are no choice.
 #[derive(Debug, Drop)]
 pub enum Found {
-    /// No choice costs less than this one and the incumbent.
+    /// No choice with at least the task's number of routes costs less than this one and the incumbent.
     Cheapest(Chosen),
     /// The search ended unfinished: the cheapest choice so far, and a lower bound on each choice.
     Unfinished { best: Chosen, lower_bound: u64 },
 }
 
-/// The least cost below the incumbent's of a choice of the pool that serves the task's customers with its trucks, and a choice of that
-/// cost; if there is none, the incumbent's cost. The search ends unfinished if the budget is spent, or the watch stops it; then the rest of
+/// A cost below the incumbent's that a choice of the pool attains which serves the task's customers with its trucks, and such a choice;
+/// if there is none, the incumbent's cost. No choice with at least the task's number of routes costs less. The search ends unfinished if the budget is spent, or the watch stops it; then the rest of
 /// the budget is given up. A round of nodes takes one of the budget, and as much as the guides' own work. Each route of the pool must fit
 /// one truck. Several open nodes are looked at at a time, the last ones first.
 pub fn cheapest_choice<R: Threads + Sync, P: Guide + Send, W: Watch>(
@@ -45,7 +45,7 @@ pub fn cheapest_choice<R: Threads + Sync, P: Guide + Send, W: Watch>(
     requires len { length task.now.fleet.demands.now ≡ PLACES }
     requires fit { AllFit task.now.fleet.demands.now task.now.fleet.capacity pool.items }
     requires incumbent { task.now.incumbent ≤ 2 ^ 32 }
-    ensures found { IfOk result (IsFound pool.items task.now.customers task.now.fleet.trucks task.now.incumbent) }
+    ensures found { IfOk result (IsFound pool.items task.now.customers task.now.fleet.trucks task.now.least_routes task.now.incumbent) }
     ensures budget { budget.new ≤ budget.old }
     ensures spent { IfOk result (IfUnfinished (budget.new ≡ 0)) }
 {
@@ -88,7 +88,7 @@ impl<P: Guide + Send> Search<P> {
         pool: Vec<Route>,
         incumbent: u64,
     ) -> Result<Search<P>, AllocError>
-        ensures { IfOk result (λ search. (customers trucks : ℕ) → IsSearched pool.items customers trucks incumbent search search.open_nodes) }
+        ensures { IfOk result (λ search. (customers trucks fewest : ℕ) → IsSearched pool.items customers trucks fewest incumbent search search.open_nodes) }
     {
         let mut open_nodes = Vec::new(alloc);
         open_nodes.push(Node::new(pool, 0, guide))?;
@@ -111,10 +111,10 @@ impl<P: Guide + Send> Search<P> {
     ) -> Result<u64, AllocError>
         requires len { length task.now.fleet.demands.now ≡ PLACES }
         requires search { (pool : List Route) × (incumbent : ℕ) × AllFit task.now.fleet.demands.now task.now.fleet.capacity pool
-            × (incumbent ≤ 2 ^ 32) × IsSearched pool task.now.customers task.now.fleet.trucks incumbent self.old self.old.open_nodes }
+            × (incumbent ≤ 2 ^ 32) × IsSearched pool task.now.customers task.now.fleet.trucks task.now.least_routes incumbent self.old self.old.open_nodes }
         ensures { OnOk result ((pool : List Route) (incumbent : ℕ)
-            → IsSearched pool task.now.customers task.now.fleet.trucks incumbent self.old self.old.open_nodes
-            → IsSearched pool task.now.customers task.now.fleet.trucks incumbent self.new self.new.open_nodes) }
+            → IsSearched pool task.now.customers task.now.fleet.trucks task.now.least_routes incumbent self.old self.old.open_nodes
+            → IsSearched pool task.now.customers task.now.fleet.trucks task.now.least_routes incumbent self.new self.new.open_nodes) }
     {
         let below = Task {
             incumbent: self.best.cost,
@@ -135,9 +135,9 @@ impl<P: Guide + Send> Search<P> {
     // Takes the last open nodes, in an order in which equal shares of them have about the same work.
     fn take_nodes(&mut self, alloc: Global) -> Result<Vec<Node<P>>, AllocError>
         ensures cost { OnOk result (self.new.cost ≡ self.old.cost) }
-        ensures nodes { IfOk result (λ nodes. (pool : List Route) (customers trucks incumbent : ℕ)
-            → IsSearched pool customers trucks incumbent self.old self.old.open_nodes
-            → IsSearched pool customers trucks incumbent self.new (self.new.open_nodes ++ nodes.items)) }
+        ensures nodes { IfOk result (λ nodes. (pool : List Route) (customers trucks fewest incumbent : ℕ)
+            → IsSearched pool customers trucks fewest incumbent self.old self.old.open_nodes
+            → IsSearched pool customers trucks fewest incumbent self.new (self.new.open_nodes ++ nodes.items)) }
     {
         let mut nodes = Vec::with_capacity(alloc, NODES_AT_ONCE)?;
         for _ in 0..NODES_AT_ONCE {
@@ -162,11 +162,11 @@ impl<P: Guide + Send> Search<P> {
 
     // Takes in the outcomes of the nodes, and answers the work of the guides.
     fn absorb_all(&mut self, mut nodes: Vec<Node<P>>) -> Result<u64, AllocError>
-        ensures { OnOk result ((pool : List Route) (customers trucks incumbent limit : ℕ)
+        ensures { OnOk result ((pool : List Route) (customers trucks fewest incumbent limit : ℕ)
             → self.old.cost ≤ limit
-            → All (λ node. IfOk node.end (IsEnd node.pool customers trucks limit)) nodes.items
-            → IsSearched pool customers trucks incumbent self.old (self.old.open_nodes ++ nodes.items)
-            → IsSearched pool customers trucks incumbent self.new self.new.open_nodes) }
+            → All (λ node. IfOk node.end (IsEnd node.pool customers trucks fewest limit)) nodes.items
+            → IsSearched pool customers trucks fewest incumbent self.old (self.old.open_nodes ++ nodes.items)
+            → IsSearched pool customers trucks fewest incumbent self.new self.new.open_nodes) }
     {
         let mut work = 0u64;
         while let Some(node) = nodes.pop() {
@@ -179,11 +179,11 @@ impl<P: Guide + Send> Search<P> {
     // Takes in the outcome of a node.
     fn absorb(&mut self, node: Node<P>) -> Result<(), AllocError>
         ensures falls { OnOk result (self.new.cost ≤ self.old.cost) }
-        ensures searched { OnOk result ((pool : List Route) (customers trucks incumbent limit : ℕ) (rest : List NodeState)
+        ensures searched { OnOk result ((pool : List Route) (customers trucks fewest incumbent limit : ℕ) (rest : List NodeState)
             → self.old.cost ≤ limit
-            → IfOk node.end (IsEnd node.pool customers trucks limit)
-            → IsSearched pool customers trucks incumbent self.old (self.old.open_nodes ++ (rest ++ node ∷ []))
-            → IsSearched pool customers trucks incumbent self.new (self.new.open_nodes ++ rest)) }
+            → IfOk node.end (IsEnd node.pool customers trucks fewest limit)
+            → IsSearched pool customers trucks fewest incumbent self.old (self.old.open_nodes ++ (rest ++ node ∷ []))
+            → IsSearched pool customers trucks fewest incumbent self.new (self.new.open_nodes ++ rest)) }
     {
         let Node {
             guide,
@@ -239,9 +239,9 @@ impl<P: Guide + Send> Search<P> {
 
     // A lower bound on each choice.
     fn lower_bound(&self) -> u64
-        ensures { (pool : List Route) (customers trucks incumbent : ℕ)
-            → IsSearched pool customers trucks incumbent self.now self.now.open_nodes
-            → NoneBelow pool customers trucks result }
+        ensures { (pool : List Route) (customers trucks fewest incumbent : ℕ)
+            → IsSearched pool customers trucks fewest incumbent self.now self.now.open_nodes
+            → NoneBelow pool customers trucks fewest result }
     {
         let mut least = self.best.cost;
         for index in 0..self.open_nodes.len() {

@@ -6,6 +6,8 @@ use vrp_customers::{CustomerSet, FleetView};
 pub struct Task<'a> {
     pub fleet: FleetView<'a>,
     pub customers: CustomerSet,
+    /// Choices with fewer routes need not be considered; with 0 all are.
+    pub least_routes: u16,
     pub incumbent: u64,
 }
 
@@ -15,5 +17,7 @@ pub struct Task<'a> {
 pub struct Query<'a> {
     pub fleet: FleetView<'a>,
     pub customers: CustomerSet,
+    /// Choices with fewer routes need not be considered; with 0 all are.
+    pub least_routes: u16,
     pub limit: u32,
 }

@@ -47,19 +47,23 @@ impl<'a, W: Watch> ProgramGuide<'a, W> {
     }
 
     // A node with the program over its pool.
-    fn node(
-        &mut self,
-        pool: &[Route],
-        customers: CustomerSet,
-        limit: u64,
-    ) -> Result<Node<'a, W>, AllocError> {
+    fn node(&mut self, pool: &[Route], task: &Task<'_>) -> Result<Node<'a, W>, AllocError> {
+        let Task {
+            customers,
+            least_routes,
+            ..
+        } = *task;
+        let limit = task.incumbent.saturating_sub(1);
         let mut program = match self.program.take() {
-            Some(program) if program.customers == customers => program,
-            other => self.first_program(pool, customers, limit, other)?,
+            Some(program)
+                if program.customers == customers && program.least_routes == least_routes => {
+                program
+            }
+            other => self.first_program(pool, task, other)?,
         };
         let names = program.align(pool)?;
         let (best, best_bound) = match self.last.take() {
-            Some(last) if last.holds_for(customers, pool.len()) => {
+            Some(last) if last.holds_for(customers, least_routes, pool.len()) => {
                 (Some(last.prices), last.bound)
             }
             _ => (None, NO_BOUND),
@@ -79,12 +83,11 @@ impl<'a, W: Watch> ProgramGuide<'a, W> {
         })
     }
 
-    // The first program over a pool, after one for other customers.
+    // The first program over a pool, after one for another task.
     fn first_program(
         &mut self,
         pool: &[Route],
-        customers: CustomerSet,
-        limit: u64,
+        task: &Task<'_>,
         other: Option<RouteProgram>,
     ) -> Result<RouteProgram, AllocError> {
         self.progress = Progress::new(true);
@@ -96,11 +99,12 @@ impl<'a, W: Watch> ProgramGuide<'a, W> {
         let last = self.last.as_ref();
         let likely = likely.as_slice();
         let start = Start {
-            customers,
+            customers: task.customers,
+            least_routes: task.least_routes,
             pool,
             likely,
             last,
-            limit,
+            limit: task.incumbent.saturating_sub(1),
         };
         first_program(self.alloc, &self.fleet, &start)
     }
@@ -118,8 +122,7 @@ impl<W: Watch> Guide for ProgramGuide<'_, W> {
         if !self.progress.is_paused {
             self.progress = Progress::new(false);
         }
-        let limit = task.incumbent.saturating_sub(1);
-        let mut node = self.node(pool, task.customers, limit)?;
+        let mut node = self.node(pool, task)?;
         let before = node.program.looked_at;
         node.run(pool)?;
         self.keep(node, before, pool.len())
@@ -174,7 +177,7 @@ impl<'a, W: Watch> ProgramGuide<'a, W> {
             ..
         } = node;
         let work = program.looked_at.saturating_sub(before);
-        let customers = program.customers;
+        let (customers, least_routes) = (program.customers, program.least_routes);
         let is_stuck = own_bound < best_bound.saturating_sub(UNIT) && !progress.is_root;
         self.progress = progress;
         self.program = if is_stuck { None } else { Some(program) };
@@ -190,6 +193,7 @@ impl<'a, W: Watch> ProgramGuide<'a, W> {
         };
         self.last = Some(Inherited {
             customers,
+            least_routes,
             count,
             bound,
             prices,

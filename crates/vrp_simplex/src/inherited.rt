@@ -4,19 +4,26 @@ use crate::row_prices::RowPrices;
 use std::alloc::{AllocError, Global};
 use vrp_customers::{CustomerSet, FleetView};
 
-/// Prices offered for a pool of this many routes that serve these customers, and their bound.
+/// Prices offered for a pool of this many routes that serve these customers, and their bound on choices with at least so many routes.
 #[derive(Clone, Debug, Drop)]
 pub(crate) struct Inherited {
     pub(crate) customers: CustomerSet,
+    pub(crate) least_routes: u16,
     pub(crate) count: usize,
     pub(crate) bound: i64,
     pub(crate) prices: RowPrices,
 }
 
 impl Inherited {
-    /// Whether the bound holds for a pool of this many routes that serve these customers: a longer pool is no part of the earlier one.
-    pub(crate) fn holds_for(&self, customers: CustomerSet, count: usize) -> bool {
-        self.customers == customers && count <= self.count
+    /// Whether the bound holds for a pool of this many routes that serve these customers, where a choice has at least so many routes: a
+    /// longer pool is no part of the earlier one.
+    pub(crate) fn holds_for(
+        &self,
+        customers: CustomerSet,
+        least_routes: u16,
+        count: usize,
+    ) -> bool {
+        self.customers == customers && self.least_routes == least_routes && count <= self.count
     }
 
     /// The cuts of these prices, restricted to the customers of a new program: subset rows, and sets that more than one truck must visit.
@@ -48,8 +55,8 @@ impl Inherited {
     }
 }
 
-// The number of trucks that carry the demand of a set of customers.
-fn trucks_for(set: CustomerSet, fleet: &FleetView<'_>) -> u32 {
+/// The number of trucks that carry the demand of a set of customers.
+pub(crate) fn trucks_for(set: CustomerSet, fleet: &FleetView<'_>) -> u32 {
     let mut load = 0u64;
     for customer in set.iter() {
         load = load.saturating_add(fleet.demand(usize::from(customer)));

@@ -22,6 +22,8 @@ const COLUMNS_A_LOOK: u64 = 8;
 pub(crate) struct RouteProgram {
     pub(crate) alloc: Global,
     pub(crate) customers: CustomerSet,
+    // The least number of routes of a choice that is sought.
+    pub(crate) least_routes: u16,
     pub(crate) linear: LinearProgram,
     // The routes by the names of their columns, also of those that have no column any more.
     pub(crate) routes: Vec<Route>,
@@ -51,6 +53,7 @@ impl RouteProgram {
         let mut program = RouteProgram {
             alloc,
             customers,
+            least_routes: 0,
             linear: LinearProgram::new(alloc, customers.len().min(MOST_ROWS), settings)?,
             routes: Vec::new(alloc),
             has_column: Vec::new(alloc),
@@ -74,6 +77,7 @@ impl RouteProgram {
         Ok(RouteProgram {
             alloc: self.alloc,
             customers: self.customers,
+            least_routes: self.least_routes,
             linear: self.linear.copy()?,
             routes: self.routes.clone()?,
             has_column: self.has_column.clone()?,
@@ -182,12 +186,12 @@ impl RouteProgram {
         Ok(())
     }
 
-    /// Removes the rows of cuts that are not tight, except that of the trucks.
+    /// Removes the rows of cuts that are not tight, except those on the number of routes.
     pub(crate) fn remove_slack_rows(&mut self) -> Result<(), AllocError> {
         let customers = usize::from(self.customers.len());
         let mut may_go = vec![in self.alloc; false; customers]?;
         for cut in &self.cuts {
-            may_go.push(!matches!(cut.kind, CutKind::Trucks(_)))?;
+            may_go.push(cut.set != self.customers)?;
         }
         let gone = self.linear.remove_slack_rows(may_go.as_slice())?;
         self.drop_cuts(gone.as_slice())

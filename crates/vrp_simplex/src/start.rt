@@ -1,5 +1,6 @@
 //! The first program over a pool: its cuts, and the routes that have columns from the start.
-use crate::inherited::Inherited;
+use crate::cut::{Cut, CutKind};
+use crate::inherited::{Inherited, trucks_for};
 use crate::program::RouteProgram;
 use crate::row_prices::RowPrices;
 use std::alloc::{AllocError, Global};
@@ -13,6 +14,8 @@ const MOST_FIRST: usize = 4_000;
 #[derive(Clone, Copy)]
 pub(crate) struct Start<'a> {
     pub(crate) customers: CustomerSet,
+    // The least number of routes of a choice that is sought.
+    pub(crate) least_routes: u16,
     pub(crate) pool: &'a [Route],
     // The sets of routes that are likely in the basis, sorted.
     pub(crate) likely: &'a [CustomerSet],
@@ -47,7 +50,8 @@ pub(crate) fn first_program(
     Ok(program)
 }
 
-// A program with the cuts, and without routes. An artificial column costs more than the choice that is sought.
+// A program with the cuts, and without routes. If more routes are asked for than the demand needs, a cut over all customers says so. An
+// artificial column costs more than the choice that is sought.
 fn empty_program(
     alloc: Global,
     fleet: &FleetView<'_>,
@@ -61,6 +65,15 @@ fn empty_program(
     let penalty = limit.min(most).saturating_add(1);
     let greatest = dearest.max(penalty);
     let mut program = RouteProgram::new(alloc, customers, fleet.trucks, penalty, greatest)?;
+    program.least_routes = start.least_routes;
+    let least = u32::from(start.least_routes);
+    if least > trucks_for(customers, fleet) {
+        let kind = CutKind::Capacity(least);
+        program.add_cut(Cut {
+            set: customers,
+            kind,
+        })?;
+    }
     if let Some(last) = start.last {
         for cut in &last.cuts(alloc, customers, fleet)? {
             program.add_cut(*cut)?;

@@ -10,6 +10,6 @@ returns-in_ok-from_slice-in-None c =
     let same = c.in_ok-from_slice-in-None.ensures.items in
     record {
       parts = subst (All (Contains c.args.pool.now)) (sym same) (All-contains_itself c.args.pool.now);
-      least = λ limit most none. subst (λ (routes : List Route). NoneBelow routes c.args.task.now.customers c.args.task.now.fleet.trucks limit) same none;
-      bound = λ routes choice. omega arith;
+      least = λ limit most none. subst (λ (routes : List Route). NoneBelow routes c.args.task.now.customers c.args.task.now.fleet.trucks c.args.task.now.least_routes limit) same none;
+      bound = λ routes choice many. omega arith;
     }

@@ -28,7 +28,7 @@ loop-place-preserved c =
     }
 
 pub returns : goal.returns
-returns c = λ customers trucks limit.
+returns c = λ customers trucks fewest limit.
     let all : c.loop-place.place ≡ length c.args.pool.now = omega (arith, c.loop-place-test.false, c.loop-place.auto.place-end) in
     let long = c.loop-place.invariant.long in
     record {

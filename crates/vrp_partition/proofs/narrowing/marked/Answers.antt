@@ -51,9 +51,9 @@ loop-at-preserved c =
     ]
 
 pub returns : goal.returns
-returns c = λ customers trucks limit routes are rest within. record {
+returns c = λ customers trucks fewest limit routes are rest within. record {
   inside = c.loop-at.invariant.inside;
   are = c.loop-at.invariant.are;
-  rest = left_out c.args.pool.now routes c.args.places.now c.loop-at.kept.items c.args.marks.now customers trucks limit are c.requires.long rest within
+  rest = left_out c.args.pool.now routes c.args.places.now c.loop-at.kept.items c.args.marks.now customers trucks fewest limit are c.requires.long rest within
       (λ i lt mark. c.loop-at.invariant.all i (omega (arith, lt, c.loop-at-test.false)) mark);
 }

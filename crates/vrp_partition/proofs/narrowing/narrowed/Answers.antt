@@ -17,6 +17,6 @@ returns g c =
     let same = c.as_slice-2.ensures.value in
     let routes = c.as_slice.result.now in
     let are : routes ≡ map (route_at pool) places = c.as_slice.ensures.value ∙ (c.requires.narrowed.are ∙ ap (map (route_at pool)) (sym same)) in
-    let rest = subst (λ (ks : List ℕ). (k : ℕ) → k < length pool → (Contains ks k → ⊥) → StandsInNone pool c.args.query.now.customers c.args.query.now.fleet.trucks c.args.query.now.limit (route_at pool k)) (sym same) c.requires.narrowed.rest in
-    let within = subst (MarksWithin routes c.args.query.now.customers c.args.query.now.fleet.trucks c.args.query.now.limit) (sym c.as_slice-marks.ensures.value) c.in_ok-priced.ensures in
-    c.in_ok-kept.ensures c.args.query.now.customers c.args.query.now.fleet.trucks c.args.query.now.limit routes are rest within
+    let rest = subst (λ (ks : List ℕ). (k : ℕ) → k < length pool → (Contains ks k → ⊥) → StandsInNone pool c.args.query.now.customers c.args.query.now.fleet.trucks c.args.query.now.least_routes c.args.query.now.limit (route_at pool k)) (sym same) c.requires.narrowed.rest in
+    let within = subst (MarksWithin routes c.args.query.now.customers c.args.query.now.fleet.trucks c.args.query.now.least_routes c.args.query.now.limit) (sym c.as_slice-marks.ensures.value) c.in_ok-priced.ensures in
+    c.in_ok-kept.ensures c.args.query.now.customers c.args.query.now.fleet.trucks c.args.query.now.least_routes c.args.query.now.limit routes are rest within

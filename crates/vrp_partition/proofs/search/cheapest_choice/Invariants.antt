@@ -5,7 +5,7 @@ use Rattle.vrp_partition.proofs.search.cheapest_choice.Given as goal
 abbrev pub invariant-loop-budget : goal.invariant-loop-budget
 invariant-loop-budget g l = record {
   most : l.budget ≤ l.fn.budget;
-  searched : IsSearched l.fn.pool.items l.task.customers l.task.fleet.trucks l.task.incumbent l.search l.search.open_nodes;
+  searched : IsSearched l.fn.pool.items l.task.customers l.task.fleet.trucks l.task.least_routes l.task.incumbent l.search l.search.open_nodes;
 }
 
 abbrev pub decreases-loop-budget : goal.decreases-loop-budget

@@ -18,8 +18,8 @@ loop-index-preserved g c =
     }
 
 pub returns : goal.returns
-returns g c = λ pool customers trucks incumbent is.
+returns g c = λ pool customers trucks fewest incumbent is.
     let nodes = c.self.inside.open_nodes.items in
     let fits : NodeState → Type 0 = λ n. c.loop-index.least ≤ n.lower_bound in
     let all = subst (All fits) (take_all c.loop-index.index nodes (omega (arith, c.loop-index-test.false, c.len-index-end.ensures, c.self.inside.open_nodes.ok))) c.loop-index.invariant.all in
-    least_bound pool customers trucks incumbent _ _ nodes c.loop-index.invariant.most all (subst (λ (s : SearchState). IsSearched pool customers trucks incumbent s s.open_nodes) (sym c.self.view_is) is)
+    least_bound pool customers trucks fewest incumbent _ _ nodes c.loop-index.invariant.most all (subst (λ (s : SearchState). IsSearched pool customers trucks fewest incumbent s s.open_nodes) (sym c.self.view_is) is)

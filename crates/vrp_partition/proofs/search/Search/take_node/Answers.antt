@@ -15,12 +15,12 @@ returns g c =
     elim c.match-pop.branch [
       | in-Some+in_ok-push-in-Some w ↦ rw (w.result-is, w.nodes-is, w.in_ok-push-in-Some.ensures.items) (record {
         cost = same.cost;
-        searched = λ pool customers trucks incumbent is. taken_one pool customers trucks incumbent old new rest taken w.in-Some.node same
-            (subst (λ (xs : List NodeState). IsSearched pool customers trucks incumbent old (xs ++ taken)) (sym nodes_are ∙ w.in-Some.ensures.items) is);
+        searched = λ pool customers trucks fewest incumbent is. taken_one pool customers trucks fewest incumbent old new rest taken w.in-Some.node same
+            (subst (λ (xs : List NodeState). IsSearched pool customers trucks fewest incumbent old (xs ++ taken)) (sym nodes_are ∙ w.in-Some.ensures.items) is);
       })
       | in-None w ↦ rw (w.result-is, w.nodes-is) (record {
         cost = same.cost;
-        searched = λ pool customers trucks incumbent is. taken_none pool customers trucks incumbent old new rest taken same
-            (subst (λ (xs : List NodeState). IsSearched pool customers trucks incumbent old (xs ++ taken)) (sym nodes_are ∙ w.in-None.ensures.items) is);
+        searched = λ pool customers trucks fewest incumbent is. taken_none pool customers trucks fewest incumbent old new rest taken same
+            (subst (λ (xs : List NodeState). IsSearched pool customers trucks fewest incumbent old (xs ++ taken)) (sym nodes_are ∙ w.in-None.ensures.items) is);
       })
     ]

@@ -6,5 +6,5 @@ use Rattle.vrp_partition.proofs.search.Search.take_nodes.Given as goal
 abbrev pub invariant-loop : goal.invariant-loop
 invariant-loop g l = record {
   cost : l.self.cost ≡ l.fn.self.cost;
-  searched : (pool : List Route) (customers trucks incumbent : ℕ) → IsSearched pool customers trucks incumbent l.fn.self l.fn.self.open_nodes → IsSearched pool customers trucks incumbent l.self (l.self.open_nodes ++ l.nodes.items);
+  searched : (pool : List Route) (customers trucks fewest incumbent : ℕ) → IsSearched pool customers trucks fewest incumbent l.fn.self l.fn.self.open_nodes → IsSearched pool customers trucks fewest incumbent l.self (l.self.open_nodes ++ l.nodes.items);
 }
