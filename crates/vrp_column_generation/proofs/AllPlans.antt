@@ -1,13 +1,11 @@
 -- What the leaves have together: all plans, so the routes of all their pools are complete.
-use Rattle.std.proofs.Common.{◌≡◌, ℕ, ◌≤◌, ◌++◌, Some, None, List, refl, sym, subst, arith, inl, inr}
-use Rattle.std.specs.List.{All, Contains}
-use Rattle.std.proofs.lemmas.List.Elements.{All-append, All-contains, All-weaker, Contains-append_left, Contains-append_right}
+use Rattle.std.proofs.Common.{◌≡◌, ℕ, ◌≤◌, Some, None, List, refl, sym, subst, arith, inl, inr}
 use Rattle.vrp_model.specs.Problem.{Problem}
 use Rattle.vrp_model.specs.Route.{plan_cost}
 use Rattle.vrp_priced_routes.specs.Arcs.{ArcsOf}
 use Rattle.vrp_priced_routes.specs.Priced.{BoundsPlans, BoundsPlansIn}
 use Rattle.vrp_routes.proofs.Ranges.{in_part, lowered, plan_in_range, useful_there}
-use Rattle.vrp_routes.specs.Pool.{IsListed, IsPool, IsPoolIn, RouteOf}
+use Rattle.vrp_routes.specs.Pool.{IsPool, IsPoolIn, RouteOf}
 use Rattle.vrp_routes.specs.Range.{HaveAll, IsInRange, IsPart, plans_within}
 use Rattle.vrp_routes.specs.declared.plan_range.PlanRange.{PlanRange}
 use Rattle.vrp_column_generation.specs.Last.{HaveAllPlans}

@@ -75,7 +75,8 @@ impl Span {
         match self {
             Span::Half(_) => u64::MAX,
             Span::Moves(moves) => {
-                moves / 2 / (u64::from(RUNS_TOGETHER) * moves_of_child(instance).max(1))
+                let each = u64::from(RUNS_TOGETHER).saturating_mul(moves_of_child(instance));
+                moves / 2 / each.max(1)
             }
         }
     }

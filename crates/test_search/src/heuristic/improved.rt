@@ -1,11 +1,11 @@
-//! Plans improved while there is time, by one worker and by several.
+//! Plans improved while there is time, by so many moves, and over given routes, by one worker and by several.
 use crate::assertion::assert_same;
 use crate::heuristic::fixture::{Told, by_matrix, scattered};
 use std::alloc::Global;
 use std::process::Abort;
 use std::sync::atomic::{AtomicU64, Ordering};
 use std::thread::Threads;
-use vrp_heuristic::{improved_plan, savings_plan};
+use vrp_heuristic::{evolved_plan, improved_plan, recombined_plan, savings_plan};
 use vrp_model::{Crew, Instance, News, Plan, Unhurried, Watch};
 
 // A watch that goes on for so many looks; a run looks at it before each 16th move.
@@ -145,4 +145,85 @@ fn without_a_time(rt: HostRuntime) {
     };
     let same = improved_plan(&crew, &instance, &singles).expect(&rt, "memory");
     assert_same(&rt, same.word(), singles.word(), "the word");
+}
+
+// The plan of one truck for each customer, improved by so many moves of a population.
+fn evolved<R: Threads + Abort + Sync>(
+    rt: &R,
+    alloc: Global,
+    instance: &Instance,
+    workers: u16,
+    moves: u64,
+) -> Plan {
+    assert!(rt; 1 <= workers);
+    let crew = Crew {
+        rt,
+        alloc,
+        workers,
+        watch: &Unhurried,
+    };
+    let singles = Plan::singles(alloc, instance).expect(rt, "memory");
+    let singles = singles.expect(rt, "a plan");
+    evolved_plan(&crew, instance, singles, moves).expect(rt, "memory")
+}
+
+// So many moves find the cheapest plan, and the same one with any number of workers.
+#[test]
+fn moves_of_a_population(rt: HostRuntime) {
+    for &(arcs, demands, cost) in BY_HAND {
+        let told = Told {
+            demands,
+            capacity: 2,
+            trucks: 0,
+        };
+        let instance = by_matrix(&rt, rt.alloc(), arcs, told);
+        let one = evolved(&rt, rt.alloc(), &instance, 1, 4_000);
+        let three = evolved(&rt, rt.alloc(), &instance, 3, 4_000);
+        assert_same(&rt, one.cost(), cost, arcs);
+        assert_same(&rt, three.word(), one.word(), arcs);
+    }
+}
+
+// Given routes of three customers, each with demand 1, on a truck that carries two; and the cost of the cheapest plan over them and the
+// routes of one customer each, worked out by hand. The customers are at 1, 2 and 3 on a line from the depot.
+const ROUTES: &[(&[&[u16]], u64)] = &[
+    (&[], 12),
+    (&[&[1, 2]], 10),
+    (&[&[1, 2], &[2, 3]], 8),
+    (&[&[3, 1], &[1, 3]], 10),
+    // Too much for a truck, a customer twice, and nobody whom the instance has: such routes are left out.
+    (&[&[1, 2, 3]], 12),
+    (&[&[2, 2], &[3, 1, 3]], 12),
+    (&[&[4], &[2, 9], &[0], &[]], 12),
+];
+
+const SINGLE_ROUTES: &[&[u16]] = &[&[1], &[2], &[3]];
+
+#[test]
+fn recombined_routes(rt: HostRuntime) {
+    let alloc = rt.alloc();
+    let told = Told {
+        demands: &[0, 1, 1, 1],
+        capacity: 2,
+        trucks: 0,
+    };
+    let line = [0, 1, 2, 3, 1, 0, 1, 2, 2, 1, 0, 1, 3, 2, 1, 0];
+    let instance = by_matrix(&rt, alloc, &line, told);
+    let crew = Crew {
+        rt: &rt,
+        alloc,
+        workers: 2,
+        watch: &Unhurried,
+    };
+    for &(given, cost) in ROUTES {
+        let mut routes = Vec::new(alloc);
+        for stops in SINGLE_ROUTES.iter().chain(given) {
+            let stops = Vec::from_slice(alloc, stops).expect(&rt, "memory");
+            routes.push(stops).expect(&rt, "memory");
+        }
+        let singles = Plan::singles(alloc, &instance).expect(&rt, "memory");
+        let singles = singles.expect(&rt, "a plan");
+        let found = recombined_plan(&crew, &instance, &routes, singles, 10_000);
+        assert_same(&rt, found.expect(&rt, "memory").cost(), cost, given);
+    }
 }

@@ -59,7 +59,9 @@ fn planned<R: Threads + Abort + Sync, W: Watch + Sync>(
         workers,
         watch,
     };
-    heuristic_plan(&crew, instance, moves).expect(rt, "memory").plan
+    heuristic_plan(&crew, instance, moves)
+        .expect(rt, "memory")
+        .plan
 }
 
 fn assert_small<R: Threads + Abort + Sync>(rt: &R, alloc: Global, small: Small<'_>, workers: u16) {

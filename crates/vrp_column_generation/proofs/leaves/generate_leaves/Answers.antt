@@ -1,5 +1,5 @@
 use Rattle.std.proofs.Common.{◌∙◌, subst}
-use Rattle.vrp_routes.specs.Range.{HaveAll, plans_within}
+use Rattle.vrp_routes.specs.Range.{HaveAll}
 use Rattle.vrp_routes.specs.declared.plan_range.PlanRange.{PlanRange}
 use Rattle.vrp_column_generation.proofs.leaves.generate_leaves.Goals as goal
 
